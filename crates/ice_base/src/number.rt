@@ -1,0 +1,29 @@
+/// The number of a wire: a net of the chip database.
+#[derive(Clone, Copy, Debug, PartialEq, Eq, PartialOrd, Ord, Hash)]
+pub struct WireNo(pub u32);
+
+/// The number of a row of a switch section, counted from 0 over the whole database.
+#[derive(Clone, Copy, Debug, PartialEq, Eq, PartialOrd, Ord, Hash)]
+pub struct RowNo(pub u32);
+
+/// The number of a net of the design.
+#[derive(Clone, Copy, Debug, PartialEq, Eq, PartialOrd, Ord, Hash)]
+pub struct NetNo(pub u32);
+
+/// The number of a signal of a netlist, by first appearance.
+#[derive(Clone, Copy, Debug, PartialEq, Eq, PartialOrd, Ord, Hash)]
+pub struct SignalNo(pub u32);
+
+/// The place of a tile: column `x` and row `y`, both from 0.
+#[derive(Clone, Copy, Debug, PartialEq, Eq, PartialOrd, Ord, Hash)]
+pub struct TileAt {
+    pub x: u16,
+    pub y: u16,
+}
+
+/// The place of a configuration bit in its tile.
+#[derive(Clone, Copy, Debug, PartialEq, Eq, PartialOrd, Ord, Hash)]
+pub struct BitAt {
+    pub row: u8,
+    pub col: u8,
+}
