@@ -1,0 +1,13 @@
+pub mod Lists
+pub mod Drives
+pub mod Database
+pub mod Names
+pub mod Switches
+pub mod Behaviour
+pub mod Netlist
+pub mod Routes
+pub mod Configuration
+pub mod FirstForm
+pub mod Same
+pub mod Written
+pub mod Views

@@ -1,0 +1,18 @@
+//! The flow: from the texts of a chip database, pin constraints and a netlist to the text of the bits.
+#![tactic(auto)]
+
+ghost use Rattle.std.specs.Prelude.{◌≡◌};
+ghost use Rattle.ice_flow.specs.Written.{written};
+ghost use Rattle.ice_flow.specs.Views.{AreCopies};
+ghost use Rattle.ice_flow.specs.Same.{ShowsSame};
+ghost use Rattle.ice_flow.specs.FirstForm.{database_with};
+
+mod chip;
+mod pad;
+mod route;
+
+pub fn limit() -> usize
+    ensures { result ≡ 67108864 }
+{
+    67108864
+}
