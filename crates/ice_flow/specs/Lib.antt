@@ -8,6 +8,8 @@ pub mod Netlist
 pub mod Routes
 pub mod Configuration
 pub mod FirstForm
+pub mod ChipForm
 pub mod Same
 pub mod Written
 pub mod Views
+pub mod BufferForm
