@@ -58,8 +58,8 @@ pub written_before_last : (groups : List SwitchGroup) (plan : Plan) (t : TileAt)
 written_before_last groups plan t b lt =
     let c = database_with groups in
     let none : list_any (λ f. is_this_bit (function_bit c f) b && wants c plan t f) io_functions ≡ false =
-        any_none (λ f. is_this_bit (function_bit c f) b && wants c plan t f) io_functions
-        (λ f has e. let col : b.col ≡ 17 = function_column groups f b (and_parts (is_this_bit (function_bit c f) b) (wants c plan t f) e).0 in omega arith) in
+    any_none (λ f. is_this_bit (function_bit c f) b && wants c plan t f) io_functions
+    (λ f has e. let col : b.col ≡ 17 = function_column groups f b (and_parts (is_this_bit (function_bit c f) b) (wants c plan t f) e).0 in omega arith) in
     ap (λ x. list_any (λ r. sets r t b) plan.rows || (has_tile c t && x)) none
     ∙ ap (λ x. list_any (λ r. sets r t b) plan.rows || x) (and_false (has_tile c t))
     ∙ or_false (list_any (λ r. sets r t b) plan.rows)

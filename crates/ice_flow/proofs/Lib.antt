@@ -4,3 +4,4 @@ pub mod FunctionBits
 pub mod DrivenWires
 pub mod WalkFacts
 pub mod WrittenMeaning
+pub mod WrittenFaultless

@@ -32,7 +32,7 @@ and_false true = refl
 and_false false = refl
 
 -- no wire has a name that passes a test which none of the names passes
-name_none : (test : List ℕ → Bool) (c : Database) (ns : List WireName) (w : ℕ) → list_all (λ (n : WireName). not (test n.name)) ns ≡ true → has_name_where test c ns w ≡ false
+pub name_none : (test : List ℕ → Bool) (c : Database) (ns : List WireName) (w : ℕ) → list_all (λ (n : WireName). not (test n.name)) ns ≡ true → has_name_where test c ns w ≡ false
 name_none test c [] w e = refl
 name_none test c (n ∷ ns) w e =
     let parts = and_parts (not (test n.name)) (list_all (λ (m : WireName). not (test m.name)) ns) e in
@@ -42,6 +42,7 @@ name_none test c (n ∷ ns) w e =
     not_true : (x : Bool) → not x ≡ true → x ≡ false
     not_true true h = cc h
     not_true false h = refl
+
     drops : (x y : Bool) → ((x && (y && false)) || false) ≡ false
     drops true true = refl
     drops true false = refl
@@ -60,32 +61,32 @@ differ i j lt e = omega arith
 
 -- lists of steps
 
-shows_all : {A B : Type 0} (f : A → Option B) (g : A → B) → ((x : A) → f x ≡ Some (g x)) → (xs : List A) → map f xs ≡ all_some (map g xs)
+pub shows_all : {A B : Type 0} (f : A → Option B) (g : A → B) → ((x : A) → f x ≡ Some (g x)) → (xs : List A) → map f xs ≡ all_some (map g xs)
 shows_all f g each [] = refl
 shows_all f g each (x ∷ xs) = rw (each x, shows_all f g each xs)
 
-shows_one : {A B : Type 0} (f : A → B) (y : B) → ((x : A) → f x ≡ y) → (xs : List A) → map f xs ≡ replicate (length xs) y
+pub shows_one : {A B : Type 0} (f : A → B) (y : B) → ((x : A) → f x ≡ y) → (xs : List A) → map f xs ≡ replicate (length xs) y
 shows_one f y each [] = refl
 shows_one f y each (x ∷ xs) = rw (each x, shows_one f y each xs)
 
 module _ (groups : List SwitchGroup) (rows : List Row) (form : IsOfForm groups) (walk : IsWalk (database_with groups) 0 rows 2) (simple : IsSimple 0 rows) where
-  abbrev chip : Database
+  abbrev pub chip : Database
   chip = database_with groups
 
-  abbrev plan : Plan
+  abbrev pub plan : Plan
   plan = buffer_plan left_pad right_pad rows
 
-  abbrev bits : Bits
+  abbrev pub bits : Bits
   bits = written chip plan
 
-  routed : IsRouted groups plan
+  pub routed : IsRouted groups plan
   routed = record {
     usable = λ r has. walk_usable chip 0 2 rows walk has.0 r has.1;
     once = simple.once;
   }
 
   -- each row of the walk enters wire 1 or wire 2
-  enters : (i : ℕ) (r : Row) → At rows i r → (r.target ≡ 1) ⊎ (r.target ≡ 2)
+  pub enters : (i : ℕ) (r : Row) → At rows i r → (r.target ≡ 1) ⊎ (r.target ≡ 2)
   enters i r at =
       let u = walk_usable chip 0 2 rows walk i r at in
       let g = row_group 0 groups u.sound.present.0 r u.sound.present.1 in
@@ -120,16 +121,16 @@ module _ (groups : List SwitchGroup) (rows : List Row) (form : IsOfForm groups) 
   last_column : (t : TileAt) (b : BitAt) → b.col ≡ 17 → bits t b ≡ (has_tile chip t && list_any (λ f. is_this_bit (function_bit chip f) b && wants chip plan t f) io_functions)
   last_column t b col =
       let none : list_any (λ r. sets r t b) rows ≡ false =
-          any_none (λ r. sets r t b) rows
-          (λ r has e.
-          let u = walk_usable chip 0 2 rows walk has.0 r has.1 in
-          let g = row_group 0 groups u.sound.present.0 r u.sound.present.1 in
-          let in_r = value_has r.bits r.values b (and_parts (same_tile r.tile t) (value_at r.bits r.values b) e).1 in
-          let in_g : Has g.0.bits b = subst (λ (bs : List BitAt). Has bs b) g.4.bits in_r in
-          let lt = (form.bits g.0 b g.2 in_g).1 in omega arith) in
+      any_none (λ r. sets r t b) rows
+      (λ r has e.
+      let u = walk_usable chip 0 2 rows walk has.0 r has.1 in
+      let g = row_group 0 groups u.sound.present.0 r u.sound.present.1 in
+      let in_r = value_has r.bits r.values b (and_parts (same_tile r.tile t) (value_at r.bits r.values b) e).1 in
+      let in_g : Has g.0.bits b = subst (λ (bs : List BitAt). Has bs b) g.4.bits in_r in
+      let lt = (form.bits g.0 b g.2 in_g).1 in omega arith) in
       ap (λ x. x || (has_tile chip t && list_any (λ f. is_this_bit (function_bit chip f) b && wants chip plan t f) io_functions)) none
 
-  at_function : (t : TileAt) (row : ℕ) → bits t (record { row = row; col = 17 }) ≡ (has_tile chip t && list_any (λ f. is_this_bit (function_bit chip f) (record { row = row; col = 17 }) && wants chip plan t f) io_functions)
+  pub at_function : (t : TileAt) (row : ℕ) → bits t (record { row = row; col = 17 }) ≡ (has_tile chip t && list_any (λ f. is_this_bit (function_bit chip f) (record { row = row; col = 17 }) && wants chip plan t f) io_functions)
   at_function t row = last_column t (record { row = row; col = 17 }) refl
 
   -- ---- values
@@ -146,7 +147,7 @@ module _ (groups : List SwitchGroup) (rows : List Row) (form : IsOfForm groups) 
 
   val_walked : (bonded : List Pad) (levels : List Bool) (x : Bool) (xs : List Row) (start end : ℕ) (steps : ℕ) → ((r : Row) → Has xs r → Has rows r) → IsWalk chip start xs end
       → val chip bits bonded levels steps start ≡ Some x → val chip bits bonded levels (length xs + steps) end ≡ Some x
-  val_walked bonded levels x [] start end steps among w e = 
+  val_walked bonded levels x [] start end steps among w e =
       let n : 0 + steps ≡ steps = omega arith in
       rw n (subst (λ s. val chip bits bonded levels steps s ≡ Some x) w e)
   val_walked bonded levels x (r ∷ xs) start end steps among w e =
@@ -170,31 +171,31 @@ module _ (groups : List SwitchGroup) (rows : List Row) (form : IsOfForm groups) 
 
   -- ---- what the pads show
 
-  left_00 : output_part chip bits left_pad ≡ NeverDriven
+  pub left_00 : output_part chip bits left_pad ≡ NeverDriven
   left_00 = rw (at_function left_tile 5, at_function left_tile 4, at_function left_tile 3, at_function left_tile 2) refl
 
-  left_01 : output_part chip bits (record { tile = left_tile; pio = 1 }) ≡ NeverDriven
+  pub left_01 : output_part chip bits (record { tile = left_tile; pio = 1 }) ≡ NeverDriven
   left_01 = rw (at_function left_tile 11, at_function left_tile 10, at_function left_tile 9, at_function left_tile 8) refl
 
-  right_10 : output_part chip bits right_pad ≡ AlwaysDriven
+  pub right_10 : output_part chip bits right_pad ≡ AlwaysDriven
   right_10 = rw (at_function right_tile 5, at_function right_tile 4, at_function right_tile 3, at_function right_tile 2) refl
 
-  right_11 : output_part chip bits (record { tile = right_tile; pio = 1 }) ≡ NeverDriven
+  pub right_11 : output_part chip bits (record { tile = right_tile; pio = 1 }) ≡ NeverDriven
   right_11 = rw (at_function right_tile 11, at_function right_tile 10, at_function right_tile 9, at_function right_tile 8) refl
 
-  off_at : (bonded : List Pad) (levels : List Bool) (p : Pad) → output_part chip bits p ≡ NeverDriven → pad_drives chip bits bonded levels p ≡ Some Off
+  pub off_at : (bonded : List Pad) (levels : List Bool) (p : Pad) → output_part chip bits p ≡ NeverDriven → pad_drives chip bits bonded levels p ≡ Some Off
   off_at bonded levels p e = by (has_tile chip p.tile)
     where
       by : (x : Bool) → (if x then part_drives chip bits bonded levels p (output_part chip bits p) else Some Off) ≡ Some Off
       by true = ap (λ o. part_drives chip bits bonded levels p o) e
       by false = refl
 
-  drives_at_output : (bonded : List Pad) (levels : List Bool) → pad_drives chip bits bonded levels right_pad ≡ Some (driven (level_of bonded levels left_pad))
+  pub drives_at_output : (bonded : List Pad) (levels : List Bool) → pad_drives chip bits bonded levels right_pad ≡ Some (driven (level_of bonded levels left_pad))
   drives_at_output bonded levels =
       ap (λ o. part_drives chip bits bonded levels right_pad o) right_10 ∙ ap (λ v. option_map driven v) (val_end bonded levels)
 
   -- the four pads
-  pad_cases : (p : Pad) → Has (all_pads chip) p → (p ≡ left_pad) ⊎ ((p ≡ record { tile = left_tile; pio = 1 }) ⊎ ((p ≡ right_pad) ⊎ (p ≡ record { tile = right_tile; pio = 1 })))
+  pub pad_cases : (p : Pad) → Has (all_pads chip) p → (p ≡ left_pad) ⊎ ((p ≡ record { tile = left_tile; pio = 1 }) ⊎ ((p ≡ right_pad) ⊎ (p ≡ record { tile = right_tile; pio = 1 })))
   pad_cases p (zero, at) = inl (cc at)
   pad_cases p (suc zero, at) = inr (inl (cc at))
   pad_cases p (suc (suc zero), at) = inr (inr (inl (cc at)))

@@ -105,13 +105,14 @@ pad_drives c bits bonded levels p =
 abbrev pub chip_shows : Database → Bits → List Pad → Pad → List (List Bool) → List (Option Drive)
 chip_shows c bits bonded p steps = map (λ levels. pad_drives c bits bonded levels p) steps
 
+-- the wire is this one
+abbrev pub is_wire : Option ℕ → ℕ → Bool
+is_wire None w = false
+is_wire (Some v) w = w == v
+
 -- a pad's own input is the source of a row that is on
 abbrev pub is_pad_read : Database → Bits → Pad → Bool
-is_pad_read c bits p = list_any (λ (r : Row). is_on bits r && is_source r.source (wire_named c p.tile (pad_input_name p.pio))) (rows_of c)
-  where
-    is_source : ℕ → Option ℕ → Bool
-    is_source s None = false
-    is_source s (Some w) = s == w
+is_pad_read c bits p = list_any (λ (r : Row). is_on bits r && is_wire (wire_named c p.tile (pad_input_name p.pio)) r.source) (rows_of c)
 
 -- the input part of a pad's pin type is the plain one
 abbrev pub is_plain_input : Database → Bits → Pad → Bool

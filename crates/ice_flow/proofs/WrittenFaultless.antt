@@ -1,0 +1,208 @@
+-- The bits written for a buffer have no fault, and the circuit in them is the buffer.
+use Rattle.std.proofs.Common.{◌≡◌, ◌≢◌, ◌⊎◌, ℕ, zero, suc, ◌+◌, ◌<◌, Bool, true, false, eqb, Option, None, Some, List, [], ◌∷◌, length, map, inl, inr, refl, ap, sym, ◌∙◌, subst, arith}
+use Rattle.std.specs.Prelude.{◌&&◌, ◌||◌, not, ◌==◌, replicate, option_map}
+use Rattle.std.specs.List.{list_any, list_all}
+use Rattle.std.proofs.lemmas.Bool.{and_parts, eqb-true, eq-eqb}
+use Rattle.std.proofs.Math.Path.{fun_ext}
+use Rattle.ice_base.specs.declared.number.TileAt.{TileAt}
+use Rattle.ice_base.specs.declared.number.BitAt.{BitAt}
+use Rattle.ice_flow.specs.Lists.{At, Has, IsCycle, all_some}
+use Rattle.ice_flow.specs.Database.{Pad, NamedBit, SwitchGroup, Row, Database, rows_of, all_pads, wire_named}
+use Rattle.ice_flow.specs.Names.{has_name_where, pad_input_name}
+use Rattle.ice_flow.specs.Switches.{Bits, Driver, Nothing, By, Several, is_on, driver}
+use Rattle.ice_flow.specs.Drives.{Drive, Off, driven}
+use Rattle.ice_flow.specs.Behaviour.{level_of, driven_reads, reads, OutputPart, NeverDriven, AlwaysDriven, OfAnotherKind, output_part, pad_drives, chip_shows, is_wire, is_pad_read, is_plain_input, is_foreign_function, is_memory_output_name, IsFaultless}
+use Rattle.ice_flow.specs.Netlist.{Port, Input, Output, port_levels, port_drives, netlist_shows, table_bit, number_of_digits}
+use Rattle.ice_flow.specs.Routes.{IsWalk, IsSimple}
+use Rattle.ice_flow.specs.Written.{written}
+use Rattle.ice_flow.specs.FirstForm as form
+use Rattle.ice_flow.specs.FirstForm.{database_with, left_tile, right_tile, left_pad, right_pad, wire_names}
+use Rattle.ice_flow.specs.ChipForm.{IsOfForm}
+use Rattle.ice_flow.specs.BufferForm.{buffer_netlist, buffer_plan}
+use Rattle.ice_flow.specs.Same.{ShowsSame}
+use Rattle.ice_flow.proofs.ListFacts.{Has_head, Has_tail, any_has}
+use Rattle.ice_flow.proofs.FunctionBits.{all_has}
+use Rattle.ice_flow.proofs.DrivenWires.{IsRouted, wanted_on, driver_wanted, driver_unwanted, driven_cases}
+use Rattle.ice_flow.proofs.WalkFacts.{walk_usable, walk_starts, walk_goes_on, rank_from, rank_falls, no_cycle}
+use Rattle.ice_flow.proofs.WrittenMeaning.{name_none, shows_all, shows_one, routed, enters, at_function, left_00, left_01, right_10, right_11, off_at, drives_at_output, pad_cases}
+
+no_foreign : list_all (λ (f : NamedBit). not (is_foreign_function f.name)) form.io_functions ≡ true
+no_foreign = refl
+
+one_of_two : (x : ℕ) → (x ≡ 1) ⊎ (x ≡ 2) → x ≡ 3 → ⊥
+one_of_two x (inl a) e = omega arith
+one_of_two x (inr a) e = omega arith
+
+module _ (groups : List SwitchGroup) (rows : List Row) (form_holds : IsOfForm groups) (walk : IsWalk (database_with groups) 0 rows 2) (simple : IsSimple 0 rows) where
+  abbrev chip : Database
+  chip = database_with groups
+
+  abbrev bits : Bits
+  bits = written chip (buffer_plan left_pad right_pad rows)
+
+  abbrev driver_of : ℕ → Driver
+  driver_of w = driver chip bits w
+
+  on_routes : (r : Row) → Has (rows_of chip) r → is_on bits r ≡ true → Has rows r
+  on_routes r has on = wanted_on groups (buffer_plan left_pad right_pad rows) form_holds (routed groups rows form_holds walk simple) r has on
+
+  -- a wire has a row of the walk as its driver, or nothing
+  driver_cases : (w : ℕ) → ((r : Row) × Has rows r × (r.target ≡ w) × (driver_of w ≡ By r)) ⊎ (driver_of w ≡ Nothing)
+  driver_cases w =
+      let plan = buffer_plan left_pad right_pad rows in
+      let is = routed groups rows form_holds walk simple in
+      elim (driven_cases groups plan form_holds is w) [
+        | inl got ↦ inl (got.0, got.1, got.2, subst (λ v. driver_of v ≡ By got.0) got.2 (driver_wanted groups plan form_holds is got.0 got.1))
+        | inr never ↦ inr (driver_unwanted groups plan form_holds is w never)
+      ]
+
+  -- what a wire reads has a lower place in the walk
+  reads_fall : (p q : ℕ) → Has (reads chip bits p) q → rank_from 1 rows q < rank_from 1 rows p
+  reads_fall p q has = elim (driver_cases p) [
+    | inl got ↦
+        let from : Has (got.0.source ∷ []) q = subst (λ (d : Driver). Has (driven_reads d) q) got.3 has in
+        let same : got.0.source ≡ q = only got.0.source q from in
+        let falls = rank_falls chip 0 2 rows walk simple got.1.0 got.0 got.1.1 in
+        subst (λ x. rank_from 1 rows q < rank_from 1 rows x) got.2 (subst (λ x. rank_from 1 rows x < rank_from 1 rows got.0.target) same falls)
+    | inr none ↦ let from : Has [] q = subst (λ (d : Driver). Has (driven_reads d) q) none has in absurd (nothing q from)
+  ]
+    where
+      nothing : (x : ℕ) → Has [] x → ⊥
+      nothing x (i, at) = cc at
+
+      only : (x y : ℕ) → Has (x ∷ []) y → x ≡ y
+      only x y (zero, at) = cc at
+      only x y (suc i, at) = cc at
+
+  -- no row of the walk leaves wire 3
+  leaves : (r : Row) → Has rows r → r.source ≡ 3 → ⊥
+  leaves r (zero, at) e = let s : r.source ≡ 0 = walk_starts chip 0 2 rows walk r at in omega arith
+  leaves r (suc i, at) e =
+      let got = walk_goes_on chip 0 2 rows walk i r at in
+      one_of_two got.0.target (enters groups rows form_holds walk simple i got.0 got.1) (got.2 ∙ e)
+
+  -- a pad whose wire isn't there is read by no row
+  unread : (o : Option ℕ) → o ≡ None → list_any (λ (r : Row). is_on bits r && is_wire o r.source) (rows_of chip) ≡ true → ⊥
+  unread o none read =
+      let got = any_has (λ (r : Row). is_on bits r && is_wire o r.source) (rows_of chip) read in
+      let n : is_wire o got.0.source ≡ true = (and_parts (is_on bits got.0) (is_wire o got.0.source) got.2).1 in
+      let m : false ≡ true = subst (λ x. is_wire x got.0.source ≡ true) none n in cc m
+
+  -- nor is the pad whose wire is 3
+  unread_3 : list_any (λ (r : Row). is_on bits r && (r.source == 3)) (rows_of chip) ≡ true → ⊥
+  unread_3 read =
+      let got = any_has (λ (r : Row). is_on bits r && (r.source == 3)) (rows_of chip) read in
+      let parts = and_parts (is_on bits got.0) (eqb got.0.source 3) got.2 in
+      leaves got.0 (on_routes got.0 got.1 parts.0) (eqb-true got.0.source 3 parts.1)
+
+  plain_left : is_plain_input chip bits left_pad ≡ true
+  plain_left = rw (at_function groups rows form_holds walk simple left_tile 1, at_function groups rows form_holds walk simple left_tile 0) refl
+
+  foreign_kept : (f : NamedBit) (t : TileAt) → Has form.io_functions f → is_foreign_function f.name ≡ true → bits t f.bit ≡ false
+  foreign_kept f t has is =
+      let n : not (is_foreign_function f.name) ≡ true = all_has (λ (g : NamedBit). not (is_foreign_function g.name)) form.io_functions no_foreign has.0 f has.1 in
+      let m : not true ≡ true = subst (λ x. not x ≡ true) is n in cc m
+
+  parts : (p : Pad) → Has (all_pads chip) p → (output_part chip bits p ≡ NeverDriven) ⊎ (output_part chip bits p ≡ AlwaysDriven)
+  parts p has = elim (pad_cases groups rows form_holds walk simple p has) [
+    | inl a ↦ inl (subst (λ (q : Pad). output_part chip bits q ≡ NeverDriven) (sym a) (left_00 groups rows form_holds walk simple))
+    | inr (inl b) ↦ inl (subst (λ (q : Pad). output_part chip bits q ≡ NeverDriven) (sym b) (left_01 groups rows form_holds walk simple))
+    | inr (inr (inl d)) ↦ inr (subst (λ (q : Pad). output_part chip bits q ≡ AlwaysDriven) (sym d) (right_10 groups rows form_holds walk simple))
+    | inr (inr (inr e)) ↦ inl (subst (λ (q : Pad). output_part chip bits q ≡ NeverDriven) (sym e) (right_11 groups rows form_holds walk simple))
+  ]
+
+  inputs : (p : Pad) → Has (all_pads chip) p → is_pad_read chip bits p ≡ true → is_plain_input chip bits p ≡ true
+  inputs p has read = elim (pad_cases groups rows form_holds walk simple p has) [
+    | inl a ↦ subst (λ (q : Pad). is_plain_input chip bits q ≡ true) (sym a) plain_left
+    | inr (inl b) ↦ absurd (unread None refl (subst (λ (q : Pad). is_pad_read chip bits q ≡ true) b read))
+    | inr (inr (inl d)) ↦ absurd (unread None refl (subst (λ (q : Pad). is_pad_read chip bits q ≡ true) d read))
+    | inr (inr (inr e)) ↦ absurd (unread_3 (subst (λ (q : Pad). is_pad_read chip bits q ≡ true) e read))
+  ]
+
+  no_several : (w : ℕ) → driver_of w ≡ Several → ⊥
+  no_several w e = elim (driver_cases w) [
+    | inl got ↦ let both : By got.0 ≡ Several = sym got.3 ∙ e in cc both
+    | inr none ↦ let both : Nothing ≡ Several = sym none ∙ e in cc both
+  ]
+
+  pub written_faultless : IsFaultless chip bits []
+  written_faultless = record {
+    uncontended = no_several;
+    no_foreign_source = λ r has on. name_none is_memory_output_name chip wire_names r.source refl;
+    no_foreign_function = λ f t has there is. foreign_kept f t has is;
+    no_extras = refl;
+    no_loop = λ cycle is. no_cycle (reads chip bits) (rank_from 1 rows) reads_fall cycle is;
+    output_parts = λ p has e. elim (parts p has) [
+      | inl never ↦ let both : NeverDriven ≡ OfAnotherKind = sym never ∙ e in cc both
+      | inr always ↦ let both : AlwaysDriven ≡ OfAnotherKind = sym always ∙ e in cc both
+    ];
+    input_parts = inputs;
+  }
+
+  -- ---- the same drives
+
+  abbrev pads : List Pad
+  pads = left_pad ∷ right_pad ∷ []
+
+  netlist_input : (a y : List ℕ) (bonded : List Pad) (levels : List Bool) → port_drives (buffer_netlist a y) (port_levels bonded pads levels) (record { signal = 0; way = Input }) ≡ Some Off
+  netlist_input a y bonded levels = refl
+
+  netlist_output : (a y : List ℕ) (bonded : List Pad) (levels : List Bool) → port_drives (buffer_netlist a y) (port_levels bonded pads levels) (record { signal = 1; way = Output }) ≡ Some (driven (level_of bonded levels left_pad))
+  netlist_output a y bonded levels = by (level_of bonded levels left_pad)
+    where
+      by : (x : Bool) → option_map driven (Some (table_bit 2 (number_of_digits (x ∷ [])))) ≡ Some (driven x)
+      by true = refl
+      by false = refl
+
+  abbrev Agrees : (a y : List ℕ) (bonded : List Pad) → List (List Bool) → Port → Pad → Type 0
+  Agrees a y bonded steps port pad = (drives : List Drive) × (chip_shows chip bits bonded pad steps ≡ all_some drives) × (netlist_shows (buffer_netlist a y) bonded pads port steps ≡ all_some drives)
+
+  pub written_shows : (a y : List ℕ) (bonded : List Pad) → ShowsSame (buffer_netlist a y) pads chip bits bonded
+  written_shows a y bonded = record {
+    at_ports = λ steps k port pad at_port at_pad. at_port_of steps k port pad at_port at_pad;
+    elsewhere = λ steps pad has other. shows_one (λ levels. pad_drives chip bits bonded levels pad) (Some Off) (λ levels. off_elsewhere levels pad has other) steps;
+  }
+    where
+      agree : (steps : List (List Bool)) (port : Port) (pad : Pad) (shown : List Bool → Drive)
+          → ((levels : List Bool) → pad_drives chip bits bonded levels pad ≡ Some (shown levels))
+          → ((levels : List Bool) → port_drives (buffer_netlist a y) (port_levels bonded pads levels) port ≡ Some (shown levels)) → Agrees a y bonded steps port pad
+      agree steps port pad shown on_chip in_netlist = (
+        map shown steps,
+        shows_all (λ levels. pad_drives chip bits bonded levels pad) shown on_chip steps,
+        shows_all (λ levels. port_drives (buffer_netlist a y) (port_levels bonded pads levels) port) shown in_netlist steps,
+      )
+
+      at_port_of : (steps : List (List Bool)) (k : ℕ) (port : Port) (pad : Pad) → At (buffer_netlist a y).ports k port → At pads k pad → Agrees a y bonded steps port pad
+      at_port_of steps zero port pad at_port at_pad =
+          let p : record { signal = 0; way = Input } ≡ port = cc at_port in
+          let q : left_pad ≡ pad = cc at_pad in
+          subst (λ (x : Port). Agrees a y bonded steps x pad) p (subst (λ (x : Pad). Agrees a y bonded steps (record { signal = 0; way = Input }) x) q
+          (agree steps (record { signal = 0; way = Input }) left_pad (λ levels. Off) (λ levels. off_at groups rows form_holds walk simple bonded levels left_pad (left_00 groups rows form_holds walk simple)) (λ levels. netlist_input a y bonded levels)))
+      at_port_of steps (suc zero) port pad at_port at_pad =
+          let p : record { signal = 1; way = Output } ≡ port = cc at_port in
+          let q : right_pad ≡ pad = cc at_pad in
+          subst (λ (x : Port). Agrees a y bonded steps x pad) p (subst (λ (x : Pad). Agrees a y bonded steps (record { signal = 1; way = Output }) x) q
+          (agree steps (record { signal = 1; way = Output }) right_pad (λ levels. driven (level_of bonded levels left_pad)) (λ levels. drives_at_output groups rows form_holds walk simple bonded levels) (λ levels. netlist_output a y bonded levels)))
+      at_port_of steps (suc (suc k)) port pad at_port at_pad = cc at_port
+
+      off_elsewhere : (levels : List Bool) (pad : Pad) → Has (all_pads chip) pad → (Has pads pad → ⊥) → pad_drives chip bits bonded levels pad ≡ Some Off
+      off_elsewhere levels pad has other = elim (pad_cases groups rows form_holds walk simple pad has) [
+        | inl a ↦ absurd (other (0, ap Some (sym a)))
+        | inr (inl b) ↦ subst (λ (q : Pad). pad_drives chip bits bonded levels q ≡ Some Off) (sym b) (off_at groups rows form_holds walk simple bonded levels (record { tile = left_tile; pio = 1 }) (left_01 groups rows form_holds walk simple))
+        | inr (inr (inl d)) ↦ absurd (other (1, ap Some (sym d)))
+        | inr (inr (inr e)) ↦ subst (λ (q : Pad). pad_drives chip bits bonded levels q ≡ Some Off) (sym e) (off_at groups rows form_holds walk simple bonded levels (record { tile = right_tile; pio = 1 }) (right_11 groups rows form_holds walk simple))
+      ]
+
+-- the same of any bits that agree with the written ones at each place
+pub bits_are_faultless : (groups : List SwitchGroup) (rows : List Row) (form_holds : IsOfForm groups) (walk : IsWalk (database_with groups) 0 rows 2) (simple : IsSimple 0 rows) (bits : Bits)
+    → ((t : TileAt) (b : BitAt) → bits t b ≡ written (database_with groups) (buffer_plan left_pad right_pad rows) t b) → IsFaultless (database_with groups) bits []
+bits_are_faultless groups rows form_holds walk simple bits agree =
+    let same : written (database_with groups) (buffer_plan left_pad right_pad rows) ≡ bits = fun_ext (λ t. fun_ext (λ b. sym (agree t b))) in
+    subst (λ (x : Bits). IsFaultless (database_with groups) x []) same (written_faultless groups rows form_holds walk simple)
+
+pub bits_show_same : (groups : List SwitchGroup) (rows : List Row) (form_holds : IsOfForm groups) (walk : IsWalk (database_with groups) 0 rows 2) (simple : IsSimple 0 rows) (bits : Bits)
+    → ((t : TileAt) (b : BitAt) → bits t b ≡ written (database_with groups) (buffer_plan left_pad right_pad rows) t b)
+    → (a y : List ℕ) (bonded : List Pad) → ShowsSame (buffer_netlist a y) (left_pad ∷ right_pad ∷ []) (database_with groups) bits bonded
+bits_show_same groups rows form_holds walk simple bits agree a y bonded =
+    let same : written (database_with groups) (buffer_plan left_pad right_pad rows) ≡ bits = fun_ext (λ t. fun_ext (λ b. sym (agree t b))) in
+    subst (λ (x : Bits). ShowsSame (buffer_netlist a y) (left_pad ∷ right_pad ∷ []) (database_with groups) x bonded) same (written_shows groups rows form_holds walk simple a y bonded)
