@@ -1,3 +1,4 @@
 pub mod Text
 pub mod Comments
 pub mod Cursors
+pub mod Numbers

@@ -3,6 +3,7 @@
 #![tactic(auto)]
 
 mod comments;
+mod decimal;
 mod lines;
 mod memory;
 mod name;
@@ -10,6 +11,7 @@ mod number;
 mod words;
 
 pub use comments::{PlainWords, begins_with, plain_words_of};
+pub use decimal::number_of;
 pub use lines::{Line, LineIter, lines_of};
 pub use memory::NoMemory;
 pub use name::{Name, name_of};
