@@ -17,3 +17,6 @@ pub use memory::NoMemory;
 pub use name::{Name, name_of};
 pub use number::{BitAt, NetNo, RowNo, SignalNo, TileAt, WireNo};
 pub use words::{WordIter, no_words, words_of};
+
+#[cfg(test)]
+mod tests;
