@@ -1,6 +1,8 @@
 -- Calls of a desk, one after another.
-use Rattle.std.proofs.Common.{◌≡◌, ◌≤◌, ◌+◌, ◌-◌, ◌++◌, ℕ, List, length, take, drop, true, Some, refl, sym, ◌∙◌, arith, length-drop, take-add}
+use Rattle.std.proofs.Common.{◌≡◌, ◌≤◌, ◌+◌, ◌-◌, ◌++◌, ℕ, List, length, Contains, take, drop, true, Some, refl, sym, ◌∙◌, arith, length-drop, take-add, drop-drop}
+use Rattle.std.proofs.Math.Seq.{take-append_seam}
 use Rattle.std.proofs.lemmas.List.{take_all}
+use Rattle.ice_desk.specs.declared.calls.DeskCall.{DeskCall}
 use Rattle.ice_desk.specs.Desk.{Meaning, SameButReading, SameButWriting, SameTest}
 
 pub reading_trans : (a b c : Meaning) → SameButReading a b → SameButReading b c → SameButReading a c
@@ -44,3 +46,16 @@ pub fronts : (text : List ℕ) (at count : ℕ) → at ≤ length text → take 
 fronts text at count le =
     let whole : take (length text - at) (drop at text) ≡ drop at text = take_all (length text - at) (drop at text) (omega (arith, length-drop at text)) in
     rw (whole, ← take-add at count text) refl
+
+-- what one read gives of the bytes between two places, and what it leaves
+pub given_and_left : (bytes got piece : List ℕ) (at end count : ℕ) → got ≡ take count (drop at bytes) → length got ≡ count → count ≤ end - at
+    → take (end - at) (drop at bytes) ≡ take count (got ++ drop count piece) ++ take (end - (at + count)) (drop (at + count) bytes)
+given_and_left bytes got piece at end count is len le =
+    let front : take count (got ++ drop count piece) ≡ got = rw (← len) (take-append_seam got (drop (length got) piece)) in
+    let most : end - at ≡ count + (end - (at + count)) = omega (arith, le) in
+    let split : take (end - at) (drop at bytes) ≡ take count (drop at bytes) ++ take (end - (at + count)) (drop count (drop at bytes)) = rw most (take-add count (end - (at + count)) (drop at bytes)) in
+    rw (front, is, ← drop-drop) split
+
+-- a call that is in a list, by an equal list and number
+pub named_by : (found fails : List (DeskCall × ℕ)) (call : DeskCall) (counted number : ℕ) → found ≡ fails → counted ≡ number → Contains found (call, counted) → Contains fails (call, number)
+named_by found fails call counted number same count is = rw (← same, ← count) is

@@ -2,8 +2,13 @@
 //! written over it, and the gate at which tests make workers meet.
 #![tactic(auto)]
 
+mod calls;
 mod desk;
+mod files;
+mod memory;
 mod whole;
 
+pub use calls::DeskCall;
 pub use desk::{Desk, Failed};
+pub use memory::MemoryDesk;
 pub use whole::{ReadStop, WriteStop, read_whole, write_whole};
