@@ -1,5 +1,5 @@
 -- What a desk is seen to be, and what each of its calls may change.
-use Rattle.std.specs.Prelude.{◌≡◌, ◌≢◌, ◌↔◌, ℕ, ◌+◌, ◌-◌, ◌^◌, ◌≤◌, min, Bool, true, ◌⊎◌, List, [], zero, suc, length, take, Option, Some}
+use Rattle.std.specs.Prelude.{◌≡◌, ◌≢◌, ◌↔◌, ℕ, ◌+◌, ◌-◌, ◌^◌, ◌≤◌, min, Bool, true, false, ◌⊎◌, List, [], zero, suc, length, take, Option, Some, None}
 
 -- a count of 64 bits after more: it stays at its last value once it is there
 abbrev pub after_more : ℕ → ℕ → ℕ
@@ -38,6 +38,25 @@ pub record Meaning : Type 0 where
   pub read_faults : ℕ
   pub write_faults : ℕ
   pub say_faults : ℕ
+
+-- the meaning of a desk of which no call was made yet: every count is 0
+abbrev pub fresh : Bool → (List ℕ → Option (List ℕ)) → Meaning
+fresh tells files = record {
+  tells = tells;
+  files = files;
+  left = [];
+  taken = None;
+  said = [];
+  given = 0;
+  begins = 0;
+  makes = 0;
+  says = 0;
+  puts = 0;
+  is_open = false;
+  read_faults = 0;
+  write_faults = 0;
+  say_faults = 0;
+}
 
 -- all but what reading may change is as before: left, given, begins and read_faults
 pub record SameButReading (old new : Meaning) : Type 0 where

@@ -33,6 +33,14 @@ pub record Plan : Type 0 where
 abbrev pub IsNamed : Plan → DeskCall → Type 0
 IsNamed plan call = Contains plan.fails (call, next_number plan.calls call)
 
+-- the plan of a desk of which no call was made yet
+abbrev pub fresh_plan : ℕ → List (DeskCall × ℕ) → Plan
+fresh_plan most fails = record {
+  most = most;
+  fails = fails;
+  calls = record { begins = 0; reads = 0; makes = 0; puts = 0; says = 0 };
+}
+
 -- a plan after one call more of a kind
 abbrev pub after_call : Plan → DeskCall → Plan
 after_call plan Begin = record plan { calls = record (plan.calls) { begins = after_one plan.calls.begins } }

@@ -5,10 +5,17 @@
 mod calls;
 mod desk;
 mod files;
+mod gate;
+mod host;
 mod memory;
 mod whole;
 
 pub use calls::DeskCall;
 pub use desk::{Desk, Failed};
+pub use gate::{Gate, MeetGate, OpenGate};
+pub use host::HostDesk;
 pub use memory::MemoryDesk;
 pub use whole::{ReadStop, WriteStop, read_whole, write_whole};
+
+#[cfg(test)]
+mod tests;

@@ -1,7 +1,7 @@
 //! A desk in memory: files and standard output as lists of bytes, with calls that fail when asked to.
 ghost use Rattle.std.specs.Prelude.{◌≡◌, ℕ, ◌+◌, ◌-◌, ◌^◌, ◌<◌, ◌≤◌, ◌++◌, ◌↔◌, ◌⊎◌, List, [], min, length, take, drop, true, false, Some, None, Option, IfOk, OnOk, OnErr, IsErr, is_ok};
 ghost use Rattle.std.specs.Option.{option_map};
-ghost use Rattle.ice_desk.specs.Desk.{Meaning, SameButReading, SameButWriting, SameButSaying, SameTest, IsKeptOrEmpty, after_one, after_more, Rose};
+ghost use Rattle.ice_desk.specs.Desk.{Meaning, fresh, SameButReading, SameButWriting, SameButSaying, SameTest, IsKeptOrEmpty, after_one, after_more, Rose};
 ghost use Rattle.ice_desk.specs.Memory.{file_in, left_between, source_bytes, needed_files};
 
 use crate::calls::{DeskCall, is_named};
@@ -42,7 +42,7 @@ pub struct MemoryDesk {
 }
 
 impl MemoryDesk {
-    ghost use Rattle.ice_desk.specs.Plan.{seen_of, plan_of};
+    ghost use Rattle.ice_desk.specs.Plan.{seen_of, plan_of, fresh_plan};
 
     /// A desk with these files, of which the first of a name counts. It moves at most `most` bytes in a
     /// call and fails the calls of `fails`, each a kind and a number from 1 among the calls of that kind.
@@ -54,27 +54,8 @@ impl MemoryDesk {
         fails: Vec<(DeskCall, u64)>,
     ) -> MemoryDesk
         requires { 1 ≤ most }
-        ensures seen { seen_of result ≡ record {
-          tells = true;
-          files = file_in files.items;
-          left = [];
-          taken = None;
-          said = [];
-          given = 0;
-          begins = 0;
-          makes = 0;
-          says = 0;
-          puts = 0;
-          is_open = false;
-          read_faults = 0;
-          write_faults = 0;
-          say_faults = 0;
-        } }
-        ensures plan { plan_of result ≡ record {
-          most = most;
-          fails = fails.items;
-          calls = record { begins = 0; reads = 0; makes = 0; puts = 0; says = 0 };
-        } }
+        ensures seen { seen_of result ≡ fresh true (file_in files.items) }
+        ensures plan { plan_of result ≡ fresh_plan most fails.items }
     {
         MemoryDesk {
             alloc,
