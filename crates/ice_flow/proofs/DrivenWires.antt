@@ -11,7 +11,7 @@ use Rattle.ice_flow.specs.Switches.{Bits, Driver, Nothing, By, Several, same_val
 use Rattle.ice_flow.specs.Routes.{value_at, sets, IsPrivate, IsSound, IsUsable}
 use Rattle.ice_flow.specs.Written.{Plan, written}
 use Rattle.ice_flow.specs.FirstForm.{database_with}
-use Rattle.ice_flow.specs.ChipForm.{IsOfForm}
+use Rattle.ice_flow.specs.ChipText.{IsOfForm}
 use Rattle.ice_flow.proofs.ListFacts.{Has_head, Has_tail, any_has, has_any, any_none, filter_none, filter_one}
 use Rattle.ice_flow.proofs.PlaceFacts.{same_tile-true, same_bit-true, rows_number, row_group, IsOfGroup}
 use Rattle.ice_flow.proofs.FunctionBits.{written_before_last}

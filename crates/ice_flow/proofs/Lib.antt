@@ -5,3 +5,8 @@ pub mod DrivenWires
 pub mod WalkFacts
 pub mod WrittenMeaning
 pub mod WrittenFaultless
+pub mod Compiling
+pub mod ChipCuts
+pub mod ChipHeader
+pub mod KnownLists
+pub mod ChipForm

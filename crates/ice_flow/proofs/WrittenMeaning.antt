@@ -18,8 +18,9 @@ use Rattle.ice_flow.specs.Routes.{value_at, sets, IsUsable, IsWalk, IsSimple}
 use Rattle.ice_flow.specs.Written.{Plan, wants, io_functions, is_this_bit, written}
 use Rattle.ice_flow.specs.FirstForm as form
 use Rattle.ice_flow.specs.FirstForm.{database_with, left_tile, right_tile, left_pad, right_pad, tiny, wire_names}
-use Rattle.ice_flow.specs.ChipForm.{IsOfForm}
-use Rattle.ice_flow.specs.BufferForm.{buffer_netlist, buffer_plan}
+use Rattle.ice_flow.specs.ChipText.{IsOfForm}
+use Rattle.ice_flow.specs.NetlistText.{buffer_netlist}
+use Rattle.ice_flow.specs.BufferForm.{buffer_plan}
 use Rattle.ice_flow.specs.Same.{ShowsSame}
 use Rattle.ice_flow.proofs.ListFacts.{Has_head, Has_tail, any_has, any_none}
 use Rattle.ice_flow.proofs.PlaceFacts.{row_group}

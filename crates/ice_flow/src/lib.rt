@@ -1,18 +1,17 @@
 //! The flow: from the texts of a chip database, pin constraints and a netlist to the text of the bits.
 #![tactic(auto)]
 
-ghost use Rattle.std.specs.Prelude.{◌≡◌};
-ghost use Rattle.ice_flow.specs.Written.{written};
-ghost use Rattle.ice_flow.specs.Views.{AreCopies};
-ghost use Rattle.ice_flow.specs.Same.{ShowsSame};
-ghost use Rattle.ice_flow.specs.FirstForm.{database_with};
-
+mod asc;
+mod cause;
 mod chip;
+mod chip_text;
+mod compile;
+mod netlist_text;
 mod pad;
+mod pins_text;
+mod plain;
 mod route;
+mod search;
 
-pub fn limit() -> usize
-    ensures { result ≡ 67108864 }
-{
-    67108864
-}
+pub use cause::{Cause, Done, FileRole, PinFault, Placement, Places};
+pub use netlist_text::BlifFault;

@@ -1,0 +1,28 @@
+-- The headline: the text of bits that is written is the netlist that was read.
+use Rattle.std.specs.Prelude.{◌≡◌, ℕ, Option, Some, Result, Ok, List}
+use Rattle.ice_flow.specs.Database.{Pad, Package, Database, package_named}
+use Rattle.ice_flow.specs.Netlist.{Netlist}
+use Rattle.ice_flow.specs.Configuration.{Configuration, bits_in}
+use Rattle.ice_flow.specs.Behaviour.{IsFaultless}
+use Rattle.ice_flow.specs.Same.{ShowsSame}
+use Rattle.ice_flow.specs.Asc.{asc_in}
+use Rattle.ice_flow.specs.ChipText.{database_in}
+use Rattle.ice_flow.specs.NetlistText.{netlist_in}
+use Rattle.ice_flow.specs.PinsText.{pins_in}
+
+-- The text of bits, decoded by the database of the chip text, is a circuit without a fault. For every list of levels
+-- of the package's pads it shows, step by step, exactly what the netlist of the netlist text shows at the pads that
+-- the text of the pins gives its ports, and drives no other pad.
+pub record IsCircuitOf (name chip_text pins_text netlist_text bits_text : List ℕ) : Type 0 where
+  pub chip : Database
+  pub chosen : Package
+  pub netlist : Netlist
+  pub pads : List Pad
+  pub configuration : Configuration
+  pub is_chip : database_in chip_text ≡ Some chip
+  pub is_chosen : package_named chip name ≡ Some chosen
+  pub is_netlist : netlist_in netlist_text ≡ Ok netlist
+  pub are_pads : pins_in chip name pins_text netlist ≡ Ok pads
+  pub decodes : asc_in chip bits_text ≡ Ok configuration
+  pub faultless : IsFaultless chip (bits_in configuration) configuration.extras
+  pub shows_same : ShowsSame netlist pads chip (bits_in configuration) chosen.pads

@@ -1,0 +1,57 @@
+//! The words of the program, read by hand: `build` and its five names.
+ghost use Rattle.std.specs.Prelude.{◌≡◌, map, string_bytes, not, option_map};
+ghost use Rattle.ice_flow.specs.Command.{is_plain, are_plain, request_of};
+ghost use Rattle.ice_flow.specs.Requests.{request_view};
+
+use ice_base::begins_with;
+
+/// What the words ask for: to build the text of bits at `asc` from the texts of three files, for a package.
+#[derive(Clone, Copy, Debug)]
+pub struct Request<'a> {
+    pub chip: &'a str,
+    pub package_name: &'a str,
+    pub pcf: &'a str,
+    pub blif: &'a str,
+    pub asc: &'a str,
+}
+
+// Whether a word stands for itself, and is no option.
+fn is_plain(word: &str) -> bool
+    ensures { result ≡ is_plain word.now }
+{
+    !begins_with(b'-', word.as_bytes())
+}
+
+/// The request of the words after the program's name, where they are one.
+pub fn read_request(words: &[String]) -> Option<Request<'_>>
+    ensures { option_map request_view result ≡ request_of (map string_bytes words.now) }
+{
+    match words {
+        [command, chip, package, pcf, blif, asc] => {
+            let request = Request {
+                chip: chip.as_str(),
+                package_name: package.as_str(),
+                pcf: pcf.as_str(),
+                blif: blif.as_str(),
+                asc: asc.as_str(),
+            };
+            if command.as_str() == "build" && are_plain(&request) {
+                Some(request)
+            } else {
+                None
+            }
+        }
+        _ => None,
+    }
+}
+
+// Whether all names stand for themselves.
+fn are_plain(request: &Request<'_>) -> bool
+    ensures { result ≡ are_plain (request_view request.now) }
+{
+    is_plain(request.chip)
+        && is_plain(request.package_name)
+        && is_plain(request.pcf)
+        && is_plain(request.blif)
+        && is_plain(request.asc)
+}
