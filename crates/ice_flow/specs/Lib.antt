@@ -11,3 +11,6 @@ pub mod FirstForm
 pub mod Same
 pub mod Written
 pub mod Views
+pub mod PlainLines
+pub mod ChipText
+pub mod Readers

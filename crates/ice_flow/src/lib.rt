@@ -8,7 +8,9 @@ ghost use Rattle.ice_flow.specs.Same.{ShowsSame};
 ghost use Rattle.ice_flow.specs.FirstForm.{database_with};
 
 mod chip;
+mod chip_text;
 mod pad;
+mod plain;
 mod route;
 
 pub fn limit() -> usize

@@ -1,0 +1,3 @@
+pub mod ChipCuts
+pub mod ChipHeader
+pub mod KnownLists
