@@ -1,3 +1,4 @@
 pub mod ChipCuts
 pub mod ChipHeader
 pub mod KnownLists
+pub mod ChipForm
