@@ -13,4 +13,6 @@ pub mod Written
 pub mod Views
 pub mod PlainLines
 pub mod ChipText
+pub mod NetlistText
+pub mod PinsText
 pub mod Readers

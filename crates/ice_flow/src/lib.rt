@@ -9,7 +9,9 @@ ghost use Rattle.ice_flow.specs.FirstForm.{database_with};
 
 mod chip;
 mod chip_text;
+mod netlist_text;
 mod pad;
+mod pins_text;
 mod plain;
 mod route;
 
