@@ -1,5 +1,5 @@
 -- Where the name of a bit is cut.
-use Rattle.std.proofs.Common.{◌≡◌, ◌≢◌, ℕ, ◌<◌, ◌≤◌, ◌+◌, ◌-◌, ◌==◌, Bool, true, false, List, [], ◌∷◌, ◌++◌, length, get_or, take, drop, refl, sym, ap, ◌∙◌, Option, None, Some, option_map, length-drop, arith, rules, tests, append-nil, append_assoc}
+use Rattle.std.proofs.Common.{◌≡◌, ◌≢◌, ℕ, ◌<◌, ◌≤◌, ◌+◌, ◌-◌, ◌==◌, true, false, List, [], ◌∷◌, ◌++◌, length, get_or, take, drop, refl, sym, ap, ◌∙◌, Option, None, Some, option_map, length-drop, arith, rules, tests, append-nil, append_assoc}
 use Rattle.std.proofs.lemmas.List.{at_drop_more, at_drop_all, take_more, take_all}
 use Rattle.ice_flow.specs.ChipText.{cut_at, onto_front}
 

@@ -1,5 +1,5 @@
 -- What every chip text of the form gives: groups of the two tiles and four wires, with at most so many rows.
-use Rattle.std.proofs.Common.{◌≡◌, ◌⊎◌, inl, inr, ℕ, zero, suc, ◌<◌, ◌≤◌, ◌+◌, ◌==◌, Bool, true, false, List, [], ◌∷◌, ◌++◌, length, map, refl, sym, ap, subst, ◌∙◌, Option, None, Some, option_map, nat_lt, slice_get, if◌then◌else◌, length-append, add_assoc, arith, rules, tests, codes, Result, Ok, Err, IfOk, Vec, Global}
+use Rattle.std.proofs.Common.{◌≡◌, ◌⊎◌, inl, inr, ℕ, zero, suc, ◌<◌, ◌≤◌, ◌+◌, ◌==◌, Bool, true, false, List, [], ◌∷◌, ◌++◌, length, map, refl, sym, ap, subst, ◌∙◌, Option, None, Some, option_map, nat_lt, slice_get, if◌then◌else◌, length-append, arith, rules, tests, codes, Result, Ok, Err, IfOk, Vec, Global}
 use Rattle.std.specs.Option.{option_and_then}
 use Rattle.std.specs.Str.{bytes_eq}
 use Rattle.ice_base.specs.Comments.{begins_with}
@@ -7,7 +7,7 @@ use Rattle.ice_base.specs.Numbers.{number_in}
 use Rattle.ice_base.specs.declared.number.TileAt.{TileAt}
 use Rattle.ice_base.specs.declared.number.BitAt.{BitAt}
 use Rattle.ice_flow.specs.Lists.{At, Has, all_known}
-use Rattle.ice_flow.specs.Database.{SwitchRow, SwitchGroup, Row, group_rows, rows_from}
+use Rattle.ice_flow.specs.Database.{SwitchRow, SwitchGroup, group_rows, rows_from}
 use Rattle.ice_flow.specs.FirstForm.{left_tile, right_tile}
 use Rattle.ice_flow.specs.ChipText.{number_below, column_in, place, place_in, bit_in, bits_in, cut_at, tile_at, group_without_rows, group_in, heading_in, digit_value, row_in, Groups, most_rows, with_heading, with_row, with_line, with_lines, begun, all_groups, groups_of, groups_in, header_lines, lines_behind, IsOfForm}
 use Rattle.ice_flow.specs.PlainLines.{plain_lines}
@@ -89,6 +89,7 @@ bit_form (c ∷ bytes) b e =
     column_form : (column rest : List ℕ) (n : ℕ) → column_in column rest ≡ Some n → n < 17
     column_form column [] n e = below 17 column n e
     column_form column (c ∷ rest) n e = absurd (cc)
+
     place_form : (row rest : List ℕ) (b : BitAt) → place_in row rest ≡ Some b → (b.row < 16) × (b.col < 17)
     place_form row rest b e =
         let r = chained (λ (row : ℕ). option_map (place row) (option_and_then (λ cut. column_in cut.0 cut.1) (cut_at 93 rest))) (number_below 16 row) b e in
@@ -132,9 +133,10 @@ bits_form names bits e =
     let n = fails (length k.0 == 0) (Some k.0) bits k.2 in
     let same : k.0 ≡ bits = (let two : Some k.0 ≡ Some bits = n.1 in cc) in
     let all : all_known (map bit_in names) ≡ Some bits = k.1 ∙ ap Some same in
-    let some : 0 < length k.0 = (let test : (length k.0 == 0) ≡ false = n.0 in search (rules, tests)) in
-    (subst (λ (bits : List BitAt). 0 < length bits) same some,
-     λ b h. let found = known_has bit_in names bits b h.0 all h.1 in bit_form found.0 b found.1)
+    let some : 0 < length k.0 = (let test : (length k.0 == 0) ≡ false = n.0 in search (rules, tests)) in (
+      subst (λ (bits : List BitAt). 0 < length bits) same some,
+      λ b h. let found = known_has bit_in names bits b h.0 all h.1 in bit_form found.0 b found.1,
+    )
 
 -- a group that is begun
 record IsBegun (g : SwitchGroup) : Type 0 where
@@ -208,10 +210,10 @@ heading_keeps s g h new = record {
   before = λ k at. elim (has_last s.before s.last k at) [ inl old ↦ h.before k old | inr is ↦ subst IsGroupOfForm (sym is) h.last ];
   last = new.form;
   counted =
-    let e = row_count-append s.before (s.last ∷ []) in
-    let c = h.counted in
-    let z : length g.rows ≡ 0 = ap length new.empty in
-    omega arith;
+      let e = row_count-append s.before (s.last ∷ []) in
+      let c = h.counted in
+      let z : length g.rows ≡ 0 = ap length new.empty in
+      omega arith;
   few = h.few;
 }
 
@@ -227,9 +229,9 @@ row_keeps s r h lt paired room = record {
     paired = λ q at. elim (has_last s.last.rows r q at) [ inl old ↦ h.last.paired q old | inr is ↦ subst (λ (q : SwitchRow). length q.values ≡ length s.last.bits) (sym is) paired ];
   };
   counted =
-    let e = length-append s.last.rows (r ∷ []) in
-    let c = h.counted in
-    omega arith;
+      let e = length-append s.last.rows (r ∷ []) in
+      let c = h.counted in
+      omega arith;
   few = omega arith;
 }
 
@@ -264,11 +266,11 @@ all_form s h = record {
   some = λ g at. (each g at).some;
   paired = λ g r at. (each g at).paired r;
   few =
-    let a = length-rows_from 0 (all_groups s) in
-    let b = row_count-append s.before (s.last ∷ []) in
-    let c = h.counted in
-    let d = h.few in
-    omega arith;
+      let a = length-rows_from 0 (all_groups s) in
+      let b = row_count-append s.before (s.last ∷ []) in
+      let c = h.counted in
+      let d = h.few in
+      omega arith;
 }
   where
     each : (g : SwitchGroup) → Has (all_groups s) g → IsGroupOfForm g

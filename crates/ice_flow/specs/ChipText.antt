@@ -85,7 +85,7 @@ group_without_rows tile wire bits = record { tile = tile; wire = wire; bits = bi
 abbrev pub group_in : List (List ℕ) → Option SwitchGroup
 group_in (x ∷ y ∷ wire ∷ bits) =
     option_and_then (λ x. option_and_then (λ y. option_and_then (λ wire. option_map (group_without_rows (tile_at x y) wire) (bits_in bits))
-        (number_below 4 wire)) (number_below 1 y)) (number_below 2 x)
+    (number_below 4 wire)) (number_below 1 y)) (number_below 2 x)
 group_in words = None
 
 -- the group of the heading `.buffer X Y WIRE BIT..`
@@ -101,8 +101,8 @@ digit_value b = if b == 48 then Some false else (if b == 49 then Some true else 
 abbrev pub row_in : ℕ → List (List ℕ) → Option SwitchRow
 row_in bits (digits ∷ source ∷ []) =
     if length digits == bits then
-        option_and_then (λ source. option_map (λ values. record { values = values; source = source }) (all_known (map digit_value digits)))
-            (number_below 4 source)
+    option_and_then (λ source. option_map (λ values. record { values = values; source = source }) (all_known (map digit_value digits)))
+    (number_below 4 source)
     else None
 row_in bits words = None
 

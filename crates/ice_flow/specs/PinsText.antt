@@ -1,5 +1,5 @@
 -- The pin constraints of the form that is built so far: one for each port, in the order of the ports.
-use Rattle.std.specs.Prelude.{ℕ, Bool, true, false, ◌==◌, ◌&&◌, ◌||◌, not, Option, None, Some, List, [], ◌∷◌, ◌++◌, if◌then◌else◌, Result, Ok, Err, codes, option_map, slice_index_or, is_some}
+use Rattle.std.specs.Prelude.{ℕ, Bool, ◌&&◌, ◌||◌, not, Option, None, Some, List, [], ◌∷◌, ◌++◌, if◌then◌else◌, Result, Ok, Err, codes, option_map, slice_index_or, is_some}
 use Rattle.std.specs.Option.{option_and_then}
 use Rattle.std.specs.Str.{bytes_eq}
 use Rattle.std.specs.List.{list_all}
@@ -39,7 +39,7 @@ constraints_of n [] (line ∷ lines) = None
 constraints_of n (port ∷ ports) [] = None
 constraints_of n (port ∷ ports) (line ∷ lines) =
     option_and_then (λ pin. option_map (λ others. record { line = line.0; way = port.way; pin = pin } ∷ others) (constraints_of n ports lines))
-        (pin_in (port_name n port) line.1)
+    (pin_in (port_name n port) line.1)
 
 -- the names of the wires that a pad needs, where its port leads this way
 abbrev pub needed_names : Way → ℕ → List (List ℕ)

@@ -4,8 +4,23 @@ ghost use Rattle.ice_base.specs.Text.{lines, numbered};
 ghost use Rattle.ice_flow.specs.Lists.{all_known};
 ghost use Rattle.ice_flow.specs.PlainLines.{plain_lines};
 ghost use Rattle.ice_flow.specs.ChipText.{
-    cut_at, number_below, bit_in, bits_in, group_in, group_without_rows, heading_in, digit_value, row_in, header_lines, bodies,
-    lines_behind, with_line, groups_of, groups_in, most_rows, IsOfForm
+  cut_at,
+  number_below,
+  bit_in,
+  bits_in,
+  group_in,
+  group_without_rows,
+  heading_in,
+  digit_value,
+  row_in,
+  header_lines,
+  bodies,
+  lines_behind,
+  with_line,
+  groups_of,
+  groups_in,
+  most_rows,
+  IsOfForm,
 };
 ghost use Rattle.ice_flow.specs.Views.{row_view, group_view, groups_view};
 ghost use Rattle.ice_flow.specs.Readers.{Gives, reading_view};
@@ -200,7 +215,7 @@ fn digit_value(digit: u8) -> Option<bool>
 fn values(alloc: Global, digits: &[u8]) -> Result<Vec<bool>, ChipStop>
     ensures { Gives (λ values. values.items) result (all_known (map digit_value digits.now)) }
 {
-    let mut values = Vec::new(alloc);
+    let mut values = Vec::with_capacity(alloc, digits.len())?;
     for digit in digits {
         values.push(digit_value(*digit).ok_or(ChipStop::OtherForm)?)?;
     }
@@ -208,7 +223,12 @@ fn values(alloc: Global, digits: &[u8]) -> Result<Vec<bool>, ChipStop>
 }
 
 // The row of a group with this number of bits.
-fn row(alloc: Global, bits: usize, digits: &[u8], mut words: PlainWords<'_>) -> Result<Row, ChipStop>
+fn row(
+    alloc: Global,
+    bits: usize,
+    digits: &[u8],
+    mut words: PlainWords<'_>,
+) -> Result<Row, ChipStop>
     ensures { Gives row_view result (row_in bits (digits.now ∷ words.entry)) }
 {
     let source = words.next().ok_or(ChipStop::OtherForm)?;
@@ -265,7 +285,11 @@ fn read_groups(alloc: Global, mut lines: PlainLines<'_>) -> Result<Vec<Group>, C
     for line in lines {
         take_line(alloc, &mut reading, line)?;
     }
-    let Reading { mut before, last, .. } = reading;
+    let Reading {
+        mut before,
+        last,
+        ..
+    } = reading;
     before.push(last)?;
     Ok(before)
 }

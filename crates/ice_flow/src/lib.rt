@@ -20,3 +20,6 @@ pub fn limit() -> usize
 {
     67108864
 }
+
+#[cfg(test)]
+mod reader_tests;

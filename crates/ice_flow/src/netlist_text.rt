@@ -108,7 +108,11 @@ fn is_end(first: &[u8], mut others: WordIter<'_>) -> bool
 }
 
 // What is to stand behind a line of these words, where they are what is to stand there.
-fn behind_words<'a>(awaited: Awaited<'a>, first: &'a [u8], others: WordIter<'a>) -> Option<Awaited<'a>>
+fn behind_words<'a>(
+    awaited: Awaited<'a>,
+    first: &'a [u8],
+    others: WordIter<'a>,
+) -> Option<Awaited<'a>>
     ensures { behind_words (awaited_view awaited.entry) (first.now ∷ others.entry) ≡ option_map awaited_view result }
 {
     match awaited {

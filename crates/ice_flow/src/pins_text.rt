@@ -57,7 +57,11 @@ fn constraint_of<'a>(port: &[u8], line: PlainLine<'a>) -> Option<Constraint<'a>>
     let mut words = line.others;
     let name = words.next()?;
     let pin = words.next()?;
-    if words.next().is_some() || line.first != b"set_io".as_slice() || name != port || begins_with(b'-', name) {
+    if words.next().is_some()
+        || line.first != b"set_io".as_slice()
+        || name != port
+        || begins_with(b'-', name)
+    {
         return None;
     }
     Some(Constraint {
@@ -68,10 +72,8 @@ fn constraint_of<'a>(port: &[u8], line: PlainLine<'a>) -> Option<Constraint<'a>>
 
 // The constraints of the input and of the output.
 fn constraints<'a>(text: &'a [u8], buffer: &Buffer<'_>) -> Option<(Constraint<'a>, Constraint<'a>)>
-    ensures {
-        let netlist = buffer_netlist buffer.now.input.now buffer.now.output.now in
-        constraints_of netlist netlist.ports (plain_lines_of text.now) ≡ option_map constraint_views result
-    }
+    ensures { let netlist = buffer_netlist buffer.now.input.now buffer.now.output.now in
+        constraints_of netlist netlist.ports (plain_lines_of text.now) ≡ option_map constraint_views result }
 {
     let mut lines = plain_lines(lines_of(text));
     let input = constraint_of(buffer.input, lines.next()?)?;

@@ -1,4 +1,4 @@
-use Rattle.std.proofs.Common.{◌≡◌, map}
+use Rattle.std.proofs.Common.{◌≡◌}
 use Rattle.ice_flow.specs.ChipText.{lines_behind, bodies}
 use Rattle.ice_flow.proofs.chip_text.lines_behind.Given as goal
 

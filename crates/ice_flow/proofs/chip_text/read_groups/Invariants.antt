@@ -1,5 +1,4 @@
 use Rattle.std.proofs.Common.{◌≡◌, option_map}
-use Rattle.std.specs.Option.{option_and_then}
 use Rattle.ice_flow.specs.ChipText.{groups_of, with_lines, all_groups}
 use Rattle.ice_flow.specs.Readers.{reading_view}
 use Rattle.ice_flow.proofs.chip_text.read_groups.Given as goal

@@ -1,4 +1,4 @@
-use Rattle.std.proofs.Common.{◌≡◌, ℕ, length}
+use Rattle.std.proofs.Common.{◌≡◌, length}
 use Rattle.ice_flow.specs.PlainLines.{plain_lines}
 use Rattle.ice_flow.proofs.plain.PlainLinesIterator.next.Given as goal
 
