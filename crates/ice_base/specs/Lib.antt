@@ -1,0 +1,4 @@
+pub mod Text
+pub mod Comments
+pub mod Cursors
+pub mod Numbers

@@ -1,11 +1,22 @@
 //! The things that every layer of the flow speaks of: numbers of wires, nets, rows and signals, places
-//! of tiles and bits, names, and want of memory.
+//! of tiles and bits, names, lines and words of a text, and want of memory.
 #![tactic(auto)]
 
+mod comments;
+mod decimal;
+mod lines;
 mod memory;
 mod name;
 mod number;
+mod words;
 
+pub use comments::{PlainWords, begins_with, plain_words_of};
+pub use decimal::number_of;
+pub use lines::{Line, LineIter, lines_of};
 pub use memory::NoMemory;
 pub use name::{Name, name_of};
 pub use number::{BitAt, NetNo, RowNo, SignalNo, TileAt, WireNo};
+pub use words::{WordIter, no_words, words_of};
+
+#[cfg(test)]
+mod tests;

@@ -1,0 +1,110 @@
+-- How a word is read as a number, digit by digit.
+use Rattle.std.proofs.Common.{◌≡◌, ◌⊎◌, inl, inr, ℕ, ◌<◌, ◌≤◌, ◌+◌, ◌*◌, ◌-◌, ◌^◌, Bool, true, false, ◌&&◌, List, [], ◌∷◌, length, get_or, drop, nat_lt, nat_le, Option, Some, None, if◌then◌else◌, refl, sym, ap, ◌∙◌, arith, rules, tests}
+use Rattle.std.proofs.lemmas.List.{at_drop_more, at_drop_all}
+use Rattle.std.specs.Char.{is_ascii_digit}
+use Rattle.std.specs.Str.{all_ascii_digits}
+use Rattle.ice_base.specs.Numbers.{with_digit, with_digits, decimal_value, is_number, number_in}
+
+-- the digits so far are read: those that are left decide
+pub record ReadTo (word rest : List ℕ) (number : ℕ) : Type 0 where
+  pub value : decimal_value word ≡ with_digits number rest
+  pub digits : all_ascii_digits word ≡ all_ascii_digits rest
+  pub fits : number < 2 ^ 32
+
+-- digits make no number less
+no_less : (n : ℕ) (digits : List ℕ) → n ≤ with_digits n digits
+no_less n [] = omega arith
+no_less n (d ∷ ds) = omega (arith, no_less (with_digit n d) ds)
+
+one_false : (a b : Bool) → (a && b) ≡ false → (a ≡ false) ⊎ (b ≡ false)
+one_false false b e = inl refl
+one_false true b e = inr e
+
+and_false : (a : Bool) → (a && false) ≡ false
+and_false false = refl
+and_false true = refl
+
+both_true : (a b : Bool) → (a && b) ≡ true → (a ≡ true) × (b ≡ true)
+both_true false b e = absurd (cc)
+both_true true b e = (refl, e)
+
+second_false : (a b c d : Bool) → b ≡ false → (a && b && c && d) ≡ false
+second_false a b c d e = rw (e, and_false a) refl
+
+third_false : (a b c d : Bool) → c ≡ false → (a && b && c && d) ≡ false
+third_false a b c d e = rw (e, and_false (a && b)) refl
+
+fourth_false : (a b c d : Bool) → d ≡ false → (a && b && c && d) ≡ false
+fourth_false a b c d e = rw e (and_false (a && b && c))
+
+number_is : (word : List ℕ) → number_in word ≡ (if is_number word then Some (decimal_value word) else None)
+unfolding number_in
+number_is word = refl
+
+no_number : (word : List ℕ) → is_number word ≡ false → number_in word ≡ None
+no_number word e = number_is word ∙ rw e refl
+
+pub empty_word : (word : List ℕ) → length word ≡ 0 → number_in word ≡ None
+empty_word word e = no_number word (rw e refl)
+
+pub long_word : (word : List ℕ) → 10 < length word → number_in word ≡ None
+long_word word lt =
+    let long : nat_le (length word) 10 ≡ false = search (rules, tests) in
+    no_number word (second_false (nat_le 1 (length word)) (nat_le (length word) 10) (all_ascii_digits word) (nat_lt (decimal_value word) (2 ^ 32)) long)
+
+-- a word with a byte that is no digit
+no_digits : (word : List ℕ) → all_ascii_digits word ≡ false → number_in word ≡ None
+no_digits word e = no_number word (third_false (nat_le 1 (length word)) (nat_le (length word) 10) (all_ascii_digits word) (nat_lt (decimal_value word) (2 ^ 32)) e)
+
+-- a word with too great a value
+too_great : (word : List ℕ) → 2 ^ 32 ≤ decimal_value word → number_in word ≡ None
+too_great word le =
+    let great : nat_lt (decimal_value word) (2 ^ 32) ≡ false = search (rules, tests) in
+    no_number word (fourth_false (nat_le 1 (length word)) (nat_le (length word) 10) (all_ascii_digits word) (nat_lt (decimal_value word) (2 ^ 32)) great)
+
+value_goes_on : (word : List ℕ) (i number : ℕ) → ReadTo word (drop i word) number → i < length word
+    → decimal_value word ≡ with_digits (with_digit number (get_or word i 0)) (drop (i + 1) word)
+value_goes_on word i number so_far lt = so_far.value ∙ at_drop_more (with_digits number) word i 0 lt
+
+digits_go_on : (word : List ℕ) (i number : ℕ) → ReadTo word (drop i word) number → i < length word
+    → all_ascii_digits word ≡ (is_ascii_digit (get_or word i 0) && all_ascii_digits (drop (i + 1) word))
+digits_go_on word i number so_far lt = so_far.digits ∙ at_drop_more all_ascii_digits word i 0 lt
+
+pub digit_joins : (word : List ℕ) (i number : ℕ) → ReadTo word (drop i word) number → i < length word
+    → (is_ascii_digit (get_or word i 0) && nat_lt (with_digit number (get_or word i 0)) (2 ^ 32)) ≡ true
+    → ReadTo word (drop (i + 1) word) (with_digit number (get_or word i 0))
+digit_joins word i number so_far lt joins =
+    let both = both_true (is_ascii_digit (get_or word i 0)) (nat_lt (with_digit number (get_or word i 0)) (2 ^ 32)) joins in
+    let small : nat_lt (with_digit number (get_or word i 0)) (2 ^ 32) ≡ true = both.1 in
+    record {
+      value = value_goes_on word i number so_far lt;
+      digits = digits_go_on word i number so_far lt ∙ ap (λ first. first && all_ascii_digits (drop (i + 1) word)) both.0;
+      fits = search (rules, tests);
+    }
+
+stops_by : (word : List ℕ) (i number : ℕ) → ReadTo word (drop i word) number → i < length word
+    → (is_ascii_digit (get_or word i 0) ≡ false) ⊎ (nat_lt (with_digit number (get_or word i 0)) (2 ^ 32) ≡ false)
+    → number_in word ≡ None
+stops_by word i number so_far lt (inl no_digit) =
+    no_digits word (digits_go_on word i number so_far lt ∙ ap (λ first. first && all_ascii_digits (drop (i + 1) word)) no_digit)
+stops_by word i number so_far lt (inr great) =
+    let next : ℕ = with_digit number (get_or word i 0) in
+    let over : 2 ^ 32 ≤ next = search (rules, tests) in
+    too_great word (omega (arith, over, no_less next (drop (i + 1) word), value_goes_on word i number so_far lt))
+
+pub digit_stops : (word : List ℕ) (i number : ℕ) → ReadTo word (drop i word) number → i < length word
+    → (is_ascii_digit (get_or word i 0) && nat_lt (with_digit number (get_or word i 0)) (2 ^ 32)) ≡ false
+    → number_in word ≡ None
+digit_stops word i number so_far lt stops =
+    stops_by word i number so_far lt (one_false (is_ascii_digit (get_or word i 0)) (nat_lt (with_digit number (get_or word i 0)) (2 ^ 32)) stops)
+
+pub digits_end : (word : List ℕ) (i number : ℕ) → ReadTo word (drop i word) number → length word ≤ i → 0 < length word → length word ≤ 10
+    → Some number ≡ number_in word
+digits_end word i number so_far le some short =
+    let value : decimal_value word ≡ number = so_far.value ∙ at_drop_all (with_digits number) word i le in
+    let digits : all_ascii_digits word ≡ true = so_far.digits ∙ at_drop_all all_ascii_digits word i le in
+    let not_empty : nat_le 1 (length word) ≡ true = search (rules, tests) in
+    let not_long : nat_le (length word) 10 ≡ true = search (rules, tests) in
+    let fits : number < 2 ^ 32 = so_far.fits in
+    let not_great : nat_lt number (2 ^ 32) ≡ true = search (rules, tests) in
+    sym (number_is word ∙ (rw (value, digits, not_empty, not_long, not_great) refl))

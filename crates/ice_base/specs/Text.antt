@@ -1,0 +1,43 @@
+-- Lines and words of a text. A text is a list of bytes.
+use Rattle.std.specs.Prelude.{ℕ, ◌+◌, ◌-◌, ◌^◌, min, ◌≡◌, Bool, false, ◌||◌, List, [], ◌∷◌, length, filter, nat_lt, ◌==◌, if◌then◌else◌}
+
+-- the byte joins the first piece
+abbrev pub onto_first : ℕ → List (List ℕ) → List (List ℕ)
+onto_first b [] = (b ∷ []) ∷ []
+onto_first b (piece ∷ pieces) = (b ∷ piece) ∷ pieces
+
+-- the lines: each ends at a line feed, or at the end of the text. An empty rest after the last line feed is no line
+unfoldable pub lines : List ℕ → List (List ℕ)
+lines [] = []
+lines (b ∷ bytes) = if b == 10 then [] ∷ lines bytes else onto_first b (lines bytes)
+
+-- the number of the line after line n: every line beyond the last number has that number too
+abbrev pub next_number : ℕ → ℕ
+next_number n = min (n + 1) (2 ^ 32 - 1)
+
+-- the lines with their numbers, the first of them n
+abbrev pub numbered : ℕ → List (List ℕ) → List (ℕ × List ℕ)
+numbered n [] = []
+numbered n (line ∷ lines) = (n, line) ∷ numbered (next_number n) lines
+
+-- space, tab and carriage return are blanks, and no other byte is
+abbrev pub is_blank : ℕ → Bool
+is_blank b = (b == 32) || (b == 9) || (b == 13)
+
+-- a word ends before a blank, and at the end of its line
+abbrev pub ends_word : ℕ → Bool
+ends_word b = is_blank b || (b == 10)
+
+-- the pieces between the bytes that end words, the empty ones too
+unfoldable pub pieces : List ℕ → List (List ℕ)
+pieces [] = [] ∷ []
+pieces (b ∷ bytes) = if ends_word b then [] ∷ pieces bytes else onto_first b (pieces bytes)
+
+-- the words of all lines: the pieces that aren't empty
+unfoldable pub words : List ℕ → List (List ℕ)
+words bytes = filter (λ piece. nat_lt 0 (length piece)) (pieces bytes)
+
+-- nothing, or a word stands at the front
+abbrev pub StartsWord : List ℕ → Type 0
+StartsWord [] = Unit {0}
+StartsWord (b ∷ bytes) = ends_word b ≡ false

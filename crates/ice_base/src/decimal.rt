@@ -1,0 +1,30 @@
+//! Numbers as words of a text.
+ghost use Rattle.std.specs.Prelude.{◌≡◌, ◌^◌, ◌≤◌, ◌<◌, ◌&&◌, nat_lt, Some, None, if◌then◌else◌};
+ghost use Rattle.std.specs.Char.{is_ascii_digit};
+ghost use Rattle.ice_base.specs.Numbers.{number_in, with_digit};
+
+// The number that a number's digits and one more write, where that is a digit and the number fits.
+fn appended(number: u32, digit: u8) -> Option<u32>
+    ensures { result ≡ (if is_ascii_digit digit && nat_lt (with_digit number digit) (2 ^ 32) then Some (with_digit number digit) else None) }
+{
+    if !digit.is_ascii_digit() {
+        return None;
+    }
+    u32::try_from(u64::from(number) * 10 + u64::from(digit - b'0')).ok()
+}
+
+/// The value of a word of one to ten decimal digits; leading zeros count as digits. None exactly where the word is
+/// no such word or its value exceeds 4,294,967,295. It takes no memory.
+#[tactic(auto, using(crate::proofs::Digits::empty_word, crate::proofs::Digits::long_word, crate::proofs::Digits::digit_joins, crate::proofs::Digits::digit_stops, crate::proofs::Digits::digits_end))]
+pub fn number_of(word: &[u8]) -> Option<u32>
+    ensures { result ≡ number_in word.now }
+{
+    if word.is_empty() || word.len() > 10 {
+        return None;
+    }
+    let mut number = 0;
+    for (i, digit) in word.iter().enumerate() {
+        number = appended(number, *digit)?;
+    }
+    Some(number)
+}
