@@ -11,3 +11,5 @@ pub mod FirstForm
 pub mod Same
 pub mod Written
 pub mod Views
+pub mod Asc
+pub mod Writing

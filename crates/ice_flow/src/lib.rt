@@ -7,7 +7,9 @@ ghost use Rattle.ice_flow.specs.Views.{AreCopies};
 ghost use Rattle.ice_flow.specs.Same.{ShowsSame};
 ghost use Rattle.ice_flow.specs.FirstForm.{database_with};
 
+mod bits;
 mod chip;
+mod functions;
 mod pad;
 mod route;
 
