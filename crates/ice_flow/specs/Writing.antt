@@ -1,5 +1,5 @@
 -- The bits of the IO tiles as the program keeps them, and what the writer sets in them.
-use Rattle.std.specs.Prelude.{◌≡◌, ℕ, ◌+◌, ◌*◌, ◌<◌, Bool, true, ◌&&◌, List, [], ◌∷◌, length, map, slice_index_or}
+use Rattle.std.specs.Prelude.{◌≡◌, ℕ, ◌+◌, ◌<◌, Bool, true, false, ◌&&◌, ◌||◌, List, [], ◌∷◌, length, map, slice_index_or}
 use Rattle.ice_base.specs.declared.number.TileAt.{TileAt}
 use Rattle.ice_base.specs.declared.number.BitAt.{BitAt}
 use Rattle.ice_flow.specs.Lists.{Has}
@@ -9,9 +9,8 @@ use Rattle.ice_flow.specs.Configuration.{Configuration, bits_in}
 use Rattle.ice_flow.specs.Switches.{Bits}
 use Rattle.ice_flow.specs.Routes.{value_at}
 use Rattle.ice_flow.specs.Views.{pad_view, port_pad_view}
-use Rattle.ice_flow.specs.Written.{Plan, wants}
+use Rattle.ice_flow.specs.Written.{Plan, wants, written}
 use Rattle.ice_flow.specs.declared.bits.IoBits.{IoBits}
-use Rattle.ice_flow.specs.declared.functions.FunctionBit.{FunctionBit}
 use Rattle.ice_flow.specs.declared.functions.Function as rust_function
 use Rattle.ice_flow.specs.declared.functions.Function.TheVariants as rust_variants
 use Rattle.ice_flow.specs.declared.pad.Pad as rust_pad
@@ -64,6 +63,12 @@ function_view (rust_variants.PinType pio digit) = PinType pio digit
 function_view (rust_variants.InputEnable pio) = InputEnable pio
 function_view (rust_variants.PullUpEnable pio) = PullUpEnable pio
 
+-- a pin type has six digits
+abbrev pub HasDigit : rust_function.Function → Type 0
+HasDigit (rust_variants.PinType pio digit) = digit < 6
+HasDigit (rust_variants.InputEnable pio) = Unit {0}
+HasDigit (rust_variants.PullUpEnable pio) = Unit {0}
+
 -- the database without switches
 abbrev pub bare : Database
 bare = database_with []
@@ -73,9 +78,15 @@ abbrev pub pads_plan : List rust_pad.Pad → List rust_port_pad.PortPad → Plan
 pads_plan roots ports = record { rows = []; roots = map pad_view roots; ports = map port_pad_view ports }
 
 -- whether a function's bit is set in a tile
-abbrev pub function_wanted : List rust_pad.Pad → List rust_port_pad.PortPad → TileAt → rust_function.Function → Bool
-function_wanted roots ports t f = wants bare (pads_plan roots ports) t (function_view f)
+abbrev pub is_wanted : List rust_pad.Pad → List rust_port_pad.PortPad → TileAt → rust_function.Function → Bool
+is_wanted roots ports t f = wants bare (pads_plan roots ports) t (function_view f)
 
--- what is set in a tile for a function and its bit
-abbrev pub function_sets : List rust_pad.Pad → List rust_port_pad.PortPad → TileAt → BitAt → FunctionBit → Bool
-function_sets roots ports t b f = same_bit f.bit b && function_wanted roots ports t f.function
+-- what is set in a tile for functions, of which the first has its bit in this row, and each other in the row behind
+abbrev pub functions_set : List rust_pad.Pad → List rust_port_pad.PortPad → TileAt → BitAt → ℕ → List rust_function.Function → Bool
+functions_set roots ports t b row [] = false
+functions_set roots ports t b row (f ∷ fs) =
+    (same_bit (record { row = row; col = 17 }) b && is_wanted roots ports t f) || functions_set roots ports t b (row + 1) fs
+
+-- what is set for the pads
+abbrev pub pads_set : List rust_pad.Pad → List rust_port_pad.PortPad → Bits
+pads_set roots ports t b = written bare (pads_plan roots ports) t b

@@ -49,12 +49,6 @@ fn is_left(tile: TileAt) -> bool
     LEFT_TILE == tile
 }
 
-fn is_right(tile: TileAt) -> bool
-    ensures { result ≡ same_tile right_tile tile }
-{
-    RIGHT_TILE == tile
-}
-
 // Sets one bit of a tile.
 fn set_in_rows(rows: &mut IoRows, at: BitAt)
     requires shape { IsGrid rows.old }
@@ -65,24 +59,23 @@ fn set_in_rows(rows: &mut IoRows, at: BitAt)
     rows[usize::from(at.row)][usize::from(at.col)] = true;
 }
 
-/// Sets one bit, and no other; at no tile it sets nothing.
-pub fn set_bit(bits: &mut IoBits, tile: TileAt, at: BitAt)
+// Sets one bit, and no other.
+fn set_bit(bits: &mut IoBits, tile: TileAt, at: BitAt)
     requires shape { AreGrids bits.old }
+    requires tile { is_io_tile tile ≡ true }
     requires place { IsInTile at }
     ensures shape { AreGrids bits.new }
-    ensures set { (t : TileAt) (b : BitAt) → bits_of bits.new t b ≡ (bits_of bits.old t b || (is_io_tile tile && (same_tile tile t && same_bit at b))) }
+    ensures set { (t : TileAt) (b : BitAt) → bits_of bits.new t b ≡ (bits_of bits.old t b || (same_tile tile t && same_bit at b)) }
 {
     if is_left(tile) {
         set_in_rows(&mut bits.left, at);
         return;
     }
-    if is_right(tile) {
-        set_in_rows(&mut bits.right, at);
-    }
+    set_in_rows(&mut bits.right, at);
 }
 
-// Sets one bit of a tile where the value is 1.
-fn set_to(bits: &mut IoBits, tile: TileAt, at: BitAt, value: bool)
+/// Sets one bit where the value is 1, and no other.
+pub fn set_to(bits: &mut IoBits, tile: TileAt, at: BitAt, value: bool)
     requires shape { AreGrids bits.old }
     requires tile { is_io_tile tile ≡ true }
     requires place { IsInTile at }
