@@ -1,2 +1,3 @@
 pub mod BitSteps
 pub mod PadSteps
+pub mod PrintSteps

@@ -1,5 +1,5 @@
 -- The bits of the IO tiles as the program keeps them, and what the writer sets in them.
-use Rattle.std.specs.Prelude.{◌≡◌, ℕ, ◌+◌, ◌<◌, Bool, true, false, ◌&&◌, ◌||◌, List, [], ◌∷◌, length, map, slice_index_or}
+use Rattle.std.specs.Prelude.{◌≡◌, ℕ, ◌+◌, ◌<◌, Bool, true, false, ◌&&◌, ◌||◌, List, [], ◌∷◌, length, map, codes, ◌++◌, slice_index_or}
 use Rattle.ice_base.specs.declared.number.TileAt.{TileAt}
 use Rattle.ice_base.specs.declared.number.BitAt.{BitAt}
 use Rattle.ice_flow.specs.Lists.{Has}
@@ -10,6 +10,7 @@ use Rattle.ice_flow.specs.Switches.{Bits}
 use Rattle.ice_flow.specs.Routes.{value_at}
 use Rattle.ice_flow.specs.Views.{pad_view, port_pad_view}
 use Rattle.ice_flow.specs.Written.{Plan, wants, written}
+use Rattle.ice_flow.specs.Asc.{digit_of_bit, tile_heading}
 use Rattle.ice_flow.specs.declared.bits.IoBits.{IoBits}
 use Rattle.ice_flow.specs.declared.functions.Function as rust_function
 use Rattle.ice_flow.specs.declared.functions.Function.TheVariants as rust_variants
@@ -90,3 +91,16 @@ functions_set roots ports t b row (f ∷ fs) =
 -- what is set for the pads
 abbrev pub pads_set : List rust_pad.Pad → List rust_port_pad.PortPad → Bits
 pads_set roots ports t b = written bare (pads_plan roots ports) t b
+
+-- ---- the text that is written
+abbrev pub digits_of_row : List Bool → List ℕ
+digits_of_row row = map digit_of_bit row
+
+-- the lines of a tile with these rows
+abbrev pub lines_of_tile : TileAt → List (List Bool) → List (List ℕ)
+lines_of_tile t rows = tile_heading t ∷ map digits_of_row rows
+
+-- the lines of the text of these bits
+abbrev pub lines_of_bits : IoBits → List (List ℕ)
+lines_of_bits bits =
+    codes ".comment" ∷ codes "placed and routed" ∷ codes ".device 1k" ∷ (lines_of_tile left_tile bits.left ++ lines_of_tile right_tile bits.right)

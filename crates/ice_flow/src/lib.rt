@@ -7,6 +7,7 @@ ghost use Rattle.ice_flow.specs.Views.{AreCopies};
 ghost use Rattle.ice_flow.specs.Same.{ShowsSame};
 ghost use Rattle.ice_flow.specs.FirstForm.{database_with};
 
+mod asc;
 mod bits;
 mod chip;
 mod functions;
