@@ -9,7 +9,7 @@ use Rattle.ice_flow.specs.Database.{same_bit}
 use Rattle.ice_flow.specs.Routes.{value_at}
 use Rattle.ice_flow.specs.Configuration.{bit_in_rows}
 
-both : (a b : Bool) → (a && b) ≡ true → (a ≡ true) × (b ≡ true)
+pub both : (a b : Bool) → (a && b) ≡ true → (a ≡ true) × (b ≡ true)
 both true b h = (refl, h)
 both false b h = absurd (cc)
 

@@ -1,3 +1,5 @@
 pub mod BitSteps
 pub mod PadSteps
-pub mod PrintSteps
+pub mod AscLines
+pub mod AscReading
+pub mod WrittenBits

@@ -157,14 +157,14 @@ end_says s (WithinTile heading t rows) last = Err (Truncated heading)
 end_says s ReadOver last = if s.has_device then Ok s.configuration else Err (NoDevice last)
 end_says s Nowhere last = if s.has_device then Ok s.configuration else Err (NoDevice last)
 
+abbrev pub then_say : Result AscState AscFault → (AscState → Result Configuration AscFault) → Result Configuration AscFault
+then_say (Ok s) later = later s
+then_say (Err fault) later = Err fault
+
 -- the numbered lines behind the line `last`
 abbrev pub lines_say : Database → AscState → ℕ → List (ℕ × List ℕ) → Result Configuration AscFault
 lines_say c s last [] = end_says s s.section last
-lines_say c s last (l ∷ ls) = next (line_says c s l.0 (words l.1)) (λ (t : AscState). lines_say c t l.0 ls)
-  where
-    next : Result AscState AscFault → (AscState → Result Configuration AscFault) → Result Configuration AscFault
-    next (Ok t) later = later t
-    next (Err fault) later = Err fault
+lines_say c s last (l ∷ ls) = then_say (line_says c s l.0 (words l.1)) (λ (t : AscState). lines_say c t l.0 ls)
 
 -- what a text says of the bits of the chip, or the first fault in it
 abbrev pub asc_in : Database → List ℕ → Result Configuration AscFault

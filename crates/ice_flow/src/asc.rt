@@ -1,9 +1,16 @@
 //! The text of bits (ASC) is written.
-ghost use Rattle.std.specs.Prelude.{◌≡◌, ◌∷◌, [], ◌++◌, IfOk, decimal};
-ghost use Rattle.ice_flow.specs.Asc.{digit_of_bit, tile_heading, text_of_lines, asc_text};
-ghost use Rattle.ice_flow.specs.Writing.{AreGrids, bare, configuration_of, digits_of_row, lines_of_tile, lines_of_bits};
+ghost use Rattle.std.specs.Prelude.{◌≡◌, List, ◌∷◌, [], ◌++◌, IfOk, decimal, map};
+ghost use Rattle.ice_flow.specs.Database.{SwitchGroup};
+ghost use Rattle.ice_flow.specs.FirstForm.{database_with};
+ghost use Rattle.ice_flow.specs.Views.{AreCopies, pad_view, port_pad_view};
+ghost use Rattle.ice_flow.specs.Written.{Plan};
+ghost use Rattle.ice_flow.specs.Asc.{digit_of_bit, tile_heading, text_of_lines, HoldsWritten};
+ghost use Rattle.ice_flow.specs.Writing.{AreWritable, digits_of_row, lines_of_tile, lines_of_bits};
 
-use crate::bits::{IoBits, IoRows, LEFT_TILE, RIGHT_TILE};
+use crate::bits::{IoBits, IoRows, LEFT_TILE, RIGHT_TILE, blank_bits, write_rows};
+use crate::functions::write_pads;
+use crate::pad::{Pad, PortPad};
+use crate::route::RouteRow;
 use ice_base::{NoMemory, TileAt};
 use itoa::Buffer;
 use std::alloc::Global;
@@ -80,4 +87,22 @@ pub fn print(alloc: Global, bits: &IoBits) -> Result<Vec<u8>, NoMemory>
     put_tile(&mut text, LEFT_TILE, &bits.left)?;
     put_tile(&mut text, RIGHT_TILE, &bits.right)?;
     Ok(text)
+}
+
+/// The text of the bits that realise these rows, whose nets begin at these roots, and the pads of these ports.
+/// Memory is taken for the text alone.
+pub fn write_bits(
+    alloc: Global,
+    rows: &[RouteRow],
+    roots: &[Pad],
+    ports: &[PortPad],
+) -> Result<Vec<u8>, NoMemory>
+    requires { AreWritable rows.now }
+    ensures { IfOk result (λ text. (groups : List SwitchGroup) (plan : Plan) → AreCopies rows.now plan.rows → plan.roots ≡ map pad_view roots.now → plan.ports ≡ map port_pad_view ports.now
+        → HoldsWritten (database_with groups) plan text.items) }
+{
+    let mut bits = blank_bits();
+    write_rows(&mut bits, rows);
+    write_pads(&mut bits, roots, ports);
+    print(alloc, &bits)
 }

@@ -21,6 +21,7 @@ pub const COLUMNS: usize = 18;
 pub type IoRows = [[bool; COLUMNS]; ROWS];
 
 /// The bits of the two IO tiles.
+#[derive(Debug, Drop)]
 pub struct IoBits {
     pub left: IoRows,
     pub right: IoRows,
