@@ -8,6 +8,8 @@ ghost use Rattle.ice_flow.specs.Same.{ShowsSame};
 ghost use Rattle.ice_flow.specs.FirstForm.{database_with};
 
 mod asc;
+#[cfg(test)]
+mod asc_tests;
 mod bits;
 mod chip;
 mod functions;
