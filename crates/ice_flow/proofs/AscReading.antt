@@ -48,11 +48,15 @@ bits_lines : (bits : IoBits) → AllByRecursion IsLine (lines_of_bits bits)
 unfolding digits
 bits_lines bits = (
   plain_line (codes ".comment") refl,
-  (plain_line (codes "placed and routed") refl,
-  (plain_line (codes ".device 1k") refl,
-  all_append IsLine (lines_of_tile left_tile bits.left) (lines_of_tile right_tile bits.right)
-  (plain_line (tile_heading left_tile) refl, rows_lines bits.left)
-  (plain_line (tile_heading right_tile) refl, rows_lines bits.right)))
+  (
+    plain_line (codes "placed and routed") refl,
+    (
+      plain_line (codes ".device 1k") refl,
+      all_append IsLine (lines_of_tile left_tile bits.left) (lines_of_tile right_tile bits.right)
+          (plain_line (tile_heading left_tile) refl, rows_lines bits.left)
+          (plain_line (tile_heading right_tile) refl, rows_lines bits.right),
+    ),
+  ),
 )
 
 -- ---- lines say a configuration, whatever their numbers are
@@ -117,9 +121,9 @@ rows_read c s heading t before (row ∷ after) ls k wide some tall later =
     let long : length (before ++ row ∷ []) + length after ≡ c.tile_rows = omega (arith, length-append before (row ∷ [])) in
     subst (λ (u : AscState). Reads c u (digits_of_row row ∷ (map digits_of_row after ++ ls)) k) (sym e)
     (reads_line c (at_section s (WithinTile heading t before)) (λ n. with_rows c s heading t (before ++ row ∷ [])) (digits_of_row row) (map digits_of_row after ++ ls) k
-      (λ n. row_read c s heading t before row n wide.0 some)
-      (λ n. rows_read c s heading t (before ++ row ∷ []) after ls k wide.1 some long
-        (subst (λ (rows : List (List Bool)). Reads c (with_tile s t rows) ls k) (sym (append_assoc before (row ∷ []) after)) later)))
+    (λ n. row_read c s heading t before row n wide.0 some)
+    (λ n. rows_read c s heading t (before ++ row ∷ []) after ls k wide.1 some long
+    (subst (λ (rows : List (List Bool)). Reads c (with_tile s t rows) ls k) (sym (append_assoc before (row ∷ []) after)) later)))
 
 wide_rows : (rows : List (List Bool)) (columns : ℕ) → ((k : ℕ) → k < length rows → length (get_or rows k []) ≡ columns) → AllByRecursion (λ (row : List Bool). length row ≡ columns) rows
 wide_rows [] columns h = tt
@@ -170,18 +174,18 @@ lines_reads groups bits grids =
     let left : AscState = with_tile behind_device left_tile bits.left in
     let right_lines : List (List ℕ) = lines_of_tile right_tile bits.right in
     let right_rows : (n : ℕ) → Reads c (with_rows c left n right_tile []) (map digits_of_row bits.right) k = λ n.
-      subst (λ (ls : List (List ℕ)). Reads c (with_rows c left n right_tile []) ls k) (append-nil (map digits_of_row bits.right))
-      (grid_read groups left n right_tile bits.right [] k grids.right (end_read groups bits)) in
+    subst (λ (ls : List (List ℕ)). Reads c (with_rows c left n right_tile []) ls k) (append-nil (map digits_of_row bits.right))
+    (grid_read groups left n right_tile bits.right [] k grids.right (end_read groups bits)) in
     let right_says : Reads c left right_lines k =
-      reads_line c left (λ n. with_rows c left n right_tile []) (tile_heading right_tile) (map digits_of_row bits.right) k (right_read groups bits.left) right_rows in
+    reads_line c left (λ n. with_rows c left n right_tile []) (tile_heading right_tile) (map digits_of_row bits.right) k (right_read groups bits.left) right_rows in
     let left_rows : (n : ℕ) → Reads c (with_rows c behind_device n left_tile []) (map digits_of_row bits.left ++ right_lines) k = λ n.
-      grid_read groups behind_device n left_tile bits.left right_lines k grids.left right_says in
+    grid_read groups behind_device n left_tile bits.left right_lines k grids.left right_says in
     let left_says : Reads c behind_device (lines_of_tile left_tile bits.left ++ right_lines) k =
-      reads_line c behind_device (λ n. with_rows c behind_device n left_tile []) (tile_heading left_tile) (map digits_of_row bits.left ++ right_lines) k (left_read groups) left_rows in
+    reads_line c behind_device (λ n. with_rows c behind_device n left_tile []) (tile_heading left_tile) (map digits_of_row bits.left ++ right_lines) k (left_read groups) left_rows in
     let device_says : Reads c in_comment (codes ".device 1k" ∷ (lines_of_tile left_tile bits.left ++ right_lines)) k =
-      reads_line c in_comment (λ n. behind_device) (codes ".device 1k") (lines_of_tile left_tile bits.left ++ right_lines) k (device_read c) (λ n. left_says) in
+    reads_line c in_comment (λ n. behind_device) (codes ".device 1k") (lines_of_tile left_tile bits.left ++ right_lines) k (device_read c) (λ n. left_says) in
     let remark_says : Reads c in_comment (codes "placed and routed" ∷ codes ".device 1k" ∷ (lines_of_tile left_tile bits.left ++ right_lines)) k =
-      reads_line c in_comment (λ n. in_comment) (codes "placed and routed") (codes ".device 1k" ∷ (lines_of_tile left_tile bits.left ++ right_lines)) k (remark_read c) (λ n. device_says) in
+    reads_line c in_comment (λ n. in_comment) (codes "placed and routed") (codes ".device 1k" ∷ (lines_of_tile left_tile bits.left ++ right_lines)) k (remark_read c) (λ n. device_says) in
     reads_line c asc_start (λ n. in_comment) (codes ".comment") (codes "placed and routed" ∷ codes ".device 1k" ∷ (lines_of_tile left_tile bits.left ++ right_lines)) k (comment_read c) (λ n. remark_says)
 
 -- what is written is read

@@ -3,3 +3,4 @@ pub mod PadSteps
 pub mod AscLines
 pub mod AscReading
 pub mod WrittenBits
+pub mod AscExamples

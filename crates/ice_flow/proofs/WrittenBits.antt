@@ -1,15 +1,15 @@
 -- The bits that are kept in the end are those that are to be written.
-use Rattle.std.proofs.Common.{◌≡◌, Bool, false, List, [], ◌∷◌, map, Result, refl, sym, ap, ◌∙◌, Ok, Err}
+use Rattle.std.proofs.Common.{◌≡◌, ℕ, Bool, false, List, [], ◌∷◌, map, Result, refl, sym, ap, ◌∙◌, Ok, Err}
 use Rattle.std.specs.Prelude.{◌&&◌, ◌||◌, IfOk}
 use Rattle.std.specs.List.{list_any}
 use Rattle.ice_base.specs.declared.number.TileAt.{TileAt}
 use Rattle.ice_base.specs.declared.number.BitAt.{BitAt}
-use Rattle.ice_flow.specs.Database.{Pad, Row, Database, SwitchGroup, same_tile, has_tile, function_bit}
+use Rattle.ice_flow.specs.Database.{Pad, Row, SwitchGroup, same_tile, has_tile, function_bit}
 use Rattle.ice_flow.specs.FirstForm.{database_with}
 use Rattle.ice_flow.specs.Routes.{sets, value_at}
 use Rattle.ice_flow.specs.Views.{IsCopyOf, AreCopies, pad_view, port_pad_view}
 use Rattle.ice_flow.specs.Written.{PortPad, Plan, written, wants, is_this_bit, io_functions}
-use Rattle.ice_flow.specs.Asc.{asc_text, HoldsWritten, text_of_lines}
+use Rattle.ice_flow.specs.Asc.{asc_in, HoldsWritten, text_of_lines}
 use Rattle.ice_flow.specs.Writing.{AreGrids, bare, bits_of, configuration_of, row_sets, pads_set, lines_of_bits}
 use Rattle.ice_flow.specs.declared.bits.IoBits.{IoBits}
 use Rattle.ice_flow.specs.declared.pad.Pad as rust_pad
@@ -51,21 +51,21 @@ bits_are groups plan rows roots ports t b blank middle last copies same_roots sa
     with_pads
     ∙ ap (λ z. z || pads_set roots ports t b) (with_rows ∙ ap (λ z. z || list_any (λ x. row_sets x t b) rows) at_first ∙ copies_set rows plan.rows t b copies)
     ∙ ap (λ z. list_any (λ r. sets r t b) plan.rows || z)
-      (pads_set_is roots ports t b ∙ ap (λ (ps : List Pad). pads_write ps (map port_pad_view ports) t b) (sym same_roots) ∙ ap (λ (us : List PortPad). pads_write plan.roots us t b) (sym same_ports))
+    (pads_set_is roots ports t b ∙ ap (λ (ps : List Pad). pads_write ps (map port_pad_view ports) t b) (sym same_roots) ∙ ap (λ (us : List PortPad). pads_write plan.roots us t b) (sym same_ports))
     ∙ sym (written_is groups plan t b)
 
 -- what is written holds the bits
-pub text_holds : (groups : List SwitchGroup) (plan : Plan) (bits : IoBits) (text : List Prim.Native.Nat.ℕ) → AreGrids bits → text ≡ text_of_lines (lines_of_bits bits)
+pub text_holds : (groups : List SwitchGroup) (plan : Plan) (bits : IoBits) (text : List ℕ) → AreGrids bits → text ≡ text_of_lines (lines_of_bits bits)
     → ((t : TileAt) (b : BitAt) → bits_of bits t b ≡ written (database_with groups) plan t b) → HoldsWritten (database_with groups) plan text
 text_holds groups plan bits text grids printed same = record {
   configuration = configuration_of bits;
   is_text = printed ∙ ap text_of_lines (lines_are groups bits grids);
-  decodes = ap (Rattle.ice_flow.specs.Asc.asc_in (database_with groups)) printed ∙ text_says groups bits grids;
+  decodes = ap (asc_in (database_with groups)) printed ∙ text_says groups bits grids;
   extras = refl;
   bits = same;
 }
 
-pub all_texts_hold : (rows : List RouteRow) (roots : List rust_pad.Pad) (ports : List rust_port_pad.PortPad) (blank middle last : IoBits) (text : List Prim.Native.Nat.ℕ)
+pub all_texts_hold : (rows : List RouteRow) (roots : List rust_pad.Pad) (ports : List rust_port_pad.PortPad) (blank middle last : IoBits) (text : List ℕ)
     → AreGrids last → text ≡ text_of_lines (lines_of_bits last)
     → ((t : TileAt) (b : BitAt) → bits_of blank t b ≡ false)
     → ((t : TileAt) (b : BitAt) → bits_of middle t b ≡ (bits_of blank t b || list_any (λ x. row_sets x t b) rows))

@@ -13,7 +13,9 @@ use std::process::Abort;
 use std::test::Fail;
 
 const ZEROS: &str = "000000000000000000";
+
 const LAST: &str = "000000000000000001";
+
 const FIRST_AND_LAST: &str = "100000000000000001";
 
 // A row of a tile from wire `source` into the next wire, with these values in these bits.
@@ -44,7 +46,12 @@ fn row_of(
 // Fails unless the text has the lines of the comment and the device, and then these lines of the tiles.
 fn expect_text(rt: &impl Abort, text: &[u8], left: [&str; 16], right: [&str; 16]) {
     let mut rest = text;
-    for line in [".comment", "placed and routed", ".device 1k", ".io_tile 0 0"] {
+    for line in [
+        ".comment",
+        "placed and routed",
+        ".device 1k",
+        ".io_tile 0 0",
+    ] {
         rest = expect_line(rt, rest, line);
     }
     for line in left {
@@ -62,7 +69,8 @@ fn expect_line<'a>(rt: &impl Abort, text: &'a [u8], line: &str) -> &'a [u8] {
     let rest = text
         .strip_prefix(line.as_bytes())
         .expect(rt, "another line");
-    rest.strip_prefix(b"\n".as_slice()).expect(rt, "a longer line")
+    rest.strip_prefix(b"\n".as_slice())
+        .expect(rt, "a longer line")
 }
 
 #[test]

@@ -84,9 +84,7 @@ fn has_digit(pad: Pad, digit: u8, ports: &[PortPad]) -> bool
     requires { digit < 6 }
     ensures { result ≡ list_any (λ u. same_pad (pad_view u.pad) (pad_view pad) && table_bit u.pin_type digit) ports.now }
 {
-    ports
-        .iter()
-        .any(|port| is_same_pad(port.pad, pad) && (port.pin_type >> digit) % 2 == 1)
+    ports.iter().any(|port| is_same_pad(port.pad, pad) && (port.pin_type >> digit) % 2 == 1)
 }
 
 // Whether a port has this pad and wants no pull-up.
@@ -125,7 +123,13 @@ fn is_pull_up_disabled(pad: Pad, ports: &[PortPad]) -> bool
 }
 
 // Sets the bits of functions in a tile, and no others: their bits stand in the last column, in rows from the first.
-fn write_functions(bits: &mut IoBits, tile: TileAt, functions: &[Function], roots: &[Pad], ports: &[PortPad])
+fn write_functions(
+    bits: &mut IoBits,
+    tile: TileAt,
+    functions: &[Function],
+    roots: &[Pad],
+    ports: &[PortPad],
+)
     requires shape { AreGrids bits.old }
     requires tile { is_io_tile tile ≡ true }
     requires rows { length functions.now ≤ 16 }

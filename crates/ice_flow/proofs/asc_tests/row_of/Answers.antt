@@ -20,5 +20,5 @@ returns c = record {
   tile = c.requires.tile;
   paired = ap length c.in_ok-values.ensures.items ∙ (c.requires.paired ∙ ap length (sym c.in_ok-bits.ensures.items));
   within = subst (λ (bits : List BitAt). (b : BitAt) → Has bits b → IsInTile b) (sym c.in_ok-bits.ensures.items)
-    (each_has IsInTile c.args.bits.now (all_in_tile c.args.bits.now c.requires.within));
+      (each_has IsInTile c.args.bits.now (all_in_tile c.args.bits.now c.requires.within));
 }

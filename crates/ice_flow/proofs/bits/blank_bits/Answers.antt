@@ -1,4 +1,4 @@
-use Rattle.std.proofs.Common.{◌≡◌, Bool, true, false, refl, ap, ◌∙◌, if◌then◌else◌, replicate, List}
+use Rattle.std.proofs.Common.{◌≡◌, Bool, true, false, refl, if◌then◌else◌, replicate, List}
 use Rattle.ice_flow.specs.Database.{same_tile}
 use Rattle.ice_flow.specs.Configuration.{bit_in_rows}
 use Rattle.ice_flow.specs.FirstForm.{left_tile, right_tile}
