@@ -18,11 +18,18 @@ use Rattle.ice_flow.specs.PinsText as pins_text
 use Rattle.ice_flow.specs.PinsText.{pins_in}
 use Rattle.ice_flow.specs.BufferForm.{buffer_plan}
 use Rattle.ice_flow.specs.Views.{IsCopyOf, AreCopies}
-use Rattle.ice_flow.specs.Writable.{IsInTile, IsWritable, AreWritable}
+use Rattle.ice_flow.specs.Writing.{IsInTile, IsWritable, AreWritable}
 use Rattle.ice_flow.specs.Asc.{asc_in, HoldsWritten}
 use Rattle.ice_flow.specs.Standing.{Standing, OtherChip, OtherNetlist, OtherPins, UnknownPin, Ready, standing_of, with_chip, with_netlist, with_pads, AreEnds, IsApart, IsRoutable}
 use Rattle.ice_flow.specs.Headline.{IsCircuitOf}
-use Rattle.ice_flow.specs.Built.{IsBuilt}
+use Rattle.std.specs.Str.{bytes_eq}
+use Rattle.ice_flow.specs.declared.cause.Cause.{Cause}
+use Rattle.ice_flow.specs.declared.cause.Cause.TheVariants.{Unreachable}
+use Rattle.ice_flow.specs.declared.pins_text.PinsStop.{PinsStop}
+use Rattle.ice_flow.specs.declared.pins_text.PinsStop.TheVariants as pins_stop
+use Rattle.ice_flow.specs.Readers.{stop_view}
+use Rattle.ice_flow.specs.Answers.{no_places}
+use Rattle.ice_flow.specs.Built.{IsBuilt, IsRefusal, IsPinsRefusal}
 use Rattle.ice_flow.proofs.PlaceFacts.{row_group}
 use Rattle.ice_flow.proofs.WalkFacts.{walk_usable}
 use Rattle.ice_flow.proofs.WrittenFaultless.{bits_are_faultless, bits_show_same}
@@ -121,3 +128,51 @@ route_built name chip pins netlist text a y groups rows c form n k p walk simple
         shows_same = bits_show_same groups rows form walk simple (bits_in holds.configuration) holds.bits a y tiny.pads;
       },
     )
+
+-- ---- as `compile` has them
+
+-- pads were given, so the package is the one of the form
+pub chosen_is_tiny : (groups : List SwitchGroup) (name text : List ℕ) (circuit : Netlist) (pads : List Pad) → pins_in (database_with groups) name text circuit ≡ Ok pads → package_named (database_with groups) name ≡ Some tiny
+chosen_is_tiny groups name text circuit pads e = by (bytes_eq tiny.name name) refl
+  where
+    by : (t : Bool) → bytes_eq tiny.name name ≡ t → package_named (database_with groups) name ≡ Some tiny
+    by true is = rw is refl
+    by false is = let none : Err pins_text.OtherForm ≡ Ok pads = rw is at e in cc none
+
+pub pins_refused : (name chip pins netlist a y : List ℕ) (groups : List SwitchGroup) (stop : PinsStop) (cause : Cause) → groups_in chip ≡ Some groups → netlist_in netlist ≡ Ok (buffer_netlist a y)
+    → pins_in (database_with groups) name pins (buffer_netlist a y) ≡ Err (stop_view stop) → IsPinsRefusal stop cause → IsRefusal name chip pins netlist cause
+pins_refused name chip pins netlist a y groups pins_stop.OtherForm cause c n p is =
+    subst (λ (x : Cause). IsRefusal name chip pins netlist x) (sym is) (stands_by_pins name chip pins netlist groups (buffer_netlist a y) OtherPins c n (ap (λ r. with_pads (database_with groups) (buffer_netlist a y) r) p))
+pins_refused name chip pins netlist a y groups (pins_stop.UnknownPin line) cause c n p is =
+    subst (λ (x : Cause). IsRefusal name chip pins netlist x) (sym is) (stands_by_pins name chip pins netlist groups (buffer_netlist a y) (UnknownPin line) c n (ap (λ r. with_pads (database_with groups) (buffer_netlist a y) r) p))
+
+-- the two pads of the form
+form_pads : (p q : Pad) → p ≡ left_pad → q ≡ right_pad → p ∷ q ∷ [] ≡ left_pad ∷ right_pad ∷ []
+form_pads p q e f = ap (λ (x : Pad). x ∷ q ∷ []) e ∙ ap (λ (x : Pad). left_pad ∷ x ∷ []) f
+
+pub pins_given : (groups : List SwitchGroup) (name text a y : List ℕ) (p q : Pad) → pins_in (database_with groups) name text (buffer_netlist a y) ≡ Ok (p ∷ q ∷ []) → p ≡ left_pad → q ≡ right_pad
+    → pins_in (database_with groups) name text (buffer_netlist a y) ≡ Ok (left_pad ∷ right_pad ∷ [])
+pins_given groups name text a y p q e left right = e ∙ ap Ok (form_pads p q left right)
+
+pub sink_apart : (name chip pins netlist a y : List ℕ) (groups : List SwitchGroup) (cause : Cause) → groups_in chip ≡ Some groups → netlist_in netlist ≡ Ok (buffer_netlist a y)
+    → pins_in (database_with groups) name pins (buffer_netlist a y) ≡ Ok (left_pad ∷ right_pad ∷ []) → IsUnreachable (database_with groups) 0 2
+    → cause ≡ Unreachable no_places (record { 0 = 0 }) (record { 0 = 2 }) → IsRefusal name chip pins netlist cause
+sink_apart name chip pins netlist a y groups cause c n p apart is =
+    let db = database_with groups in
+    let pads : List Pad = left_pad ∷ right_pad ∷ [] in
+    subst (λ (x : Cause). IsRefusal name chip pins netlist x) (sym is) (
+      refl,
+      refl,
+      record {
+        chip = db;
+        netlist = buffer_netlist a y;
+        pads = pads;
+        root = 0;
+        is_ready = stands_by_pins name chip pins netlist groups (buffer_netlist a y) (Ready db (buffer_netlist a y) pads) c n (ap (λ r. with_pads db (buffer_netlist a y) r) p);
+        are_ends = ends_of_form groups;
+        unreachable = apart;
+      },
+    )
+
+pub ports_of_form : (p q : Pad) → p ≡ left_pad → q ≡ right_pad → (buffer_plan left_pad right_pad []).ports ≡ (buffer_plan p q []).ports
+ports_of_form p q e f = ap (λ (x : Pad). (buffer_plan x right_pad []).ports) (sym e) ∙ ap (λ (x : Pad). (buffer_plan p x []).ports) (sym f)

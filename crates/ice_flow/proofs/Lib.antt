@@ -10,3 +10,13 @@ pub mod ChipCuts
 pub mod ChipHeader
 pub mod KnownLists
 pub mod ChipForm
+pub mod BitSteps
+pub mod PadSteps
+pub mod AscLines
+pub mod AscReading
+pub mod WrittenBits
+pub mod AscExamples
+pub mod Builds
+pub mod ReadStops
+pub mod RowLaws
+pub mod Saying

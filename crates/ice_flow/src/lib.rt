@@ -1,22 +1,29 @@
 //! The flow: from the texts of a chip database, pin constraints and a netlist to the text of the bits.
 #![tactic(auto)]
+
 mod asc;
+#[cfg(test)]
+mod asc_tests;
+mod bits;
+mod build;
 mod cause;
 mod chip;
 mod chip_text;
 mod compile;
+mod functions;
 mod netlist_text;
 mod pad;
 mod pins_text;
 mod plain;
-mod route;
-mod search;
-pub use cause::{Cause, Done, FileRole, PinFault, Placement, Places};
-pub use netlist_text::BlifFault;
-pub fn limit() -> usize
-    ensures { result ≡ 67108864 }
-{
-    67108864
-}
 #[cfg(test)]
 mod reader_tests;
+mod request;
+mod route;
+mod say;
+mod search;
+mod texts;
+mod top_call;
+
+pub use cause::{Cause, Done, FileRole, PinFault, Placement, Places};
+pub use netlist_text::BlifFault;
+pub use top_call::run;
