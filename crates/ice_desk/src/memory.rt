@@ -15,9 +15,11 @@ use std::alloc::Global;
 #[derive(Drop)]
 pub struct MemoryDesk {
     alloc: Global,
+    /// Names and bytes; the first file of a name counts.
     files: Vec<(Name, Vec<u8>)>,
     most: usize,
     fails: Vec<(DeskCall, u64)>,
+    /// What is read, and between which places of it bytes are left.
     source: Source,
     at: usize,
     end: usize,
@@ -27,6 +29,7 @@ pub struct MemoryDesk {
     begins: u64,
     reads: u64,
     makes: u64,
+    /// Since the last make, and in all.
     puts: u64,
     all_puts: u64,
     says: u64,
