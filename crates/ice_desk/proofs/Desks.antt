@@ -3,7 +3,7 @@ use Rattle.std.proofs.Common.{◌≡◌, ◌≤◌, ◌+◌, ◌-◌, ◌++◌, 
 use Rattle.std.proofs.Math.Seq.{take-append_seam}
 use Rattle.std.proofs.lemmas.List.{take_all}
 use Rattle.ice_desk.specs.declared.calls.DeskCall.{DeskCall}
-use Rattle.ice_desk.specs.Desk.{Meaning, SameButReading, SameButWriting, SameTest}
+use Rattle.ice_desk.specs.Desk.{Meaning, SameButReading, SameButWriting, SameButPutting, SameTest}
 
 pub reading_trans : (a b c : Meaning) → SameButReading a b → SameButReading b c → SameButReading a c
 reading_trans a b c p q = record {
@@ -38,8 +38,22 @@ pub same_test_trans : (p q r : List ℕ → Type 0) → SameTest p q → SameTes
 same_test_trans p q r f g = λ n. ((λ x. (g n).0 ((f n).0 x)), λ x. (f n).1 ((g n).1 x))
 
 -- a put to the file that is taken
-pub put_keeps : (name : List ℕ) (a b c : Meaning) → SameButWriting name a b → (a.tells ≡ true → b.taken ≡ Some name) → ((n : List ℕ) → (b.tells ≡ true → b.taken ≡ Some n) → SameButWriting n b c) → SameButWriting name a c
-put_keeps name a b c p t q = writing_trans name a b c p (q name (λ e. t (sym p.tells ∙ e)))
+pub put_keeps : (name : List ℕ) (a b c : Meaning) → SameButWriting name a b → (a.tells ≡ true → b.taken ≡ Some name) → SameButPutting b c → SameButWriting name a c
+put_keeps name a b c p taken q = record {
+  tells = q.tells ∙ p.tells;
+  others = λ t other ne. q.others (p.tells ∙ t) other (λ e. ne (same_name (sym e ∙ taken t))) ∙ p.others t other ne;
+  left = q.left ∙ p.left;
+  said = q.said ∙ p.said;
+  given = q.given ∙ p.given;
+  begins = q.begins ∙ p.begins;
+  says = q.says ∙ p.says;
+  read_faults = q.read_faults ∙ p.read_faults;
+  say_faults = q.say_faults ∙ p.say_faults;
+  write_faults = omega (arith, p.write_faults, q.write_faults);
+}
+  where
+    same_name : {m n : List ℕ} → Some m ≡ Some n → m ≡ n
+    same_name e = cc
 
 -- what was put before and at one put more
 pub fronts : (text : List ℕ) (at count : ℕ) → at ≤ length text → take at text ++ take count (take (length text - at) (drop at text)) ≡ take (at + count) text

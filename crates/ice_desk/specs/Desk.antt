@@ -85,6 +85,22 @@ pub record SameButWriting (name : List ℕ) (old new : Meaning) : Type 0 where
   pub say_faults : new.say_faults ≡ old.say_faults
   pub write_faults : old.write_faults ≤ new.write_faults
 
+-- all but what a put may change is as before: the file that is taken, puts and write_faults
+pub record SameButPutting (old new : Meaning) : Type 0 where
+  pub tells : new.tells ≡ old.tells
+  pub others : old.tells ≡ true → (other : List ℕ) → old.taken ≢ Some other → new.files other ≡ old.files other
+  pub left : new.left ≡ old.left
+  pub taken : new.taken ≡ old.taken
+  pub said : new.said ≡ old.said
+  pub given : new.given ≡ old.given
+  pub begins : new.begins ≡ old.begins
+  pub makes : new.makes ≡ old.makes
+  pub says : new.says ≡ old.says
+  pub is_open : new.is_open ≡ old.is_open
+  pub read_faults : new.read_faults ≡ old.read_faults
+  pub say_faults : new.say_faults ≡ old.say_faults
+  pub write_faults : old.write_faults ≤ new.write_faults
+
 -- all but what saying may change is as before: said, says, write_faults and say_faults
 pub record SameButSaying (old new : Meaning) : Type 0 where
   pub tells : new.tells ≡ old.tells

@@ -1,6 +1,6 @@
 //! Desks: what a program sees of files and of its standard output, and what each call may change.
 ghost use Rattle.std.specs.Prelude.{◌≡◌, ℕ, ◌<◌, ◌≤◌, ◌++◌, List, [], length, take, true, false, Some, None, IfOk, OnOk, OnErr, is_ok};
-ghost use Rattle.ice_desk.specs.Desk.{Meaning, SameButReading, SameButWriting, SameButSaying, SameTest, IsKeptOrEmpty, after_one, after_more, Rose};
+ghost use Rattle.ice_desk.specs.Desk.{Meaning, SameButReading, SameButWriting, SameButPutting, SameButSaying, SameTest, IsKeptOrEmpty, after_one, after_more, Rose};
 
 /// A call of a desk failed. Its fault is counted.
 #[derive(Clone, Copy, Debug, PartialEq, Eq)]
@@ -68,13 +68,10 @@ pub trait Desk {
     /// least one of a piece that isn't empty.
     fn put(&mut self, piece: &[u8]) -> Result<usize, Failed>
         requires { (seen self.old).is_open ≡ true }
-        ensures same { (name : List ℕ) → ((seen self.old).tells ≡ true → (seen self.old).taken ≡ Some name) → SameButWriting name (seen self.old) (seen self.new) }
+        ensures same { SameButPutting (seen self.old) (seen self.new) }
         ensures names_read { SameTest (may_read self.old) (may_read self.new) }
         ensures names_written { SameTest (may_write self.old) (may_write self.new) }
-        ensures made { (seen self.new).makes ≡ (seen self.old).makes }
         ensures puts { (seen self.new).puts ≡ after_one (seen self.old).puts }
-        ensures opened { (seen self.new).is_open ≡ true }
-        ensures taken { (seen self.new).taken ≡ (seen self.old).taken }
         ensures within { IfOk result (λ n. (n ≤ length piece.now) × (0 < length piece.now → 0 < n)) }
         ensures ok { IfOk result (λ n. (name bytes : List ℕ) → (seen self.old).tells ≡ true → (seen self.old).taken ≡ Some name → (seen self.old).files name ≡ Some bytes → (seen self.new).files name ≡ Some (bytes ++ take n piece.now)) }
         ensures ok_faults { OnOk result ((seen self.new).write_faults ≡ (seen self.old).write_faults) }

@@ -3,8 +3,7 @@ ghost use Rattle.std.specs.Prelude.{◌≡◌, ◌≢◌, ◌<◌, ◌≤◌, �
 ghost use Rattle.std.specs.Option.{option_map};
 ghost use Rattle.ice_desk.specs.Memory.{Named, place_from, file_in, bytes_at, source_bytes, needed_files, IsPlace, Grew};
 
-use crate::Failed;
-use ice_base::{Name, name_of};
+use ice_base::{Name, NoMemory, name_of};
 use std::alloc::Global;
 use std::mem;
 
@@ -90,12 +89,13 @@ pub fn empty_file(
     files: &mut Vec<(Name, Vec<u8>)>,
     source: &mut Source,
     name: &[u8],
-) -> Result<(), Failed>
+) -> Result<(), NoMemory>
     requires { needed_files source.old ≤ length files.old.items }
     ensures needed { needed_files source.new ≤ length files.new.items }
     ensures kept { source_bytes files.new.items source.new ≡ source_bytes files.old.items source.old }
     ensures ok { OnOk result (file_in files.new.items name.now ≡ Some []) }
     ensures others { (n : List ℕ) → n ≢ name.now → file_in files.new.items n ≡ file_in files.old.items n }
+    ensures existing { OnErr result (file_in files.old.items name.now ≡ None) }
     ensures err { OnErr result (files.new.items ≡ files.old.items) }
 {
     match place_of(files, name) {
@@ -110,7 +110,7 @@ pub fn empty_file(
 
 /// Adds an empty file of a new name.
 #[tactic(auto, using(crate::proofs::FilesByName::push_empty_at, crate::proofs::FilesByName::push_empty_other, crate::proofs::FilesByName::push_bytes))]
-fn push_empty(alloc: Global, files: &mut Vec<(Name, Vec<u8>)>, name: &[u8]) -> Result<(), Failed>
+fn push_empty(alloc: Global, files: &mut Vec<(Name, Vec<u8>)>, name: &[u8]) -> Result<(), NoMemory>
     requires { file_in files.old.items name.now ≡ None }
     ensures count { length files.old.items ≤ length files.new.items }
     ensures kept { (k : ℕ) → k < length files.old.items → bytes_at files.new.items k ≡ bytes_at files.old.items k }
@@ -118,32 +118,32 @@ fn push_empty(alloc: Global, files: &mut Vec<(Name, Vec<u8>)>, name: &[u8]) -> R
     ensures others { (n : List ℕ) → n ≢ name.now → file_in files.new.items n ≡ file_in files.old.items n }
     ensures err { OnErr result (files.new.items ≡ files.old.items) }
 {
-    let Ok(name) = name_of(alloc, name) else {
-        return Err(Failed);
-    };
+    let name = name_of(alloc, name)?;
     if files.push((name, Vec::new(alloc))).is_err() {
-        return Err(Failed);
+        return Err(NoMemory);
     }
     Ok(())
 }
 
-/// Puts bytes behind those of the first file of a name. An `Err` where there is none, too.
+/// Puts bytes behind those of the file at a place, which is the first of this name.
 #[tactic(auto, using(crate::proofs::FilesByName::set_at, crate::proofs::FilesByName::set_other, crate::proofs::FilesByName::place_file, crate::proofs::FilesByName::still_named, crate::proofs::FilesByName::set_alike, crate::proofs::FilesByName::set_grown))]
-pub fn append_to(files: &mut Vec<(Name, Vec<u8>)>, name: &[u8], piece: &[u8]) -> Result<(), Failed>
+pub fn append_to(
+    files: &mut Vec<(Name, Vec<u8>)>,
+    place: usize,
+    name: &[u8],
+    piece: &[u8],
+) -> Result<(), NoMemory>
+    requires within { place < length files.old.items }
+    requires named { IsPlace name.now files.old.items place }
     ensures count { length files.new.items ≡ length files.old.items }
     ensures grown { Grew files.old.items files.new.items }
     ensures ok { OnOk result ((bytes : List ℕ) → file_in files.old.items name.now ≡ Some bytes → file_in files.new.items name.now ≡ Some (bytes ++ piece.now)) }
     ensures others { (n : List ℕ) → n ≢ name.now → file_in files.new.items n ≡ file_in files.old.items n }
     ensures err { OnErr result ((n : List ℕ) → file_in files.new.items n ≡ file_in files.old.items n) }
 {
-    match place_of(files, name) {
-        Some(place) => {
-            let file = &mut files[place];
-            match file.1.extend_from_slice(piece) {
-                Ok(()) => Ok(()),
-                Err(_) => Err(Failed),
-            }
-        }
-        None => Err(Failed),
+    let file = &mut files[place];
+    match file.1.extend_from_slice(piece) {
+        Ok(()) => Ok(()),
+        Err(_) => Err(NoMemory),
     }
 }

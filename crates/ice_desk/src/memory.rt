@@ -1,7 +1,7 @@
 //! A desk in memory: files and standard output as lists of bytes, with calls that fail when asked to.
 ghost use Rattle.std.specs.Prelude.{◌≡◌, ℕ, ◌+◌, ◌-◌, ◌^◌, ◌<◌, ◌≤◌, ◌++◌, ◌↔◌, ◌⊎◌, List, [], min, length, take, drop, true, false, Some, None, Option, IfOk, OnOk, OnErr, IsErr, is_ok};
 ghost use Rattle.std.specs.Option.{option_map};
-ghost use Rattle.ice_desk.specs.Desk.{Meaning, fresh, SameButReading, SameButWriting, SameButSaying, SameTest, IsKeptOrEmpty, after_one, after_more, Rose};
+ghost use Rattle.ice_desk.specs.Desk.{Meaning, fresh, SameButReading, SameButWriting, SameButPutting, SameButSaying, SameTest, IsKeptOrEmpty, after_one, after_more, Rose};
 ghost use Rattle.ice_desk.specs.Memory.{file_in, left_between, source_bytes, needed_files};
 
 use crate::calls::{DeskCall, is_named};
@@ -15,9 +15,11 @@ use std::alloc::Global;
 #[derive(Drop)]
 pub struct MemoryDesk {
     alloc: Global,
+    /// Names and bytes; the first file of a name counts.
     files: Vec<(Name, Vec<u8>)>,
     most: usize,
     fails: Vec<(DeskCall, u64)>,
+    /// What is read, and between which places of it bytes are left.
     source: Source,
     at: usize,
     end: usize,
@@ -27,6 +29,7 @@ pub struct MemoryDesk {
     begins: u64,
     reads: u64,
     makes: u64,
+    /// Since the last make, and in all.
     puts: u64,
     all_puts: u64,
     says: u64,
@@ -99,7 +102,7 @@ impl MemoryDesk {
 impl Desk for MemoryDesk {
     ghost use Rattle.std.specs.Prelude.{◌≡◌, ℕ, ◌+◌, ◌-◌, ◌^◌, ◌<◌, ◌≤◌, ◌++◌, ◌↔◌, ◌⊎◌, List, [], min, length, take, drop, true, false, Some, None, Option, IfOk, OnOk, OnErr, IsErr, is_ok};
     ghost use Rattle.std.specs.Option.{option_map};
-    ghost use Rattle.ice_desk.specs.Desk.{Meaning, SameButReading, SameButWriting, SameButSaying, SameTest, IsKeptOrEmpty, after_one, after_more, Rose};
+    ghost use Rattle.ice_desk.specs.Desk.{Meaning, SameButReading, SameButWriting, SameButPutting, SameButSaying, SameTest, IsKeptOrEmpty, after_one, after_more, Rose};
     ghost use Rattle.ice_desk.specs.Plan.{seen_of, plan_of, after_call, IsNamed};
 
     ghost seen = { seen_of };
@@ -216,11 +219,8 @@ impl Desk for MemoryDesk {
     #[tactic(auto, using(crate::proofs::FilesByName::grown_length, crate::proofs::FilesByName::grown_left))]
     fn put(&mut self, piece: &[u8]) -> Result<usize, Failed>
         requires { (seen_of self.old).is_open ≡ true }
-        ensures same { (name : List ℕ) → ((seen_of self.old).tells ≡ true → (seen_of self.old).taken ≡ Some name) → SameButWriting name (seen_of self.old) (seen_of self.new) }
-        ensures made { (seen_of self.new).makes ≡ (seen_of self.old).makes }
+        ensures same { SameButPutting (seen_of self.old) (seen_of self.new) }
         ensures puts { (seen_of self.new).puts ≡ after_one (seen_of self.old).puts }
-        ensures opened { (seen_of self.new).is_open ≡ true }
-        ensures taken { (seen_of self.new).taken ≡ (seen_of self.old).taken }
         ensures within { IfOk result (λ n. (n ≤ length piece.now) × (0 < length piece.now → 0 < n)) }
         ensures ok { IfOk result (λ n. (name bytes : List ℕ) → (seen_of self.old).tells ≡ true → (seen_of self.old).taken ≡ Some name → (seen_of self.old).files name ≡ Some bytes → (seen_of self.new).files name ≡ Some (bytes ++ take n piece.now)) }
         ensures ok_faults { OnOk result ((seen_of self.new).write_faults ≡ (seen_of self.old).write_faults) }
@@ -241,7 +241,11 @@ impl Desk for MemoryDesk {
             self.write_faults = self.write_faults.saturating_add(1);
             return Err(Failed);
         };
-        if append_to(&mut self.files, name.as_bytes(), &piece[..count]).is_err() {
+        let Some(place) = place_of(self.files.as_slice(), name.as_bytes()) else {
+            self.write_faults = self.write_faults.saturating_add(1);
+            return Err(Failed);
+        };
+        if append_to(&mut self.files, place, name.as_bytes(), &piece[..count]).is_err() {
             self.write_faults = self.write_faults.saturating_add(1);
             return Err(Failed);
         }

@@ -100,7 +100,7 @@ pub fn write_whole<D: Desk>(desk: &mut D, name: &str, text: &[u8]) -> Result<(),
         return Err(WriteStop::Failed { put: 0 });
     }
     let mut at = 0;
-    let mut put = 0;
+    let mut put: u64 = 0;
     while at < text.len() {
         put += 1;
         match desk.put(&text[at..]) {

@@ -10,13 +10,13 @@ loop-at-preserved g c =
       same = put_keeps c.args.name.now _ _ _ i.same i.taken c.put.ensures.same;
       names_read = same_test_trans _ _ _ i.names_read c.put.ensures.names_read;
       names_written = same_test_trans _ _ _ i.names_written c.put.ensures.names_written;
-      made = c.put.ensures.made ∙ i.made;
+      made = c.put.ensures.same.makes ∙ i.made;
       faults = p.ok_faults ∙ i.faults;
       puts = omega (arith, c.put.ensures.puts, i.puts);
       few = omega (arith, simp (length-take, length-drop) at p.within.1, i.few);
       within = omega arith;
-      opened = c.put.ensures.opened;
-      taken = λ t. c.put.ensures.taken ∙ i.taken t;
+      opened = c.put.ensures.same.is_open ∙ i.opened;
+      taken = λ t. c.put.ensures.same.taken ∙ i.taken t;
       front = λ t. p.ok c.args.name.now _ (i.same.tells ∙ t) (i.taken t) (i.front t) ∙ ap (λ x. Some x) (fronts c.args.text.now c.loop-at.at c.in-Ok.count i.within);
     }
 
