@@ -1,4 +1,4 @@
-//! The text of bits (ASC) is written.
+//! Writes the text of bits (ASC).
 ghost use Rattle.std.specs.Prelude.{◌≡◌, List, ◌∷◌, [], ◌++◌, IfOk, decimal, map};
 ghost use Rattle.ice_flow.specs.Database.{SwitchGroup};
 ghost use Rattle.ice_flow.specs.FirstForm.{database_with};
@@ -76,7 +76,7 @@ fn put_tile(text: &mut Vec<u8>, tile: TileAt, rows: &IoRows) -> Result<(), NoMem
     Ok(())
 }
 
-/// The text of these bits.
+/// The text of these bits. Takes memory for the text alone, once; it fails only for want of memory.
 pub fn print(alloc: Global, bits: &IoBits) -> Result<Vec<u8>, NoMemory>
     ensures { IfOk result (λ text. text.items ≡ text_of_lines (lines_of_bits bits.now)) }
 {
@@ -89,8 +89,9 @@ pub fn print(alloc: Global, bits: &IoBits) -> Result<Vec<u8>, NoMemory>
     Ok(text)
 }
 
-/// The text of the bits that realise these rows, whose nets begin at these roots, and the pads of these ports.
-/// Memory is taken for the text alone.
+/// The text of the bits that turn these rows on and set the functions of pads: `rows` are the rows of all routes,
+/// `roots` the pads at which a net with a sink begins, and `ports` the pads of the ports. The text holds these bits
+/// and no others, and is read as exactly these. Takes memory for the text alone; it fails only for want of memory.
 pub fn write_bits(
     alloc: Global,
     rows: &[RouteRow],
