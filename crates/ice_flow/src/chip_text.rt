@@ -1,8 +1,7 @@
 //! Reading a chip text of the form that is built so far.
-ghost use Rattle.std.specs.Prelude.{◌≡◌, ◌<◌, ◌≤◌, ◌∷◌, IfOk, IfSome, IfNone, option_map, map, codes, length};
+ghost use Rattle.std.specs.Prelude.{◌≡◌, ◌<◌, ◌∷◌, IfOk, IfSome, IfNone, option_map, map};
 ghost use Rattle.ice_base.specs.Text.{lines, numbered};
 ghost use Rattle.ice_flow.specs.Lists.{all_known};
-ghost use Rattle.ice_flow.specs.PlainLines.{plain_lines};
 ghost use Rattle.ice_flow.specs.ChipText.{
   cut_at,
   number_below,
@@ -19,7 +18,6 @@ ghost use Rattle.ice_flow.specs.ChipText.{
   with_line,
   groups_of,
   groups_in,
-  most_rows,
   IsOfForm,
 };
 ghost use Rattle.ice_flow.specs.Views.{row_view, group_view, groups_view};

@@ -1,13 +1,12 @@
 //! Reading pin constraints of the form that is built so far.
-ghost use Rattle.std.specs.Prelude.{◌≡◌, ◌∷◌, [], List, IfOk, IfSome, option_map};
+ghost use Rattle.std.specs.Prelude.{◌≡◌, ◌∷◌, List, IfOk, IfSome, option_map};
 ghost use Rattle.ice_flow.specs.Database.{SwitchGroup, pad_of_pin};
 ghost use Rattle.ice_flow.specs.FirstForm.{database_with, tiny, left_pad, right_pad};
-ghost use Rattle.ice_flow.specs.Netlist.{Input, Output};
 ghost use Rattle.ice_flow.specs.NetlistText.{buffer_netlist};
 ghost use Rattle.ice_flow.specs.PlainLines.{plain_lines_of};
 ghost use Rattle.ice_flow.specs.PinsText.{pin_in, constraints_of, pins_in};
 ghost use Rattle.ice_flow.specs.Views.{pad_view};
-ghost use Rattle.ice_flow.specs.Readers.{constraint_view, constraint_views, pins_answer};
+ghost use Rattle.ice_flow.specs.Readers.{constraint_views, pins_answer};
 
 use crate::netlist_text::Buffer;
 use crate::pad::Pad;
