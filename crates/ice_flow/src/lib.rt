@@ -19,6 +19,8 @@ mod plain;
 mod reader_tests;
 mod request;
 mod route;
+#[cfg(test)]
+mod run_tests;
 mod say;
 mod search;
 mod texts;
