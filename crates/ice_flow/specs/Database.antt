@@ -1,5 +1,5 @@
 -- A chip database as data: tiles, functions of bits, names of wires, groups of switches, packages.
-use Rattle.std.specs.Prelude.{ℕ, ◌+◌, ◌==◌, Bool, false, ◌&&◌, ◌||◌, Option, None, Some, List, [], ◌∷◌, ◌++◌, length, map, if◌then◌else◌, codes, decimal}
+use Rattle.std.specs.Prelude.{ℕ, ◌+◌, ◌==◌, Bool, false, ◌&&◌, ◌||◌, Option, None, Some, List, [], ◌∷◌, ◌++◌, length, map, if◌then◌else◌, codes}
 use Rattle.std.specs.Str.{bytes_eq}
 use Rattle.ice_base.specs.declared.number.TileAt.{TileAt}
 use Rattle.ice_base.specs.declared.number.BitAt.{BitAt}
@@ -27,11 +27,15 @@ pub data IoFunction : Type 0 where
   -- 0 enables the pull-up of a pad
   PullUpEnable : ℕ → IoFunction
 
+-- the digit of a number below ten
+abbrev pub digit : ℕ → List ℕ
+digit n = (48 + n) ∷ []
+
 -- the name of a function in the database
 abbrev pub function_name : IoFunction → List ℕ
-function_name (PinType pio k) = codes "IOB_" ++ decimal pio ++ codes ".PINTYPE_" ++ decimal k
-function_name (InputEnable pio) = codes "IoCtrl.IE_" ++ decimal pio
-function_name (PullUpEnable pio) = codes "IoCtrl.REN_" ++ decimal pio
+function_name (PinType pio k) = codes "IOB_" ++ digit pio ++ codes ".PINTYPE_" ++ digit k
+function_name (InputEnable pio) = codes "IoCtrl.IE_" ++ digit pio
+function_name (PullUpEnable pio) = codes "IoCtrl.REN_" ++ digit pio
 
 -- a function of the IO tiles by its name, with its bit
 pub record NamedBit : Type 0 where

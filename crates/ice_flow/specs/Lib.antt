@@ -11,3 +11,8 @@ pub mod FirstForm
 pub mod Same
 pub mod Written
 pub mod Views
+pub mod ChipForm
+pub mod Places
+pub mod Found
+pub mod Levels
+pub mod Bundles

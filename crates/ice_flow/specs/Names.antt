@@ -1,19 +1,19 @@
 -- What the names of wires say: which wires a pad reads and drives, and which wires no route may enter or leave.
-use Rattle.std.specs.Prelude.{ℕ, Bool, true, false, ◌||◌, ◌&&◌, Option, None, Some, List, [], ◌∷◌, ◌++◌, if◌then◌else◌, codes, decimal, ◌==◌, nat_eq}
+use Rattle.std.specs.Prelude.{ℕ, Bool, true, false, ◌||◌, ◌&&◌, Option, None, Some, List, [], ◌∷◌, ◌++◌, if◌then◌else◌, codes, ◌==◌, nat_eq}
 use Rattle.std.specs.Str.{bytes_eq}
 use Rattle.std.specs.List.{starts_with, list_any}
 use Rattle.ice_base.specs.declared.number.TileAt.{TileAt}
-use Rattle.ice_flow.specs.Database.{Pad, WireName, Database, has_tile}
+use Rattle.ice_flow.specs.Database.{Pad, WireName, Database, digit, has_tile}
 
 -- the wire that has the level of a pad, the wire that a pad drives out, and the wire that enables its output
 abbrev pub pad_input_name : ℕ → List ℕ
-pad_input_name pio = codes "io_" ++ decimal pio ++ codes "/D_IN_0"
+pad_input_name pio = codes "io_" ++ digit pio ++ codes "/D_IN_0"
 
 abbrev pub pad_output_name : ℕ → List ℕ
-pad_output_name pio = codes "io_" ++ decimal pio ++ codes "/D_OUT_0"
+pad_output_name pio = codes "io_" ++ digit pio ++ codes "/D_OUT_0"
 
 abbrev pub output_enable_name : ℕ → List ℕ
-output_enable_name pio = codes "io_" ++ decimal pio ++ codes "/OUT_ENB"
+output_enable_name pio = codes "io_" ++ digit pio ++ codes "/OUT_ENB"
 
 -- a name by which a tile reads a wire
 abbrev pub is_input_name : List ℕ → Bool
@@ -41,7 +41,7 @@ is_memory_name name = starts_with nat_eq name (codes "ram/")
 -- the wire that joins the look-up tables of neighbouring cells
 abbrev pub is_cascade_name : List ℕ → Bool
 is_cascade_name name =
-    list_any (λ i. bytes_eq name (codes "lutff_" ++ decimal i ++ codes "/lout")) (0 ∷ 1 ∷ 2 ∷ 3 ∷ 4 ∷ 5 ∷ 6 ∷ 7 ∷ [])
+    list_any (λ i. bytes_eq name (codes "lutff_" ++ digit i ++ codes "/lout")) (0 ∷ 1 ∷ 2 ∷ 3 ∷ 4 ∷ 5 ∷ 6 ∷ 7 ∷ [])
 
 -- names of the wires that no route uses
 abbrev pub is_closed_name : List ℕ → Bool

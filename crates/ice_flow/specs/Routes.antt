@@ -2,7 +2,7 @@
 use Rattle.std.specs.Prelude.{◌≡◌, ◌≢◌, ℕ, ◌==◌, Bool, true, false, ◌&&◌, ◌||◌, List, [], ◌∷◌}
 use Rattle.ice_base.specs.declared.number.TileAt.{TileAt}
 use Rattle.ice_base.specs.declared.number.BitAt.{BitAt}
-use Rattle.ice_flow.specs.Lists.{Has}
+use Rattle.ice_flow.specs.Lists.{At, Has}
 use Rattle.ice_flow.specs.Database.{Database, NamedBit, SwitchGroup, Row, rows_of, same_tile, same_bit}
 use Rattle.ice_flow.specs.Names.{has_input_name, has_output_name, has_closed_name, has_memory_name}
 use Rattle.ice_flow.specs.Switches.{Bits, is_on}
@@ -51,5 +51,5 @@ IsUnreachable c start end = (rows : List Row) → IsWalk c start rows end → �
 
 -- the walk enters no wire twice, and never the wire where it starts
 pub record IsSimple (start : ℕ) (rows : List Row) : Type 0 where
-  pub once : (r s : Row) → Has rows r → Has rows s → r.target ≡ s.target → r ≡ s
+  pub once : (i j : ℕ) (r s : Row) → At rows i r → At rows j s → r.target ≡ s.target → i ≡ j
   pub away : (r : Row) → Has rows r → r.target ≢ start

@@ -7,8 +7,11 @@ ghost use Rattle.ice_flow.specs.Views.{AreCopies};
 ghost use Rattle.ice_flow.specs.Same.{ShowsSame};
 ghost use Rattle.ice_flow.specs.FirstForm.{database_with};
 
+mod bundle;
 mod chip;
+mod levels;
 mod pad;
+mod place;
 mod route;
 
 pub fn limit() -> usize

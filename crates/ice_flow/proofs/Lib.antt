@@ -1,0 +1,5 @@
+pub mod ListFacts
+pub mod PlaceFacts
+pub mod LevelTables
+pub mod GroupViews
+pub mod BundleBits
