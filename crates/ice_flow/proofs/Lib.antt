@@ -3,3 +3,6 @@ pub mod PlaceFacts
 pub mod LevelTables
 pub mod GroupViews
 pub mod BundleBits
+pub mod ValueLists
+pub mod RowPlaces
+pub mod FirstRowSteps

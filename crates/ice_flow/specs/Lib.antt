@@ -16,3 +16,5 @@ pub mod Places
 pub mod Found
 pub mod Levels
 pub mod Bundles
+pub mod RowLists
+pub mod RowIndex

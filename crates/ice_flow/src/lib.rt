@@ -9,9 +9,11 @@ ghost use Rattle.ice_flow.specs.FirstForm.{database_with};
 
 mod bundle;
 mod chip;
+mod index;
 mod levels;
 mod pad;
 mod place;
+mod rows;
 mod route;
 
 pub fn limit() -> usize
