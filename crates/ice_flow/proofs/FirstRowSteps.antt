@@ -14,22 +14,22 @@ use Rattle.ice_flow.specs.declared.place.Place.{Place}
 use Rattle.ice_flow.proofs.PlaceFacts.{same_tile-true, same_tile-refl, rows_number}
 use Rattle.ice_flow.proofs.RowPlaces.{rows_at, before-le, before_next}
 
-push_cases : {X : Type 0} (xs : List X) (y : X) (j : ℕ) (x : X) → At (xs ++ y ∷ []) j x → At xs j x ⊎ ((j ≡ length xs) × (y ≡ x))
+pub push_cases : {X : Type 0} (xs : List X) (y : X) (j : ℕ) (x : X) → At (xs ++ y ∷ []) j x → At xs j x ⊎ ((j ≡ length xs) × (y ≡ x))
 push_cases [] y zero x at = inr (refl, cc at)
 push_cases [] y (suc j) x at = cc at
 push_cases (a ∷ xs) y zero x at = inl at
 push_cases (a ∷ xs) y (suc j) x at = elim (push_cases xs y j x at) [ inl old ↦ inl old | inr new ↦ inr (ap suc new.0, new.1) ]
 
-push_old : {X : Type 0} (xs : List X) (y : X) (j : ℕ) (x : X) → At xs j x → At (xs ++ y ∷ []) j x
+pub push_old : {X : Type 0} (xs : List X) (y : X) (j : ℕ) (x : X) → At xs j x → At (xs ++ y ∷ []) j x
 push_old [] y j x at = cc at
 push_old (a ∷ xs) y zero x at = at
 push_old (a ∷ xs) y (suc j) x at = push_old xs y j x at
 
-push_new : {X : Type 0} (xs : List X) (y : X) → At (xs ++ y ∷ []) (length xs) y
+pub push_new : {X : Type 0} (xs : List X) (y : X) → At (xs ++ y ∷ []) (length xs) y
 push_new [] y = refl
 push_new (a ∷ xs) y = push_new xs y
 
-at_same : {X : Type 0} (xs : List X) (i k : ℕ) (x y : X) → i ≡ k → At xs i x → At xs k y → x ≡ y
+pub at_same : {X : Type 0} (xs : List X) (i k : ℕ) (x y : X) → i ≡ k → At xs i x → At xs k y → x ≡ y
 at_same xs i k x y e a b = let b' : At xs i y = subst (λ j. At xs j y) (sym e) b in cc
 
 any_take : (f : List Bool → Bool) (xs : List SwitchRow) (k : ℕ) → k < length xs

@@ -6,3 +6,5 @@ pub mod BundleBits
 pub mod ValueLists
 pub mod RowPlaces
 pub mod FirstRowSteps
+pub mod IndexSteps
+pub mod AloneRows

@@ -41,17 +41,18 @@ HasShape shapes bits = (x : ℕ) × (s : Bor (List BitAt)) × At shapes x s × (
 abbrev pub HasKey : List SwitchGroup → List BitAt → List Bool → Place → Type 0
 HasKey groups bits values p = ((row_at groups p).bits ≡ bits) × ((row_at groups p).values ≡ values)
 
--- the first rows of a list, up to a count, by their bits and values
-pub record AreHeld (groups : List SwitchGroup) (places : List Place) (count : ℕ) (held : List BitAt → List Bool → Option Holder) : Type 0 where
-  pub missing : (b : List BitAt) (v : List Bool) → held b v ≡ None → (i : ℕ) (p : Place) → i < count → At places i p → HasKey groups b v p → ⊥
-  pub first : (b : List BitAt) (v : List Bool) (h : Holder) → held b v ≡ Some h → (h.first < count) × (p : Place) × At places h.first p × HasKey groups b v p
-  pub lone : (b : List BitAt) (v : List Bool) (h : Holder) → held b v ≡ Some h → h.several ≡ false → (i : ℕ) (p : Place) → i < count → At places i p → HasKey groups b v p → i ≡ h.first
-  pub others : (b : List BitAt) (v : List Bool) (h : Holder) → held b v ≡ Some h → h.several ≡ true → (i : ℕ) × (p : Place) × At places i p × HasKey groups b v p × (i ≢ h.first)
+-- what is held of the rows of these bits and values, among the rows of a list up to a count
+pub record IsHeld (groups : List SwitchGroup) (places : List Place) (count : ℕ) (b : List BitAt) (v : List Bool) (held : Option Holder) : Type 0 where
+  pub missing : held ≡ None → (i : ℕ) (p : Place) → i < count → At places i p → HasKey groups b v p → ⊥
+  pub first : (h : Holder) → held ≡ Some h → (p : Place) × At places h.first p × HasKey groups b v p × (h.first < count)
+  pub lone : (h : Holder) → held ≡ Some h → h.several ≡ false → (i : ℕ) (p : Place) → i < count → At places i p → HasKey groups b v p → i ≡ h.first
+  pub others : (h : Holder) → held ≡ Some h → h.several ≡ true → (i : ℕ) × (p : Place) × At places i p × HasKey groups b v p × (i ≢ h.first)
 
--- an index of all rows of a list
+-- an index of all rows of a list: the rows by their bits and values, and the lists of their bits
 pub record IsIndexOf (groups : List SwitchGroup) (places : List Place) (index : Index) : Type 0 where
-  pub held : AreHeld groups places (length places) (holder_at index.holders)
+  pub held : (b : List BitAt) (v : List Bool) → IsHeld groups places (length places) b v (holder_at index.holders b v)
   pub shapes : (i : ℕ) (p : Place) → At places i p → HasShape index.shapes.items (row_at groups p).bits
+  pub only : (b : List BitAt) → HasShape index.shapes.items b → (i : ℕ) × (p : Place) × At places i p × ((row_at groups p).bits ≡ b)
 
 -- another row than the one at this place
 abbrev pub is_other : ℕ → Option Holder → Bool

@@ -1,5 +1,5 @@
 //! Which rows of a list have given values in given bits.
-ghost use Rattle.std.specs.Prelude.{◌≡◌, ℕ, ◌<◌, ◌&&◌, Bool, List, OnOk, IfOk, true, false, length, map, if◌then◌else◌};
+ghost use Rattle.std.specs.Prelude.{◌≡◌, ℕ, ◌<◌, ◌⊎◌, ◌&&◌, Bool, List, OnOk, IfOk, true, false, length, map, if◌then◌else◌};
 ghost use Rattle.std.specs.Option.{option_copied};
 ghost use Rattle.std.specs.List.{list_any};
 ghost use Rattle.ice_base.specs.declared.number.BitAt.{BitAt};
@@ -72,6 +72,7 @@ fn add_shape<'a>(
     requires { (b : List BitAt) → knows known.old b ≡ true → HasShape shapes.old.items b }
     ensures known { OnOk result ((b : List BitAt) → knows known.new b ≡ true → HasShape shapes.new.items b) }
     ensures added { OnOk result (HasShape shapes.new.items bits.now) }
+    ensures only { OnOk result ((b : List BitAt) → HasShape shapes.new.items b → HasShape shapes.old.items b ⊎ (b ≡ bits.now)) }
     ensures kept { OnOk result ((b : List BitAt) → HasShape shapes.old.items b → HasShape shapes.new.items b) }
 {
     if !known.insert(bits)? {
@@ -126,6 +127,16 @@ fn has_one(values: &[bool]) -> bool
     false
 }
 
+// Whether there is another row than the one at p.
+fn is_other_than(holder: Option<&Holder>, p: usize) -> bool
+    ensures { result ≡ is_other p (option_copied holder.entry) }
+{
+    match holder {
+        None => false,
+        Some(holder) => holder.several || holder.first != p,
+    }
+}
+
 // Whether a row of the index with these bits, other than the one at p, is on under the levels.
 fn has_other(
     alloc: Global,
@@ -141,10 +152,7 @@ fn has_other(
     if !has_one(&values) {
         return Ok(false);
     }
-    match index.holders.get(&(bits, values.as_slice())) {
-        None => Ok(false),
-        Some(holder) => Ok(holder.several || holder.first != p),
-    }
+    Ok(is_other_than(index.holders.get(&(bits, values.as_slice())), p))
 }
 
 // Whether the bits have these values under the levels.
@@ -176,11 +184,15 @@ pub fn is_alone(
     ensures alone { IfOk result (λ alone. alone ≡ true → (q : Place) → At places.now p q → IsAlone (groups_view groups.now) places.now p q) }
     ensures other { IfOk result (λ alone. alone ≡ false → (q : Place) → At places.now p q → IsAlone (groups_view groups.now) places.now p q → ⊥) }
 {
-    let bits = bits_of(groups, places[p]);
-    let values = values_of(groups, places[p]);
+    let place = places[p];
+    let bits = bits_of(groups, place);
+    let values = values_of(groups, place);
     let mut levels = Levels::new();
     levels.set_ones(bits, values);
-    if !has_one(values) || !are_read(&levels, bits, values) {
+    if !has_one(values) {
+        return Ok(false);
+    }
+    if !are_read(&levels, bits, values) {
         return Ok(false);
     }
     for x in 0..index.shapes.len() {
