@@ -137,3 +137,9 @@ module _ (gs : List SwitchGroup) (form : IsOfForm gs) (places : List Place) (wit
           let parts = or_parts h.several (not (eqb h.first n)) other in
           let same : h.first ≡ n = eqb-true h.first n (not-false (eqb h.first n) parts.1) in
           held.lone h refl parts.0 k q (slice_get_within places k q at') at' (refl, v) ∙ same
+
+-- the levels after the ones of a row are set
+pub level_same : (bits rb : List BitAt) (values rv : List Bool) (old new : BitAt → Bool) → ((b : BitAt) → IsSwitchBit b → new b ≡ (old b || value_at bits values b))
+    → ((b : BitAt) → old b ≡ false) → bits ≡ rb → values ≡ rv → (b : BitAt) → IsSwitchBit b → new b ≡ value_at rb rv b
+level_same bits rb values rv old new set low eb ev b in' =
+    set b in' ∙ (ap (λ z. z || value_at bits values b) (low b) ∙ (ap (λ x. value_at x values b) eb ∙ ap (λ y. value_at rb y b) ev))

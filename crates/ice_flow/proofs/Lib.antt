@@ -8,3 +8,5 @@ pub mod RowPlaces
 pub mod FirstRowSteps
 pub mod IndexSteps
 pub mod AloneRows
+pub mod WireNames
+pub mod UsableSteps

@@ -18,3 +18,4 @@ pub mod Levels
 pub mod Bundles
 pub mod RowLists
 pub mod RowIndex
+pub mod UsableRows

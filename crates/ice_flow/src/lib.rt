@@ -14,6 +14,7 @@ mod levels;
 mod pad;
 mod place;
 mod rows;
+mod usable;
 mod route;
 
 pub fn limit() -> usize
