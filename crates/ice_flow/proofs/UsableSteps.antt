@@ -11,15 +11,17 @@ use Rattle.ice_base.specs.declared.number.BitAt.{BitAt}
 use Rattle.ice_flow.specs.Lists.{At, Has}
 use Rattle.ice_flow.specs.Database.{SwitchGroup, Row, rows_from, same_tile}
 use Rattle.ice_flow.specs.Names.{has_input_name, has_output_name, has_closed_name}
-use Rattle.ice_flow.specs.FirstForm.{database_with}
+use Rattle.ice_flow.specs.FirstForm.{left_tile, right_tile, database_with}
+use Rattle.ice_flow.specs.ChipForm.{IsOfForm}
 use Rattle.ice_flow.specs.Switches.{same_values, is_fresh, is_on}
 use Rattle.ice_flow.specs.Routes.{value_at, sets, IsPrivate, IsSound, IsUsable}
 use Rattle.ice_flow.specs.Places.{row_at, IsWithin}
 use Rattle.ice_flow.specs.RowLists.{AreFirstRows}
 use Rattle.ice_flow.specs.RowIndex.{is_set_by, IsAlone}
-use Rattle.ice_flow.specs.UsableRows.{may_leave_by_name, may_enter_by_name, edge, IsUsableFrom, AreUsable, KeepsPairs, HasPairOf}
+use Rattle.ice_flow.specs.UsableRows.{may_leave_by_name, may_enter_by_name, IsBundle, edge, IsUsableFrom, AreUsable, KeepsPairs, HasPairOf}
 use Rattle.ice_flow.specs.declared.place.Place.{Place}
-use Rattle.ice_flow.proofs.PlaceFacts.{same_tile-refl, rows_number}
+use Rattle.ice_flow.specs.declared.usable.Bundle.{Bundle}
+use Rattle.ice_flow.proofs.PlaceFacts.{same_tile-refl, row_group}
 use Rattle.ice_flow.proofs.FirstRowSteps.{at_same}
 use Rattle.ice_flow.proofs.AloneRows.{map_along}
 use Rattle.ice_flow.proofs.WireNames.{no_memory_name}
@@ -129,3 +131,24 @@ keeps_set edges p i li s t ls lt e = elim (cases_eq (s * 4 + t) i) [
   | inl same ↦ ap (λ (x : Option Place). is_some x) (ap (λ j. get_or (set edges i (Some p)) j None) same ∙ get_or-set_same edges i (Some p) None li)
   | inr other ↦ ap (λ (x : Option Place). is_some x) (get_or-set_other edges i (s * 4 + t) (Some p) None other) ∙ e
 ]
+
+-- the wires and the tile of a row of the form
+pub row_wires : (gs : List SwitchGroup) → IsOfForm gs → (r : Row) → Has (rows_from 0 gs) r → (r.source < 4) × (r.target < 4) × ((r.tile ≡ left_tile) ⊎ (r.tile ≡ right_tile))
+row_wires gs form r has =
+    let got = row_group 0 gs has.0 r has.1 in
+    (subst (λ n. n < 4) (sym got.4.source) (form.source got.0 got.1 got.2 got.3),
+    subst (λ n. n < 4) (sym got.4.target) (form.wire got.0 got.2),
+    elim (form.tile got.0 got.2) [ inl left ↦ inl (got.4.tile ∙ left) | inr right ↦ inr (got.4.tile ∙ right) ])
+
+-- the place of a bundle's row in the table
+pub pair_below : (gs : List SwitchGroup) → IsOfForm gs → (bundle : Bundle) → IsBundle gs bundle → (n : ℕ) (p : Place) → At bundle.places.items n p → (row_at gs p).source < 4
+pair_below gs form bundle of n p at = (row_wires gs form (row_at gs p) (p.number, (of.rows.each n p at).within.numbered)).0
+
+-- a bundle's row has its pair where there is a row between its wires
+pub has_pair : (gs : List SwitchGroup) (bundle : Bundle) → IsBundle gs bundle → (n : ℕ) (p q : Place) → At bundle.places.items n p → At bundle.places.items n q → (edges : List (Option Place)) (source : ℕ)
+    → source ≡ (row_at gs p).source → is_some (edge edges source bundle.wire.0) ≡ true → HasPairOf edges (row_at gs q)
+has_pair gs bundle of n p q at at' edges source from e =
+    let same : p ≡ q = at_same bundle.places.items n n p q refl at at' in
+    subst (λ x. HasPairOf edges (row_at gs x)) same
+    (subst (λ y. is_some (edge edges (row_at gs p).source y) ≡ true) (sym (of.rows.each n p at).target)
+    (subst (λ x. is_some (edge edges x bundle.wire.0) ≡ true) from e))

@@ -19,3 +19,4 @@ pub mod Bundles
 pub mod RowLists
 pub mod RowIndex
 pub mod UsableRows
+pub mod Ways

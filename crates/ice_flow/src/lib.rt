@@ -14,6 +14,7 @@ mod levels;
 mod pad;
 mod place;
 mod rows;
+mod search;
 mod usable;
 mod route;
 
