@@ -10,3 +10,4 @@ pub mod IndexSteps
 pub mod AloneRows
 pub mod WireNames
 pub mod UsableSteps
+pub mod WaySteps

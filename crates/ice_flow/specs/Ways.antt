@@ -1,8 +1,7 @@
 -- Ways from wire to wire along the pairs of a table that have a row.
 use Rattle.std.specs.Prelude.{◌≡◌, ◌≢◌, ℕ, ◌+◌, ◌<◌, Bool, true, false, Option, None, Some, List, [], ◌∷◌, length, slice_index_or}
 use Rattle.std.specs.Option.{is_some, unwrap_or}
-use Rattle.std.specs.Vec.{Vec}
-use Rattle.std.specs.Global.{Global}
+use Rattle.std.specs.Global.{Vec}
 use Rattle.ice_flow.specs.Lists.{At}
 use Rattle.ice_flow.specs.Database.{SwitchGroup, Row}
 use Rattle.ice_flow.specs.Places.{row_at}
@@ -19,28 +18,28 @@ IsWay edges start [] end = start ≡ end
 IsWay edges start (w ∷ wires) end = (w < 4) × (leads edges start w ≡ true) × IsWay edges w wires end
 
 -- a way to a wire is found
-abbrev pub reached : List (Option (Vec ℕ Global)) → ℕ → Bool
+abbrev pub reached : List (Option (Vec ℕ)) → ℕ → Bool
 reached ways w = is_some (slice_index_or ways w None)
 
 -- a way that enters no wire twice and never its start, over wires that are reached
-pub record IsFoundWay (edges : List (Option Place)) (start : ℕ) (ways : List (Option (Vec ℕ Global))) (wires : List ℕ) (end : ℕ) : Type 0 where
+pub record IsFoundWay (edges : List (Option Place)) (start : ℕ) (ways : List (Option (Vec ℕ))) (wires : List ℕ) (end : ℕ) : Type 0 where
   pub way : IsWay edges start wires end
   pub once : (i j w : ℕ) → At wires i w → At wires j w → i ≡ j
   pub away : (i w : ℕ) → At wires i w → w ≢ start
   pub over : (i w : ℕ) → At wires i w → reached ways w ≡ true
 
 -- the ways from a wire to the four wires that are found so far
-pub record AreWays (edges : List (Option Place)) (start : ℕ) (ways : List (Option (Vec ℕ Global))) : Type 0 where
+pub record AreWays (edges : List (Option Place)) (start : ℕ) (ways : List (Option (Vec ℕ))) : Type 0 where
   pub long : length ways ≡ 4
   pub begun : reached ways start ≡ true
-  pub each : (w : ℕ) (way : Vec ℕ Global) → slice_index_or ways w None ≡ Some way → IsFoundWay edges start ways way.items w
+  pub each : (w : ℕ) (way : Vec ℕ) → slice_index_or ways w None ≡ Some way → IsFoundWay edges start ways way.items w
 
 -- all wires beside a wire are reached
-abbrev pub IsDone : List (Option Place) → List (Option (Vec ℕ Global)) → ℕ → Type 0
+abbrev pub IsDone : List (Option Place) → List (Option (Vec ℕ)) → ℕ → Type 0
 IsDone edges ways s = (t : ℕ) → t < 4 → leads edges s t ≡ true → reached ways t ≡ true
 
 -- what is reached stays so
-abbrev pub KeepsReached : List (Option (Vec ℕ Global)) → List (Option (Vec ℕ Global)) → Type 0
+abbrev pub KeepsReached : List (Option (Vec ℕ)) → List (Option (Vec ℕ)) → Type 0
 KeepsReached old new = (w : ℕ) → reached old w ≡ true → reached new w ≡ true
 
 -- the number of wires that are not done

@@ -1,13 +1,13 @@
 //! The search for a walk from one wire to another.
-ghost use Rattle.std.specs.Prelude.{◌≡◌, ℕ, ◌<◌, ◌∷◌, ◌++◌, [], List, Option, true, false, OnOk, IfOk, MatchOption, length, slice_index_or};
+ghost use Rattle.std.specs.Prelude.{◌≡◌, ℕ, ◌<◌, ◌∷◌, ◌++◌, [], List, Option, true, false, OnOk, IfOk, MatchOption, length, slice_index_or, unwrap_or};
 ghost use Rattle.ice_flow.specs.FirstForm.{database_with};
 ghost use Rattle.ice_flow.specs.ChipForm.{IsOfForm};
 ghost use Rattle.ice_flow.specs.Found.{IsRoute};
 ghost use Rattle.ice_flow.specs.Places.{row_at, IsWithin};
 ghost use Rattle.ice_flow.specs.Routes.{IsUnreachable};
-ghost use Rattle.ice_flow.specs.UsableRows.{AreUsable};
+ghost use Rattle.ice_flow.specs.UsableRows.{edge, AreUsable};
 ghost use Rattle.ice_flow.specs.Views.{groups_view, IsCopyOf, AreCopies};
-ghost use Rattle.ice_flow.specs.Ways.{leads, reached, IsWay, AreWays, IsDone, KeepsReached, rows_along};
+ghost use Rattle.ice_flow.specs.Ways.{leads, reached, IsWay, AreWays, IsDone, KeepsReached, no_place, rows_along};
 ghost use Rattle.ice_flow.specs.declared.place.Place.{Place};
 
 use crate::chip::Group;
@@ -141,6 +141,27 @@ fn row_of_route(alloc: Global, groups: &[Group], place: Place) -> Result<RouteRo
     })
 }
 
+// The row that leads from a wire to another.
+fn row_between(
+    alloc: Global,
+    groups: &[Group],
+    edges: &[Option<Place>],
+    from: usize,
+    to: usize,
+) -> Result<RouteRow, NoMemory>
+    requires form { IsOfForm (groups_view groups.now) }
+    requires usable { AreUsable (groups_view groups.now) edges.now }
+    requires from { from < 4 }
+    requires to { to < 4 }
+    requires leads { leads edges.now from to ≡ true }
+    ensures { IfOk result (λ row. IsCopyOf row (row_at (groups_view groups.now) (unwrap_or (edge edges.now from to) no_place))) }
+{
+    let Some(place) = edges[from * WIRES + to] else {
+        unreachable!()
+    };
+    row_of_route(alloc, groups, place)
+}
+
 // The rows of a way.
 fn rows_of_way(
     alloc: Global,
@@ -158,9 +179,7 @@ fn rows_of_way(
     let mut rows = Vec::new(alloc);
     let mut at = start;
     for wire in way {
-        if let Some(place) = edges[at * WIRES + *wire] {
-            rows.push(row_of_route(alloc, groups, place)?)?;
-        }
+        rows.push(row_between(alloc, groups, edges, at, *wire)?)?;
         at = *wire;
     }
     Ok(rows)
