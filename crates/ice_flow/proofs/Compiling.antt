@@ -100,8 +100,7 @@ pub route_built : (name chip pins netlist text a y : List ℕ) (groups : List Sw
 route_built name chip pins netlist text a y groups rows c form n k p walk simple holds =
     let circuit = buffer_netlist a y in
     let db = database_with groups in
-    let pads : List Pad = left_pad ∷ right_pad ∷ [] in
-    (
+    let pads : List Pad = left_pad ∷ right_pad ∷ [] in (
       record {
         chip = db;
         netlist = circuit;

@@ -16,6 +16,17 @@ pub mod AscLines
 pub mod AscReading
 pub mod WrittenBits
 pub mod AscExamples
+pub mod LevelTables
+pub mod GroupViews
+pub mod BundleBits
+pub mod ValueLists
+pub mod RowPlaces
+pub mod FirstRowSteps
+pub mod IndexSteps
+pub mod AloneRows
+pub mod WireNames
+pub mod UsableSteps
+pub mod WaySteps
 pub mod Builds
 pub mod ReadStops
 pub mod RowLaws

@@ -49,8 +49,7 @@ said_then a b c line more true tells p q = (
 )
 said_then a b c line more false tells p q = (
   (λ t.
-      let front = q.0 (tells ∙ t) in
-      (
+      let front = q.0 (tells ∙ t) in (
         length line + front.0,
         omega (arith, front.1, length-append line more),
         front.2 ∙ ap (λ xs. xs ++ take front.0 more) (p.0 t) ∙ append_assoc a.said line (take front.0 more) ∙ ap (λ xs. a.said ++ xs) (sym (take_more front.0 line more)),

@@ -19,7 +19,14 @@ pub mod PinsText
 pub mod Readers
 pub mod Asc
 pub mod Writing
+pub mod Places
 pub mod Found
+pub mod Levels
+pub mod Bundles
+pub mod RowLists
+pub mod RowIndex
+pub mod UsableRows
+pub mod Ways
 pub mod Standing
 pub mod Headline
 pub mod Command

@@ -63,7 +63,9 @@ pub struct Placement {
 #[derive(Debug, Drop)]
 pub enum Cause {
     /// 0: the work is done and every file is written.
-    Good { placement: Placement },
+    Good {
+        placement: Placement,
+    },
     /// 2: the words are no command.
     Usage,
     /// 3: the netlist text is refused.
@@ -77,15 +79,25 @@ pub enum Cause {
         sink: WireNo,
     },
     /// 11: the desk counted a fault of reading.
-    ReadFault { role: FileRole },
+    ReadFault {
+        role: FileRole,
+    },
     /// 12: the desk counted a fault of writing, at the put of this number from 1, or at the make, which is 0.
-    WriteFault { role: FileRole, put: u64 },
+    WriteFault {
+        role: FileRole,
+        put: u64,
+    },
     /// 13: there was no memory.
     NoMemory,
     /// 16: a text has more bytes than the limit.
-    TooLong { role: FileRole, limit: usize },
+    TooLong {
+        role: FileRole,
+        limit: usize,
+    },
     /// 18: a text is of a form that is not built yet.
-    NotBuilt { role: FileRole },
+    NotBuilt {
+        role: FileRole,
+    },
 }
 
 /// The end of a command: its status and its cause.

