@@ -45,11 +45,11 @@ module _ (groups : List SwitchGroup) (form : IsOfForm groups) (t : TileAt) (w : 
       | inl same ↦ eqb-true h.wire w same
       | inr other ↦
           let bit : is_bundle_bit t w groups b ≡ true = has_any (λ x. is_of_bundle t w x && is_among_bits x.bits b) groups g hg.0 hg.1
-              (and_from (is_of_bundle t w g) (is_among_bits g.bits b) (is_of g gt gw) (has_among g.bits b gb)) in
+          (and_from (is_of_bundle t w g) (is_among_bits g.bits b) (is_of g gt gw) (has_among g.bits b gb)) in
           let level : level_in table b ≡ true = bundle b (form.bits h b hh hb) ∙ bit in
           let any : list_any (λ x. level_in table x) h.bits ≡ true = has_any (λ x. level_in table x) h.bits b hb.0 hb.1 level in
           let intrudes : is_intruder table t w h ≡ true = and_from (same_tile h.tile t) (not (eqb h.wire w) && list_any (λ x. level_in table x) h.bits)
-              (same_tile-refl h.tile t ht) (and_from (not (eqb h.wire w)) (list_any (λ x. level_in table x) h.bits) (not_from_false (eqb h.wire w) other) any) in
+          (same_tile-refl h.tile t ht) (and_from (not (eqb h.wire w)) (list_any (λ x. level_in table x) h.bits) (not_from_false (eqb h.wire w) other) any) in
           absurd (both_ways (is_intruder table t w h) (never hh.0 h hh.1) intrudes)
     ];
     no_function = λ g f hg gt gw hf foreign gb. no_foreign f hf foreign;
@@ -65,5 +65,5 @@ module _ (groups : List SwitchGroup) (form : IsOfForm groups) (t : TileAt) (w : 
       let of = and_parts (is_of_bundle t w got.0) (is_among_bits got.0.bits bit.0) got.2 in
       let sides = and_parts (same_tile got.0.tile t) (eqb got.0.wire w) of.0 in
       let same : h.wire ≡ w = private.apart got.0 h bit.0 got.1 (k, at) (same_tile-true got.0.tile t sides.0) (eqb-true got.0.wire w sides.1)
-          (same_tile-true h.tile t parts.0) (among_has got.0.bits bit.0 of.1) bit.1 in
+      (same_tile-true h.tile t parts.0) (among_has got.0.bits bit.0 of.1) bit.1 in
       both_ways (eqb h.wire w) (not-true (eqb h.wire w) others.0) (eq-eqb h.wire w same)

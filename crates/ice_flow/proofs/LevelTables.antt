@@ -52,7 +52,7 @@ pub value_more : (ps : List BitAt) (vs : List Bool) (k : ℕ) (p b : BitAt) (v o
 value_more ps vs k p b v o n a lt same new so_far =
     let e : k + 1 ≡ suc k = omega arith in
     rw e (step o (same_bit (get_or ps k p) b && get_or vs k v) n (value_at (drop k ps) (drop k vs) b) (value_at (drop (suc k) ps) (drop (suc k) vs) b) a new
-        (value_drop ps vs k p b v lt same) so_far)
+    (value_drop ps vs k p b v lt same) so_far)
 
 gone : {X : Type 0} (xs : List X) (k : ℕ) → length xs ≡ k → drop k xs ≡ []
 gone [] zero e = refl

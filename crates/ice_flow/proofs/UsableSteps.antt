@@ -1,21 +1,20 @@
 -- From rows that are on alone to usable rows, and back.
-use Rattle.std.proofs.Common.{◌≡◌, ◌≢◌, ◌⊎◌, ℕ, ◌+◌, ◌*◌, ◌<◌, ◌≤◌, Bool, true, false, eqb, Option, None, Some, List, length, map, get_or, set, inl, inr, refl, ap, sym, ◌∙◌, subst, arith}
-use Rattle.std.specs.Prelude.{◌&&◌, ◌||◌, not}
+use Rattle.std.proofs.Common.{◌≡◌, ◌⊎◌, ℕ, ◌+◌, ◌*◌, ◌<◌, true, false, Option, None, Some, List, length, map, get_or, set, inl, inr, refl, ap, sym, ◌∙◌, subst, arith}
+use Rattle.std.specs.Prelude.{◌&&◌, not}
 use Rattle.std.specs.List.{list_any}
 use Rattle.std.specs.Option.{is_some}
 use Rattle.std.proofs.lemmas.Bool.{and_parts, and_from, not-true, not_from_false, cases_eq}
 use Rattle.std.proofs.lemmas.List.{get_or-set_same, get_or-set_other, length-set}
 use Rattle.std.proofs.lemmas.Option.{slice_get_within}
 use Rattle.ice_base.specs.declared.number.TileAt.{TileAt}
-use Rattle.ice_base.specs.declared.number.BitAt.{BitAt}
 use Rattle.ice_flow.specs.Lists.{At, Has}
-use Rattle.ice_flow.specs.Database.{SwitchGroup, Row, rows_from, same_tile}
+use Rattle.ice_flow.specs.Database.{SwitchGroup, Row, rows_from}
 use Rattle.ice_flow.specs.Names.{has_input_name, has_output_name, has_closed_name}
 use Rattle.ice_flow.specs.FirstForm.{left_tile, right_tile, database_with}
 use Rattle.ice_flow.specs.ChipForm.{IsOfForm}
 use Rattle.ice_flow.specs.Switches.{same_values, is_fresh, is_on}
 use Rattle.ice_flow.specs.Routes.{value_at, sets, IsPrivate, IsSound, IsUsable}
-use Rattle.ice_flow.specs.Places.{row_at, IsWithin}
+use Rattle.ice_flow.specs.Places.{row_at}
 use Rattle.ice_flow.specs.RowLists.{AreFirstRows}
 use Rattle.ice_flow.specs.RowIndex.{is_set_by, IsAlone}
 use Rattle.ice_flow.specs.UsableRows.{may_leave_by_name, may_enter_by_name, IsBundle, edge, IsUsableFrom, AreUsable, KeepsPairs, HasPairOf}
@@ -60,7 +59,7 @@ module _ (gs : List SwitchGroup) (t : TileAt) (w : ℕ) (places : List Place) (f
     alone = λ s has tile target on.
         let got = first.all has.0 s (slice_get_within (rows_from 0 gs) has.0 s has.1) has.1 (tile ∙ (first.each n p at).tile) (target ∙ (first.each n p at).target) (fresh_from_on (row_at gs p) s on) in
         let set : is_set_by (value_at (row_at gs p).bits (row_at gs p).values) (row_at gs got.1) ≡ true =
-            subst (λ (x : Row). is_set_by (value_at (row_at gs p).bits (row_at gs p).values) x ≡ true) (sym got.3) (set_from_on (row_at gs p) s tile on) in
+        subst (λ (x : Row). is_set_by (value_at (row_at gs p).bits (row_at gs p).values) x ≡ true) (sym got.3) (set_from_on (row_at gs p) s tile on) in
         let same : got.0 ≡ n = alone.others got.0 got.1 got.2 set in
         sym got.3 ∙ ap (row_at gs) (at_same places got.0 n got.1 p same got.2 at);
   }
@@ -72,7 +71,7 @@ module _ (gs : List SwitchGroup) (t : TileAt) (w : ℕ) (places : List Place) (f
         let tile : (row_at gs q).tile ≡ (row_at gs p).tile = (first.each k q at').tile ∙ sym (first.each n p at).tile in
         let target : (row_at gs q).target ≡ (row_at gs p).target = (first.each k q at').target ∙ sym (first.each n p at).target in
         let same : row_at gs q ≡ row_at gs p = sound.alone (row_at gs q) (q.number, (first.each k q at').within.numbered) tile target
-            (on_from_set (row_at gs p) (row_at gs q) tile (first.each k q at').fresh set) in
+        (on_from_set (row_at gs p) (row_at gs q) tile (first.each k q at').fresh set) in
         first.apart k n q p at' at (ap (λ (x : Row). x.number) same);
   }
 
@@ -116,7 +115,7 @@ usable_set gs edges p a b la lb usable old = record {
         (let pair = pairs_apart s t a b lt lb same in
         let long = old.long in
         let at : get_or (set edges (a * 4 + b) (Some p)) (s * 4 + t) None ≡ Some p =
-            ap (λ i. get_or (set edges (a * 4 + b) (Some p)) i None) same ∙ get_or-set_same edges (a * 4 + b) (Some p) None (omega arith) in
+        ap (λ i. get_or (set edges (a * 4 + b) (Some p)) i None) same ∙ get_or-set_same edges (a * 4 + b) (Some p) None (omega arith) in
         let pq : p ≡ q = same_some p q (sym at ∙ e) in
         subst (λ x. IsUsableFrom gs x s t) pq (subst (λ x. IsUsableFrom gs p x t) (sym pair.0) (subst (λ y. IsUsableFrom gs p a y) (sym pair.1) usable)))
     | inr other ↦ old.each s t q ls lt (sym (get_or-set_other edges (a * 4 + b) (s * 4 + t) (Some p) None other) ∙ e)
@@ -135,10 +134,11 @@ keeps_set edges p i li s t ls lt e = elim (cases_eq (s * 4 + t) i) [
 -- the wires and the tile of a row of the form
 pub row_wires : (gs : List SwitchGroup) → IsOfForm gs → (r : Row) → Has (rows_from 0 gs) r → (r.source < 4) × (r.target < 4) × ((r.tile ≡ left_tile) ⊎ (r.tile ≡ right_tile))
 row_wires gs form r has =
-    let got = row_group 0 gs has.0 r has.1 in
-    (subst (λ n. n < 4) (sym got.4.source) (form.source got.0 got.1 got.2 got.3),
-    subst (λ n. n < 4) (sym got.4.target) (form.wire got.0 got.2),
-    elim (form.tile got.0 got.2) [ inl left ↦ inl (got.4.tile ∙ left) | inr right ↦ inr (got.4.tile ∙ right) ])
+    let got = row_group 0 gs has.0 r has.1 in (
+      subst (λ n. n < 4) (sym got.4.source) (form.source got.0 got.1 got.2 got.3),
+      subst (λ n. n < 4) (sym got.4.target) (form.wire got.0 got.2),
+      elim (form.tile got.0 got.2) [ inl left ↦ inl (got.4.tile ∙ left) | inr right ↦ inr (got.4.tile ∙ right) ],
+    )
 
 -- the place of a bundle's row in the table
 pub pair_below : (gs : List SwitchGroup) → IsOfForm gs → (bundle : Bundle) → IsBundle gs bundle → (n : ℕ) (p : Place) → At bundle.places.items n p → (row_at gs p).source < 4

@@ -1,5 +1,5 @@
 -- What holds of the groups of every chip of the first form.
-use Rattle.std.specs.Prelude.{◌≡◌, ◌⊎◌, ◌<◌, ◌≤◌, ℕ, List, length}
+use Rattle.std.specs.Prelude.{◌≡◌, ◌⊎◌, ◌<◌, ◌≤◌, List, length}
 use Rattle.ice_base.specs.declared.number.BitAt.{BitAt}
 use Rattle.ice_flow.specs.Lists.{Has}
 use Rattle.ice_flow.specs.Database.{SwitchGroup, SwitchRow, rows_from}

@@ -13,10 +13,10 @@ mod index;
 mod levels;
 mod pad;
 mod place;
+mod route;
 mod rows;
 mod search;
 mod usable;
-mod route;
 
 pub fn limit() -> usize
     ensures { result ≡ 67108864 }

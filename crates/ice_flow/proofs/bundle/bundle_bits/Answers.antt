@@ -1,4 +1,4 @@
-use Rattle.std.proofs.Common.{◌≡◌, length, ◌<◌, ◌≤◌, arith, refl, sym, ap, ◌∙◌}
+use Rattle.std.proofs.Common.{◌≡◌, length, arith, refl, sym, ap, ◌∙◌}
 use Rattle.std.specs.Prelude.{◌||◌, ◌&&◌}
 use Rattle.ice_flow.specs.Views.{group_view, groups_view}
 use Rattle.ice_flow.specs.Levels.{level_in}
@@ -20,7 +20,7 @@ loop-group-preserved c b in' =
     (level_in c.loop-group.used.levels b) (level_in c.add_bits.new.used.levels b) (is_bundle_bit c.args.tile c.args.wire.0 (groups_view c.args.groups.now) b)
     (omega arith)
     (c.add_bits.ensures b in' ∙ ap (λ g. level_in c.loop-group.used.levels b || (is_of_bundle c.args.tile c.args.wire.0 g && is_among_bits g.bits b))
-        (sym (view_read c.args.groups.now c.loop-group.group-index c.group-item.result (omega arith) c.group-item.is)))
+    (sym (view_read c.args.groups.now c.loop-group.group-index c.group-item.result (omega arith) c.group-item.is)))
     (c.loop-group.invariant b in')
 
 pub returns : goal.returns

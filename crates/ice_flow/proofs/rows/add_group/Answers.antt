@@ -1,13 +1,10 @@
-use Rattle.std.proofs.Common.{◌≡◌, ◌+◌, ◌<◌, ◌≤◌, ℕ, List, length, get_or, arith, refl, ap, sym, ◌∙◌, subst}
-use Rattle.std.specs.Prelude.{◌||◌}
+use Rattle.std.proofs.Common.{◌≡◌, ◌+◌, ◌<◌, ◌≤◌, length, get_or, arith, refl, ap, sym, ◌∙◌, subst}
 use Rattle.ice_flow.specs.Database.{SwitchRow, SwitchGroup, rows_from}
-use Rattle.ice_flow.specs.Switches.{same_values}
-use Rattle.ice_flow.specs.Views.{row_view, group_view, groups_view}
+use Rattle.ice_flow.specs.Views.{groups_view}
 use Rattle.ice_flow.specs.Bundles.{is_of_bundle}
 use Rattle.ice_flow.specs.Places.{no_group, no_row}
 use Rattle.ice_flow.specs.RowLists.{holds, rows_before, AreFirstRows}
-use Rattle.ice_flow.specs.declared.chip.Group.{Group}
-use Rattle.ice_flow.proofs.GroupViews.{length_view, view_at, rows_view_length, row_view_at}
+use Rattle.ice_flow.proofs.GroupViews.{length_view, view_at, row_view_at}
 use Rattle.ice_flow.proofs.RowPlaces.{before-le, before_next, before_next_view, rows_in_view}
 use Rattle.ice_flow.proofs.FirstRowSteps.{seen_more, pass_group, add_row}
 use Rattle.ice_flow.proofs.rows.add_group.Goals as goal
@@ -43,8 +40,8 @@ loop-k-preserved c =
     let l = c.index-groups-i.result.rows.ok.0 in
     let lt : c.loop-k.k < length c.index-groups-i.result.rows.items = omega arith in
     let values : (get_or (get_or (groups_view c.args.groups.now) c.args.i no_group).rows c.loop-k.k no_row).values ≡ c.as_slice.result.now =
-        (ap (λ (g : SwitchGroup). (get_or g.rows c.loop-k.k no_row).values) same
-        ∙ (ap (λ (x : SwitchRow). x.values) (row_view_at c.index-groups-i.result c.loop-k.k c.index.result.now no_row lt c.index.ensures) ∙ sym c.as_slice.ensures.value)) in
+    (ap (λ (g : SwitchGroup). (get_or g.rows c.loop-k.k no_row).values) same
+    ∙ (ap (λ (x : SwitchRow). x.values) (row_view_at c.index-groups-i.result c.loop-k.k c.index.result.now no_row lt c.index.ensures) ∙ sym c.as_slice.ensures.value)) in
     record {
       added = add_row (groups_view c.args.groups.now) c.args.tile c.args.wire.0 c.args.i c.loop-k.k c.args.number c.loop-k.places.items c.add_row.new.places.items
           (holds c.loop-k.seen c.as_slice.result.now) (omega arith) (omega arith) c.requires.number

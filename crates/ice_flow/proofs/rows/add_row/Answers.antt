@@ -5,7 +5,6 @@ use Rattle.ice_flow.specs.RowLists.{holds}
 use Rattle.ice_flow.proofs.ValueLists.{same_values-pointwise, one_more}
 use Rattle.ice_flow.proofs.rows.add_row.Goals as goal
 
-
 pub returns-then-not-branch-clause-seen : goal.returns-then-not-branch-clause-seen
 returns-then-not-branch-clause-seen c v =
     let h = c.in_ok-insert.ensures.updates.0 (record { ref_ptr = (0, 0); now = v }) in

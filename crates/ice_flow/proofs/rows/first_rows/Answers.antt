@@ -33,7 +33,7 @@ overflow_add-number c =
     let e = before_next_view c.args.groups.now c.loop-i.i c.index-groups-i.result (omega arith) c.index-groups-i.is in
     let l = c.index-groups-i.result.rows.ok.0 in
     let m : c.len-number.result ≡ Rattle.std.proofs.Common.vec_len c.index-groups-i.result.rows =
-        c.len-number.ensures ∙ ap (λ (g : Group). Rattle.std.proofs.Common.vec_len g.rows) (sym c.index-groups-i.is) in
+    c.len-number.ensures ∙ ap (λ (g : Group). Rattle.std.proofs.Common.vec_len g.rows) (sym c.index-groups-i.is) in
     let n = c.loop-i.invariant.number in
     omega arith
 
@@ -42,7 +42,7 @@ loop-i-preserved c =
     let e = before_next_view c.args.groups.now c.loop-i.i c.index-groups-i.result (omega arith) c.index-groups-i.is in
     let l = c.index-groups-i.result.rows.ok.0 in
     let m : c.len-number.result ≡ Rattle.std.proofs.Common.vec_len c.index-groups-i.result.rows =
-        c.len-number.ensures ∙ ap (λ (g : Group). Rattle.std.proofs.Common.vec_len g.rows) (sym c.index-groups-i.is) in
+    c.len-number.ensures ∙ ap (λ (g : Group). Rattle.std.proofs.Common.vec_len g.rows) (sym c.index-groups-i.is) in
     let n = c.loop-i.invariant.number in
     record {
       number = omega arith;
@@ -54,5 +54,5 @@ returns c =
     let long : length (groups_view c.args.groups.now) ≡ length c.args.groups.now = length_view c.args.groups.now in
     let i : c.loop-i.i ≡ length (groups_view c.args.groups.now) = omega arith in
     let e : rows_before (groups_view c.args.groups.now) c.loop-i.i ≡ length (rows_from 0 (groups_view c.args.groups.now)) =
-        ap (λ n. rows_before (groups_view c.args.groups.now) n) i ∙ before_end 0 (groups_view c.args.groups.now) in
+    ap (λ n. rows_before (groups_view c.args.groups.now) n) i ∙ before_end 0 (groups_view c.args.groups.now) in
     subst (λ n. AreFirstRows (groups_view c.args.groups.now) c.args.tile c.args.wire.0 n c.loop-i.places.items) e c.loop-i.invariant.added

@@ -1,4 +1,4 @@
-use Rattle.std.proofs.Common.{◌≡◌, ◌<◌, ℕ, List, Option, None, Some, true, false, length, ap, sym, ◌∙◌, subst, arith}
+use Rattle.std.proofs.Common.{◌≡◌, ◌<◌, ℕ, List, Option, None, true, false, ap, sym, ◌∙◌, subst, arith}
 use Rattle.std.specs.Option.{is_some}
 use Rattle.std.proofs.lemmas.Bool.{both_ways}
 use Rattle.std.proofs.lemmas.List.{get_or_read}
@@ -37,8 +37,7 @@ returns c =
     let end = c.requires.end in
     let read = get_or_read c.in_ok-ways.ways.items c.args.end.0 c.index.result.now (omega arith) c.index.ensures None in
     let found = subst (λ (ws : List ℕ). IsFoundWay c.deref-in-Some.result.now c.args.start.0 c.in_ok-ways.ways.items ws c.args.end.0) (sym c.deref-in-Some-2.ensures.value)
-        (ways.each c.args.end.0 c.in-Some.way (sym read ∙ c.in-Some.is)) in
-    (
+    (ways.each c.args.end.0 c.in-Some.way (sym read ∙ c.in-Some.is)) in (
       rows_along (groups_view c.args.groups.now) c.deref-in-Some.result.now c.args.start.0 c.deref-in-Some-2.result.now,
       c.in_ok-rows-in-Some.ensures,
       way_walk (groups_view c.args.groups.now) c.deref-in-Some.result.now usable c.deref-in-Some-2.result.now c.args.start.0 c.args.end.0 c.requires.start found.way,

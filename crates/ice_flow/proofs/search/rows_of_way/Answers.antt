@@ -1,4 +1,4 @@
-use Rattle.std.proofs.Common.{◌≡◌, ◌+◌, ◌<◌, ◌∷◌, ◌++◌, [], ℕ, List, length, get_or, drop, refl, ap, sym, ◌∙◌, subst, append_assoc, arith}
+use Rattle.std.proofs.Common.{◌+◌, ◌∷◌, ◌++◌, [], ℕ, List, get_or, drop, ap, sym, ◌∙◌, subst, append_assoc, arith}
 use Rattle.std.specs.Option.{unwrap_or}
 use Rattle.std.proofs.lemmas.List.{drop_more}
 use Rattle.ice_flow.specs.Places.{row_at}
@@ -13,7 +13,7 @@ pub loop-wire-preserved : goal.loop-wire-preserved
 loop-wire-preserved c =
     let split = drop_more c.args.way.now c.loop-wire.wire-index 0 (omega arith) in
     let way : IsWay c.args.edges.now c.loop-wire.at (get_or c.args.way.now c.loop-wire.wire-index 0 ∷ drop (c.loop-wire.wire-index + 1) c.args.way.now) c.loop-wire.invariant.way.0 =
-        subst (λ (ws : List ℕ). IsWay c.args.edges.now c.loop-wire.at ws c.loop-wire.invariant.way.0) split c.loop-wire.invariant.way.1 in
+    subst (λ (ws : List ℕ). IsWay c.args.edges.now c.loop-wire.at ws c.loop-wire.invariant.way.0) split c.loop-wire.invariant.way.1 in
     record {
       below = way.0;
       way = (c.loop-wire.invariant.way.0, way.2);

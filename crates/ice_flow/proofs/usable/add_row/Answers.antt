@@ -1,13 +1,13 @@
-use Rattle.std.proofs.Common.{◌≡◌, ◌+◌, ◌*◌, ◌<◌, Some, None, true, false, length, get_or, set, refl, ap, sym, ◌∙◌, subst, arith}
+use Rattle.std.proofs.Common.{◌≡◌, ◌+◌, ◌*◌, Some, None, true, refl, ap, sym, ◌∙◌, subst, arith}
 use Rattle.std.specs.Option.{is_some}
 use Rattle.std.proofs.lemmas.Bool.{both_ways}
 use Rattle.std.proofs.lemmas.List.{get_or_read, get_or-set_same}
 use Rattle.std.proofs.lemmas.Option.{slice_get_read}
 use Rattle.ice_flow.specs.Lists.{At}
 use Rattle.ice_flow.specs.Views.{groups_view}
-use Rattle.ice_flow.specs.Places.{row_at, IsWithin}
+use Rattle.ice_flow.specs.Places.{row_at}
 use Rattle.ice_flow.specs.RowIndex.{IsAlone}
-use Rattle.ice_flow.specs.UsableRows.{may_leave_by_name, IsUsableFrom, AreUsable}
+use Rattle.ice_flow.specs.UsableRows.{may_leave_by_name, IsUsableFrom}
 use Rattle.ice_flow.specs.declared.place.Place.{Place}
 use Rattle.ice_flow.proofs.FirstRowSteps.{at_same}
 use Rattle.ice_flow.proofs.UsableSteps.{alone_usable, sound_alone, usable_leaves, usable_set, pair_below, has_pair}
@@ -23,7 +23,7 @@ returns-then-not-may_leave-clause-found c q at' usable =
     let at : At c.args.bundle.now.places.items c.args.p c.index-place.result.now = slice_get_read c.args.bundle.now.places.items _ c.args.p c.index-place.result.now refl c.requires.place c.index-place.ensures in
     let same : c.index-place.result.now ≡ q = at_same c.args.bundle.now.places.items c.args.p c.args.p c.index-place.result.now q refl at at' in
     let leaves : may_leave_by_name c.source_of-source.result.0 ≡ true =
-        ap may_leave_by_name (c.source_of-source.ensures ∙ ap (λ (x : Place). (row_at (groups_view c.args.groups.now) x).source) same) ∙ usable_leaves (groups_view c.args.groups.now) (row_at (groups_view c.args.groups.now) q) usable in
+    ap may_leave_by_name (c.source_of-source.ensures ∙ ap (λ (x : Place). (row_at (groups_view c.args.groups.now) x).source) same) ∙ usable_leaves (groups_view c.args.groups.now) (row_at (groups_view c.args.groups.now) q) usable in
     absurd (both_ways (may_leave_by_name c.source_of-source.result.0) (sym c.may_leave.ensures ∙ c.if-not-may_leave.true) leaves)
 
 pub index-requires : goal.index-requires
@@ -73,10 +73,10 @@ returns-clause-usable c =
     let lt = pair_below (groups_view c.args.groups.now) c.requires.form c.args.bundle.now c.requires.bundle c.args.p c.index-place.result.now at in
     let from = c.source_of-source.ensures in
     let alone : IsAlone (groups_view c.args.groups.now) c.args.bundle.now.places.items c.args.p c.index-place.result.now =
-        subst (λ xs. IsAlone (groups_view c.args.groups.now) xs c.args.p c.index-place.result.now) c.deref.ensures.value
-        (c.in_ok-is_alone.ensures.alone c.if-not-branch.false c.index-place.result.now (subst (λ xs. At xs c.args.p c.index-place.result.now) (sym c.deref.ensures.value) at)) in
+    subst (λ xs. IsAlone (groups_view c.args.groups.now) xs c.args.p c.index-place.result.now) c.deref.ensures.value
+    (c.in_ok-is_alone.ensures.alone c.if-not-branch.false c.index-place.result.now (subst (λ xs. At xs c.args.p c.index-place.result.now) (sym c.deref.ensures.value) at)) in
     let leave : may_leave_by_name (row_at (groups_view c.args.groups.now) c.index-place.result.now).source ≡ true =
-        ap may_leave_by_name (sym c.source_of-source.ensures) ∙ (sym c.may_leave.ensures ∙ c.if-not-may_leave.false) in
+    ap may_leave_by_name (sym c.source_of-source.ensures) ∙ (sym c.may_leave.ensures ∙ c.if-not-may_leave.false) in
     usable_set (groups_view c.args.groups.now) c.args.edges.now.items c.index-place.result.now c.source_of-source.result.0 c.args.bundle.now.wire.0 (omega arith) c.requires.bundle.wire
     (subst (λ s. IsUsableFrom (groups_view c.args.groups.now) c.index-place.result.now s c.args.bundle.now.wire.0) (sym c.source_of-source.ensures)
     (alone_usable (groups_view c.args.groups.now) c.args.bundle.now.tile c.args.bundle.now.wire.0 c.args.bundle.now.places.items c.requires.bundle.rows c.requires.bundle.private
