@@ -23,11 +23,11 @@ join_more [] x ls = refl
 join_more (y ∷ xs) x ls = ap (onto_first y) (join_more xs x ls)
 
 -- ---- lines
-line_step : (b : ℕ) (bs : List ℕ) → b ≢ 10 → lines (b ∷ bs) ≡ onto_first b (lines bs)
+pub line_step : (b : ℕ) (bs : List ℕ) → b ≢ 10 → lines (b ∷ bs) ≡ onto_first b (lines bs)
 unfolding lines
 line_step b bs within = let test : (b == 10) ≡ false = search (rules, tests) in rw test refl
 
-line_end : (b : ℕ) (bs : List ℕ) → b ≡ 10 → lines (b ∷ bs) ≡ [] ∷ lines bs
+pub line_end : (b : ℕ) (bs : List ℕ) → b ≡ 10 → lines (b ∷ bs) ≡ [] ∷ lines bs
 unfolding lines
 line_end b bs at_end = rw at_end refl
 
@@ -44,7 +44,7 @@ cut_here text i b lt is at_end =
     ap (join_front (take i text)) (at_drop_more lines text i b lt ∙ ap (λ x. lines (x ∷ drop (i + 1) text)) (sym is) ∙ line_end b (drop (i + 1) text) at_end)
     ∙ join_line (take i text) [] (lines (drop (i + 1) text)) ∙ ap (λ x. x ∷ lines (drop (i + 1) text)) (append-nil (take i text))
 
-no_lines : lines [] ≡ []
+pub no_lines : lines [] ≡ []
 unfolding lines
 no_lines = refl
 
@@ -56,15 +56,15 @@ cut_end text i some le =
 abbrev pub some_bytes : List ℕ → Bool
 some_bytes piece = nat_lt 0 (length piece)
 
-piece_step : (b : ℕ) (bs : List ℕ) → ends_word b ≡ false → pieces (b ∷ bs) ≡ onto_first b (pieces bs)
+pub piece_step : (b : ℕ) (bs : List ℕ) → ends_word b ≡ false → pieces (b ∷ bs) ≡ onto_first b (pieces bs)
 unfolding pieces
 piece_step b bs within = rw within refl
 
-piece_end : (b : ℕ) (bs : List ℕ) → ends_word b ≡ true → pieces (b ∷ bs) ≡ [] ∷ pieces bs
+pub piece_end : (b : ℕ) (bs : List ℕ) → ends_word b ≡ true → pieces (b ∷ bs) ≡ [] ∷ pieces bs
 unfolding pieces
 piece_end b bs at_end = rw at_end refl
 
-words_are : (bs : List ℕ) → words bs ≡ filter some_bytes (pieces bs)
+pub words_are : (bs : List ℕ) → words bs ≡ filter some_bytes (pieces bs)
 unfolding words
 words_are bs = refl
 
@@ -78,7 +78,7 @@ word_step text i b lt is within =
 pieces_here : (text : List ℕ) (i b : ℕ) → i < length text → b ≡ get_or text i b → ends_word b ≡ true → pieces (drop i text) ≡ [] ∷ pieces (drop (i + 1) text)
 pieces_here text i b lt is at_end = at_drop_more pieces text i b lt ∙ ap (λ x. pieces (x ∷ drop (i + 1) text)) (sym is) ∙ piece_end b (drop (i + 1) text) at_end
 
-kept : (w : List ℕ) (ps : List (List ℕ)) → 0 < length w → filter some_bytes (w ∷ ps) ≡ w ∷ filter some_bytes ps
+pub kept : (w : List ℕ) (ps : List (List ℕ)) → 0 < length w → filter some_bytes (w ∷ ps) ≡ w ∷ filter some_bytes ps
 kept w ps lt = let at_end : some_bytes w ≡ true = search rules in rw at_end refl
 
 -- a break is passed over
@@ -101,11 +101,11 @@ word_here text i b some lt is at_end so_far =
     ∙ kept (take i text) more (omega (arith, length-take i text))
     ∙ ap (λ x. take i text ∷ x) (sym (words_are (drop i text) ∙ ap (filter some_bytes) here))
 
-no_pieces : pieces [] ≡ [] ∷ []
+pub no_pieces : pieces [] ≡ [] ∷ []
 unfolding pieces
 no_pieces = refl
 
-no_words : words [] ≡ []
+pub no_words : words [] ≡ []
 no_words = words_are [] ∙ ap (filter some_bytes) no_pieces
 
 pub word_end : (text : List ℕ) (i : ℕ) → 0 < length text → length text ≤ i → pieces text ≡ join_front (take i text) (pieces (drop i text)) → words text ≡ text ∷ words []

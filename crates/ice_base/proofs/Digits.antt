@@ -1,5 +1,5 @@
 -- How a word is read as a number, digit by digit.
-use Rattle.std.proofs.Common.{◌≡◌, ◌⊎◌, inl, inr, ℕ, ◌<◌, ◌≤◌, ◌+◌, ◌*◌, ◌-◌, ◌^◌, Bool, true, false, ◌&&◌, List, [], ◌∷◌, length, get_or, drop, nat_lt, nat_le, Option, Some, None, if◌then◌else◌, refl, sym, ap, ◌∙◌, arith, rules, tests}
+use Rattle.std.proofs.Common.{◌≡◌, ◌⊎◌, inl, inr, ℕ, ◌<◌, ◌≤◌, ◌+◌, ◌^◌, Bool, true, false, ◌&&◌, List, [], ◌∷◌, length, get_or, drop, nat_lt, nat_le, Some, None, if◌then◌else◌, refl, sym, ap, ◌∙◌, arith, rules, tests}
 use Rattle.std.proofs.lemmas.List.{at_drop_more, at_drop_all}
 use Rattle.std.specs.Char.{is_ascii_digit}
 use Rattle.std.specs.Str.{all_ascii_digits}
@@ -24,7 +24,7 @@ and_false : (a : Bool) → (a && false) ≡ false
 and_false false = refl
 and_false true = refl
 
-both_true : (a b : Bool) → (a && b) ≡ true → (a ≡ true) × (b ≡ true)
+pub both_true : (a b : Bool) → (a && b) ≡ true → (a ≡ true) × (b ≡ true)
 both_true false b e = absurd (cc)
 both_true true b e = (refl, e)
 
@@ -98,13 +98,18 @@ pub digit_stops : (word : List ℕ) (i number : ℕ) → ReadTo word (drop i wor
 digit_stops word i number so_far lt stops =
     stops_by word i number so_far lt (one_false (is_ascii_digit (get_or word i 0)) (nat_lt (with_digit number (get_or word i 0)) (2 ^ 32)) stops)
 
+-- a word of one to ten digits is the number that they write, where that is not too great
+pub number_here : (word : List ℕ) (number : ℕ) → 0 < length word → length word ≤ 10 → all_ascii_digits word ≡ true → decimal_value word ≡ number → number < 2 ^ 32
+    → number_in word ≡ Some number
+number_here word number some short digits value fits =
+    let not_empty : nat_le 1 (length word) ≡ true = search (rules, tests) in
+    let not_long : nat_le (length word) 10 ≡ true = search (rules, tests) in
+    let not_great : nat_lt number (2 ^ 32) ≡ true = search (rules, tests) in
+    number_is word ∙ (rw (value, digits, not_empty, not_long, not_great) refl)
+
 pub digits_end : (word : List ℕ) (i number : ℕ) → ReadTo word (drop i word) number → length word ≤ i → 0 < length word → length word ≤ 10
     → Some number ≡ number_in word
 digits_end word i number so_far le some short =
     let value : decimal_value word ≡ number = so_far.value ∙ at_drop_all (with_digits number) word i le in
     let digits : all_ascii_digits word ≡ true = so_far.digits ∙ at_drop_all all_ascii_digits word i le in
-    let not_empty : nat_le 1 (length word) ≡ true = search (rules, tests) in
-    let not_long : nat_le (length word) 10 ≡ true = search (rules, tests) in
-    let fits : number < 2 ^ 32 = so_far.fits in
-    let not_great : nat_lt number (2 ^ 32) ≡ true = search (rules, tests) in
-    sym (number_is word ∙ (rw (value, digits, not_empty, not_long, not_great) refl))
+    sym (number_here word number some short digits value so_far.fits)

@@ -1,5 +1,6 @@
 -- Lines and words of a text. A text is a list of bytes.
-use Rattle.std.specs.Prelude.{ℕ, ◌+◌, ◌-◌, ◌^◌, min, ◌≡◌, Bool, false, ◌||◌, List, [], ◌∷◌, length, filter, nat_lt, ◌==◌, if◌then◌else◌}
+use Rattle.std.specs.Prelude.{ℕ, ◌+◌, ◌-◌, ◌^◌, min, ◌<◌, ◌≡◌, ◌≢◌, Bool, false, ◌||◌, List, [], ◌∷◌, ◌++◌, length, filter, nat_lt, ◌==◌, if◌then◌else◌}
+use Rattle.std.specs.List.{AllByRecursion}
 
 -- the byte joins the first piece
 abbrev pub onto_first : ℕ → List (List ℕ) → List (List ℕ)
@@ -36,6 +37,19 @@ pieces (b ∷ bytes) = if ends_word b then [] ∷ pieces bytes else onto_first b
 -- the words of all lines: the pieces that aren't empty
 unfoldable pub words : List ℕ → List (List ℕ)
 words bytes = filter (λ piece. nat_lt 0 (length piece)) (pieces bytes)
+
+-- the words of each line, line after line; the words of a text are those of its lines (the law `words_by_lines`)
+abbrev pub words_of_lines : List (List ℕ) → List (List ℕ)
+words_of_lines [] = []
+words_of_lines (line ∷ lines) = words line ++ words_of_lines lines
+
+-- what may stand in a line: no line feed
+abbrev pub IsLine : List ℕ → Type 0
+IsLine bytes = AllByRecursion (λ b. b ≢ 10) bytes
+
+-- a word: one byte or more, none of which ends a word
+abbrev pub IsWord : List ℕ → Type 0
+IsWord bytes = (0 < length bytes) × AllByRecursion (λ b. ends_word b ≡ false) bytes
 
 -- nothing, or a word stands at the front
 abbrev pub StartsWord : List ℕ → Type 0

@@ -37,7 +37,7 @@ impl Name {
     }
 }
 
-/// A copy of a word.
+/// A copy of a word. It fails for want of memory alone.
 pub fn name_of(alloc: Global, word: &[u8]) -> Result<Name, NoMemory>
     ensures { IfOk result (λ name. name ≡ word.now) }
 {

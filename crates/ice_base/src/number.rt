@@ -1,3 +1,5 @@
+//! Numbers of wires, nets, rows and signals, and places of tiles and bits.
+
 /// The number of a wire: a net of the chip database.
 #[derive(Clone, Copy, Debug, PartialEq, Eq, PartialOrd, Ord, Hash)]
 pub struct WireNo(pub u32);
@@ -17,13 +19,17 @@ pub struct SignalNo(pub u32);
 /// The place of a tile: column `x` and row `y`, both from 0.
 #[derive(Clone, Copy, Debug, PartialEq, Eq, PartialOrd, Ord, Hash)]
 pub struct TileAt {
+    /// The column, from 0 on the left.
     pub x: u16,
+    /// The row, from 0 at the bottom.
     pub y: u16,
 }
 
 /// The place of a configuration bit in its tile.
 #[derive(Clone, Copy, Debug, PartialEq, Eq, PartialOrd, Ord, Hash)]
 pub struct BitAt {
+    /// The line of the tile's bits, from 0.
     pub row: u8,
+    /// The place in that line, from 0.
     pub col: u8,
 }

@@ -46,7 +46,11 @@ fn blanks_and_line_feeds_part_words(rt: HostRuntime) {
     expect_words(&rt, b"", &[]);
     expect_words(&rt, b" \t\r\n ", &[]);
     expect_words(&rt, b"  ab\tc\r\nd ", &[b"ab", b"c", b"d"]);
-    expect_words(&rt, b"a\x0cb\x0bc\x80 d\x00", &[b"a\x0cb\x0bc\x80", b"d\x00"]);
+    expect_words(
+        &rt,
+        b"a\x0cb\x0bc\x80 d\x00",
+        &[b"a\x0cb\x0bc\x80", b"d\x00"],
+    );
     expect_words(&rt, b"a # b", &[b"a", b"#", b"b"]);
     assert!(rt; no_words().next().is_none());
 }

@@ -7,7 +7,7 @@ use Rattle.std.proofs.lemmas.Option.{slice_get_within}
 use Rattle.ice_base.specs.declared.number.BitAt.{BitAt}
 use Rattle.ice_flow.specs.Lists.{At, Has}
 use Rattle.ice_flow.specs.Database.{SwitchGroup}
-use Rattle.ice_flow.specs.ChipForm.{IsOfForm}
+use Rattle.ice_flow.specs.ChipText.{IsOfForm}
 use Rattle.ice_flow.specs.Switches.{same_value, same_values}
 use Rattle.ice_flow.specs.Routes.{value_at}
 use Rattle.ice_flow.specs.Levels.{IsSwitchBit, AreSwitchBits}

@@ -8,7 +8,7 @@ use Rattle.ice_base.specs.declared.number.BitAt.{BitAt}
 use Rattle.ice_flow.specs.Lists.{At, Has}
 use Rattle.ice_flow.specs.Database.{SwitchGroup, NamedBit, same_tile, same_bit}
 use Rattle.ice_flow.specs.FirstForm.{io_functions, database_with}
-use Rattle.ice_flow.specs.ChipForm.{IsOfForm}
+use Rattle.ice_flow.specs.ChipText.{IsOfForm}
 use Rattle.ice_flow.specs.Behaviour.{is_foreign_function}
 use Rattle.ice_flow.specs.Routes.{IsPrivate}
 use Rattle.ice_flow.specs.Levels.{IsSwitchBit, level_in}

@@ -11,3 +11,7 @@ pub mod AloneRows
 pub mod WireNames
 pub mod UsableSteps
 pub mod WaySteps
+pub mod ChipCuts
+pub mod ChipHeader
+pub mod KnownLists
+pub mod ChipForm

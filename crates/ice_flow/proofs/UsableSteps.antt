@@ -11,7 +11,7 @@ use Rattle.ice_flow.specs.Lists.{At, Has}
 use Rattle.ice_flow.specs.Database.{SwitchGroup, Row, rows_from}
 use Rattle.ice_flow.specs.Names.{has_input_name, has_output_name, has_closed_name}
 use Rattle.ice_flow.specs.FirstForm.{left_tile, right_tile, database_with}
-use Rattle.ice_flow.specs.ChipForm.{IsOfForm}
+use Rattle.ice_flow.specs.ChipText.{IsOfForm}
 use Rattle.ice_flow.specs.Switches.{same_values, is_fresh, is_on}
 use Rattle.ice_flow.specs.Routes.{value_at, sets, IsPrivate, IsSound, IsUsable}
 use Rattle.ice_flow.specs.Places.{row_at}

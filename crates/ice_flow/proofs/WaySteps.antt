@@ -7,7 +7,7 @@ use Rattle.std.proofs.lemmas.List.{get_or-set_same, get_or-set_other, length-set
 use Rattle.ice_flow.specs.Lists.{At}
 use Rattle.ice_flow.specs.Database.{SwitchGroup, Row}
 use Rattle.ice_flow.specs.FirstForm.{database_with}
-use Rattle.ice_flow.specs.ChipForm.{IsOfForm}
+use Rattle.ice_flow.specs.ChipText.{IsOfForm}
 use Rattle.ice_flow.specs.Routes.{IsWalk, IsSimple, IsUsable}
 use Rattle.ice_flow.specs.Places.{row_at}
 use Rattle.ice_flow.specs.Views.{IsCopyOf, AreCopies}

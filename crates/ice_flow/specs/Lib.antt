@@ -11,7 +11,6 @@ pub mod FirstForm
 pub mod Same
 pub mod Written
 pub mod Views
-pub mod ChipForm
 pub mod Places
 pub mod Found
 pub mod Levels
@@ -20,3 +19,8 @@ pub mod RowLists
 pub mod RowIndex
 pub mod UsableRows
 pub mod Ways
+pub mod PlainLines
+pub mod ChipText
+pub mod NetlistText
+pub mod PinsText
+pub mod Readers

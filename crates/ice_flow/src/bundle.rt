@@ -3,7 +3,7 @@ ghost use Rattle.std.specs.Prelude.{◌≡◌, ◌&&◌, ◌||◌, true, false};
 ghost use Rattle.ice_base.specs.declared.number.BitAt.{BitAt};
 ghost use Rattle.ice_flow.specs.Views.{group_view, groups_view};
 ghost use Rattle.ice_flow.specs.FirstForm.{database_with};
-ghost use Rattle.ice_flow.specs.ChipForm.{IsOfForm};
+ghost use Rattle.ice_flow.specs.ChipText.{IsOfForm};
 ghost use Rattle.ice_flow.specs.Routes.{IsPrivate};
 ghost use Rattle.ice_flow.specs.Levels.{IsSwitchBit, AreSwitchBits, level_in};
 ghost use Rattle.ice_flow.specs.Bundles.{is_of_bundle, is_among_bits, is_bundle_bit, is_intruder};

@@ -6,7 +6,7 @@ ghost use Rattle.ice_base.specs.declared.number.BitAt.{BitAt};
 ghost use Rattle.ice_flow.specs.Lists.{At};
 ghost use Rattle.ice_flow.specs.Switches.{same_values};
 ghost use Rattle.ice_flow.specs.Views.{groups_view};
-ghost use Rattle.ice_flow.specs.ChipForm.{IsOfForm};
+ghost use Rattle.ice_flow.specs.ChipText.{IsOfForm};
 ghost use Rattle.ice_flow.specs.Levels.{AreSwitchBits, level_in};
 ghost use Rattle.ice_flow.specs.Places.{IsWithin};
 ghost use Rattle.ice_flow.specs.RowIndex.{is_key, holder_at, with_row, knows, HasShape, IsIndexOf, is_other, IsAlone};

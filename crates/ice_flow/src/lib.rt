@@ -9,10 +9,14 @@ ghost use Rattle.ice_flow.specs.FirstForm.{database_with};
 
 mod bundle;
 mod chip;
+mod chip_text;
 mod index;
 mod levels;
+mod netlist_text;
 mod pad;
+mod pins_text;
 mod place;
+mod plain;
 mod route;
 mod rows;
 mod search;
@@ -23,3 +27,6 @@ pub fn limit() -> usize
 {
     67108864
 }
+
+#[cfg(test)]
+mod reader_tests;

@@ -3,7 +3,7 @@ ghost use Rattle.std.specs.Prelude.{◌≡◌, ◌+◌, ◌<◌, ◌∷◌, ◌+
 ghost use Rattle.ice_flow.specs.Database.{rows_from};
 ghost use Rattle.ice_flow.specs.Switches.{same_values};
 ghost use Rattle.ice_flow.specs.Views.{groups_view};
-ghost use Rattle.ice_flow.specs.ChipForm.{IsOfForm};
+ghost use Rattle.ice_flow.specs.ChipText.{IsOfForm};
 ghost use Rattle.ice_flow.specs.RowLists.{holds, rows_before, AreFirstRows};
 
 use crate::bundle::is_of;

@@ -1,7 +1,7 @@
 //! The search for a walk from one wire to another.
 ghost use Rattle.std.specs.Prelude.{◌≡◌, ℕ, ◌<◌, ◌∷◌, ◌++◌, [], List, Option, true, false, OnOk, IfOk, MatchOption, length, slice_index_or, unwrap_or};
 ghost use Rattle.ice_flow.specs.FirstForm.{database_with};
-ghost use Rattle.ice_flow.specs.ChipForm.{IsOfForm};
+ghost use Rattle.ice_flow.specs.ChipText.{IsOfForm};
 ghost use Rattle.ice_flow.specs.Found.{IsRoute};
 ghost use Rattle.ice_flow.specs.Places.{row_at, IsWithin};
 ghost use Rattle.ice_flow.specs.Routes.{IsUnreachable};

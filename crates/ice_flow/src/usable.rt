@@ -4,7 +4,7 @@ ghost use Rattle.ice_flow.specs.Lists.{At};
 ghost use Rattle.ice_flow.specs.Database.{SwitchGroup, Row};
 ghost use Rattle.ice_flow.specs.Views.{groups_view};
 ghost use Rattle.ice_flow.specs.FirstForm.{database_with};
-ghost use Rattle.ice_flow.specs.ChipForm.{IsOfForm};
+ghost use Rattle.ice_flow.specs.ChipText.{IsOfForm};
 ghost use Rattle.ice_flow.specs.Routes.{IsUsable};
 ghost use Rattle.ice_flow.specs.Places.{row_at};
 ghost use Rattle.ice_flow.specs.UsableRows.{may_leave_by_name, may_enter_by_name, IsBundle, AreUsable, KeepsPairs, HasPairOf};
