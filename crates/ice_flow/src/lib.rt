@@ -20,6 +20,8 @@ mod plain;
 mod route;
 mod rows;
 mod search;
+#[cfg(test)]
+mod search_tests;
 mod usable;
 
 pub fn limit() -> usize
