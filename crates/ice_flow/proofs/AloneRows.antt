@@ -1,17 +1,16 @@
 -- Rows whose values turn them on alone.
-use Rattle.std.proofs.Common.{◌≡◌, ◌≢◌, ◌⊎◌, ℕ, zero, suc, ◌+◌, ◌<◌, ◌≤◌, Bool, true, false, eqb, Option, None, Some, List, [], ◌∷◌, length, get_or, drop, map, inl, inr, refl, ap, sym, ◌∙◌, subst, arith}
+use Rattle.std.proofs.Common.{◌≡◌, ℕ, zero, suc, ◌+◌, ◌<◌, Bool, true, false, eqb, Option, None, Some, List, [], ◌∷◌, length, get_or, drop, map, inl, inr, refl, ap, sym, ◌∙◌, subst, arith}
 use Rattle.std.specs.Prelude.{◌&&◌, ◌||◌, not}
 use Rattle.std.specs.List.{list_any}
-use Rattle.std.specs.Borrow.{Bor}
-use Rattle.std.proofs.lemmas.Bool.{and_parts, and_from, or_cases, or_parts, cases_Bool, both_ways, eq-eqb, eqb-true, not-true, not-false, true_from_ne_false}
-use Rattle.std.proofs.lemmas.Option.{slice_get-get_or, slice_get_within}
+use Rattle.std.proofs.lemmas.Bool.{and_parts, and_from, or_cases, or_parts, both_ways, eq-eqb, eqb-true, not-true, not-false}
+use Rattle.std.proofs.lemmas.Option.{slice_get_within}
 use Rattle.ice_base.specs.declared.number.BitAt.{BitAt}
 use Rattle.ice_flow.specs.Lists.{At, Has}
-use Rattle.ice_flow.specs.Database.{SwitchRow, SwitchGroup, Row}
+use Rattle.ice_flow.specs.Database.{SwitchGroup}
 use Rattle.ice_flow.specs.ChipText.{IsOfForm}
 use Rattle.ice_flow.specs.Switches.{same_value, same_values}
 use Rattle.ice_flow.specs.Routes.{value_at}
-use Rattle.ice_flow.specs.Levels.{IsSwitchBit, AreSwitchBits, level_in}
+use Rattle.ice_flow.specs.Levels.{IsSwitchBit, AreSwitchBits}
 use Rattle.ice_flow.specs.Places.{no_group, no_row, row_at, IsWithin}
 use Rattle.ice_flow.specs.RowIndex.{holder_at, HasShape, HasKey, IsHeld, IsIndexOf, is_other, is_set_by, IsAlone}
 use Rattle.ice_flow.specs.declared.place.Place.{Place}
@@ -19,7 +18,6 @@ use Rattle.ice_flow.specs.declared.index.Holder.{Holder}
 use Rattle.ice_flow.specs.declared.index.Index.{Index}
 use Rattle.ice_flow.proofs.LevelTables.{has_read}
 use Rattle.ice_flow.proofs.ListFacts.{Has_head, Has_tail}
-use Rattle.ice_flow.proofs.FirstRowSteps.{at_same}
 use Rattle.ice_flow.proofs.ValueLists.{same_values-true, same_values-refl}
 
 -- reading value by value

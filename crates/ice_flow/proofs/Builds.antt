@@ -1,5 +1,5 @@
 -- What the writing of good texts' bits comes to, and what saying a line leaves as it was.
-use Rattle.std.proofs.Common.{◌≡◌, ◌≢◌, ◌⊎◌, ◌∙◌, ◌≤◌, ◌<◌, ℕ, Option, Some, List, length, inl, inr, refl, sym, ap, subst, true, arith}
+use Rattle.std.proofs.Common.{◌≡◌, ◌∙◌, ◌≤◌, ◌<◌, ℕ, Option, Some, List, sym, ap, subst, arith}
 use Rattle.ice_desk.specs.Desk.{Meaning, SameButReading, SameButSaying, Rose, after_one, HoldsAfter}
 use Rattle.ice_flow.specs.declared.cause.Cause.{Cause}
 use Rattle.ice_flow.specs.declared.cause.Cause.TheVariants.{Good, Usage, BadBlif, BadPin, Unreachable, ReadFault, WriteFault, NoMemory, TooLong, NotBuilt}
@@ -7,9 +7,8 @@ use Rattle.ice_flow.specs.declared.cause.FileRole.{FileRole}
 use Rattle.ice_flow.specs.declared.cause.FileRole.TheVariants.{Chip, Pcf, Blif, Asc, Levels, Pins, Report, Standard}
 use Rattle.ice_flow.specs.Command.{Build}
 use Rattle.ice_flow.specs.Built.{IsBuilt}
-use Rattle.ice_flow.specs.Answers.{AreTexts, IsTrueOf, IsReadFault, IsTooLong, IsWriteFault, IsGood, IsLastRead}
+use Rattle.ice_flow.specs.Answers.{AreTexts, IsTrueOf, IsLastRead}
 use Rattle.ice_flow.specs.Building.{IsWritten}
-use Rattle.ice_flow.specs.Rows.{Caused}
 
 pub written_is_true : (b : Build) (old mid new : Meaning) (chip pins netlist text : List ℕ) (cause : Cause) → AreTexts b old chip pins netlist → SameButReading old mid
     → IsBuilt b.package_name chip pins netlist text → IsWritten b.asc text mid new cause → IsTrueOf b old new cause

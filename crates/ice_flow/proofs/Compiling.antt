@@ -1,16 +1,15 @@
 -- How the texts of a build stand, and what the bits of a route come to.
-use Rattle.std.proofs.Common.{◌≡◌, ◌⊎◌, ℕ, zero, suc, ◌<◌, Bool, true, false, Option, None, Some, List, [], ◌∷◌, length, map, inl, inr, refl, ap, sym, ◌∙◌, subst, arith}
-use Rattle.std.specs.Prelude.{Result, Ok, Err}
+use Rattle.std.proofs.Common.{◌≡◌, ◌⊎◌, ℕ, zero, suc, ◌<◌, Bool, true, false, None, Some, List, [], ◌∷◌, length, inl, inr, refl, ap, sym, ◌∙◌, subst, arith}
+use Rattle.std.specs.Prelude.{Ok, Err}
 use Rattle.ice_base.specs.declared.number.TileAt.{TileAt}
 use Rattle.ice_base.specs.declared.number.BitAt.{BitAt}
 use Rattle.ice_flow.specs.declared.route.RouteRow.{RouteRow}
 use Rattle.ice_flow.specs.Lists.{At, Has}
-use Rattle.ice_flow.specs.Database.{Pad, SwitchGroup, Row, Database, is_among_tiles, package_named}
+use Rattle.ice_flow.specs.Database.{Pad, SwitchGroup, Row, is_among_tiles, package_named}
 use Rattle.ice_flow.specs.Netlist.{Netlist}
 use Rattle.ice_flow.specs.Routes.{IsUsable, IsWalk, IsSimple, IsUnreachable}
 use Rattle.ice_flow.specs.Configuration.{bits_in}
 use Rattle.ice_flow.specs.Behaviour.{IsFaultless}
-use Rattle.ice_flow.specs.Written.{written}
 use Rattle.ice_flow.specs.FirstForm.{database_with, left_tile, right_tile, left_pad, right_pad, tiny}
 use Rattle.ice_flow.specs.ChipText.{groups_in, database_in, IsOfForm}
 use Rattle.ice_flow.specs.NetlistText.{netlist_in, buffer_netlist}
@@ -18,10 +17,9 @@ use Rattle.ice_flow.specs.PinsText as pins_text
 use Rattle.ice_flow.specs.PinsText.{pins_in}
 use Rattle.ice_flow.specs.BufferForm.{buffer_plan}
 use Rattle.ice_flow.specs.Views.{IsCopyOf, AreCopies}
-use Rattle.ice_flow.specs.Writing.{IsInTile, IsWritable, AreWritable}
-use Rattle.ice_flow.specs.Asc.{asc_in, HoldsWritten}
-use Rattle.ice_flow.specs.Standing.{Standing, OtherChip, OtherNetlist, OtherPins, UnknownPin, Ready, standing_of, with_chip, with_netlist, with_pads, AreEnds, IsApart, IsRoutable}
-use Rattle.ice_flow.specs.Headline.{IsCircuitOf}
+use Rattle.ice_flow.specs.Writing.{IsWritable, AreWritable}
+use Rattle.ice_flow.specs.Asc.{HoldsWritten}
+use Rattle.ice_flow.specs.Standing.{Standing, OtherChip, OtherNetlist, OtherPins, UnknownPin, Ready, standing_of, with_chip, with_netlist, with_pads, AreEnds}
 use Rattle.std.specs.Str.{bytes_eq}
 use Rattle.ice_flow.specs.declared.cause.Cause.{Cause}
 use Rattle.ice_flow.specs.declared.cause.Cause.TheVariants.{Unreachable}

@@ -1,19 +1,18 @@
 -- Which rows the written bits turn on, and what drives each wire.
-use Rattle.std.proofs.Common.{◌≡◌, ◌⊎◌, ℕ, zero, suc, ◌+◌, ◌<◌, Bool, true, false, eqb, Option, None, Some, List, [], ◌∷◌, map, inl, inr, refl, ap, sym, ◌∙◌, subst, arith}
-use Rattle.std.specs.Prelude.{◌&&◌, ◌||◌, filter}
+use Rattle.std.proofs.Common.{◌≡◌, ◌⊎◌, ℕ, ◌+◌, Bool, true, false, eqb, Some, List, [], ◌∷◌, map, inl, inr, refl, ap, sym, ◌∙◌, subst, arith}
+use Rattle.std.specs.Prelude.{◌&&◌}
 use Rattle.std.specs.List.{list_any}
 use Rattle.std.proofs.lemmas.Bool.{and_parts, or_cases, eqb-true, eq-eqb, cases_Bool}
-use Rattle.ice_base.specs.declared.number.TileAt.{TileAt}
 use Rattle.ice_base.specs.declared.number.BitAt.{BitAt}
 use Rattle.ice_flow.specs.Lists.{At, Has}
-use Rattle.ice_flow.specs.Database.{SwitchGroup, SwitchRow, Row, rows_of, rows_from, same_bit, same_tile}
-use Rattle.ice_flow.specs.Switches.{Bits, Driver, Nothing, By, Several, same_value, same_values, is_fresh, is_on, driver, driver_among}
-use Rattle.ice_flow.specs.Routes.{value_at, sets, IsPrivate, IsSound, IsUsable}
+use Rattle.ice_flow.specs.Database.{SwitchGroup, Row, rows_from, same_bit, same_tile}
+use Rattle.ice_flow.specs.Switches.{Bits, Nothing, By, same_value, same_values, is_fresh, is_on, driver, driver_among}
+use Rattle.ice_flow.specs.Routes.{value_at, sets, IsUsable}
 use Rattle.ice_flow.specs.Written.{Plan, written}
 use Rattle.ice_flow.specs.FirstForm.{database_with}
 use Rattle.ice_flow.specs.ChipText.{IsOfForm}
 use Rattle.ice_flow.proofs.ListFacts.{Has_head, Has_tail, any_has, has_any, any_none, filter_none, filter_one}
-use Rattle.ice_flow.proofs.PlaceFacts.{same_tile-true, same_bit-true, rows_number, row_group, IsOfGroup}
+use Rattle.ice_flow.proofs.PlaceFacts.{same_tile-true, same_bit-true, rows_number, row_group}
 use Rattle.ice_flow.proofs.FunctionBits.{written_before_last}
 
 -- ---- the bits of one row

@@ -1,18 +1,18 @@
 -- One row more in the list of the first rows of a bundle.
-use Rattle.std.proofs.Common.{◌≡◌, ◌⊎◌, ℕ, zero, suc, ◌+◌, ◌-◌, ◌<◌, ◌≤◌, Bool, true, false, cond, eqb, List, [], ◌∷◌, ◌++◌, Some, length, get_or, take, map, inl, inr, refl, ap, sym, ◌∙◌, subst, arith}
-use Rattle.std.specs.Prelude.{◌&&◌, ◌||◌, not}
+use Rattle.std.proofs.Common.{◌≡◌, ◌⊎◌, ℕ, zero, suc, ◌+◌, ◌-◌, ◌<◌, ◌≤◌, Bool, true, false, cond, eqb, List, [], ◌∷◌, ◌++◌, length, get_or, take, map, inl, inr, refl, ap, sym, ◌∙◌, subst, arith}
+use Rattle.std.specs.Prelude.{◌||◌, not}
 use Rattle.std.specs.List.{list_any}
-use Rattle.std.proofs.lemmas.Bool.{and_parts, and_from, eqb-true, eq-eqb, cases_Bool, cases_lt, both_ways, not_from_false}
+use Rattle.std.proofs.lemmas.Bool.{and_parts, and_from, eqb-true, eq-eqb, cases_lt, both_ways}
 use Rattle.ice_base.specs.declared.number.TileAt.{TileAt}
 use Rattle.ice_flow.specs.Lists.{At}
 use Rattle.ice_flow.specs.Database.{SwitchRow, SwitchGroup, Row, rows_from, same_tile}
 use Rattle.ice_flow.specs.Switches.{same_values, is_fresh}
 use Rattle.ice_flow.specs.Bundles.{is_of_bundle}
-use Rattle.ice_flow.specs.Places.{no_group, no_row, row_in_group, row_at, IsWithin}
+use Rattle.ice_flow.specs.Places.{no_group, no_row, row_in_group, row_at}
 use Rattle.ice_flow.specs.RowLists.{rows_before, IsFirstRow, AreFirstRows}
 use Rattle.ice_flow.specs.declared.place.Place.{Place}
-use Rattle.ice_flow.proofs.PlaceFacts.{same_tile-true, same_tile-refl, rows_number}
-use Rattle.ice_flow.proofs.RowPlaces.{rows_at, before-le, before_next}
+use Rattle.ice_flow.proofs.PlaceFacts.{same_tile-true, same_tile-refl}
+use Rattle.ice_flow.proofs.RowPlaces.{rows_at}
 
 pub push_cases : {X : Type 0} (xs : List X) (y : X) (j : ℕ) (x : X) → At (xs ++ y ∷ []) j x → At xs j x ⊎ ((j ≡ length xs) × (y ≡ x))
 push_cases [] y zero x at = inr (refl, cc at)

@@ -1,13 +1,13 @@
 -- The bits of functions stand in the last column, where no switch has a bit.
-use Rattle.std.proofs.Common.{◌≡◌, ◌⊎◌, ℕ, zero, suc, ◌<◌, Bool, true, false, eqb, Option, None, Some, List, [], ◌∷◌, refl, ap, sym, ◌∙◌, subst, arith}
+use Rattle.std.proofs.Common.{◌≡◌, ℕ, zero, suc, ◌<◌, Bool, true, false, Option, None, Some, List, [], ◌∷◌, refl, ap, ◌∙◌, subst, arith}
 use Rattle.std.specs.Prelude.{◌&&◌, ◌||◌, ◌==◌}
 use Rattle.std.specs.Str.{bytes_eq}
 use Rattle.std.specs.List.{list_any, list_all}
-use Rattle.std.proofs.lemmas.Bool.{and_parts, eqb-true, false_from_ne_true}
+use Rattle.std.proofs.lemmas.Bool.{and_parts, eqb-true}
 use Rattle.ice_base.specs.declared.number.TileAt.{TileAt}
 use Rattle.ice_base.specs.declared.number.BitAt.{BitAt}
 use Rattle.ice_flow.specs.Lists.{At, Has}
-use Rattle.ice_flow.specs.Database.{IoFunction, NamedBit, SwitchGroup, Row, bit_among, function_bit, function_name, has_tile, same_bit}
+use Rattle.ice_flow.specs.Database.{IoFunction, NamedBit, SwitchGroup, bit_among, function_bit, function_name, has_tile}
 use Rattle.ice_flow.specs.FirstForm as form
 use Rattle.ice_flow.specs.FirstForm.{database_with}
 use Rattle.ice_flow.specs.Written.{Plan, wants, io_functions, is_this_bit, written}

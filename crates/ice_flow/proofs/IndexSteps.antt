@@ -1,13 +1,12 @@
 -- One row more in an index.
 use Rattle.std.proofs.Common.{◌≡◌, ◌≢◌, ◌⊎◌, ℕ, zero, suc, ◌+◌, ◌<◌, ◌≤◌, Bool, true, false, cond, Option, None, Some, List, [], ◌∷◌, ◌++◌, length, inl, inr, refl, ap, sym, ◌∙◌, subst, arith}
-use Rattle.std.specs.Prelude.{◌&&◌}
 use Rattle.std.specs.Bool.{beq}
 use Rattle.std.specs.Borrow.{Bor}
 use Rattle.std.specs.Cmp.Lexicographic.{pointwise}
 use Rattle.std.proofs.lemmas.Bool.{and_parts, and_from, cases_Bool, cases_eq, both_ways, eq-eqb}
 use Rattle.ice_base.specs.declared.number.BitAt.{BitAt}
 use Rattle.ice_flow.specs.Lists.{At}
-use Rattle.ice_flow.specs.Database.{SwitchGroup, Row, same_bit}
+use Rattle.ice_flow.specs.Database.{SwitchGroup, same_bit}
 use Rattle.ice_flow.specs.Places.{row_at}
 use Rattle.ice_flow.specs.RowIndex.{is_key, with_row, HasShape, HasKey, IsHeld}
 use Rattle.ice_flow.specs.declared.place.Place.{Place}

@@ -1,11 +1,10 @@
 -- Equal tiles, bits and pads by their tests, and rows by their groups.
-use Rattle.std.proofs.Common.{◌≡◌, ◌⊎◌, ℕ, zero, suc, ◌+◌, ◌<◌, Bool, true, false, eqb, Option, None, Some, List, [], ◌∷◌, ◌++◌, length, map, inl, inr, refl, ap, sym, ◌∙◌, subst, arith}
-use Rattle.std.specs.Prelude.{◌&&◌, ◌||◌}
+use Rattle.std.proofs.Common.{◌≡◌, ℕ, zero, suc, ◌+◌, Bool, true, eqb, Option, None, Some, List, [], ◌∷◌, ◌++◌, length, inl, inr, refl, ap, sym, ◌∙◌, arith}
 use Rattle.std.proofs.lemmas.Bool.{and_parts, eqb-true, eq-eqb}
 use Rattle.ice_base.specs.declared.number.TileAt.{TileAt}
 use Rattle.ice_base.specs.declared.number.BitAt.{BitAt}
 use Rattle.ice_flow.specs.Lists.{At, Has}
-use Rattle.ice_flow.specs.Database.{Pad, SwitchRow, SwitchGroup, Row, same_tile, same_bit, same_pad, group_rows, rows_from}
+use Rattle.ice_flow.specs.Database.{SwitchRow, SwitchGroup, Row, same_tile, same_bit, group_rows, rows_from}
 use Rattle.ice_flow.proofs.ListFacts.{at_append, Has_head, Has_tail}
 
 tile_along : (a b : TileAt) → a.x ≡ b.x → a.y ≡ b.y → a ≡ b

@@ -1,5 +1,5 @@
 -- Where a build's reading stopped: at its first, second or third file.
-use Rattle.std.proofs.Common.{◌≡◌, ◌⊎◌, inl, inr, zero, suc, ◌∙◌, ◌≤◌, ◌<◌, ◌+◌, ℕ, Option, Some, List, length, refl, sym, subst, true, arith, min, ◌-◌, ◌^◌}
+use Rattle.std.proofs.Common.{◌≡◌, ◌⊎◌, inl, inr, zero, suc, ◌∙◌, ◌≤◌, ◌<◌, ◌+◌, ℕ, Option, Some, List, length, refl, sym, subst, true, arith, ◌^◌}
 use Rattle.ice_desk.specs.Desk.{Meaning, SameButReading, Rose, after_one, after_more}
 use Rattle.ice_flow.specs.declared.cause.Cause.{Cause}
 use Rattle.ice_flow.specs.declared.cause.Cause.TheVariants.{Good, Usage, BadBlif, BadPin, Unreachable, ReadFault, WriteFault, NoMemory, TooLong, NotBuilt}

@@ -1,13 +1,11 @@
 -- When each answer comes, from what each cause says.
-use Rattle.std.proofs.Common.{◌≡◌, ◌≢◌, ◌⊎◌, ◌∙◌, ◌≤◌, ◌<◌, ℕ, zero, suc, Option, None, Some, List, [], ◌∷◌, ◌++◌, length, take, Bool, true, false, inl, inr, refl, sym, ap, subst, arith}
-use Rattle.ice_desk.specs.Desk.{Meaning, Rose}
+use Rattle.std.proofs.Common.{◌≡◌, ◌⊎◌, ◌∙◌, ◌≤◌, ◌<◌, ℕ, zero, suc, Option, None, Some, List, [], ◌∷◌, length, Bool, true, false, inl, inr, refl, sym, ap, subst, arith}
+use Rattle.ice_desk.specs.Desk.{Meaning}
 use Rattle.ice_flow.specs.declared.cause.Cause.{Cause}
 use Rattle.ice_flow.specs.declared.cause.Cause.TheVariants.{Good, Usage, BadBlif, BadPin, Unreachable, ReadFault, WriteFault, NoMemory, TooLong, NotBuilt}
 use Rattle.ice_flow.specs.declared.cause.FileRole.{FileRole}
 use Rattle.ice_flow.specs.declared.cause.FileRole.TheVariants.{Chip, Pcf, Blif, Asc, Levels, Pins, Report, Standard}
-use Rattle.ice_flow.specs.declared.cause.PinFault.{PinFault}
 use Rattle.ice_flow.specs.declared.cause.PinFault.TheVariants as pin_fault
-use Rattle.ice_flow.specs.declared.netlist_text.BlifFault.{BlifFault}
 use Rattle.ice_flow.specs.declared.netlist_text.BlifFault.TheVariants as blif_fault
 use Rattle.ice_flow.specs.Readers.{fault_line}
 use Rattle.ice_flow.specs.Database.{Pad, Database, wire_named}
@@ -17,9 +15,9 @@ use Rattle.ice_flow.specs.Routes.{IsWalk}
 use Rattle.ice_flow.specs.Command.{Build, most_bytes, status_of}
 use Rattle.ice_flow.specs.Standing.{Standing, OtherChip, OtherNetlist, OtherPins, UnknownPin, Ready, standing_of, AreEnds, IsApart, IsRoutable}
 use Rattle.ice_flow.specs.Headline.{IsCircuitOf}
-use Rattle.ice_flow.specs.Answers.{IsTextOf, AreTexts, OfTexts, Stands, Apart, Routable, IsLastRead, IsReadFault, IsTooLong, IsWriteFault, IsGood, no_places, pin_fault_line, read_name, read_role, IsTrueOf}
-use Rattle.ice_flow.specs.Says.{SaysFront, IsSaid}
-use Rattle.ice_flow.specs.Rows.{Caused, IsInterrupted, IsDone, HoldsTexts, ComesExactly, UsageRow, OtherChipRow, NetlistRow, OtherPinsRow, PinRow, UnreachableRow, DoneRow, ReadFaultRow, WriteFaultRow, NoMemoryRow, IsFirstTooLong, TooLongRow, HeadlineRow, SaidRow}
+use Rattle.ice_flow.specs.Answers.{IsTextOf, AreTexts, OfTexts, Stands, Apart, Routable, IsTooLong, no_places, pin_fault_line, read_name, read_role, IsTrueOf}
+use Rattle.ice_flow.specs.Says.{IsSaid}
+use Rattle.ice_flow.specs.Rows.{Caused, IsInterrupted, IsDone, HoldsTexts, UsageRow, OtherChipRow, NetlistRow, OtherPinsRow, PinRow, UnreachableRow, DoneRow, ReadFaultRow, WriteFaultRow, NoMemoryRow, IsFirstTooLong, TooLongRow, HeadlineRow, SaidRow}
 
 -- the texts that were read are those that the files hold
 text_is : (desk : Meaning) (name text bytes : List ℕ) → IsTextOf desk name text → desk.tells ≡ true → desk.files name ≡ Some bytes → text ≡ bytes

@@ -1,9 +1,9 @@
 -- Says, one after another.
-use Rattle.std.proofs.Common.{◌≡◌, ◌≤◌, ◌<◌, ◌+◌, ◌-◌, ◌++◌, ℕ, zero, suc, map, get_or, Bool, true, false, List, [], ◌∷◌, length, take, drop, refl, sym, ap, ◌∙◌, arith, length-drop, length-append, length-take, take-add, append_assoc, append-nil}
+use Rattle.std.proofs.Common.{◌≡◌, ◌≤◌, ◌<◌, ◌+◌, ◌-◌, ◌++◌, ℕ, zero, suc, map, get_or, Bool, true, false, List, [], ◌∷◌, length, take, drop, refl, sym, ap, ◌∙◌, arith, length-drop, length-append, take-add, append_assoc, append-nil}
 use Rattle.std.proofs.lemmas.List.{take_all, take-append-le}
 use Rattle.ice_desk.specs.Desk.{Meaning, SameButSaying, Rose}
 use Rattle.ice_flow.specs.Command.{joined}
-use Rattle.ice_flow.specs.Says.{SaysFront, IsSaid}
+use Rattle.ice_flow.specs.Says.{IsSaid}
 
 pub saying_trans : (a b c : Meaning) → SameButSaying a b → SameButSaying b c → SameButSaying a c
 saying_trans a b c p q = record {

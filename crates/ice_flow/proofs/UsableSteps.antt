@@ -1,21 +1,20 @@
 -- From rows that are on alone to usable rows, and back.
-use Rattle.std.proofs.Common.{◌≡◌, ◌≢◌, ◌⊎◌, ℕ, ◌+◌, ◌*◌, ◌<◌, ◌≤◌, Bool, true, false, eqb, Option, None, Some, List, length, map, get_or, set, inl, inr, refl, ap, sym, ◌∙◌, subst, arith}
-use Rattle.std.specs.Prelude.{◌&&◌, ◌||◌, not}
+use Rattle.std.proofs.Common.{◌≡◌, ◌⊎◌, ℕ, ◌+◌, ◌*◌, ◌<◌, true, false, Option, None, Some, List, length, map, get_or, set, inl, inr, refl, ap, sym, ◌∙◌, subst, arith}
+use Rattle.std.specs.Prelude.{◌&&◌, not}
 use Rattle.std.specs.List.{list_any}
 use Rattle.std.specs.Option.{is_some}
 use Rattle.std.proofs.lemmas.Bool.{and_parts, and_from, not-true, not_from_false, cases_eq}
 use Rattle.std.proofs.lemmas.List.{get_or-set_same, get_or-set_other, length-set}
 use Rattle.std.proofs.lemmas.Option.{slice_get_within}
 use Rattle.ice_base.specs.declared.number.TileAt.{TileAt}
-use Rattle.ice_base.specs.declared.number.BitAt.{BitAt}
 use Rattle.ice_flow.specs.Lists.{At, Has}
-use Rattle.ice_flow.specs.Database.{SwitchGroup, Row, rows_from, same_tile}
+use Rattle.ice_flow.specs.Database.{SwitchGroup, Row, rows_from}
 use Rattle.ice_flow.specs.Names.{has_input_name, has_output_name, has_closed_name}
 use Rattle.ice_flow.specs.FirstForm.{left_tile, right_tile, database_with}
 use Rattle.ice_flow.specs.ChipText.{IsOfForm}
 use Rattle.ice_flow.specs.Switches.{same_values, is_fresh, is_on}
 use Rattle.ice_flow.specs.Routes.{value_at, sets, IsPrivate, IsSound, IsUsable}
-use Rattle.ice_flow.specs.Places.{row_at, IsWithin}
+use Rattle.ice_flow.specs.Places.{row_at}
 use Rattle.ice_flow.specs.RowLists.{AreFirstRows}
 use Rattle.ice_flow.specs.RowIndex.{is_set_by, IsAlone}
 use Rattle.ice_flow.specs.UsableRows.{may_leave_by_name, may_enter_by_name, IsBundle, edge, IsUsableFrom, AreUsable, KeepsPairs, HasPairOf}

@@ -1,9 +1,9 @@
 -- Walks: what each row leaves and enters, and that a simple walk never reads in a circle.
-use Rattle.std.proofs.Common.{◌≡◌, ◌≢◌, ◌⊎◌, ℕ, zero, suc, ◌+◌, ◌-◌, ◌<◌, ◌≤◌, Bool, true, false, eqb, Option, None, Some, List, [], ◌∷◌, length, inl, inr, refl, ap, sym, ◌∙◌, subst, arith}
+use Rattle.std.proofs.Common.{◌≡◌, ◌≢◌, ℕ, zero, suc, ◌+◌, ◌-◌, ◌<◌, ◌≤◌, true, eqb, Some, List, [], ◌∷◌, length, inl, inr, refl, ap, sym, ◌∙◌, subst, arith}
 use Rattle.std.specs.Prelude.{◌==◌, if◌then◌else◌}
 use Rattle.std.proofs.lemmas.Bool.{eqb-true, eq-eqb, cases_Bool}
 use Rattle.ice_flow.specs.Lists.{At, Has, IsCycle}
-use Rattle.ice_flow.specs.Database.{SwitchGroup, Row, Database}
+use Rattle.ice_flow.specs.Database.{Row, Database}
 use Rattle.ice_flow.specs.Routes.{IsUsable, IsWalk, IsSimple}
 use Rattle.ice_flow.proofs.ListFacts.{Has_head, Has_tail}
 

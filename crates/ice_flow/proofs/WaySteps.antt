@@ -1,11 +1,11 @@
 -- One wire more that is reached.
-use Rattle.std.proofs.Common.{◌≡◌, ◌≢◌, ◌⊎◌, ℕ, zero, suc, ◌+◌, ◌*◌, ◌<◌, ◌≤◌, Bool, true, false, Option, None, Some, List, [], ◌∷◌, ◌++◌, length, get_or, set, drop, inl, inr, refl, ap, sym, ◌∙◌, subst, arith, append_assoc}
+use Rattle.std.proofs.Common.{◌≡◌, ℕ, zero, suc, ◌<◌, Bool, true, false, Option, None, Some, List, [], ◌∷◌, ◌++◌, length, get_or, set, inl, inr, refl, ap, sym, ◌∙◌, subst, arith}
 use Rattle.std.specs.Option.{is_some, unwrap_or}
 use Rattle.std.specs.Global.{Vec}
 use Rattle.std.proofs.lemmas.Bool.{both_ways, cases_eq}
 use Rattle.std.proofs.lemmas.List.{get_or-set_same, get_or-set_other, length-set}
-use Rattle.ice_flow.specs.Lists.{At, Has}
-use Rattle.ice_flow.specs.Database.{SwitchGroup, Row, rows_from}
+use Rattle.ice_flow.specs.Lists.{At}
+use Rattle.ice_flow.specs.Database.{SwitchGroup, Row}
 use Rattle.ice_flow.specs.FirstForm.{database_with}
 use Rattle.ice_flow.specs.ChipText.{IsOfForm}
 use Rattle.ice_flow.specs.Routes.{IsWalk, IsSimple, IsUsable}
@@ -15,7 +15,7 @@ use Rattle.ice_flow.specs.UsableRows.{edge, IsUsableFrom, AreUsable, HasPairOf}
 use Rattle.ice_flow.specs.Ways.{leads, reached, IsWay, IsFoundWay, AreWays, IsDone, KeepsReached, open_count, no_place, rows_along}
 use Rattle.ice_flow.specs.declared.place.Place.{Place}
 use Rattle.ice_flow.specs.declared.route.RouteRow.{RouteRow}
-use Rattle.ice_flow.proofs.FirstRowSteps.{push_cases, at_same}
+use Rattle.ice_flow.proofs.FirstRowSteps.{push_cases}
 use Rattle.ice_flow.proofs.UsableSteps.{row_wires}
 
 pub kept_set : (ways : List (Option (Vec ℕ))) (to : ℕ) (v : Vec ℕ) → to < length ways → KeepsReached ways (set ways to (Some v))

@@ -1,17 +1,16 @@
 -- The bits written for a buffer have no fault, and the circuit in them is the buffer.
-use Rattle.std.proofs.Common.{◌≡◌, ◌≢◌, ◌⊎◌, ℕ, zero, suc, ◌+◌, ◌<◌, Bool, true, false, eqb, Option, None, Some, List, [], ◌∷◌, length, map, inl, inr, refl, ap, sym, ◌∙◌, subst, arith}
-use Rattle.std.specs.Prelude.{◌&&◌, ◌||◌, not, ◌==◌, replicate, option_map}
+use Rattle.std.proofs.Common.{◌≡◌, ◌⊎◌, ℕ, zero, suc, ◌<◌, Bool, true, false, eqb, Option, None, Some, List, [], ◌∷◌, map, inl, inr, refl, ap, sym, ◌∙◌, subst, arith}
+use Rattle.std.specs.Prelude.{◌&&◌, not, ◌==◌, option_map}
 use Rattle.std.specs.List.{list_any, list_all}
-use Rattle.std.proofs.lemmas.Bool.{and_parts, eqb-true, eq-eqb}
+use Rattle.std.proofs.lemmas.Bool.{and_parts, eqb-true}
 use Rattle.std.proofs.Math.Path.{fun_ext}
 use Rattle.ice_base.specs.declared.number.TileAt.{TileAt}
 use Rattle.ice_base.specs.declared.number.BitAt.{BitAt}
-use Rattle.ice_flow.specs.Lists.{At, Has, IsCycle, all_some}
-use Rattle.ice_flow.specs.Database.{Pad, NamedBit, SwitchGroup, Row, Database, rows_of, all_pads, wire_named}
-use Rattle.ice_flow.specs.Names.{has_name_where, pad_input_name}
+use Rattle.ice_flow.specs.Lists.{At, Has, all_some}
+use Rattle.ice_flow.specs.Database.{Pad, NamedBit, SwitchGroup, Row, Database, rows_of, all_pads}
 use Rattle.ice_flow.specs.Switches.{Bits, Driver, Nothing, By, Several, is_on, driver}
 use Rattle.ice_flow.specs.Drives.{Drive, Off, driven}
-use Rattle.ice_flow.specs.Behaviour.{level_of, driven_reads, reads, OutputPart, NeverDriven, AlwaysDriven, OfAnotherKind, output_part, pad_drives, chip_shows, is_wire, is_pad_read, is_plain_input, is_foreign_function, is_memory_output_name, IsFaultless}
+use Rattle.ice_flow.specs.Behaviour.{level_of, driven_reads, reads, NeverDriven, AlwaysDriven, OfAnotherKind, output_part, pad_drives, chip_shows, is_wire, is_pad_read, is_plain_input, is_foreign_function, is_memory_output_name, IsFaultless}
 use Rattle.ice_flow.specs.Netlist.{Port, Input, Output, port_levels, port_drives, netlist_shows, table_bit, number_of_digits}
 use Rattle.ice_flow.specs.Routes.{IsWalk, IsSimple}
 use Rattle.ice_flow.specs.Written.{written}
@@ -21,10 +20,10 @@ use Rattle.ice_flow.specs.ChipText.{IsOfForm}
 use Rattle.ice_flow.specs.NetlistText.{buffer_netlist}
 use Rattle.ice_flow.specs.BufferForm.{buffer_plan}
 use Rattle.ice_flow.specs.Same.{ShowsSame}
-use Rattle.ice_flow.proofs.ListFacts.{Has_head, Has_tail, any_has}
+use Rattle.ice_flow.proofs.ListFacts.{any_has}
 use Rattle.ice_flow.proofs.FunctionBits.{all_has}
-use Rattle.ice_flow.proofs.DrivenWires.{IsRouted, wanted_on, driver_wanted, driver_unwanted, driven_cases}
-use Rattle.ice_flow.proofs.WalkFacts.{walk_usable, walk_starts, walk_goes_on, rank_from, rank_falls, no_cycle}
+use Rattle.ice_flow.proofs.DrivenWires.{wanted_on, driver_wanted, driver_unwanted, driven_cases}
+use Rattle.ice_flow.proofs.WalkFacts.{walk_starts, walk_goes_on, rank_from, rank_falls, no_cycle}
 use Rattle.ice_flow.proofs.WrittenMeaning.{name_none, shows_all, shows_one, routed, enters, at_function, left_00, left_01, right_10, right_11, off_at, drives_at_output, pad_cases}
 
 no_foreign : list_all (λ (f : NamedBit). not (is_foreign_function f.name)) form.io_functions ≡ true

@@ -1,32 +1,26 @@
 -- The bits written for a buffer with a simple walk from its input's wire to its output's wire: they have no fault,
 -- and show what the buffer shows.
-use Rattle.std.proofs.Common.{◌≡◌, ◌≢◌, ◌⊎◌, ℕ, zero, suc, ◌+◌, ◌-◌, ◌<◌, ◌≤◌, Bool, true, false, eqb, Option, None, Some, List, [], ◌∷◌, length, map, inl, inr, refl, ap, sym, ◌∙◌, subst, arith}
-use Rattle.std.specs.Prelude.{◌&&◌, ◌||◌, not, ◌==◌, if◌then◌else◌, option_map, slice_index_or, replicate, codes}
-use Rattle.std.specs.Option.{option_map_or}
+use Rattle.std.proofs.Common.{◌≡◌, ◌⊎◌, ℕ, zero, suc, ◌+◌, ◌-◌, ◌<◌, ◌≤◌, Bool, true, false, Option, None, Some, List, [], ◌∷◌, length, map, inl, inr, refl, ap, sym, ◌∙◌, subst, arith}
+use Rattle.std.specs.Prelude.{◌&&◌, ◌||◌, not, ◌==◌, if◌then◌else◌, option_map, replicate}
 use Rattle.std.specs.List.{list_any, list_all}
-use Rattle.std.proofs.lemmas.Bool.{and_parts, eqb-true, eq-eqb, cases_Bool, false_from_ne_true}
+use Rattle.std.proofs.lemmas.Bool.{and_parts}
 use Rattle.ice_base.specs.declared.number.TileAt.{TileAt}
 use Rattle.ice_base.specs.declared.number.BitAt.{BitAt}
-use Rattle.ice_flow.specs.Lists.{At, Has, IsCycle, all_known, all_some}
-use Rattle.ice_flow.specs.Database.{Pad, IoFunction, PinType, InputEnable, PullUpEnable, NamedBit, WireName, SwitchGroup, Row, Database, rows_of, rows_from, same_tile, has_tile, all_pads, wire_named, function_bit}
-use Rattle.ice_flow.specs.Names.{has_name_where, has_output_name, pad_input_name, pad_output_name, pad_of_wire}
-use Rattle.ice_flow.specs.Switches.{Bits, Driver, Nothing, By, Several, is_on, driver}
-use Rattle.ice_flow.specs.Drives.{Drive, Off, Low, High, driven}
-use Rattle.ice_flow.specs.Behaviour.{set_at, level_of, pad_gives, driven_reads, reads, driven_makes, makes, is_contended, val, now, at_name, OutputPart, NeverDriven, AlwaysDriven, DrivenWhereEnabled, OfAnotherKind, part_of, output_part, part_drives, pad_drives, chip_shows, is_pad_read, is_plain_input, is_foreign_function, is_memory_output_name, IsFaultless}
-use Rattle.ice_flow.specs.Netlist.{Netlist, Port, port_levels, port_drives, netlist_shows, signal_now, table_bit, number_of_digits}
-use Rattle.ice_flow.specs.Routes.{value_at, sets, IsUsable, IsWalk, IsSimple}
+use Rattle.ice_flow.specs.Lists.{At, Has, all_known, all_some}
+use Rattle.ice_flow.specs.Database.{Pad, WireName, SwitchGroup, Row, Database, same_tile, has_tile, all_pads, function_bit}
+use Rattle.ice_flow.specs.Names.{has_name_where, has_output_name}
+use Rattle.ice_flow.specs.Switches.{Bits, Driver}
+use Rattle.ice_flow.specs.Drives.{Off, driven}
+use Rattle.ice_flow.specs.Behaviour.{level_of, driven_reads, driven_makes, is_contended, val, now, NeverDriven, AlwaysDriven, output_part, part_drives, pad_drives}
+use Rattle.ice_flow.specs.Routes.{value_at, sets, IsWalk, IsSimple}
 use Rattle.ice_flow.specs.Written.{Plan, wants, io_functions, is_this_bit, written}
-use Rattle.ice_flow.specs.FirstForm as form
-use Rattle.ice_flow.specs.FirstForm.{database_with, left_tile, right_tile, left_pad, right_pad, tiny, wire_names}
+use Rattle.ice_flow.specs.FirstForm.{database_with, left_tile, right_tile, left_pad, right_pad}
 use Rattle.ice_flow.specs.ChipText.{IsOfForm}
-use Rattle.ice_flow.specs.NetlistText.{buffer_netlist}
 use Rattle.ice_flow.specs.BufferForm.{buffer_plan}
-use Rattle.ice_flow.specs.Same.{ShowsSame}
-use Rattle.ice_flow.proofs.ListFacts.{Has_head, Has_tail, any_has, any_none}
+use Rattle.ice_flow.proofs.ListFacts.{Has_head, Has_tail, any_none}
 use Rattle.ice_flow.proofs.PlaceFacts.{row_group}
-use Rattle.ice_flow.proofs.FunctionBits.{all_has}
-use Rattle.ice_flow.proofs.DrivenWires.{value_has, IsRouted, on_wanted, wanted_on, driver_wanted, driver_unwanted, driven_cases}
-use Rattle.ice_flow.proofs.WalkFacts.{walk_usable, walk_starts, walk_goes_on, rank_from, rank_falls, no_cycle}
+use Rattle.ice_flow.proofs.DrivenWires.{value_has, IsRouted, driver_wanted, driver_unwanted}
+use Rattle.ice_flow.proofs.WalkFacts.{walk_usable}
 
 and_false : (x : Bool) → (x && false) ≡ false
 and_false true = refl

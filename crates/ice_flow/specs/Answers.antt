@@ -1,8 +1,6 @@
 -- What each answer of a build says of the words, the texts and the desk.
-use Rattle.std.specs.Prelude.{◌≡◌, ◌≢◌, ◌⊎◌, ◌↔◌, ℕ, ◌+◌, ◌<◌, ◌≤◌, Bool, true, false, ◌==◌, if◌then◌else◌, Option, None, Some, List, [], ◌∷◌, ◌++◌, length, take}
+use Rattle.std.specs.Prelude.{◌≡◌, ℕ, ◌<◌, ◌≤◌, true, ◌==◌, if◌then◌else◌, Some, List, [], length}
 use Rattle.ice_desk.specs.Desk.{Meaning, Rose, after_one, after_more, HoldsAfter}
-use Rattle.ice_base.specs.declared.number.NetNo.{NetNo}
-use Rattle.ice_base.specs.declared.number.WireNo.{WireNo}
 use Rattle.ice_flow.specs.declared.cause.Placement.{Placement}
 use Rattle.ice_flow.specs.declared.cause.Cause.{Cause}
 use Rattle.ice_flow.specs.declared.cause.Cause.TheVariants.{Good, Usage, BadBlif, BadPin, Unreachable, ReadFault, WriteFault, NoMemory, TooLong, NotBuilt}
@@ -11,7 +9,7 @@ use Rattle.ice_flow.specs.declared.cause.FileRole.TheVariants.{Chip, Pcf, Blif, 
 use Rattle.ice_flow.specs.declared.cause.PinFault.TheVariants as pin_fault
 use Rattle.ice_flow.specs.declared.cause.PinFault.{PinFault}
 use Rattle.ice_flow.specs.Readers.{fault_line}
-use Rattle.ice_flow.specs.Command.{Build, most_bytes, request_of}
+use Rattle.ice_flow.specs.Command.{Build, most_bytes}
 use Rattle.ice_flow.specs.Standing.{Standing, OtherChip, OtherNetlist, OtherPins, UnknownPin, standing_of, IsApart, IsRoutable}
 use Rattle.ice_flow.specs.Headline.{IsCircuitOf}
 

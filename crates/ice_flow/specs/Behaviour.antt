@@ -1,13 +1,12 @@
 -- What a chip with given bits does: the values of its wires, what its pads show, and the faults of bits.
-use Rattle.std.specs.Prelude.{◌≡◌, ℕ, ◌+◌, ◌==◌, Bool, true, false, ◌&&◌, ◌||◌, not, Option, None, Some, List, [], ◌∷◌, map, if◌then◌else◌, option_map, slice_index_or, codes, nat_eq, position}
+use Rattle.std.specs.Prelude.{◌≡◌, ℕ, ◌+◌, ◌==◌, Bool, true, false, ◌&&◌, ◌||◌, not, Option, None, Some, List, [], ◌∷◌, map, if◌then◌else◌, option_map, slice_index_or, codes, nat_eq}
 use Rattle.std.specs.Option.{option_map_or, option_and_then}
 use Rattle.std.specs.Str.{bytes_eq}
 use Rattle.std.specs.List.{starts_with, list_any}
 use Rattle.std.proofs.Common.{zero, suc}
 use Rattle.ice_base.specs.declared.number.TileAt.{TileAt}
-use Rattle.ice_base.specs.declared.number.BitAt.{BitAt}
-use Rattle.ice_flow.specs.Lists.{At, Has, IsCycle, all_known}
-use Rattle.ice_flow.specs.Database.{Pad, IoFunction, PinType, InputEnable, NamedBit, Row, Database, WireName, function_bit, input_enable_of, wire_named, has_tile, all_pads, same_pad, rows_of}
+use Rattle.ice_flow.specs.Lists.{Has, IsCycle, all_known}
+use Rattle.ice_flow.specs.Database.{Pad, IoFunction, PinType, InputEnable, NamedBit, Row, Database, function_bit, input_enable_of, wire_named, has_tile, all_pads, same_pad, rows_of}
 use Rattle.ice_flow.specs.Names.{pad_of_wire, pad_input_name, pad_output_name, output_enable_name, has_name_where}
 use Rattle.ice_flow.specs.Switches.{Bits, Driver, Nothing, By, Several, driver, is_on}
 use Rattle.ice_flow.specs.Drives.{Drive, Off, driven}

@@ -1,15 +1,15 @@
 -- What the texts of a build come to, before anything is written.
-use Rattle.std.specs.Prelude.{◌≡◌, ℕ, List, [], ◌∷◌, length, Result, Ok, Err, ◌<◌, ◌≤◌, true, Some}
-use Rattle.ice_desk.specs.Desk.{Meaning, SameButReading, SameTest, Rose}
+use Rattle.std.specs.Prelude.{◌≡◌, ℕ, List, length, ◌<◌, true, Some}
+use Rattle.ice_desk.specs.Desk.{Meaning, Rose}
 use Rattle.ice_flow.specs.declared.cause.Cause.{Cause}
-use Rattle.ice_flow.specs.declared.cause.Cause.TheVariants.{Good, Usage, BadBlif, BadPin, Unreachable, ReadFault, WriteFault, NoMemory, TooLong, NotBuilt}
+use Rattle.ice_flow.specs.declared.cause.Cause.TheVariants.{BadBlif, BadPin, Unreachable, ReadFault, NoMemory, TooLong, NotBuilt}
 use Rattle.ice_flow.specs.declared.cause.FileRole.{FileRole}
 use Rattle.ice_flow.specs.declared.cause.FileRole.TheVariants.{Chip, Pcf}
 use Rattle.ice_flow.specs.declared.pins_text.PinsStop.{PinsStop}
 use Rattle.ice_flow.specs.declared.pins_text.PinsStop.TheVariants as pins_stop
 use Rattle.ice_flow.specs.declared.cause.PinFault.TheVariants as pin_fault
 use Rattle.ice_flow.specs.Readers.{fault_line}
-use Rattle.ice_flow.specs.Command.{Build, most_bytes}
+use Rattle.ice_flow.specs.Command.{most_bytes}
 use Rattle.ice_flow.specs.Standing.{OtherChip, OtherNetlist, OtherPins, UnknownPin, standing_of, IsApart, IsRoutable}
 use Rattle.ice_flow.specs.Headline.{IsCircuitOf}
 use Rattle.ice_flow.specs.Answers.{no_places, pin_fault_line}

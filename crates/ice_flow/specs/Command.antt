@@ -1,5 +1,5 @@
 -- The words of the program, its statuses, and the line that each refusal says.
-use Rattle.std.specs.Prelude.{◌≡◌, ℕ, Bool, ◌&&◌, not, Option, Some, None, List, [], ◌∷◌, ◌++◌, if◌then◌else◌, codes, decimal}
+use Rattle.std.specs.Prelude.{ℕ, Bool, ◌&&◌, not, Option, Some, None, List, [], ◌∷◌, ◌++◌, if◌then◌else◌, codes, decimal}
 use Rattle.std.specs.Str.{bytes_eq}
 use Rattle.ice_base.specs.Comments.{begins_with}
 use Rattle.ice_flow.specs.declared.cause.Cause.{Cause}

@@ -1,8 +1,7 @@
 -- The form of chip that is built so far: two IO tiles, of which each pad 0 is a pin of the package `tiny`.
 use Rattle.std.specs.Prelude.{ℕ, List, [], ◌∷◌, codes}
 use Rattle.ice_base.specs.declared.number.TileAt.{TileAt}
-use Rattle.ice_base.specs.declared.number.BitAt.{BitAt}
-use Rattle.ice_flow.specs.Database.{Pad, Pin, Package, NamedBit, WireName, InputEnableRow, SwitchGroup, Database}
+use Rattle.ice_flow.specs.Database.{Pad, Package, NamedBit, WireName, SwitchGroup, Database}
 
 abbrev pub left_tile : TileAt
 left_tile = record { x = 0; y = 0 }

@@ -1,5 +1,5 @@
 -- The headline: the text of bits that is written is the netlist that was read.
-use Rattle.std.specs.Prelude.{◌≡◌, ℕ, Option, Some, Result, Ok, List}
+use Rattle.std.specs.Prelude.{◌≡◌, ℕ, Some, Ok, List}
 use Rattle.ice_flow.specs.Database.{Pad, Package, Database, package_named}
 use Rattle.ice_flow.specs.Netlist.{Netlist}
 use Rattle.ice_flow.specs.Configuration.{Configuration, bits_in}

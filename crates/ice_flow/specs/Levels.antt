@@ -1,5 +1,5 @@
 -- Levels of the bits of a tile that switches may have, in a table.
-use Rattle.std.specs.Prelude.{ℕ, ◌+◌, ◌*◌, ◌<◌, Bool, false, List, slice_index_or}
+use Rattle.std.specs.Prelude.{◌+◌, ◌*◌, ◌<◌, Bool, false, List, slice_index_or}
 use Rattle.ice_base.specs.declared.number.BitAt.{BitAt}
 use Rattle.ice_flow.specs.Lists.{Has}
 

@@ -1,5 +1,5 @@
 -- What the names of wires say: which wires a pad reads and drives, and which wires no route may enter or leave.
-use Rattle.std.specs.Prelude.{ℕ, Bool, true, false, ◌||◌, ◌&&◌, Option, None, Some, List, [], ◌∷◌, ◌++◌, if◌then◌else◌, codes, ◌==◌, nat_eq}
+use Rattle.std.specs.Prelude.{ℕ, Bool, false, ◌||◌, ◌&&◌, Option, None, Some, List, [], ◌∷◌, ◌++◌, if◌then◌else◌, codes, ◌==◌, nat_eq}
 use Rattle.std.specs.Str.{bytes_eq}
 use Rattle.std.specs.List.{starts_with, list_any}
 use Rattle.ice_base.specs.declared.number.TileAt.{TileAt}

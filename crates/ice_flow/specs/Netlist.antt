@@ -1,6 +1,5 @@
 -- A netlist, and what it shows: ports and covers over signals, which are numbered by first appearance.
 use Rattle.std.specs.Prelude.{ℕ, ◌+◌, ◌*◌, ◌/◌, ◌%◌, ◌^◌, ◌==◌, Bool, true, false, Option, None, Some, List, [], ◌∷◌, map, length, if◌then◌else◌, option_map, slice_index_or}
-use Rattle.std.specs.Option.{option_map_or}
 use Rattle.std.proofs.Common.{zero, suc}
 use Rattle.ice_flow.specs.Lists.{all_known}
 use Rattle.ice_flow.specs.Database.{Pad}

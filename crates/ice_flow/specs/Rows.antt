@@ -1,5 +1,5 @@
 -- When each answer of the program comes: only where its cause is true, and always there, unless the desk or the memory fails.
-use Rattle.std.specs.Prelude.{◌≡◌, ◌≢◌, ◌⊎◌, ◌↔◌, ℕ, ◌<◌, ◌≤◌, Bool, true, Option, None, Some, List, [], ◌++◌, length}
+use Rattle.std.specs.Prelude.{◌≡◌, ◌≢◌, ◌⊎◌, ◌↔◌, ℕ, ◌<◌, ◌≤◌, true, Option, None, Some, List, ◌++◌, length}
 use Rattle.ice_desk.specs.Desk.{Meaning, Rose}
 use Rattle.ice_flow.specs.declared.cause.Cause.{Cause}
 use Rattle.ice_flow.specs.declared.cause.Cause.TheVariants.{Good, Usage, BadBlif, BadPin, Unreachable, ReadFault, WriteFault, NoMemory, TooLong, NotBuilt}
@@ -7,7 +7,7 @@ use Rattle.ice_flow.specs.declared.cause.FileRole.{FileRole}
 use Rattle.ice_flow.specs.declared.cause.FileRole.TheVariants.{Chip, Pcf, Blif}
 use Rattle.ice_flow.specs.declared.cause.PinFault.TheVariants as pin_fault
 use Rattle.ice_flow.specs.declared.netlist_text.BlifFault.TheVariants as blif_fault
-use Rattle.ice_flow.specs.Command.{Build, most_bytes, request_of}
+use Rattle.ice_flow.specs.Command.{Build, most_bytes}
 use Rattle.ice_flow.specs.Standing.{OtherChip, OtherNetlist, OtherPins, UnknownPin}
 use Rattle.ice_flow.specs.Headline.{IsCircuitOf}
 use Rattle.ice_flow.specs.Answers.{OfTexts, Stands, Apart, Routable, IsReadFault, IsTooLong, IsWriteFault, no_places, IsTrueOf}

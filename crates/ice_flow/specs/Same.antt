@@ -1,10 +1,10 @@
 -- The circuit in the bits is the netlist.
-use Rattle.std.specs.Prelude.{◌≡◌, ℕ, Bool, Option, Some, List, length, replicate}
+use Rattle.std.specs.Prelude.{◌≡◌, ℕ, Bool, Some, List, length, replicate}
 use Rattle.ice_flow.specs.Lists.{At, Has, all_some}
 use Rattle.ice_flow.specs.Drives.{Drive, Off}
 use Rattle.ice_flow.specs.Database.{Pad, Database, all_pads}
 use Rattle.ice_flow.specs.Switches.{Bits}
-use Rattle.ice_flow.specs.Behaviour.{chip_shows, IsFaultless}
+use Rattle.ice_flow.specs.Behaviour.{chip_shows}
 use Rattle.ice_flow.specs.Netlist.{Netlist, Port, netlist_shows}
 
 -- For every list of levels of the bonded pads, the bits show step by step at each port's pad exactly what the netlist

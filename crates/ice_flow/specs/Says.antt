@@ -1,5 +1,5 @@
 -- What was said of a line.
-use Rattle.std.specs.Prelude.{◌≡◌, ◌⊎◌, ℕ, ◌≤◌, Bool, true, false, List, ◌++◌, length, take}
+use Rattle.std.specs.Prelude.{◌≡◌, ℕ, ◌≤◌, Bool, true, false, List, ◌++◌, length, take}
 use Rattle.ice_desk.specs.Desk.{Meaning, Rose}
 
 -- a front of the line was said

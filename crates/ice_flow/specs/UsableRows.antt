@@ -1,7 +1,6 @@
 -- Usable rows by the wires that they lead from and to.
-use Rattle.std.specs.Prelude.{◌≡◌, ℕ, ◌+◌, ◌*◌, ◌<◌, Bool, true, false, not, ◌&&◌, Option, None, Some, List, [], length, slice_index_or}
+use Rattle.std.specs.Prelude.{◌≡◌, ℕ, ◌+◌, ◌*◌, ◌<◌, Bool, true, not, ◌&&◌, Option, None, Some, List, [], length, slice_index_or}
 use Rattle.std.specs.Option.{is_some}
-use Rattle.ice_base.specs.declared.number.TileAt.{TileAt}
 use Rattle.ice_flow.specs.Database.{SwitchGroup, Row, rows_from}
 use Rattle.ice_flow.specs.Names.{has_input_name, has_output_name, has_closed_name}
 use Rattle.ice_flow.specs.FirstForm.{database_with}

@@ -28,6 +28,8 @@ mod rows;
 mod run_tests;
 mod say;
 mod search;
+#[cfg(test)]
+mod search_tests;
 mod texts;
 mod top_call;
 mod usable;

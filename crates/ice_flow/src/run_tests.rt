@@ -311,17 +311,32 @@ fn the_first_text_that_is_wrong_is_refused(rt: HostRuntime) {
 #[test]
 fn words_that_ask_for_nothing_are_refused(rt: HostRuntime) {
     let alloc = rt.alloc();
-    let cases: [&[&str]; 5] = [
-        &["build"],
-        &[],
-        &["build", "chip", "tiny", "pins", "netlist", "bits", "more"],
-        &["build", "chip", "tiny", "pins", "netlist", "-bits"],
-        &["back", "chip", "tiny", "pins", "netlist", "bits"],
-    ];
-    for words in cases {
-        let case = Case { words, ..EXAMPLE };
-        compare(&rt, alloc, &case, 2, b"error 2 usage\n", None);
-    }
+    let said = b"error 2 usage\n";
+    let no_names = Case {
+        words: &["build"],
+        ..EXAMPLE
+    };
+    compare(&rt, alloc, &no_names, 2, said, None);
+    let nothing = Case {
+        words: &[],
+        ..EXAMPLE
+    };
+    compare(&rt, alloc, &nothing, 2, said, None);
+    let more = Case {
+        words: &["build", "chip", "tiny", "pins", "netlist", "bits", "more"],
+        ..EXAMPLE
+    };
+    compare(&rt, alloc, &more, 2, said, None);
+    let option = Case {
+        words: &["build", "chip", "tiny", "pins", "netlist", "-bits"],
+        ..EXAMPLE
+    };
+    compare(&rt, alloc, &option, 2, said, None);
+    let other = Case {
+        words: &["back", "chip", "tiny", "pins", "netlist", "bits"],
+        ..EXAMPLE
+    };
+    compare(&rt, alloc, &other, 2, said, None);
 }
 
 #[test]

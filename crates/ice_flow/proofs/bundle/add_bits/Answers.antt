@@ -1,4 +1,3 @@
-use Rattle.std.proofs.Common.{◌≡◌}
 use Rattle.ice_flow.proofs.bundle.add_bits.Goals as goal
 
 pub set_all-requires : goal.set_all-requires

@@ -1,9 +1,9 @@
-use Rattle.std.proofs.Common.{◌≡◌, List, [], ◌∷◌, map, refl, ap, sym, ◌∙◌, subst}
-use Rattle.ice_flow.specs.Database.{Pad, SwitchGroup}
-use Rattle.ice_flow.specs.FirstForm.{left_pad, right_pad, database_with}
+use Rattle.std.proofs.Common.{List, [], ◌∷◌, ap, sym, ◌∙◌, subst}
+use Rattle.ice_flow.specs.Database.{Pad}
+use Rattle.ice_flow.specs.FirstForm.{left_pad, right_pad}
 use Rattle.ice_flow.specs.NetlistText.{buffer_netlist}
 use Rattle.ice_flow.specs.BufferForm.{buffer_plan}
-use Rattle.ice_flow.specs.Views.{groups_view, pad_view, port_pad_view, AreCopies}
+use Rattle.ice_flow.specs.Views.{groups_view, pad_view, AreCopies}
 use Rattle.ice_flow.specs.declared.route.RouteRow.{RouteRow}
 use Rattle.ice_flow.specs.Writing.{AreWritable}
 use Rattle.ice_flow.proofs.Compiling.{pins_refused, pins_given, chosen_is_tiny, sink_apart, route_writable, route_built, ports_of_form}

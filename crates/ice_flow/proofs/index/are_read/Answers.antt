@@ -1,11 +1,10 @@
-use Rattle.std.proofs.Common.{◌≡◌, false, true, length, get_or, ◌<◌, ◌∙◌, sym, arith}
+use Rattle.std.proofs.Common.{◌≡◌, false, true, get_or, ◌∙◌, sym, arith}
 use Rattle.std.specs.Bool.{beq}
 use Rattle.std.specs.Cmp.{booleans_Decides}
 use Rattle.std.proofs.lemmas.Bool.{not-false}
 use Rattle.ice_flow.specs.Levels.{level_in}
-use Rattle.ice_flow.specs.Switches.{same_values}
 use Rattle.ice_flow.proofs.LevelTables.{has_read}
-use Rattle.ice_flow.proofs.AloneRows.{read_more, read_differs, read_end}
+use Rattle.ice_flow.proofs.AloneRows.{read_more, read_end}
 use Rattle.ice_flow.proofs.index.are_read.Goals as goal
 
 pub level-requires : goal.level-requires

@@ -1,4 +1,4 @@
-use Rattle.std.proofs.Common.{◌≡◌, ℕ, ◌<◌, ◌≤◌, false, true, List, Bool, Some, length, get_or, map, refl, ap, sym, ◌∙◌, subst, arith}
+use Rattle.std.proofs.Common.{◌≡◌, false, true, List, Bool, Some, get_or, map, refl, ap, sym, ◌∙◌, subst, arith}
 use Rattle.std.specs.Prelude.{◌&&◌}
 use Rattle.std.specs.Borrow.{Bor}
 use Rattle.std.specs.List.{list_any}
@@ -7,12 +7,10 @@ use Rattle.std.proofs.lemmas.Option.{slice_get-get_or, slice_get_within}
 use Rattle.ice_base.specs.declared.number.BitAt.{BitAt}
 use Rattle.ice_flow.specs.Lists.{At}
 use Rattle.ice_flow.specs.Switches.{same_values}
-use Rattle.ice_flow.specs.Routes.{value_at}
-use Rattle.ice_flow.specs.Levels.{IsSwitchBit, AreSwitchBits, level_in}
+use Rattle.ice_flow.specs.Levels.{AreSwitchBits, level_in}
 use Rattle.ice_flow.specs.Views.{groups_view}
 use Rattle.ice_flow.specs.Places.{row_at}
-use Rattle.ice_flow.specs.RowIndex.{holder_at, HasShape, is_other, is_set_by, IsAlone}
-use Rattle.ice_flow.specs.declared.place.Place.{Place}
+use Rattle.ice_flow.specs.RowIndex.{holder_at, is_other, IsAlone}
 use Rattle.ice_flow.proofs.GroupViews.{each_more}
 use Rattle.ice_flow.proofs.FirstRowSteps.{at_same}
 use Rattle.ice_flow.proofs.AloneRows.{row_bits, row_paired, level_same, unset, other_found, none_found}

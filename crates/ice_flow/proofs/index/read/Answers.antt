@@ -1,4 +1,4 @@
-use Rattle.std.proofs.Common.{length, ◌<◌, arith}
+use Rattle.std.proofs.Common.{arith}
 use Rattle.ice_flow.proofs.LevelTables.{has_read}
 use Rattle.ice_flow.proofs.index.read.Goals as goal
 

@@ -1,13 +1,10 @@
-use Rattle.std.proofs.Common.{◌≡◌, ◌+◌, ◌<◌, ◌≤◌, ℕ, List, length, get_or, arith, refl, ap, sym, ◌∙◌, subst}
-use Rattle.std.specs.Prelude.{◌||◌}
+use Rattle.std.proofs.Common.{◌≡◌, ◌+◌, ◌<◌, ◌≤◌, length, get_or, arith, refl, ap, sym, ◌∙◌, subst}
 use Rattle.ice_flow.specs.Database.{SwitchRow, SwitchGroup, rows_from}
-use Rattle.ice_flow.specs.Switches.{same_values}
-use Rattle.ice_flow.specs.Views.{row_view, group_view, groups_view}
+use Rattle.ice_flow.specs.Views.{groups_view}
 use Rattle.ice_flow.specs.Bundles.{is_of_bundle}
 use Rattle.ice_flow.specs.Places.{no_group, no_row}
 use Rattle.ice_flow.specs.RowLists.{holds, rows_before, AreFirstRows}
-use Rattle.ice_flow.specs.declared.chip.Group.{Group}
-use Rattle.ice_flow.proofs.GroupViews.{length_view, view_at, rows_view_length, row_view_at}
+use Rattle.ice_flow.proofs.GroupViews.{length_view, view_at, row_view_at}
 use Rattle.ice_flow.proofs.RowPlaces.{before-le, before_next, before_next_view, rows_in_view}
 use Rattle.ice_flow.proofs.FirstRowSteps.{seen_more, pass_group, add_row}
 use Rattle.ice_flow.proofs.rows.add_group.Goals as goal

@@ -1,4 +1,4 @@
-use Rattle.std.proofs.Common.{◌≡◌, map, take, true}
+use Rattle.std.proofs.Common.{map, take, true}
 use Rattle.ice_desk.specs.Desk.{SameButSaying, SameTest}
 use Rattle.ice_flow.specs.Command.{joined}
 use Rattle.ice_flow.specs.Pieces.{piece_text}

@@ -1,4 +1,4 @@
-use Rattle.std.proofs.Common.{◌≡◌, ◌∷◌, ◌++◌, [], ℕ, ◌<◌, None, length, ap, sym, ◌∙◌, List, arith}
+use Rattle.std.proofs.Common.{◌∷◌, ◌++◌, [], ℕ, None, ap, sym, ◌∙◌, List, arith}
 use Rattle.std.specs.Prelude.{not}
 use Rattle.std.specs.Option.{is_some}
 use Rattle.std.proofs.lemmas.List.{get_or_read}

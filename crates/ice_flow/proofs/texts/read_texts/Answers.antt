@@ -1,5 +1,4 @@
-use Rattle.std.proofs.Common.{◌≡◌, ◌≤◌, ◌<◌, ◌∙◌, ℕ, List, Option, Some, refl, subst, arith}
-use Rattle.ice_desk.specs.Desk.{after_more}
+use Rattle.std.proofs.Common.{◌≡◌, ◌∙◌, ℕ, List, Option, Some, refl, subst, arith}
 use Rattle.ice_desk.proofs.Desks.{reading_trans}
 use Rattle.ice_flow.specs.declared.cause.FileRole.TheVariants.{Chip, Pcf, Blif}
 use Rattle.ice_flow.specs.Requests.{request_view}

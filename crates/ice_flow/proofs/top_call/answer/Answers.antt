@@ -1,4 +1,4 @@
-use Rattle.std.proofs.Common.{◌≡◌, Option, subst, sym}
+use Rattle.std.proofs.Common.{Option, subst, sym}
 use Rattle.ice_flow.specs.declared.cause.Cause.{Cause}
 use Rattle.ice_flow.specs.Command.{Build}
 use Rattle.ice_flow.specs.Requests.{request_view}

@@ -1,13 +1,13 @@
-use Rattle.std.proofs.Common.{◌≡◌, ◌+◌, ◌*◌, ◌<◌, Some, None, true, false, length, get_or, set, refl, ap, sym, ◌∙◌, subst, arith}
+use Rattle.std.proofs.Common.{◌≡◌, ◌+◌, ◌*◌, Some, None, true, refl, ap, sym, ◌∙◌, subst, arith}
 use Rattle.std.specs.Option.{is_some}
 use Rattle.std.proofs.lemmas.Bool.{both_ways}
 use Rattle.std.proofs.lemmas.List.{get_or_read, get_or-set_same}
 use Rattle.std.proofs.lemmas.Option.{slice_get_read}
 use Rattle.ice_flow.specs.Lists.{At}
 use Rattle.ice_flow.specs.Views.{groups_view}
-use Rattle.ice_flow.specs.Places.{row_at, IsWithin}
+use Rattle.ice_flow.specs.Places.{row_at}
 use Rattle.ice_flow.specs.RowIndex.{IsAlone}
-use Rattle.ice_flow.specs.UsableRows.{may_leave_by_name, IsUsableFrom, AreUsable}
+use Rattle.ice_flow.specs.UsableRows.{may_leave_by_name, IsUsableFrom}
 use Rattle.ice_flow.specs.declared.place.Place.{Place}
 use Rattle.ice_flow.proofs.FirstRowSteps.{at_same}
 use Rattle.ice_flow.proofs.UsableSteps.{alone_usable, sound_alone, usable_leaves, usable_set, pair_below, has_pair}

@@ -1,4 +1,4 @@
-use Rattle.std.proofs.Common.{◌≡◌, ◌<◌, ℕ}
+use Rattle.std.proofs.Common.{◌<◌, ℕ}
 use Rattle.ice_flow.specs.Lists.{At}
 use Rattle.ice_flow.specs.Views.{groups_view}
 use Rattle.ice_flow.specs.FirstForm.{database_with}

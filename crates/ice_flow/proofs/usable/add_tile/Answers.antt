@@ -1,4 +1,4 @@
-use Rattle.std.proofs.Common.{◌<◌, arith}
+use Rattle.std.proofs.Common.{arith}
 use Rattle.ice_flow.specs.Views.{groups_view}
 use Rattle.ice_flow.proofs.UsableSteps.{row_wires}
 use Rattle.ice_flow.proofs.usable.add_tile.Goals as goal

@@ -1,5 +1,4 @@
-use Rattle.std.proofs.Common.{false, length, ◌<◌, arith, refl, sym, ap, ◌∙◌}
-use Rattle.std.specs.Prelude.{◌||◌}
+use Rattle.std.proofs.Common.{false, arith, sym, ◌∙◌}
 use Rattle.std.specs.List.{list_any}
 use Rattle.ice_flow.specs.Levels.{level_in}
 use Rattle.ice_flow.proofs.LevelTables.{has_read, any_more, any_hit}

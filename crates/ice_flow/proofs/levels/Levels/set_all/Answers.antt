@@ -1,4 +1,4 @@
-use Rattle.std.proofs.Common.{length, ◌<◌, arith, refl}
+use Rattle.std.proofs.Common.{arith}
 use Rattle.std.specs.Prelude.{◌||◌}
 use Rattle.ice_flow.specs.Database.{same_bit}
 use Rattle.ice_flow.specs.Levels.{level_in}

@@ -1,4 +1,4 @@
-use Rattle.std.proofs.Common.{false, length, ◌<◌, arith, refl}
+use Rattle.std.proofs.Common.{false, arith}
 use Rattle.std.specs.Prelude.{◌||◌}
 use Rattle.ice_flow.specs.Routes.{value_at}
 use Rattle.ice_flow.specs.Levels.{level_in}
