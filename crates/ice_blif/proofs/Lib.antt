@@ -1,2 +1,5 @@
 pub mod Backslashes
 pub mod Comments
+pub mod Wirings
+pub mod OpenCells
+pub mod CoverSignals

@@ -1,6 +1,5 @@
 -- The cell that was made last, and what rows and parameters add to it.
-use Rattle.std.specs.Prelude.{◌≡◌, ℕ, ◌+◌, ◌-◌, ◌≤◌, ◌<◌, Bool, true, false, ◌==◌, List, [], ◌∷◌, ◌++◌, length, take, drop, Option, Some, None, Result, Ok, Err, if◌then◌else◌, bit_or, codes, bytes_eq, All}
-use Rattle.std.proofs.Common.{zero, suc}
+use Rattle.std.specs.Prelude.{◌≡◌, ℕ, ◌+◌, ◌-◌, ◌^◌, ◌≤◌, ◌<◌, Bool, true, false, ◌==◌, List, [], ◌∷◌, ◌++◌, length, take, drop, Option, Some, None, Result, Ok, Err, if◌then◌else◌, bit_or, codes, bytes_eq, All}
 use Rattle.ice_base.specs.declared.number.SignalNo.{SignalNo}
 use Rattle.ice_net.specs.declared.cell.Cell.{Cell}
 use Rattle.ice_net.specs.declared.kind.CellKind as kinds
@@ -24,13 +23,18 @@ abbrev pub ◌>>=◌ : {A B : Type 0} → Result A BlifFault → (A → Result B
 (Err e) >>= f = Err e
 
 -- ---- covers
+abbrev pub level_alone : List ℕ → List (List ℕ) → Option (List ℕ × List ℕ)
+level_alone level [] = Some ([], level)
+level_alone level (w ∷ ws) = None
+
+abbrev pub row_and_level : List ℕ → List (List ℕ) → Option (List ℕ × List ℕ)
+row_and_level row [] = None
+row_and_level row (level ∷ []) = Some (row, level)
+row_and_level row (level ∷ w ∷ ws) = None
+
 -- the words of a row for so many inputs: its digits for the inputs, and its level. Without inputs it is the level alone
 abbrev pub row_parts : ℕ → List ℕ → List (List ℕ) → Option (List ℕ × List ℕ)
-row_parts zero level [] = Some ([], level)
-row_parts zero level (w ∷ ws) = None
-row_parts (suc k) row [] = None
-row_parts (suc k) row (level ∷ []) = Some (row, level)
-row_parts (suc k) row (level ∷ w ∷ ws) = None
+row_parts width first others = if width == 0 then level_alone first others else row_and_level first others
 
 -- a cover with one row more
 abbrev pub with_row : Cover → List ℕ → Bool → Cover
@@ -55,13 +59,13 @@ cover_cell c = record { kind = kinds.TheVariants.Cover (table_of (length c.ins) 
 -- ---- parameters
 -- a kind with a parameter
 abbrev pub lut_says : ℕ → ℕ → List ℕ → List (List ℕ) → Result CellKind BlifFault
-lut_says line table name values = if bytes_eq name (codes "LUT_INIT") then bits_say line 16 values >>= (λ n. Ok (Lut n)) else Ok (Lut table)
+lut_says line table name values = if bytes_eq name (codes "LUT_INIT") then bits_say line (2 ^ 16) values >>= (λ n. Ok (Lut n)) else Ok (Lut table)
 
 abbrev pub pad_says : ℕ → ℕ → Bool → List ℕ → List (List ℕ) → Result CellKind BlifFault
 pad_says line pin_type pullup name values =
-    if bytes_eq name (codes "PIN_TYPE") then bits_say line 6 values >>= (λ n. Ok (PadCell n pullup))
-    else (if bytes_eq name (codes "PULLUP") then bits_say line 1 values >>= (λ n. Ok (PadCell pin_type (n == 1)))
-    else (if bytes_eq name (codes "NEG_TRIGGER") then bits_say line 0 values >>= (λ n. Ok (PadCell pin_type pullup))
+    if bytes_eq name (codes "PIN_TYPE") then bits_say line (2 ^ 6) values >>= (λ n. Ok (PadCell n pullup))
+    else (if bytes_eq name (codes "PULLUP") then bits_say line (2 ^ 1) values >>= (λ n. Ok (PadCell pin_type (n == 1)))
+    else (if bytes_eq name (codes "NEG_TRIGGER") then bits_say line (2 ^ 0) values >>= (λ n. Ok (PadCell pin_type pullup))
     else (if bytes_eq name (codes "IO_STANDARD") then standard_says line values >>= (λ allowed. Ok (PadCell pin_type pullup))
     else Ok (PadCell pin_type pullup))))
 

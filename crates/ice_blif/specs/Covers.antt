@@ -1,5 +1,5 @@
 -- Covers: rows of a truth table.
-use Rattle.std.specs.Prelude.{ℕ, ◌+◌, ◌-◌, ◌*◌, ◌/◌, ◌%◌, ◌^◌, Bool, true, false, ◌&&◌, ◌||◌, not, ◌==◌, List, [], ◌∷◌, length, map, Option, Some, None, if◌then◌else◌, bit_or, codes, bytes_eq}
+use Rattle.std.specs.Prelude.{ℕ, ◌+◌, ◌-◌, ◌*◌, ◌/◌, ◌%◌, ◌^◌, Bool, true, false, ◌&&◌, ◌||◌, not, ◌==◌, List, [], ◌∷◌, length, Option, Some, None, if◌then◌else◌, bit_or, codes, bytes_eq}
 use Rattle.std.specs.List.{list_all}
 
 -- the row has the levels of that number, the first input the lowest digit: each input's digit is its level or `-` (48 is `0`, 45 is `-`)
@@ -7,18 +7,18 @@ abbrev pub covers : List ℕ → ℕ → Bool
 covers [] j = true
 covers (digit ∷ digits) j = (digit == 45 || digit == 48 + j % 2) && covers digits (j / 2)
 
--- the number that bits write behind n, the greatest first
-abbrev pub with_bits : ℕ → List Bool → ℕ
-with_bits n [] = n
-with_bits n (b ∷ bits) = with_bits (2 * n + (if b then 1 else 0)) bits
+-- a bit as a number
+abbrev pub bit : Bool → ℕ
+bit false = 0
+bit true = 1
 
--- the numbers of the levels of four inputs, the greatest first
-abbrev pub all_levels : List ℕ
-all_levels = 15 ∷ 14 ∷ 13 ∷ 12 ∷ 11 ∷ 10 ∷ 9 ∷ 8 ∷ 7 ∷ 6 ∷ 5 ∷ 4 ∷ 3 ∷ 2 ∷ 1 ∷ 0 ∷ []
+-- four bits of a row's table, from bit j on
+abbrev pub four_bits : List ℕ → ℕ → ℕ
+four_bits row j = bit (covers row (j + 3)) * 8 + bit (covers row (j + 2)) * 4 + bit (covers row (j + 1)) * 2 + bit (covers row j)
 
--- the table of a row: bit j says whether the row has the levels with the number j. Inputs that the row lacks may have any level
+-- the table of a row, of sixteen bits: bit j says whether the row has the levels with the number j. Inputs that the row lacks may have any level
 abbrev pub row_table : List ℕ → ℕ
-row_table row = with_bits 0 (map (covers row) all_levels)
+row_table row = four_bits row 12 * 4096 + four_bits row 8 * 256 + four_bits row 4 * 16 + four_bits row 0
 
 -- a digit of a row
 abbrev pub is_row_digit : ℕ → Bool

@@ -74,9 +74,15 @@ wired wiring place signal = record {
 abbrev pub is_missing : Bool → List ℕ → Bool
 is_missing output actual = bytes_eq actual (codes "") || (if output then bytes_eq actual (codes "$undef") else false)
 
+-- the netlist after an actual, and the signal that it is
+abbrev pub after_actual : NetlistData → Bool → List ℕ → NetlistData
+after_actual n output actual = if is_missing output actual then n else named n actual
+
+abbrev pub actual_signal : NetlistData → Bool → List ℕ → Option SignalNo
+actual_signal n output actual = if is_missing output actual then None else Some (signal_of n actual)
+
 abbrev pub connect : NetlistData → Wiring → ℕ → Bool → List ℕ → NetlistData × Wiring
-connect n wiring place output actual =
-    if is_missing output actual then (n, wired wiring place None) else (named n actual, wired wiring place (Some (signal_of n actual)))
+connect n wiring place output actual = (after_actual n output actual, wired wiring place (actual_signal n output actual))
 
 abbrev pub connect_at : ℕ → CellKind → NetlistData → Wiring → List ℕ → Option ℕ → Result (NetlistData × Wiring) BlifFault
 connect_at line kind n wiring actual None = Err (UnknownPort line)
@@ -86,9 +92,13 @@ abbrev pub connect_by : ℕ → CellKind → NetlistData → Wiring → List ℕ
 connect_by line kind n wiring word None = Err (UnknownPort line)
 connect_by line kind n wiring word (Some at) = connect_at line kind n wiring (drop (at + 1) word) (port_place kind (take at word))
 
--- one connection, FORMAL=ACTUAL; the formal ends at the first `=` (61)
+-- the place of the first `=` (61) of a word
+unfoldable pub equals_at : List ℕ → Option ℕ
+equals_at word = position (λ b. b == 61) word
+
+-- one connection, FORMAL=ACTUAL; the formal ends at the first `=`
 abbrev pub connection_says : ℕ → CellKind → NetlistData → Wiring → List ℕ → Result (NetlistData × Wiring) BlifFault
-connection_says line kind n wiring word = connect_by line kind n wiring word (position (λ b. b == 61) word)
+connection_says line kind n wiring word = connect_by line kind n wiring word (equals_at word)
 
 -- all connections of a line. That a port is named twice is found after its unknown ports
 abbrev pub connections_say : ℕ → CellKind → NetlistData → Wiring → List (List ℕ) → Result (NetlistData × Wiring) BlifFault

@@ -1,11 +1,13 @@
 //! What is read so far of a netlist text.
-ghost use Rattle.std.specs.Prelude.{◌≡◌, ◌≤◌, ◌+◌, ◌<◌, length, OnOk, IfOk};
-ghost use Rattle.ice_blif.specs.Cells.{finished, cover_cell, IsFormedLast, IsOpenCover, IsReady};
-ghost use Rattle.ice_blif.specs.Answers.{Gives, Leaves};
-ghost use Rattle.ice_blif.specs.Covers.{table_of};
+ghost use Rattle.std.specs.Prelude.{◌≡◌, ◌≤◌, length, OnOk, IfErr};
+ghost use Rattle.ice_blif.specs.declared.fault.BlifFault.TheVariants.{NoMemory as out_of_memory};
+ghost use Rattle.ice_blif.specs.Cells.{finished, cover_cell, IsFormedLast, IsReady};
+ghost use Rattle.ice_blif.specs.Grammar.{with_last};
 
 use crate::BlifFault;
+use crate::cover::table_of;
 use ice_net::{Cell, CellKind, Netlist, Signals};
+use std::mem::replace;
 
 /// A cover, whose rows may be read.
 #[derive(Drop)]
@@ -42,4 +44,53 @@ pub(crate) struct Reader {
     pub(crate) last: Last,
     /// Whether a row may stand in the next line.
     pub(crate) rows: bool,
+}
+
+// The cell of a cover with all its rows.
+#[tactic(auto, using(crate::proofs::OpenCells::cover_formed))]
+fn cover_cell(cover: Cover) -> Cell
+    requires { length cover.ins ≤ 4 }
+    ensures { result ≡ cover_cell cover }
+{
+    let width = cover.ins.as_slice().len() as u8;
+    Cell {
+        kind: CellKind::Cover {
+            table: table_of(width, cover.level, cover.covered),
+            width,
+        },
+        line: cover.line,
+        ins: cover.ins,
+        outs: cover.outs,
+    }
+}
+
+/// Lets the last cell join the others.
+#[tactic(auto, using(crate::proofs::OpenCells::cover_formed))]
+pub(crate) fn finish(netlist: &mut Netlist, last: Last) -> Result<(), BlifFault>
+    requires few { length netlist.old.cells ≤ 1048576 }
+    requires formed { IsFormedLast (length netlist.old.names) last }
+    ensures netlist { OnOk result (netlist.new ≡ finished netlist.old last) }
+    ensures memory { IfErr result (λ e. e ≡ out_of_memory) }
+{
+    match last {
+        Last::Nothing => Ok(()),
+        Last::Gate(cell) => Ok(netlist.cell(cell)?),
+        Last::Rows(cover) => Ok(netlist.cell(cover_cell(cover))?),
+    }
+}
+
+/// Makes a new last cell; the one before joins the others.
+#[tactic(auto, using(crate::proofs::OpenCells::last_ready))]
+pub(crate) fn join(reader: &mut Reader, now: Last, rows: bool) -> Result<(), BlifFault>
+    requires few { length reader.old.netlist.cells ≤ 1048576 }
+    requires formed { IsFormedLast (length reader.old.netlist.names) reader.old.last }
+    requires now { IsFormedLast (length reader.old.netlist.names) now }
+    ensures reader { OnOk result (reader.new ≡ with_last reader.old.netlist reader.old.last now rows) }
+    ensures ready { OnOk result (IsReady 1048577 reader.new) }
+    ensures memory { IfErr result (λ e. e ≡ out_of_memory) }
+{
+    let before = replace(&mut reader.last, now);
+    finish(&mut reader.netlist, before)?;
+    reader.rows = rows;
+    Ok(())
 }

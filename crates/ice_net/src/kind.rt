@@ -1,6 +1,6 @@
 //! The kinds of cells, the words that name them, and the places of their ports.
-ghost use Rattle.std.specs.Prelude.{◌≡◌, ◌≤◌, ◌++◌, ◌∷◌, [], false, codes};
-ghost use Rattle.ice_net.specs.Kinds.{kind_of, flop_of, edge_flop_of, reset_of, port_place, place_from, reset_names, ins_count, outs_count};
+ghost use Rattle.std.specs.Prelude.{◌≡◌, ◌≤◌, ◌++◌, ◌∷◌, [], false, codes, IfSome, ◌<◌};
+ghost use Rattle.ice_net.specs.Kinds.{kind_of, flop_of, edge_flop_of, reset_of, port_place, place_from, reset_names, ins_count, outs_count, IsGateKind};
 
 use ice_base::begins_with;
 
@@ -80,7 +80,8 @@ fn reset_named(word: &[u8]) -> Option<Reset>
 
 // The flip-flop of that edge, by the rest of its word.
 fn edge_flop(falling: bool, word: &[u8]) -> Option<CellKind>
-    ensures { result ≡ edge_flop_of falling word.now }
+    ensures kind { result ≡ edge_flop_of falling word.now }
+    ensures gate { IfSome result IsGateKind }
 {
     let enable = begins_with(b'E', word);
     let rest = if enable { &word[1..] } else { word };
@@ -94,7 +95,8 @@ fn edge_flop(falling: bool, word: &[u8]) -> Option<CellKind>
 
 // The flip-flop, by its word behind `SB_DFF`.
 fn flop(word: &[u8]) -> Option<CellKind>
-    ensures { result ≡ flop_of word.now }
+    ensures kind { result ≡ flop_of word.now }
+    ensures gate { IfSome result IsGateKind }
 {
     if begins_with(b'N', word) {
         return edge_flop(true, &word[1..]);
@@ -104,7 +106,8 @@ fn flop(word: &[u8]) -> Option<CellKind>
 
 /// The kind that a word names, with parameters of 0. None exactly where it names no kind.
 pub fn kind_named(word: &[u8]) -> Option<CellKind>
-    ensures { result ≡ kind_of word.now }
+    ensures kind { result ≡ kind_of word.now }
+    ensures gate { IfSome result IsGateKind }
 {
     if word == b"SB_LUT4".as_slice() {
         return Some(CellKind::Lut { table: 0 });
@@ -127,7 +130,8 @@ pub fn kind_named(word: &[u8]) -> Option<CellKind>
 
 // The place of a port of SB_LUT4.
 fn lut_place(name: &[u8]) -> Option<usize>
-    ensures { result ≡ port_place (CellKind.Lut 0) name.now }
+    ensures place { result ≡ port_place (CellKind.Lut 0) name.now }
+    ensures few { IfSome result (λ place. place < 10) }
 {
     if name == b"I0".as_slice() {
         return Some(0);
@@ -149,7 +153,8 @@ fn lut_place(name: &[u8]) -> Option<usize>
 
 // The place of a port of SB_CARRY.
 fn carry_place(name: &[u8]) -> Option<usize>
-    ensures { result ≡ port_place CellKind.Carry name.now }
+    ensures place { result ≡ port_place CellKind.Carry name.now }
+    ensures few { IfSome result (λ place. place < 10) }
 {
     if name == b"I0".as_slice() {
         return Some(0);
@@ -168,7 +173,9 @@ fn carry_place(name: &[u8]) -> Option<usize>
 
 // The place of a flip-flop's output, where it is this one.
 fn output_place(place: usize, name: &[u8]) -> Option<usize>
-    ensures { result ≡ place_from place (codes "Q" ∷ []) name.now }
+    requires { place < 10 }
+    ensures place { result ≡ place_from place (codes "Q" ∷ []) name.now }
+    ensures few { IfSome result (λ place. place < 10) }
 {
     if name == b"Q".as_slice() {
         return Some(place);
@@ -179,7 +186,8 @@ fn output_place(place: usize, name: &[u8]) -> Option<usize>
 // The place of a flip-flop's set or reset, or of its output behind it, where the first of them has this place.
 fn reset_place(place: usize, reset: Reset, name: &[u8]) -> Option<usize>
     requires { place ≤ 3 }
-    ensures { result ≡ place_from place (reset_names reset ++ codes "Q" ∷ []) name.now }
+    ensures place { result ≡ place_from place (reset_names reset ++ codes "Q" ∷ []) name.now }
+    ensures few { IfSome result (λ place. place < 10) }
 {
     let port = match reset {
         Reset::Nothing => return output_place(place, name),
@@ -194,7 +202,8 @@ fn reset_place(place: usize, reset: Reset, name: &[u8]) -> Option<usize>
 
 // The place of a port of a flip-flop.
 fn flop_place(enable: bool, reset: Reset, name: &[u8]) -> Option<usize>
-    ensures { result ≡ port_place (CellKind.Flop false enable reset) name.now }
+    ensures place { result ≡ port_place (CellKind.Flop false enable reset) name.now }
+    ensures few { IfSome result (λ place. place < 10) }
 {
     if name == b"C".as_slice() {
         return Some(0);
@@ -213,7 +222,8 @@ fn flop_place(enable: bool, reset: Reset, name: &[u8]) -> Option<usize>
 
 // The place of a port of SB_IO.
 fn pad_place(name: &[u8]) -> Option<usize>
-    ensures { result ≡ port_place (CellKind.PadCell 0 false) name.now }
+    ensures place { result ≡ port_place (CellKind.PadCell 0 false) name.now }
+    ensures few { IfSome result (λ place. place < 10) }
 {
     if name == b"PACKAGE_PIN".as_slice() {
         return Some(0);
@@ -250,7 +260,8 @@ fn pad_place(name: &[u8]) -> Option<usize>
 
 // The place of a port of SB_GB.
 fn global_place(name: &[u8]) -> Option<usize>
-    ensures { result ≡ port_place CellKind.Global name.now }
+    ensures place { result ≡ port_place CellKind.Global name.now }
+    ensures few { IfSome result (λ place. place < 10) }
 {
     if name == b"USER_SIGNAL_TO_GLOBAL_BUFFER".as_slice() {
         return Some(0);
@@ -265,7 +276,8 @@ impl CellKind {
     /// The place of a port among the inputs and then the outputs of the kind, from 0. None exactly where the kind has
     /// no port of that name; the ports of a cover have no names.
     pub fn port_place(&self, name: &[u8]) -> Option<usize>
-        ensures { result ≡ port_place self.now name.now }
+        ensures place { result ≡ port_place self.now name.now }
+        ensures few { IfSome result (λ place. place < 10) }
     {
         match *self {
             CellKind::Lut { .. } => lut_place(name),
