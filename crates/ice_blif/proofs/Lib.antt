@@ -3,3 +3,4 @@ pub mod Comments
 pub mod Wirings
 pub mod OpenCells
 pub mod CoverSignals
+pub mod KindForms

@@ -160,15 +160,23 @@ row_line line r (Rows cover) first others = row_says line cover first others >>=
 abbrev pub row_or_fault : ℕ → Reader → List ℕ → List (List ℕ) → Result Reader BlifFault
 row_or_fault line r first others = if r.rows then row_line line r r.last first others else Err (UnknownDirective line)
 
+-- `.inputs NAME ..` and `.outputs NAME ..`
+abbrev pub port_directive_says : ℕ → Way → Reader → List (List ℕ) → Result Reader BlifFault
+port_directive_says line way r names = ports_say line way r.netlist names >>= (λ n. Ok (without_rows n r.last))
+
+-- `.param NAME VALUE`
+abbrev pub param_directive_says : ℕ → Reader → List (List ℕ) → Result Reader BlifFault
+param_directive_says line r ws = param_says line r.last ws >>= (λ last. Ok (without_rows r.netlist last))
+
 -- a line whose first word begins with a dot, and is not `.end`
 abbrev pub directive_says : ℕ → Reader → List ℕ → List (List ℕ) → Result Reader BlifFault
 directive_says line r first others =
     if bytes_eq first (codes ".gate") || bytes_eq first (codes ".subckt") then gate_says line r others
     else (if bytes_eq first (codes ".names") then names_say line r others
-    else (if bytes_eq first (codes ".param") then param_says line r.last others >>= (λ last. Ok (without_rows r.netlist last))
+    else (if bytes_eq first (codes ".param") then param_directive_says line r others
     else (if bytes_eq first (codes ".attr") || bytes_eq first (codes ".cname") then Ok (without_rows r.netlist r.last)
-    else (if bytes_eq first (codes ".inputs") then ports_say line Input r.netlist others >>= (λ n. Ok (without_rows n r.last))
-    else (if bytes_eq first (codes ".outputs") then ports_say line Output r.netlist others >>= (λ n. Ok (without_rows n r.last))
+    else (if bytes_eq first (codes ".inputs") then port_directive_says line Input r others
+    else (if bytes_eq first (codes ".outputs") then port_directive_says line Output r others
     else (if bytes_eq first (codes ".model") then Err (SecondModel line)
     else Err (UnknownDirective line)))))))
 
@@ -185,14 +193,18 @@ line_says l r = (if begins_with 46 l.first then directive_says l.number r l.firs
 
 -- ---- the text
 -- behind `.end` only a second `.model` is a fault
-abbrev pub after_end : NetlistData → List FilledLine → Result NetlistData BlifFault
-after_end n [] = Ok n
-after_end n (l ∷ ls) = if bytes_eq l.first (codes ".model") then Err (SecondModel l.number) else after_end n ls
+abbrev pub after_end : List FilledLine → Result (Unit {0}) BlifFault
+after_end [] = Ok tt
+after_end (l ∷ ls) = if bytes_eq l.first (codes ".model") then Err (SecondModel l.number) else after_end ls
+
+-- the netlist of a reader that came to `.end`
+abbrev pub ended : Reader → List FilledLine → Result NetlistData BlifFault
+ended r ls = after_end ls >>= (λ u. Ok (finished r.netlist r.last))
 
 -- the lines behind `.model`; `last` is the number of the text's last line
 abbrev pub model_says : ℕ → Reader → List FilledLine → Result NetlistData BlifFault
 model_says last r [] = Err (NoEnd last)
-model_says last r (l ∷ ls) = if bytes_eq l.first (codes ".end") then after_end (finished r.netlist r.last) ls else line_says l r >>= (λ s. model_says last s ls)
+model_says last r (l ∷ ls) = if bytes_eq l.first (codes ".end") then ended r ls else line_says l r >>= (λ s. model_says last s ls)
 
 abbrev pub empty_reader : Reader
 empty_reader = record { netlist = empty_netlist; last = Nothing; rows = false }
