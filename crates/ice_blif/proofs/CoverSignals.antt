@@ -20,8 +20,8 @@ one_more m n signals s le h lt = All-push (IsPresent n) signals (Some s) (All-we
 -- a cover of these signals
 pub cover_open : (n line : ℕ) (signals : List (Option SignalNo)) → 0 < length signals → length signals ≤ 5 → All (IsPresent n) signals → IsOpenCover n (new_cover line signals)
 cover_open n line signals some short h = record {
-    narrow = omega (arith, length-take (length signals - 1) signals);
-    single = length-drop (length signals - 1) signals ∙ omega (arith, some);
-    ins_present = All-take (IsPresent n) (length signals - 1) signals h;
-    outs_present = All-drop (IsPresent n) (length signals - 1) signals h;
-  }
+  narrow = omega (arith, length-take (length signals - 1) signals);
+  single = length-drop (length signals - 1) signals ∙ omega (arith, some);
+  ins_present = All-take (IsPresent n) (length signals - 1) signals h;
+  outs_present = All-drop (IsPresent n) (length signals - 1) signals h;
+}

@@ -10,7 +10,8 @@ use Rattle.ice_blif.specs.Covers.{table_of}
 use Rattle.ice_net.specs.NetlistData.{NetlistData}
 use Rattle.ice_blif.specs.declared.reader.Last.{Last}
 use Rattle.ice_blif.specs.declared.reader.Last.TheVariants.{Nothing, Gate, Rows}
-use Rattle.ice_blif.specs.Cells.{cover_cell, finished, IsOpenCover, IsFormedLast, IsReady}
+use Rattle.ice_blif.specs.Cells.{cover_cell, finished, IsOpenCover, IsFormedLast, IsReady, IsWithin, IsWithinLimits, count_of}
+use Rattle.ice_blif.specs.declared.reader.Reader.{Reader}
 use Rattle.ice_blif.specs.Grammar.{with_last}
 
 some_tables : (width : ℕ) → 0 < 2 ^ (2 ^ width)
@@ -43,17 +44,17 @@ present_below n (Some s) h = h
 -- the cell of a cover is well formed
 pub cover_formed : (signals : ℕ) (c : Cover) → IsOpenCover signals c → IsFormedCell signals (cover_cell c)
 cover_formed signals c h = record {
-    ins_long = refl;
-    outs_long = h.single;
-    ins_below = All-weaker (IsPresent signals) (IsBelow signals) (present_below signals) c.ins h.ins_present;
-    outs_below = All-weaker (IsPresent signals) (IsBelow signals) (present_below signals) c.outs h.outs_present;
-    kind = record {
-      narrow = h.narrow;
-      fits = table_fits (length c.ins) c.level c.covered;
-      ins_present = h.ins_present;
-      outs_present = h.outs_present;
-    };
-  }
+  ins_long = refl;
+  outs_long = h.single;
+  ins_below = All-weaker (IsPresent signals) (IsBelow signals) (present_below signals) c.ins h.ins_present;
+  outs_below = All-weaker (IsPresent signals) (IsBelow signals) (present_below signals) c.outs h.outs_present;
+  kind = record {
+    narrow = h.narrow;
+    fits = table_fits (length c.ins) c.level c.covered;
+    ins_present = h.ins_present;
+    outs_present = h.outs_present;
+  };
+}
 
 finished_names : (n : NetlistData) (last : Last) → (finished n last).names ≡ n.names
 finished_names n Nothing = refl
@@ -69,6 +70,18 @@ finished_few n (Rows cover) = omega (arith, length-append n.cells (cover_cell co
 pub last_ready : (n : NetlistData) (before now : Last) (rows : Bool) → length n.cells ≤ 1048576 → IsFormedLast (length n.names) now
     → IsReady 1048577 (with_last n before now rows)
 last_ready n before now rows few formed = record {
-    few = omega (arith, finished_few n before, few);
-    formed = subst (λ names. IsFormedLast (length names) now) (sym (finished_names n before)) formed;
+  few = omega (arith, finished_few n before, few);
+  formed = subst (λ names. IsFormedLast (length names) now) (sym (finished_names n before)) formed;
+}
+
+finished_count : (n : NetlistData) (last : Last) → length (finished n last).cells ≡ length n.cells + count_of last
+finished_count n Nothing = omega arith
+finished_count n (Gate cell) = length-append n.cells (cell ∷ [])
+finished_count n (Rows cover) = length-append n.cells (cover_cell cover ∷ [])
+
+-- the netlist with the last cell is within the limits
+pub finished_within : (r : Reader) → IsWithin r → IsWithinLimits (finished r.netlist r.last)
+finished_within r h = record {
+    signals = rw (finished_names r.netlist r.last) h.signals;
+    cells = omega (arith, finished_count r.netlist r.last, h.cells);
   }

@@ -41,6 +41,7 @@ gate_fits (Flop falling enable reset) h = omega (arith, enables enable, resets r
     enables : (e : Bool) → length (enable_names e) ≤ 1
     enables true = omega arith
     enables false = omega arith
+
     resets : (r : Reset) → length (reset_names r) ≤ 1
     resets Nothing = omega arith
     resets SyncReset = omega arith
@@ -76,8 +77,8 @@ pub last_formed_more : (m n : ℕ) (last : Last) → m ≤ n → IsFormedLast m 
 last_formed_more m n nothing_last le h = tt
 last_formed_more m n (Gate cell) le h = formed_more m n le cell h
 last_formed_more m n (Rows c) le h = record {
-    narrow = h.narrow;
-    single = h.single;
-    ins_present = All-weaker (IsPresent m) (IsPresent n) (present_more m n le) c.ins h.ins_present;
-    outs_present = All-weaker (IsPresent m) (IsPresent n) (present_more m n le) c.outs h.outs_present;
-  }
+  narrow = h.narrow;
+  single = h.single;
+  ins_present = All-weaker (IsPresent m) (IsPresent n) (present_more m n le) c.ins h.ins_present;
+  outs_present = All-weaker (IsPresent m) (IsPresent n) (present_more m n le) c.outs h.outs_present;
+}

@@ -115,6 +115,16 @@ IsFormedLast signals Nothing = Unit {0}
 IsFormedLast signals (Gate cell) = IsFormedCell signals cell
 IsFormedLast signals (Rows cover) = IsOpenCover signals cover
 
+-- at most 65,534 signals, and 1,048,576 cells with the last
+pub record IsWithin (r : Reader) : Type 0 where
+  pub signals : length r.netlist.names ≤ 65534
+  pub cells : length r.netlist.cells + count_of r.last ≤ 1048576
+
+-- at most 65,534 signals and 1,048,576 cells
+pub record IsWithinLimits (n : NetlistData) : Type 0 where
+  pub signals : length n.names ≤ 65534
+  pub cells : length n.cells ≤ 1048576
+
 -- what a reader keeps: at most so many cells before the last, which is well formed
 pub record IsReady (most : ℕ) (r : Reader) : Type 0 where
   pub few : length r.netlist.cells ≤ most

@@ -57,18 +57,18 @@ ports_say line way n (name ∷ names) = port_says line way n name >>= (λ m. por
 -- no port is connected
 abbrev pub no_wiring : Wiring
 no_wiring = record {
-    taken = false ∷ false ∷ false ∷ false ∷ false ∷ false ∷ false ∷ false ∷ false ∷ false ∷ [];
-    signals = None ∷ None ∷ None ∷ None ∷ None ∷ None ∷ None ∷ None ∷ None ∷ None ∷ [];
-    twice = false;
-  }
+  taken = false ∷ false ∷ false ∷ false ∷ false ∷ false ∷ false ∷ false ∷ false ∷ false ∷ [];
+  signals = None ∷ None ∷ None ∷ None ∷ None ∷ None ∷ None ∷ None ∷ None ∷ None ∷ [];
+  twice = false;
+}
 
 -- the port of that place is connected
 abbrev pub wired : Wiring → ℕ → Option SignalNo → Wiring
 wired wiring place signal = record {
-    taken = slice_set wiring.taken place true;
-    signals = slice_set wiring.signals place signal;
-    twice = wiring.twice || slice_index_or wiring.taken place false;
-  }
+  taken = slice_set wiring.taken place true;
+  signals = slice_set wiring.signals place signal;
+  twice = wiring.twice || slice_index_or wiring.taken place false;
+}
 
 -- an actual that makes no appearance: it is empty, or it is `$undef` at an output
 abbrev pub is_missing : Bool → List ℕ → Bool
@@ -108,11 +108,11 @@ connections_say line kind n wiring (w ∷ ws) = connection_says line kind n wiri
 -- the cell of a kind with its connections
 abbrev pub cell_of : ℕ → CellKind → Wiring → Cell
 cell_of line kind wiring = record {
-    kind = kind;
-    line = line;
-    ins = take (ins_count kind) wiring.signals;
-    outs = take (outs_count kind) (drop (ins_count kind) wiring.signals);
-  }
+  kind = kind;
+  line = line;
+  ins = take (ins_count kind) wiring.signals;
+  outs = take (outs_count kind) (drop (ins_count kind) wiring.signals);
+}
 
 -- a reader with a new last cell
 abbrev pub with_last : NetlistData → Last → Last → Bool → Reader

@@ -72,7 +72,10 @@ fn four_bits(row: &[u8], levels: u16) -> u16
     ensures value { result ≡ four_bits row.now levels }
     ensures small { result ≤ 15 }
 {
-    bit(row, levels + 3) * 8 + bit(row, levels + 2) * 4 + bit(row, levels + 1) * 2 + bit(row, levels)
+    bit(row, levels + 3) * 8
+        + bit(row, levels + 2) * 4
+        + bit(row, levels + 1) * 2
+        + bit(row, levels)
 }
 
 // The table of a row.

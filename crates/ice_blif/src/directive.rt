@@ -1,7 +1,7 @@
 //! Lines of a model.
 ghost use Rattle.std.specs.Prelude.{◌≡◌, ◌<◌, ◌≤◌, length, OnOk, IfOk};
 ghost use Rattle.ice_blif.specs.Answers.{Gives};
-ghost use Rattle.ice_blif.specs.Cells.{IsReady};
+ghost use Rattle.ice_blif.specs.Cells.{IsReady, IsWithin};
 ghost use Rattle.ice_blif.specs.Grammar.{directive_says, row_or_fault, within_limits, line_says, port_directive_says, param_directive_says};
 ghost use Rattle.ice_blif.specs.JoinedLines.{words_left, lines_left};
 
@@ -42,11 +42,7 @@ fn port_directive(
 }
 
 // Reads a parameter of the last cell.
-fn param_directive(
-    reader: &mut Reader,
-    line: u32,
-    words: &mut Cursor<'_>,
-) -> Result<(), BlifFault>
+fn param_directive(reader: &mut Reader, line: u32, words: &mut Cursor<'_>) -> Result<(), BlifFault>
     requires { IsReady 1048576 reader.old }
     ensures reader { Gives (λ _. reader.new) result (param_directive_says line reader.old (words_left words.old)) }
     ensures ready { OnOk result (IsReady 1048577 reader.new) }
@@ -119,7 +115,7 @@ fn row_line<'a>(
 // Finds that there are too many signals, or too many lines that make a cell.
 fn check_limits(reader: &Reader, line: u32) -> Result<(), BlifFault>
     ensures limits { Gives (λ _. reader.now) result (within_limits line reader.now) }
-    ensures few { OnOk result (length reader.now.netlist.cells ≤ 1048576) }
+    ensures within { OnOk result (IsWithin reader.now) }
 {
     if reader.netlist.signals() > MOST_SIGNALS {
         return Err(BlifFault::TooMany {
@@ -151,6 +147,7 @@ pub(crate) fn line<'a>(
     requires { IsReady 1048576 reader.old }
     ensures reader { Gives (λ _. reader.new) result (line_says (record { number = first.entry.line; first = first.entry.word.now; others = words_left words.old }) reader.old) }
     ensures ready { OnOk result (IsReady 1048576 reader.new) }
+    ensures within { OnOk result (IsWithin reader.new) }
     ensures lines { lines_left words.new ≡ lines_left words.old }
 {
     if begins_with(b'.', first.word) {

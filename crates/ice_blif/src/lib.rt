@@ -14,3 +14,6 @@ mod wiring;
 
 pub use fault::BlifFault;
 pub use model::read_blif;
+
+#[cfg(test)]
+mod tests;

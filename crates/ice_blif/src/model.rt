@@ -1,8 +1,8 @@
 //! Whole netlist texts.
-ghost use Rattle.std.specs.Prelude.{◌≡◌, ◌≤◌, length, OnOk};
+ghost use Rattle.std.specs.Prelude.{◌≡◌, IfOk};
 ghost use Rattle.ice_base.specs.Text.{lines, numbered};
 ghost use Rattle.ice_blif.specs.Answers.{Gives};
-ghost use Rattle.ice_blif.specs.Cells.{IsReady};
+ghost use Rattle.ice_blif.specs.Cells.{IsReady, IsWithin, IsWithinLimits};
 ghost use Rattle.ice_blif.specs.Grammar.{after_end, ended, model_says, empty_reader, netlist_of};
 ghost use Rattle.ice_blif.specs.JoinedLines.{filled, lines_left, last_number};
 
@@ -26,9 +26,12 @@ fn after_end(words: &mut Cursor<'_>) -> Result<(), BlifFault>
 }
 
 // The netlist of a reader that came to `.end`.
+#[tactic(auto, using(crate::proofs::OpenCells::finished_within))]
 fn ended(reader: Reader, words: &mut Cursor<'_>) -> Result<Netlist, BlifFault>
-    requires { IsReady 1048576 reader }
-    ensures { Gives (λ n. n) result (ended reader (filled (lines_left words.old))) }
+    requires ready { IsReady 1048576 reader }
+    requires within { IsWithin reader }
+    ensures netlist { Gives (λ n. n) result (ended reader (filled (lines_left words.old))) }
+    ensures limits { IfOk result IsWithinLimits }
 {
     let mut netlist = reader.netlist;
     finish(&mut netlist, reader.last)?;
@@ -38,7 +41,8 @@ fn ended(reader: Reader, words: &mut Cursor<'_>) -> Result<Netlist, BlifFault>
 
 // Reads the lines behind `.model`, of a text whose last line has this number.
 fn model(alloc: Global, text: &[u8], words: &mut Cursor<'_>) -> Result<Netlist, BlifFault>
-    ensures { Gives (λ n. n) result (model_says (last_number 0 (numbered 1 (lines text.now))) empty_reader (filled (lines_left words.old))) }
+    ensures netlist { Gives (λ n. n) result (model_says (last_number 0 (numbered 1 (lines text.now))) empty_reader (filled (lines_left words.old))) }
+    ensures limits { IfOk result IsWithinLimits }
 {
     let mut reader = Reader {
         netlist: Netlist::new(alloc),
@@ -60,7 +64,8 @@ fn model(alloc: Global, text: &[u8], words: &mut Cursor<'_>) -> Result<Netlist, 
 /// the first, and of a line with several faults the one that comes first in the order of `BlifFault`. Want of memory may
 /// come before any of them. A netlist has at most 65,534 signals and 1,048,576 cells.
 pub fn read_blif(alloc: Global, text: &[u8]) -> Result<Netlist, BlifFault>
-    ensures { Gives (λ n. n) result (netlist_of text.now) }
+    ensures netlist { Gives (λ n. n) result (netlist_of text.now) }
+    ensures limits { IfOk result IsWithinLimits }
 {
     let mut words = Cursor::new(text);
     let Some(first) = words.next_filled() else {
