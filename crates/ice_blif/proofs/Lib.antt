@@ -1,0 +1,6 @@
+pub mod Backslashes
+pub mod Comments
+pub mod Wirings
+pub mod OpenCells
+pub mod CoverSignals
+pub mod KindForms

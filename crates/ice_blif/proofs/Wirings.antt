@@ -1,0 +1,84 @@
+-- The signals of cells, as they are connected.
+use Rattle.std.proofs.Common.{◌≡◌, ℕ, ◌+◌, ◌<◌, ◌≤◌, Bool, true, false, List, length, length-take, length-drop, take, drop, Option, Some, None, All, slice_set, ◌∙◌, arith}
+use Rattle.std.proofs.lemmas.List.Elements.{All-weaker, All-set, All-take, All-drop}
+use Rattle.ice_base.specs.declared.number.SignalNo.{SignalNo}
+use Rattle.ice_net.specs.declared.kind.Reset.{Reset}
+use Rattle.ice_net.specs.declared.kind.Reset.TheVariants.{Nothing, SyncReset, AsyncReset, SyncSet, AsyncSet}
+use Rattle.ice_net.specs.declared.kind.CellKind.{CellKind}
+use Rattle.ice_net.specs.declared.kind.CellKind.TheVariants.{Lut, Cover, Carry, Flop, PadCell, Global}
+use Rattle.ice_net.specs.Kinds.{enable_names, reset_names, ins_count, outs_count, IsGateKind}
+use Rattle.ice_net.specs.Formed.{IsBelow, IsPresent, IsFormedCell, IsFormedKind}
+use Rattle.ice_net.proofs.NetlistLaws.{formed_more}
+use Rattle.ice_blif.specs.declared.wiring.Wiring.{Wiring}
+use Rattle.ice_blif.specs.declared.reader.Last.{Last}
+use Rattle.ice_blif.specs.declared.reader.Last.TheVariants.{Nothing as nothing_last, Gate, Rows}
+use Rattle.ice_blif.specs.Grammar.{cell_of}
+use Rattle.ice_blif.specs.Cells.{IsFormedLast}
+
+below_more : (m n : ℕ) → m ≤ n → (s : Option SignalNo) → IsBelow m s → IsBelow n s
+below_more m n le None h = tt
+below_more m n le (Some s) h = omega arith
+
+present_more : (m n : ℕ) → m ≤ n → (s : Option SignalNo) → IsPresent m s → IsPresent n s
+present_more m n le None h = h
+present_more m n le (Some s) h = omega arith
+
+pub all_below_more : (m n : ℕ) (signals : List (Option SignalNo)) → m ≤ n → All (IsBelow m) signals → All (IsBelow n) signals
+all_below_more m n signals le h = All-weaker (IsBelow m) (IsBelow n) (below_more m n le) signals h
+
+-- all signals are below the number of names after one more is connected
+pub wired_below : (m n : ℕ) (signals : List (Option SignalNo)) (place : ℕ) (signal : Option SignalNo) → m ≤ n → All (IsBelow m) signals → IsBelow n signal
+    → All (IsBelow n) (slice_set signals place signal)
+wired_below m n signals place signal le h s = All-set (IsBelow n) signals place signal s (all_below_more m n signals le h)
+
+-- ten places are enough for the ports of a kind
+pub gate_fits : (kind : CellKind) → IsGateKind kind → ins_count kind + outs_count kind ≤ 10
+gate_fits (Lut table) h = omega arith
+gate_fits (Cover table width) h = absurd h
+gate_fits Carry h = omega arith
+gate_fits (Flop falling enable reset) h = omega (arith, enables enable, resets reset)
+  where
+    enables : (e : Bool) → length (enable_names e) ≤ 1
+    enables true = omega arith
+    enables false = omega arith
+
+    resets : (r : Reset) → length (reset_names r) ≤ 1
+    resets Nothing = omega arith
+    resets SyncReset = omega arith
+    resets AsyncReset = omega arith
+    resets SyncSet = omega arith
+    resets AsyncSet = omega arith
+gate_fits (PadCell pin_type pullup) h = omega arith
+gate_fits Global h = omega arith
+
+gate_kind : (signals : ℕ) (kind : CellKind) (ins outs : List (Option SignalNo)) → IsGateKind kind → IsFormedKind signals kind ins outs
+gate_kind signals (Lut table) ins outs h = tt
+gate_kind signals (Cover table width) ins outs h = absurd h
+gate_kind signals Carry ins outs h = tt
+gate_kind signals (Flop falling enable reset) ins outs h = tt
+gate_kind signals (PadCell pin_type pullup) ins outs h = h
+gate_kind signals Global ins outs h = tt
+
+-- the cell of a kind with its connections is well formed
+pub gate_formed : (signals line : ℕ) (kind : CellKind) (wiring : Wiring) → IsGateKind kind → length wiring.signals ≡ 10 → All (IsBelow signals) wiring.signals
+    → IsFormedCell signals (cell_of line kind wiring)
+gate_formed signals line kind wiring h long below =
+    let fits = gate_fits kind h in
+    record {
+      ins_long = length-take (ins_count kind) wiring.signals ∙ omega (arith, fits, long);
+      outs_long = length-take (outs_count kind) (drop (ins_count kind) wiring.signals) ∙ omega (arith, fits, long, length-drop (ins_count kind) wiring.signals);
+      ins_below = All-take (IsBelow signals) (ins_count kind) wiring.signals below;
+      outs_below = All-take (IsBelow signals) (outs_count kind) (drop (ins_count kind) wiring.signals) (All-drop (IsBelow signals) (ins_count kind) wiring.signals below);
+      kind = gate_kind signals kind (cell_of line kind wiring).ins (cell_of line kind wiring).outs h;
+    }
+
+-- the cell made last stays well formed where there are more signals
+pub last_formed_more : (m n : ℕ) (last : Last) → m ≤ n → IsFormedLast m last → IsFormedLast n last
+last_formed_more m n nothing_last le h = tt
+last_formed_more m n (Gate cell) le h = formed_more m n le cell h
+last_formed_more m n (Rows c) le h = record {
+  narrow = h.narrow;
+  single = h.single;
+  ins_present = All-weaker (IsPresent m) (IsPresent n) (present_more m n le) c.ins h.ins_present;
+  outs_present = All-weaker (IsPresent m) (IsPresent n) (present_more m n le) c.outs h.outs_present;
+}

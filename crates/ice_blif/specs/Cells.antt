@@ -1,0 +1,131 @@
+-- The cell that was made last, and what rows and parameters add to it.
+use Rattle.std.specs.Prelude.{◌≡◌, ℕ, ◌+◌, ◌-◌, ◌^◌, ◌≤◌, ◌<◌, Bool, true, false, ◌==◌, List, [], ◌∷◌, ◌++◌, length, take, drop, Option, Some, None, Result, Ok, Err, if◌then◌else◌, bit_or, codes, bytes_eq, All}
+use Rattle.ice_base.specs.declared.number.SignalNo.{SignalNo}
+use Rattle.ice_net.specs.declared.cell.Cell.{Cell}
+use Rattle.ice_net.specs.declared.kind.CellKind as kinds
+use Rattle.ice_net.specs.declared.kind.CellKind.{CellKind}
+use Rattle.ice_net.specs.declared.kind.CellKind.TheVariants.{Lut, Carry, Flop, PadCell, Global}
+use Rattle.ice_net.specs.NetlistData.{NetlistData}
+use Rattle.ice_net.specs.Formed.{IsFormedCell, IsPresent}
+use Rattle.ice_blif.specs.declared.fault.BlifFault.{BlifFault}
+use Rattle.ice_blif.specs.declared.fault.BlifFault.TheVariants.{BadCover, BadParam}
+use Rattle.ice_blif.specs.declared.reader.Cover.{Cover}
+use Rattle.ice_blif.specs.declared.reader.Last.{Last}
+use Rattle.ice_blif.specs.declared.reader.Last.TheVariants.{Nothing, Gate, Rows}
+use Rattle.ice_blif.specs.declared.reader.Reader.{Reader}
+use Rattle.ice_blif.specs.Covers.{row_table, is_row, level_of, agrees, table_of}
+use Rattle.ice_blif.specs.Parameters.{bits_say, standard_says}
+
+infixl 10 ◌>>=◌
+-- a value goes on, and the first fault stays
+abbrev pub ◌>>=◌ : {A B : Type 0} → Result A BlifFault → (A → Result B BlifFault) → Result B BlifFault
+(Ok x) >>= f = f x
+(Err e) >>= f = Err e
+
+-- ---- covers
+abbrev pub level_alone : List ℕ → List (List ℕ) → Option (List ℕ × List ℕ)
+level_alone level [] = Some ([], level)
+level_alone level (w ∷ ws) = None
+
+abbrev pub row_and_level : List ℕ → List (List ℕ) → Option (List ℕ × List ℕ)
+row_and_level row [] = None
+row_and_level row (level ∷ []) = Some (row, level)
+row_and_level row (level ∷ w ∷ ws) = None
+
+-- the words of a row for so many inputs: its digits for the inputs, and its level. Without inputs it is the level alone
+abbrev pub row_parts : ℕ → List ℕ → List (List ℕ) → Option (List ℕ × List ℕ)
+row_parts width first others = if width == 0 then level_alone first others else row_and_level first others
+
+-- a cover with one row more
+abbrev pub with_row : Cover → List ℕ → Bool → Cover
+with_row c row level = record { line = c.line; ins = c.ins; outs = c.outs; covered = bit_or c.covered (row_table row); level = Some level }
+
+abbrev pub row_of_level : ℕ → Cover → List ℕ → Option Bool → Result Cover BlifFault
+row_of_level line c row None = Err (BadCover line)
+row_of_level line c row (Some level) = if agrees c.level level then Ok (with_row c row level) else Err (BadCover line)
+
+abbrev pub row_of : ℕ → Cover → Option (List ℕ × List ℕ) → Result Cover BlifFault
+row_of line c None = Err (BadCover line)
+row_of line c (Some parts) = if is_row (length c.ins) parts.0 then row_of_level line c parts.0 (level_of parts.1) else Err (BadCover line)
+
+-- the cover with the row of a line's words
+abbrev pub row_says : ℕ → Cover → List ℕ → List (List ℕ) → Result Cover BlifFault
+row_says line c first others = row_of line c (row_parts (length c.ins) first others)
+
+-- the cell of a cover with all its rows
+abbrev pub cover_cell : Cover → Cell
+cover_cell c = record { kind = kinds.TheVariants.Cover (table_of (length c.ins) c.level c.covered) (length c.ins); line = c.line; ins = c.ins; outs = c.outs }
+
+-- ---- parameters
+-- a kind with a parameter
+abbrev pub lut_says : ℕ → ℕ → List ℕ → List (List ℕ) → Result CellKind BlifFault
+lut_says line table name values = if bytes_eq name (codes "LUT_INIT") then bits_say line (2 ^ 16) values >>= (λ n. Ok (Lut n)) else Ok (Lut table)
+
+abbrev pub pad_says : ℕ → ℕ → Bool → List ℕ → List (List ℕ) → Result CellKind BlifFault
+pad_says line pin_type pullup name values =
+    if bytes_eq name (codes "PIN_TYPE") then bits_say line (2 ^ 6) values >>= (λ n. Ok (PadCell n pullup))
+    else (if bytes_eq name (codes "PULLUP") then bits_say line (2 ^ 1) values >>= (λ n. Ok (PadCell pin_type (n == 1)))
+    else (if bytes_eq name (codes "NEG_TRIGGER") then bits_say line (2 ^ 0) values >>= (λ n. Ok (PadCell pin_type pullup))
+    else (if bytes_eq name (codes "IO_STANDARD") then standard_says line values >>= (λ allowed. Ok (PadCell pin_type pullup))
+    else Ok (PadCell pin_type pullup))))
+
+abbrev pub kind_says : ℕ → CellKind → List ℕ → List (List ℕ) → Result CellKind BlifFault
+kind_says line (Lut table) name values = lut_says line table name values
+kind_says line (kinds.TheVariants.Cover table width) name values = Ok (kinds.TheVariants.Cover table width)
+kind_says line Carry name values = Ok Carry
+kind_says line (Flop falling enable reset) name values = Ok (Flop falling enable reset)
+kind_says line (PadCell pin_type pullup) name values = pad_says line pin_type pullup name values
+kind_says line Global name values = Ok Global
+
+abbrev pub with_kind : Cell → CellKind → Cell
+with_kind cell kind = record { kind = kind; line = cell.line; ins = cell.ins; outs = cell.outs }
+
+-- the cell made last with the parameter of a line; parameters of covers, and before any cell, are read over
+abbrev pub param_says : ℕ → Last → List (List ℕ) → Result Last BlifFault
+param_says line last [] = Ok last
+param_says line Nothing (name ∷ values) = Ok Nothing
+param_says line (Gate cell) (name ∷ values) = kind_says line cell.kind name values >>= (λ kind. Ok (Gate (with_kind cell kind)))
+param_says line (Rows cover) (name ∷ values) = Ok (Rows cover)
+
+-- ---- the cell made last joins the others
+abbrev pub with_cell : NetlistData → Cell → NetlistData
+with_cell n cell = record { names = n.names; ports = n.ports; cells = n.cells ++ cell ∷ [] }
+
+abbrev pub finished : NetlistData → Last → NetlistData
+finished n Nothing = n
+finished n (Gate cell) = with_cell n cell
+finished n (Rows cover) = with_cell n (cover_cell cover)
+
+-- how many cells the last is
+abbrev pub count_of : Last → ℕ
+count_of Nothing = 0
+count_of (Gate cell) = 1
+count_of (Rows cover) = 1
+
+-- a cover over so many signals
+pub record IsOpenCover (signals : ℕ) (c : Cover) : Type 0 where
+  pub narrow : length c.ins ≤ 4
+  pub single : length c.outs ≡ 1
+  pub ins_present : All (IsPresent signals) c.ins
+  pub outs_present : All (IsPresent signals) c.outs
+
+-- the cell made last is well formed over so many signals
+abbrev pub IsFormedLast : ℕ → Last → Type 0
+IsFormedLast signals Nothing = Unit {0}
+IsFormedLast signals (Gate cell) = IsFormedCell signals cell
+IsFormedLast signals (Rows cover) = IsOpenCover signals cover
+
+-- at most 65,534 signals, and 1,048,576 cells with the last
+pub record IsWithin (r : Reader) : Type 0 where
+  pub signals : length r.netlist.names ≤ 65534
+  pub cells : length r.netlist.cells + count_of r.last ≤ 1048576
+
+-- at most 65,534 signals and 1,048,576 cells
+pub record IsWithinLimits (n : NetlistData) : Type 0 where
+  pub signals : length n.names ≤ 65534
+  pub cells : length n.cells ≤ 1048576
+
+-- what a reader keeps: at most so many cells before the last, which is well formed
+pub record IsReady (most : ℕ) (r : Reader) : Type 0 where
+  pub few : length r.netlist.cells ≤ most
+  pub formed : IsFormedLast (length r.netlist.names) r.last

@@ -1,0 +1,220 @@
+-- The netlist of a text, or the first fault in it.
+use Rattle.std.specs.Prelude.{ℕ, ◌+◌, ◌-◌, Bool, true, false, ◌||◌, ◌==◌, List, [], ◌∷◌, ◌++◌, length, take, drop, position, nat_le, nat_lt, slice_set, slice_index_or, Option, Some, None, Result, Ok, Err, if◌then◌else◌, codes, bytes_eq}
+use Rattle.ice_base.specs.Text.{lines, numbered}
+use Rattle.ice_base.specs.Comments.{begins_with}
+use Rattle.ice_base.specs.declared.number.SignalNo.{SignalNo}
+use Rattle.ice_net.specs.declared.cell.Cell.{Cell}
+use Rattle.ice_net.specs.declared.kind.CellKind.{CellKind}
+use Rattle.ice_net.specs.declared.port.Way.{Way}
+use Rattle.ice_net.specs.declared.port.Way.TheVariants.{Input, Output, Both}
+use Rattle.ice_net.specs.Kinds.{kind_of, port_place, ins_count, outs_count}
+use Rattle.ice_net.specs.NetlistData.{NetlistData, empty_netlist, with_name, number_of_name, with_port, way_of}
+use Rattle.ice_blif.specs.declared.fault.BlifFault.{BlifFault}
+use Rattle.ice_blif.specs.declared.fault.BlifFault.TheVariants.{NoModel, SecondModel, UnknownDirective, UnknownCell, UnknownPort, PortTwice, BadParam, BadCover, TooWide, NoEnd, TooMany}
+use Rattle.ice_blif.specs.declared.reader.Cover.{Cover}
+use Rattle.ice_blif.specs.declared.reader.Last.{Last}
+use Rattle.ice_blif.specs.declared.reader.Last.TheVariants.{Nothing, Gate, Rows}
+use Rattle.ice_blif.specs.declared.reader.Reader.{Reader}
+use Rattle.ice_blif.specs.declared.wiring.Wiring.{Wiring}
+use Rattle.ice_blif.specs.JoinedLines.{FilledLine, joined, filled, last_number}
+use Rattle.ice_blif.specs.Cells.{◌>>=◌, row_says, param_says, finished, count_of}
+
+-- ---- signals
+-- the netlist after a name appears
+abbrev pub named : NetlistData → List ℕ → NetlistData
+named n name = record { names = with_name n.names name; ports = n.ports; cells = n.cells }
+
+-- the signal of a name that appears
+abbrev pub signal_of : NetlistData → List ℕ → SignalNo
+signal_of n name = record { 0 = number_of_name n.names name }
+
+-- ---- ports
+-- a signal was named as a port of this way
+abbrev pub was_named : Way → Option Way → Bool
+was_named way None = false
+was_named Input (Some Input) = true
+was_named Input (Some Output) = false
+was_named Input (Some Both) = true
+was_named Output (Some Input) = false
+was_named Output (Some Output) = true
+was_named Output (Some Both) = true
+was_named Both (Some now) = true
+
+-- the netlist after a name is named as a port
+abbrev pub with_named_port : NetlistData → Way → List ℕ → NetlistData
+with_named_port n way name = record { names = with_name n.names name; ports = with_port n.ports (signal_of n name) way; cells = n.cells }
+
+abbrev pub port_says : ℕ → Way → NetlistData → List ℕ → Result NetlistData BlifFault
+port_says line way n name =
+    if was_named way (way_of n.ports (number_of_name n.names name)) then Err (PortTwice line) else Ok (with_named_port n way name)
+
+-- the netlist after all names of a line are named as ports: none of them twice as an input, or twice as an output
+abbrev pub ports_say : ℕ → Way → NetlistData → List (List ℕ) → Result NetlistData BlifFault
+ports_say line way n [] = Ok n
+ports_say line way n (name ∷ names) = port_says line way n name >>= (λ m. ports_say line way m names)
+
+-- ---- gates
+-- no port is connected
+abbrev pub no_wiring : Wiring
+no_wiring = record {
+  taken = false ∷ false ∷ false ∷ false ∷ false ∷ false ∷ false ∷ false ∷ false ∷ false ∷ [];
+  signals = None ∷ None ∷ None ∷ None ∷ None ∷ None ∷ None ∷ None ∷ None ∷ None ∷ [];
+  twice = false;
+}
+
+-- the port of that place is connected
+abbrev pub wired : Wiring → ℕ → Option SignalNo → Wiring
+wired wiring place signal = record {
+  taken = slice_set wiring.taken place true;
+  signals = slice_set wiring.signals place signal;
+  twice = wiring.twice || slice_index_or wiring.taken place false;
+}
+
+-- an actual that makes no appearance: it is empty, or it is `$undef` at an output
+abbrev pub is_missing : Bool → List ℕ → Bool
+is_missing output actual = bytes_eq actual (codes "") || (if output then bytes_eq actual (codes "$undef") else false)
+
+-- the netlist after an actual, and the signal that it is
+abbrev pub after_actual : NetlistData → Bool → List ℕ → NetlistData
+after_actual n output actual = if is_missing output actual then n else named n actual
+
+abbrev pub actual_signal : NetlistData → Bool → List ℕ → Option SignalNo
+actual_signal n output actual = if is_missing output actual then None else Some (signal_of n actual)
+
+abbrev pub connect : NetlistData → Wiring → ℕ → Bool → List ℕ → NetlistData × Wiring
+connect n wiring place output actual = (after_actual n output actual, wired wiring place (actual_signal n output actual))
+
+abbrev pub connect_at : ℕ → CellKind → NetlistData → Wiring → List ℕ → Option ℕ → Result (NetlistData × Wiring) BlifFault
+connect_at line kind n wiring actual None = Err (UnknownPort line)
+connect_at line kind n wiring actual (Some place) = Ok (connect n wiring place (nat_le (ins_count kind) place) actual)
+
+abbrev pub connect_by : ℕ → CellKind → NetlistData → Wiring → List ℕ → Option ℕ → Result (NetlistData × Wiring) BlifFault
+connect_by line kind n wiring word None = Err (UnknownPort line)
+connect_by line kind n wiring word (Some at) = connect_at line kind n wiring (drop (at + 1) word) (port_place kind (take at word))
+
+-- the place of the first `=` (61) of a word
+unfoldable pub equals_at : List ℕ → Option ℕ
+equals_at word = position (λ b. b == 61) word
+
+-- one connection, FORMAL=ACTUAL; the formal ends at the first `=`
+abbrev pub connection_says : ℕ → CellKind → NetlistData → Wiring → List ℕ → Result (NetlistData × Wiring) BlifFault
+connection_says line kind n wiring word = connect_by line kind n wiring word (equals_at word)
+
+-- all connections of a line. That a port is named twice is found after its unknown ports
+abbrev pub connections_say : ℕ → CellKind → NetlistData → Wiring → List (List ℕ) → Result (NetlistData × Wiring) BlifFault
+connections_say line kind n wiring [] = if wiring.twice then Err (PortTwice line) else Ok (n, wiring)
+connections_say line kind n wiring (w ∷ ws) = connection_says line kind n wiring w >>= (λ c. connections_say line kind c.0 c.1 ws)
+
+-- the cell of a kind with its connections
+abbrev pub cell_of : ℕ → CellKind → Wiring → Cell
+cell_of line kind wiring = record {
+  kind = kind;
+  line = line;
+  ins = take (ins_count kind) wiring.signals;
+  outs = take (outs_count kind) (drop (ins_count kind) wiring.signals);
+}
+
+-- a reader with a new last cell
+abbrev pub with_last : NetlistData → Last → Last → Bool → Reader
+with_last n before now rows = record { netlist = finished n before; last = now; rows = rows }
+
+abbrev pub gate_of_kind : ℕ → Reader → List (List ℕ) → Option CellKind → Result Reader BlifFault
+gate_of_kind line r ws None = Err (UnknownCell line)
+gate_of_kind line r ws (Some kind) = connections_say line kind r.netlist no_wiring ws >>= (λ c. Ok (with_last c.0 r.last (Gate (cell_of line kind c.1)) false))
+
+-- `.gate KIND F=A ..` and `.subckt KIND F=A ..`
+abbrev pub gate_says : ℕ → Reader → List (List ℕ) → Result Reader BlifFault
+gate_says line r [] = Err (UnknownCell line)
+gate_says line r (w ∷ ws) = gate_of_kind line r ws (kind_of w)
+
+-- ---- covers
+-- the signals of a cover: at most four inputs and an output
+abbrev pub cover_signals : ℕ → NetlistData → List (Option SignalNo) → List (List ℕ) → Result (NetlistData × List (Option SignalNo)) BlifFault
+cover_signals line n signals [] = Ok (n, signals)
+cover_signals line n signals (w ∷ ws) =
+    if nat_lt 4 (length signals) then Err (TooWide line) else cover_signals line (named n w) (signals ++ Some (signal_of n w) ∷ []) ws
+
+-- a cover without rows: the last signal is its output
+abbrev pub new_cover : ℕ → List (Option SignalNo) → Cover
+new_cover line signals = record { line = line; ins = take (length signals - 1) signals; outs = drop (length signals - 1) signals; covered = 0; level = None }
+
+abbrev pub cover_of : ℕ → Reader → NetlistData → List (Option SignalNo) → Result Reader BlifFault
+cover_of line r n [] = Err (BadCover line)
+cover_of line r n (s ∷ signals) = Ok (with_last n r.last (Rows (new_cover line (s ∷ signals))) true)
+
+-- `.names I.. O`
+abbrev pub names_say : ℕ → Reader → List (List ℕ) → Result Reader BlifFault
+names_say line r ws = cover_signals line r.netlist [] ws >>= (λ c. cover_of line r c.0 c.1)
+
+-- ---- lines
+-- a reader that takes no rows
+abbrev pub without_rows : NetlistData → Last → Reader
+without_rows n last = record { netlist = n; last = last; rows = false }
+
+abbrev pub row_line : ℕ → Reader → Last → List ℕ → List (List ℕ) → Result Reader BlifFault
+row_line line r Nothing first others = Err (UnknownDirective line)
+row_line line r (Gate cell) first others = Err (UnknownDirective line)
+row_line line r (Rows cover) first others = row_says line cover first others >>= (λ c. Ok (record { netlist = r.netlist; last = Rows c; rows = true }))
+
+-- a line whose first word begins with no dot: a row, where one may stand
+abbrev pub row_or_fault : ℕ → Reader → List ℕ → List (List ℕ) → Result Reader BlifFault
+row_or_fault line r first others = if r.rows then row_line line r r.last first others else Err (UnknownDirective line)
+
+-- `.inputs NAME ..` and `.outputs NAME ..`
+abbrev pub port_directive_says : ℕ → Way → Reader → List (List ℕ) → Result Reader BlifFault
+port_directive_says line way r names = ports_say line way r.netlist names >>= (λ n. Ok (without_rows n r.last))
+
+-- `.param NAME VALUE`
+abbrev pub param_directive_says : ℕ → Reader → List (List ℕ) → Result Reader BlifFault
+param_directive_says line r ws = param_says line r.last ws >>= (λ last. Ok (without_rows r.netlist last))
+
+-- a line whose first word begins with a dot, and is not `.end`
+abbrev pub directive_says : ℕ → Reader → List ℕ → List (List ℕ) → Result Reader BlifFault
+directive_says line r first others =
+    if bytes_eq first (codes ".gate") || bytes_eq first (codes ".subckt") then gate_says line r others
+    else (if bytes_eq first (codes ".names") then names_say line r others
+    else (if bytes_eq first (codes ".param") then param_directive_says line r others
+    else (if bytes_eq first (codes ".attr") || bytes_eq first (codes ".cname") then Ok (without_rows r.netlist r.last)
+    else (if bytes_eq first (codes ".inputs") then port_directive_says line Input r others
+    else (if bytes_eq first (codes ".outputs") then port_directive_says line Output r others
+    else (if bytes_eq first (codes ".model") then Err (SecondModel line)
+    else Err (UnknownDirective line)))))))
+
+-- at most 65,534 signals, and 1,048,576 lines that make a cell
+abbrev pub within_limits : ℕ → Reader → Result Reader BlifFault
+within_limits line r =
+    if nat_lt 65534 (length r.netlist.names) then Err (TooMany line 65534)
+    else (if nat_lt 1048576 (length r.netlist.cells + count_of r.last) then Err (TooMany line 1048576)
+    else Ok r)
+
+-- a line of the model; `.` is 46. What a line is over the limits is found after its other faults
+abbrev pub line_says : FilledLine → Reader → Result Reader BlifFault
+line_says l r = (if begins_with 46 l.first then directive_says l.number r l.first l.others else row_or_fault l.number r l.first l.others) >>= within_limits l.number
+
+-- ---- the text
+-- behind `.end` only a second `.model` is a fault
+abbrev pub after_end : List FilledLine → Result (Unit {0}) BlifFault
+after_end [] = Ok tt
+after_end (l ∷ ls) = if bytes_eq l.first (codes ".model") then Err (SecondModel l.number) else after_end ls
+
+-- the netlist of a reader that came to `.end`
+abbrev pub ended : Reader → List FilledLine → Result NetlistData BlifFault
+ended r ls = after_end ls >>= (λ u. Ok (finished r.netlist r.last))
+
+-- the lines behind `.model`; `last` is the number of the text's last line
+abbrev pub model_says : ℕ → Reader → List FilledLine → Result NetlistData BlifFault
+model_says last r [] = Err (NoEnd last)
+model_says last r (l ∷ ls) = if bytes_eq l.first (codes ".end") then ended r ls else line_says l r >>= (λ s. model_says last s ls)
+
+abbrev pub empty_reader : Reader
+empty_reader = record { netlist = empty_netlist; last = Nothing; rows = false }
+
+-- the lines of a text: `.model` comes first
+abbrev pub lines_say : ℕ → List FilledLine → Result NetlistData BlifFault
+lines_say last [] = Err (NoModel 0)
+lines_say last (l ∷ ls) = if bytes_eq l.first (codes ".model") then model_says last empty_reader ls else Err (NoModel l.number)
+
+-- the netlist of a text, or its first fault: of several lines with one the first, and of a line with several the one that comes
+-- first in the order of the faults
+abbrev pub netlist_of : List ℕ → Result NetlistData BlifFault
+netlist_of text = lines_say (last_number 0 (numbered 1 (lines text))) (filled (joined (numbered 1 (lines text))))

@@ -1,0 +1,114 @@
+-- Joined lines: a line whose last byte before blanks is a backslash outside a comment goes on in the next line.
+use Rattle.std.specs.Prelude.{◌≡◌, ℕ, Bool, true, false, ◌&&◌, ◌==◌, List, [], ◌∷◌, ◌++◌, Option, Some, None, if◌then◌else◌}
+use Rattle.std.specs.Borrow.{Bor}
+use Rattle.std.specs.List.{list_all, list_any}
+use Rattle.ice_base.specs.Text.{words, is_blank}
+use Rattle.ice_base.specs.Comments.{begins_with, uncommented}
+use Rattle.ice_blif.specs.declared.cursor.Cursor.{Cursor}
+use Rattle.ice_blif.specs.declared.cursor.FirstWord.{FirstWord}
+
+-- the byte stands in front; 92 is the backslash
+abbrev pub in_front_of : ℕ → Bool → Option (List ℕ) → Option (List ℕ)
+in_front_of b blanks_behind (Some front) = Some (b ∷ front)
+in_front_of b blanks_behind None = if b == 92 && blanks_behind then Some [] else None
+
+-- what stands before a backslash that only blanks follow
+abbrev pub before_backslash : List ℕ → Option (List ℕ)
+before_backslash [] = None
+before_backslash (b ∷ bytes) = in_front_of b (list_all is_blank bytes) (before_backslash bytes)
+
+-- the same, where it holds no comment; 35 is `#`
+abbrev pub outside_comment : Option (List ℕ) → Option (List ℕ)
+outside_comment None = None
+outside_comment (Some front) = if list_any (begins_with 35) (words front) then None else Some front
+
+-- what stands before the backslash of a line that goes on in the next one
+abbrev pub continued : List ℕ → Option (List ℕ)
+continued line = outside_comment (before_backslash line)
+
+abbrev pub goes_on_by : Option (List ℕ) → Bool
+goes_on_by None = false
+goes_on_by (Some front) = true
+
+-- the line goes on in the next one
+abbrev pub goes_on : List ℕ → Bool
+goes_on line = goes_on_by (continued line)
+
+abbrev pub plain_by : List ℕ → Option (List ℕ) → List (List ℕ)
+plain_by line None = uncommented (words line)
+plain_by line (Some front) = words front
+
+-- the words of a line by itself, before its comment; the backslash counts as a blank
+abbrev pub plain : List ℕ → List (List ℕ)
+plain line = plain_by line (continued line)
+
+abbrev pub first_words : List (ℕ × List (List ℕ)) → List (List ℕ)
+first_words [] = []
+first_words (l ∷ ls) = l.1
+
+-- words, and those of the joined line behind them where the line goes on
+abbrev pub with_next : Bool → List (List ℕ) → List (ℕ × List (List ℕ)) → List (List ℕ)
+with_next false ws ls = ws
+with_next true ws ls = ws ++ first_words ls
+
+abbrev pub rest_of : List (ℕ × List (List ℕ)) → List (ℕ × List (List ℕ))
+rest_of [] = []
+rest_of (l ∷ ls) = ls
+
+-- the joined lines that are left behind a line
+abbrev pub behind : Bool → List (ℕ × List (List ℕ)) → List (ℕ × List (List ℕ))
+behind false ls = ls
+behind true ls = rest_of ls
+
+-- the joined lines of numbered lines: each has the number of its first line, and its words. The last may go on at the end of the text
+abbrev pub joined : List (ℕ × List ℕ) → List (ℕ × List (List ℕ))
+joined [] = []
+joined (l ∷ ls) = (l.0, with_next (goes_on l.1) (plain l.1) (joined ls)) ∷ behind (goes_on l.1) (joined ls)
+
+-- a joined line that has a word: its number, its first word and the others
+pub record FilledLine : Type 0 where
+  pub number : ℕ
+  pub first : List ℕ
+  pub others : List (List ℕ)
+
+abbrev pub fill : ℕ → List (List ℕ) → List FilledLine → List FilledLine
+fill n [] ls = ls
+fill n (w ∷ ws) ls = (record { number = n; first = w; others = ws }) ∷ ls
+
+-- the joined lines that have a word
+abbrev pub filled : List (ℕ × List (List ℕ)) → List FilledLine
+filled [] = []
+filled (l ∷ ls) = fill l.0 l.1 (filled ls)
+
+-- the words that are left of a joined line
+abbrev pub words_left : Cursor → List (List ℕ)
+words_left c = with_next c.goes_on c.words (joined c.lines)
+
+-- the joined lines behind it
+abbrev pub lines_left : Cursor → List (ℕ × List (List ℕ))
+lines_left c = behind c.goes_on (joined c.lines)
+
+-- the number of the last of some lines, or n without any
+abbrev pub last_number : ℕ → List (ℕ × List ℕ) → ℕ
+last_number n [] = n
+last_number n (l ∷ ls) = last_number l.0 ls
+
+-- a slice is these bytes, where there are any
+abbrev pub IsContinued : Option (Bor (List ℕ)) → Option (List ℕ) → Type 0
+IsContinued None said = said ≡ None
+IsContinued (Some front) said = said ≡ Some front.now
+
+-- a first word begins the first of the lines that have one, whose other words and whose lines behind are left
+abbrev pub IsFirstOf : List FilledLine → Option FirstWord → List (List ℕ) → List FilledLine → Type 0
+IsFirstOf ls None ws rest = ls ≡ []
+IsFirstOf ls (Some first) ws rest = ls ≡ (record { number = first.line; first = first.word.now; others = ws }) ∷ rest
+
+-- the first of some words, and the others
+abbrev pub IsNextWord : List (List ℕ) → Option (Bor (List ℕ)) → List (List ℕ) → Type 0
+IsNextWord ws None rest = (ws ≡ []) × (rest ≡ [])
+IsNextWord ws (Some w) rest = ws ≡ w.now ∷ rest
+
+-- the number of the first of some lines, its words, and the other lines
+abbrev pub IsNextLine : List (ℕ × List (List ℕ)) → Option ℕ → List (List ℕ) → List (ℕ × List (List ℕ)) → Type 0
+IsNextLine ls None ws rest = ls ≡ []
+IsNextLine ls (Some n) ws rest = ls ≡ (n, ws) ∷ rest

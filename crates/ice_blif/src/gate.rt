@@ -1,0 +1,151 @@
+//! Cells of `.gate` and `.subckt` lines.
+ghost use Rattle.std.specs.Prelude.{◌≡◌, ℕ, ◌<◌, ◌≤◌, length, OnOk, IfOk, IfErr, IfSome, All};
+ghost use Rattle.ice_net.specs.Formed.{IsBelow, IsFormedCell};
+ghost use Rattle.ice_net.specs.Kinds.{IsGateKind};
+ghost use Rattle.ice_blif.specs.declared.fault.BlifFault.TheVariants.{NoMemory as out_of_memory};
+ghost use Rattle.ice_blif.specs.Answers.{Gives};
+ghost use Rattle.ice_blif.specs.Cells.{IsReady};
+ghost use Rattle.ice_blif.specs.Grammar.{equals_at, is_missing, actual_signal, after_actual, connection_says, connections_say, no_wiring, cell_of, gate_says};
+ghost use Rattle.ice_blif.specs.JoinedLines.{words_left, lines_left};
+
+use crate::BlifFault;
+use crate::cursor::Cursor;
+use crate::reader::{Last, Reader, join};
+use crate::signal::number;
+use crate::wiring::Wiring;
+use ice_base::SignalNo;
+use ice_net::{Cell, CellKind, Netlist, Signals, kind_named};
+use std::alloc::Global;
+
+// Whether an actual makes no appearance.
+fn is_missing(output: bool, actual: &[u8]) -> bool
+    ensures { result ≡ is_missing output actual.now }
+{
+    actual.is_empty() || (output && actual == b"$undef".as_slice())
+}
+
+// The signal of an actual.
+fn actual_signal(
+    alloc: Global,
+    netlist: &mut Netlist,
+    output: bool,
+    actual: &[u8],
+) -> Result<Option<SignalNo>, BlifFault>
+    ensures signal { IfOk result (λ signal. signal ≡ actual_signal netlist.old output actual.now) }
+    ensures named { OnOk result (netlist.new ≡ after_actual netlist.old output actual.now) }
+    ensures within { IfOk result (IsBelow (length netlist.new.names)) }
+    ensures kept { length netlist.old.names ≤ length netlist.new.names }
+    ensures memory { IfErr result (λ e. e ≡ out_of_memory) }
+{
+    if is_missing(output, actual) {
+        return Ok(None);
+    }
+    let signal = number(alloc, netlist, actual)?;
+    Ok(Some(signal))
+}
+
+// The place of the first `=` of a word.
+#[tactic(auto, unfolding(crate::specs::Grammar::equals_at))]
+fn equals_at(word: &[u8]) -> Option<usize>
+    ensures place { result ≡ equals_at word.now }
+    ensures within { IfSome result (λ at. at < length word.now) }
+{
+    word.iter().position(|b| *b == b'=')
+}
+
+// Reads one connection.
+#[tactic(auto, using(crate::proofs::Wirings::wired_below))]
+fn connection(
+    alloc: Global,
+    netlist: &mut Netlist,
+    wiring: &mut Wiring,
+    line: u32,
+    kind: CellKind,
+    word: &[u8],
+) -> Result<(), BlifFault>
+    requires { All (IsBelow (length netlist.old.names)) wiring.old.signals }
+    ensures connection { Gives (λ _. (netlist.new, wiring.new)) result (connection_says line kind netlist.old wiring.old word.now) }
+    ensures below { OnOk result (All (IsBelow (length netlist.new.names)) wiring.new.signals) }
+    ensures kept { OnOk result (length netlist.old.names ≤ length netlist.new.names) }
+    ensures cells { OnOk result (netlist.new.cells ≡ netlist.old.cells) }
+{
+    let Some(at) = equals_at(word) else {
+        return Err(BlifFault::UnknownPort { line });
+    };
+    let Some(place) = kind.port_place(&word[..at]) else {
+        return Err(BlifFault::UnknownPort { line });
+    };
+    let output = place >= kind.ins_count();
+    let signal = actual_signal(alloc, netlist, output, &word[at + 1..])?;
+    wiring.connect(place, signal);
+    Ok(())
+}
+
+// Reads the connections of a line.
+fn connections(
+    alloc: Global,
+    netlist: &mut Netlist,
+    line: u32,
+    kind: CellKind,
+    words: &mut Cursor<'_>,
+) -> Result<Wiring, BlifFault>
+    ensures connections { Gives (λ wiring. (netlist.new, wiring)) result (connections_say line kind netlist.old no_wiring (words_left words.old)) }
+    ensures below { IfOk result (λ wiring. All (IsBelow (length netlist.new.names)) wiring.signals) }
+    ensures kept { OnOk result (length netlist.old.names ≤ length netlist.new.names) }
+    ensures cells { OnOk result (netlist.new.cells ≡ netlist.old.cells) }
+    ensures lines { lines_left words.new ≡ lines_left words.old }
+{
+    let mut wiring = Wiring::new();
+    while let Some(word) = words.next_word() {
+        connection(alloc, netlist, &mut wiring, line, kind, word)?;
+    }
+    if wiring.twice {
+        return Err(BlifFault::PortTwice { line });
+    }
+    Ok(wiring)
+}
+
+// The cell of a kind with its connections.
+#[tactic(auto, using(crate::proofs::Wirings::gate_fits, crate::proofs::Wirings::gate_formed))]
+fn cell(alloc: Global, line: u32, kind: CellKind, wiring: &Wiring) -> Result<Cell, BlifFault>
+    requires { IsGateKind kind }
+    ensures cell { IfOk result (λ cell. cell ≡ cell_of line kind wiring.now) }
+    ensures formed { IfOk result (λ cell. (signals : ℕ) → All (IsBelow signals) wiring.now.signals → IsFormedCell signals cell) }
+    ensures memory { IfErr result (λ e. e ≡ out_of_memory) }
+{
+    let ins = kind.ins_count();
+    let outs = kind.outs_count();
+    let behind = &wiring.signals[ins..];
+    let ins = Vec::from_slice(alloc, &wiring.signals[..ins])?;
+    let outs = Vec::from_slice(alloc, &behind[..outs])?;
+    Ok(Cell {
+        kind,
+        line,
+        ins: Signals::from_vec(ins),
+        outs: Signals::from_vec(outs),
+    })
+}
+
+/// Reads the words behind `.gate` or `.subckt`.
+#[tactic(auto, using(crate::proofs::Wirings::last_formed_more))]
+pub(crate) fn gate(
+    alloc: Global,
+    reader: &mut Reader,
+    line: u32,
+    words: &mut Cursor<'_>,
+) -> Result<(), BlifFault>
+    requires { IsReady 1048576 reader.old }
+    ensures gate { Gives (λ _. reader.new) result (gate_says line reader.old (words_left words.old)) }
+    ensures ready { OnOk result (IsReady 1048577 reader.new) }
+    ensures lines { lines_left words.new ≡ lines_left words.old }
+{
+    let Some(word) = words.next_word() else {
+        return Err(BlifFault::UnknownCell { line });
+    };
+    let Some(kind) = kind_named(word) else {
+        return Err(BlifFault::UnknownCell { line });
+    };
+    let wiring = connections(alloc, &mut reader.netlist, line, kind, words)?;
+    let cell = cell(alloc, line, kind, &wiring)?;
+    join(reader, Last::Gate(cell), false)
+}

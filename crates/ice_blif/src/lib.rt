@@ -1,0 +1,19 @@
+//! The reader of netlists in the Berkeley logic interchange format (BLIF), with the lines that Yosys adds.
+#![tactic(auto)]
+
+mod cover;
+mod cursor;
+mod directive;
+mod fault;
+mod gate;
+mod model;
+mod parameter;
+mod reader;
+mod signal;
+mod wiring;
+
+pub use fault::BlifFault;
+pub use model::read_blif;
+
+#[cfg(test)]
+mod tests;

@@ -1,0 +1,78 @@
+//! Whole netlist texts.
+ghost use Rattle.std.specs.Prelude.{◌≡◌, IfOk};
+ghost use Rattle.ice_base.specs.Text.{lines, numbered};
+ghost use Rattle.ice_blif.specs.Answers.{Gives};
+ghost use Rattle.ice_blif.specs.Cells.{IsReady, IsWithin, IsWithinLimits};
+ghost use Rattle.ice_blif.specs.Grammar.{after_end, ended, model_says, empty_reader, netlist_of};
+ghost use Rattle.ice_blif.specs.JoinedLines.{filled, lines_left, last_number};
+
+use crate::BlifFault;
+use crate::cursor::{Cursor, last_line};
+use crate::directive::line;
+use crate::reader::{Last, Reader, finish};
+use ice_net::Netlist;
+use std::alloc::Global;
+
+// Reads over what stands behind `.end`.
+fn after_end(words: &mut Cursor<'_>) -> Result<(), BlifFault>
+    ensures { Gives (λ u. u) result (after_end (filled (lines_left words.old))) }
+{
+    while let Some(first) = words.next_filled() {
+        if first.word == b".model".as_slice() {
+            return Err(BlifFault::SecondModel { line: first.line });
+        }
+    }
+    Ok(())
+}
+
+// The netlist of a reader that came to `.end`.
+#[tactic(auto, using(crate::proofs::OpenCells::finished_within))]
+fn ended(reader: Reader, words: &mut Cursor<'_>) -> Result<Netlist, BlifFault>
+    requires ready { IsReady 1048576 reader }
+    requires within { IsWithin reader }
+    ensures netlist { Gives (λ n. n) result (ended reader (filled (lines_left words.old))) }
+    ensures limits { IfOk result IsWithinLimits }
+{
+    let mut netlist = reader.netlist;
+    finish(&mut netlist, reader.last)?;
+    after_end(words)?;
+    Ok(netlist)
+}
+
+// Reads the lines behind `.model`, of a text whose last line has this number.
+fn model(alloc: Global, text: &[u8], words: &mut Cursor<'_>) -> Result<Netlist, BlifFault>
+    ensures netlist { Gives (λ n. n) result (model_says (last_number 0 (numbered 1 (lines text.now))) empty_reader (filled (lines_left words.old))) }
+    ensures limits { IfOk result IsWithinLimits }
+{
+    let mut reader = Reader {
+        netlist: Netlist::new(alloc),
+        last: Last::Nothing,
+        rows: false,
+    };
+    while let Some(first) = words.next_filled() {
+        if first.word == b".end".as_slice() {
+            return ended(reader, words);
+        }
+        line(alloc, &mut reader, first, words)?;
+    }
+    Err(BlifFault::NoEnd {
+        line: last_line(text),
+    })
+}
+
+/// The netlist of a text in the Berkeley logic interchange format, or the first fault in it: of several lines with a fault
+/// the first, and of a line with several faults the one that comes first in the order of `BlifFault`. Want of memory may
+/// come before any of them. A netlist has at most 65,534 signals and 1,048,576 cells.
+pub fn read_blif(alloc: Global, text: &[u8]) -> Result<Netlist, BlifFault>
+    ensures netlist { Gives (λ n. n) result (netlist_of text.now) }
+    ensures limits { IfOk result IsWithinLimits }
+{
+    let mut words = Cursor::new(text);
+    let Some(first) = words.next_filled() else {
+        return Err(BlifFault::NoModel { line: 0 });
+    };
+    if first.word != b".model".as_slice() {
+        return Err(BlifFault::NoModel { line: first.line });
+    }
+    model(alloc, text, &mut words)
+}

@@ -1,0 +1,96 @@
+//! What is read so far of a netlist text.
+ghost use Rattle.std.specs.Prelude.{◌≡◌, ◌≤◌, length, OnOk, IfErr};
+ghost use Rattle.ice_blif.specs.declared.fault.BlifFault.TheVariants.{NoMemory as out_of_memory};
+ghost use Rattle.ice_blif.specs.Cells.{finished, cover_cell, IsFormedLast, IsReady};
+ghost use Rattle.ice_blif.specs.Grammar.{with_last};
+
+use crate::BlifFault;
+use crate::cover::table_of;
+use ice_net::{Cell, CellKind, Netlist, Signals};
+use std::mem::replace;
+
+/// A cover, whose rows may be read.
+#[derive(Drop)]
+pub(crate) struct Cover {
+    /// The number of its `.names` line.
+    pub(crate) line: u32,
+    /// The signals of its inputs.
+    pub(crate) ins: Signals,
+    /// The signal of its output.
+    pub(crate) outs: Signals,
+    /// Bit j says whether a row has the levels with the number j.
+    pub(crate) covered: u16,
+    /// The level that the rows give.
+    pub(crate) level: Option<bool>,
+}
+
+/// The cell that was made last.
+#[derive(Drop)]
+pub(crate) enum Last {
+    /// There is none.
+    Nothing,
+    /// A `.gate` or `.subckt` cell, to which parameters belong.
+    Gate(Cell),
+    /// A `.names` cell, to which rows belong.
+    Rows(Cover),
+}
+
+/// What is read so far.
+#[derive(Drop)]
+pub(crate) struct Reader {
+    /// All but the last cell.
+    pub(crate) netlist: Netlist,
+    /// The last cell.
+    pub(crate) last: Last,
+    /// Whether a row may stand in the next line.
+    pub(crate) rows: bool,
+}
+
+// The cell of a cover with all its rows.
+#[tactic(auto, using(crate::proofs::OpenCells::cover_formed))]
+fn cover_cell(cover: Cover) -> Cell
+    requires { length cover.ins ≤ 4 }
+    ensures { result ≡ cover_cell cover }
+{
+    let width = cover.ins.as_slice().len() as u8;
+    Cell {
+        kind: CellKind::Cover {
+            table: table_of(width, cover.level, cover.covered),
+            width,
+        },
+        line: cover.line,
+        ins: cover.ins,
+        outs: cover.outs,
+    }
+}
+
+/// Lets the last cell join the others.
+#[tactic(auto, using(crate::proofs::OpenCells::cover_formed))]
+pub(crate) fn finish(netlist: &mut Netlist, last: Last) -> Result<(), BlifFault>
+    requires few { length netlist.old.cells ≤ 1048576 }
+    requires formed { IsFormedLast (length netlist.old.names) last }
+    ensures netlist { OnOk result (netlist.new ≡ finished netlist.old last) }
+    ensures memory { IfErr result (λ e. e ≡ out_of_memory) }
+{
+    match last {
+        Last::Nothing => Ok(()),
+        Last::Gate(cell) => Ok(netlist.cell(cell)?),
+        Last::Rows(cover) => Ok(netlist.cell(cover_cell(cover))?),
+    }
+}
+
+/// Makes a new last cell; the one before joins the others.
+#[tactic(auto, using(crate::proofs::OpenCells::last_ready))]
+pub(crate) fn join(reader: &mut Reader, now: Last, rows: bool) -> Result<(), BlifFault>
+    requires few { length reader.old.netlist.cells ≤ 1048576 }
+    requires formed { IsFormedLast (length reader.old.netlist.names) reader.old.last }
+    requires now { IsFormedLast (length reader.old.netlist.names) now }
+    ensures reader { OnOk result (reader.new ≡ with_last reader.old.netlist reader.old.last now rows) }
+    ensures ready { OnOk result (IsReady 1048577 reader.new) }
+    ensures memory { IfErr result (λ e. e ≡ out_of_memory) }
+{
+    let before = replace(&mut reader.last, now);
+    finish(&mut reader.netlist, before)?;
+    reader.rows = rows;
+    Ok(())
+}

@@ -1,0 +1,43 @@
+//! The connections of a cell.
+ghost use Rattle.std.specs.Prelude.{◌≡◌, ◌<◌, All};
+ghost use Rattle.ice_net.specs.Formed.{IsBelow};
+
+use ice_base::SignalNo;
+
+/// The connections of a cell, by the places of its inputs and then its outputs.
+#[derive(Clone, Copy)]
+pub(crate) struct Wiring {
+    /// Whether the port was named.
+    pub(crate) taken: [bool; 10],
+    /// The signal at the port.
+    pub(crate) signals: [Option<SignalNo>; 10],
+    /// Whether a port was named twice.
+    pub(crate) twice: bool,
+}
+
+impl Wiring {
+    ghost use Rattle.ice_blif.specs.Grammar.{no_wiring, wired};
+
+    /// No port is connected.
+    pub(crate) fn new() -> Wiring
+        ensures wiring { result ≡ no_wiring }
+        ensures below { All (IsBelow 0) result.signals }
+    {
+        Wiring {
+            taken: [false; 10],
+            signals: [None; 10],
+            twice: false,
+        }
+    }
+
+    /// Connects the port of that place.
+    pub(crate) fn connect(&mut self, place: usize, signal: Option<SignalNo>)
+        requires { place < 10 }
+        ensures { self.new ≡ wired self.old place signal }
+    {
+        let taken = self.taken[place];
+        self.twice = self.twice || taken;
+        self.taken[place] = true;
+        self.signals[place] = signal;
+    }
+}

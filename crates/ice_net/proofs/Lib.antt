@@ -1,0 +1,4 @@
+pub mod NameLists
+pub mod NetlistLaws
+pub mod PortPlaces
+pub mod SignalLists

@@ -1,0 +1,3 @@
+pub mod NetlistData
+pub mod Kinds
+pub mod Formed

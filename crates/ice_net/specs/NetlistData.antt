@@ -1,0 +1,72 @@
+-- A netlist: the names of its signals in the order of their numbers, its ports and its cells.
+use Rattle.std.specs.Prelude.{◌≡◌, ℕ, Bool, ◌==◌, List, [], ◌∷◌, ◌++◌, map, Option, Some, None, if◌then◌else◌, slice_get, slice_index_or, slice_set, position, bytes_eq, Vec}
+use Rattle.std.specs.List.{list_any, position_or_len}
+use Rattle.std.specs.declared.alloc.Global.{Global}
+use Rattle.ice_base.specs.declared.number.SignalNo.{SignalNo}
+use Rattle.ice_net.specs.declared.cell.Cell.{Cell}
+use Rattle.ice_net.specs.declared.port.Port.{Port}
+use Rattle.ice_net.specs.declared.port.Way.{Way}
+use Rattle.ice_net.specs.declared.port.Way.TheVariants.{Input, Output, Both}
+
+pub record NetlistData : Type 0 where
+  pub names : List (List ℕ)
+  pub ports : List Port
+  pub cells : List Cell
+
+-- no signals, no ports and no cells
+abbrev pub empty_netlist : NetlistData
+empty_netlist = record { names = []; ports = []; cells = [] }
+
+-- the names after one more appears: a new name goes last
+abbrev pub with_name : List (List ℕ) → List ℕ → List (List ℕ)
+with_name names name = if list_any (bytes_eq name) names then names else names ++ name ∷ []
+
+-- the number of a name: its place, which for a new name is behind all others
+abbrev pub number_of_name : List (List ℕ) → List ℕ → ℕ
+number_of_name names name = position_or_len (bytes_eq name) names
+
+-- names without where they lie in memory
+abbrev pub texts : List (Vec ℕ Global) → List (List ℕ)
+texts keys = map (λ key. key.items) keys
+
+-- the way of a port that is named as a port once more
+abbrev pub merged : Way → Way → Way
+merged Input Input = Input
+merged Output Output = Output
+merged before now = Both
+
+-- the port is at this signal
+abbrev pub is_at : ℕ → Port → Bool
+is_at s port = port.signal.0 == s
+
+-- the place of a signal's port
+abbrev pub port_at : ℕ → List Port → Option ℕ
+port_at s ports = position (is_at s) ports
+
+abbrev pub port_again : List Port → ℕ → SignalNo → Way → Option Port → List Port
+port_again ports k signal way None = ports
+port_again ports k signal way (Some port) = slice_set ports k (record { signal = port.signal; way = merged port.way way })
+
+abbrev pub port_by : List Port → SignalNo → Way → Option ℕ → List Port
+port_by ports signal way None = ports ++ (record { signal = signal; way = way }) ∷ []
+port_by ports signal way (Some k) = port_again ports k signal way (slice_get ports k)
+
+-- the ports after a signal is made one: a new port goes last, and one that is there already becomes Both where the ways differ
+abbrev pub with_port : List Port → SignalNo → Way → List Port
+with_port ports signal way = port_by ports signal way (port_at signal.0 ports)
+
+abbrev pub way_by : Option Port → Option Way
+way_by None = None
+way_by (Some port) = Some port.way
+
+abbrev pub way_at : List Port → Option ℕ → Option Way
+way_at ports None = None
+way_at ports (Some k) = way_by (slice_get ports k)
+
+-- the way of a signal's port, if it is a port
+abbrev pub way_of : List Port → ℕ → Option Way
+way_of ports s = way_at ports (port_at s ports)
+
+-- the list tells the place of each signal's port; behind its end there is none
+abbrev pub PlacesAre : List Port → List (Option ℕ) → Type 0
+PlacesAre ports places = (s : ℕ) → slice_index_or places s None ≡ port_at s ports

@@ -1,0 +1,317 @@
+//! The kinds of cells, the words that name them, and the places of their ports.
+ghost use Rattle.std.specs.Prelude.{◌≡◌, ◌≤◌, ◌++◌, ◌∷◌, [], false, codes, IfSome, ◌<◌};
+ghost use Rattle.ice_net.specs.Kinds.{kind_of, flop_of, edge_flop_of, reset_of, port_place, place_from, reset_names, ins_count, outs_count, IsGateKind};
+
+use ice_base::begins_with;
+
+/// How a flip-flop is set or reset.
+#[derive(Clone, Copy, Debug, PartialEq, Eq)]
+pub enum Reset {
+    /// It is neither set nor reset.
+    Nothing,
+    /// It becomes 0 at its clock's edge.
+    SyncReset,
+    /// It becomes 0 at once.
+    AsyncReset,
+    /// It becomes 1 at its clock's edge.
+    SyncSet,
+    /// It becomes 1 at once.
+    AsyncSet,
+}
+
+/// What a cell is.
+#[derive(Clone, Copy, Debug, PartialEq, Eq)]
+pub enum CellKind {
+    /// A look-up table of four inputs (SB_LUT4): bit j of `table` with j = I0 + 2 I1 + 4 I2 + 8 I3.
+    Lut {
+        /// The sixteen bits.
+        table: u16,
+    },
+    /// A logic function of at most four inputs (`.names`): bit j of `table` as for a look-up table.
+    Cover {
+        /// A bit for each number of the inputs' levels; all other bits are 0.
+        table: u16,
+        /// The number of inputs, at most 4.
+        width: u8,
+    },
+    /// The carry of an adder (SB_CARRY): the majority of I0, I1 and CI.
+    Carry,
+    /// A flip-flop (one of the twenty whose names begin with SB_DFF).
+    Flop {
+        /// Whether it acts at the falling edge of its clock.
+        falling: bool,
+        /// Whether it has an enable.
+        enable: bool,
+        /// How it is set or reset.
+        reset: Reset,
+    },
+    /// The buffers of a pad (SB_IO).
+    PadCell {
+        /// PIN_TYPE, below 64.
+        pin_type: u8,
+        /// PULLUP.
+        pullup: bool,
+    },
+    /// A global buffer (SB_GB).
+    Global,
+}
+
+// How a flip-flop is set or reset, by the end of its word.
+fn reset_named(word: &[u8]) -> Option<Reset>
+    ensures { result ≡ reset_of word.now }
+{
+    if word.is_empty() {
+        return Some(Reset::Nothing);
+    }
+    if word == b"SR".as_slice() {
+        return Some(Reset::SyncReset);
+    }
+    if word == b"R".as_slice() {
+        return Some(Reset::AsyncReset);
+    }
+    if word == b"SS".as_slice() {
+        return Some(Reset::SyncSet);
+    }
+    if word == b"S".as_slice() {
+        return Some(Reset::AsyncSet);
+    }
+    None
+}
+
+// The flip-flop of that edge, by the rest of its word.
+fn edge_flop(falling: bool, word: &[u8]) -> Option<CellKind>
+    ensures kind { result ≡ edge_flop_of falling word.now }
+    ensures gate { IfSome result IsGateKind }
+{
+    let enable = begins_with(b'E', word);
+    let rest = if enable { &word[1..] } else { word };
+    let reset = reset_named(rest)?;
+    Some(CellKind::Flop {
+        falling,
+        enable,
+        reset,
+    })
+}
+
+// The flip-flop, by its word behind `SB_DFF`.
+fn flop(word: &[u8]) -> Option<CellKind>
+    ensures kind { result ≡ flop_of word.now }
+    ensures gate { IfSome result IsGateKind }
+{
+    if begins_with(b'N', word) {
+        return edge_flop(true, &word[1..]);
+    }
+    edge_flop(false, word)
+}
+
+/// The kind that a word names, with parameters of 0. None exactly where it names no kind.
+pub fn kind_named(word: &[u8]) -> Option<CellKind>
+    ensures kind { result ≡ kind_of word.now }
+    ensures gate { IfSome result IsGateKind }
+{
+    if word == b"SB_LUT4".as_slice() {
+        return Some(CellKind::Lut { table: 0 });
+    }
+    if word == b"SB_CARRY".as_slice() {
+        return Some(CellKind::Carry);
+    }
+    if word == b"SB_IO".as_slice() {
+        return Some(CellKind::PadCell {
+            pin_type: 0,
+            pullup: false,
+        });
+    }
+    if word == b"SB_GB".as_slice() {
+        return Some(CellKind::Global);
+    }
+    let rest = word.strip_prefix(b"SB_DFF".as_slice())?;
+    flop(rest)
+}
+
+// The place of a port of SB_LUT4.
+fn lut_place(name: &[u8]) -> Option<usize>
+    ensures place { result ≡ port_place (CellKind.Lut 0) name.now }
+    ensures few { IfSome result (λ place. place < 10) }
+{
+    if name == b"I0".as_slice() {
+        return Some(0);
+    }
+    if name == b"I1".as_slice() {
+        return Some(1);
+    }
+    if name == b"I2".as_slice() {
+        return Some(2);
+    }
+    if name == b"I3".as_slice() {
+        return Some(3);
+    }
+    if name == b"O".as_slice() {
+        return Some(4);
+    }
+    None
+}
+
+// The place of a port of SB_CARRY.
+fn carry_place(name: &[u8]) -> Option<usize>
+    ensures place { result ≡ port_place CellKind.Carry name.now }
+    ensures few { IfSome result (λ place. place < 10) }
+{
+    if name == b"I0".as_slice() {
+        return Some(0);
+    }
+    if name == b"I1".as_slice() {
+        return Some(1);
+    }
+    if name == b"CI".as_slice() {
+        return Some(2);
+    }
+    if name == b"CO".as_slice() {
+        return Some(3);
+    }
+    None
+}
+
+// The place of a flip-flop's output, where it is this one.
+fn output_place(place: usize, name: &[u8]) -> Option<usize>
+    requires { place < 10 }
+    ensures place { result ≡ place_from place (codes "Q" ∷ []) name.now }
+    ensures few { IfSome result (λ place. place < 10) }
+{
+    if name == b"Q".as_slice() {
+        return Some(place);
+    }
+    None
+}
+
+// The place of a flip-flop's set or reset, or of its output behind it, where the first of them has this place.
+fn reset_place(place: usize, reset: Reset, name: &[u8]) -> Option<usize>
+    requires { place ≤ 3 }
+    ensures place { result ≡ place_from place (reset_names reset ++ codes "Q" ∷ []) name.now }
+    ensures few { IfSome result (λ place. place < 10) }
+{
+    let port = match reset {
+        Reset::Nothing => return output_place(place, name),
+        Reset::SyncReset | Reset::AsyncReset => b"R",
+        Reset::SyncSet | Reset::AsyncSet => b"S",
+    };
+    if name == port.as_slice() {
+        return Some(place);
+    }
+    output_place(place + 1, name)
+}
+
+// The place of a port of a flip-flop.
+fn flop_place(enable: bool, reset: Reset, name: &[u8]) -> Option<usize>
+    ensures place { result ≡ port_place (CellKind.Flop false enable reset) name.now }
+    ensures few { IfSome result (λ place. place < 10) }
+{
+    if name == b"C".as_slice() {
+        return Some(0);
+    }
+    if name == b"D".as_slice() {
+        return Some(1);
+    }
+    if !enable {
+        return reset_place(2, reset, name);
+    }
+    if name == b"E".as_slice() {
+        return Some(2);
+    }
+    reset_place(3, reset, name)
+}
+
+// The place of a port of SB_IO.
+fn pad_place(name: &[u8]) -> Option<usize>
+    ensures place { result ≡ port_place (CellKind.PadCell 0 false) name.now }
+    ensures few { IfSome result (λ place. place < 10) }
+{
+    if name == b"PACKAGE_PIN".as_slice() {
+        return Some(0);
+    }
+    if name == b"D_OUT_0".as_slice() {
+        return Some(1);
+    }
+    if name == b"OUTPUT_ENABLE".as_slice() {
+        return Some(2);
+    }
+    if name == b"D_OUT_1".as_slice() {
+        return Some(3);
+    }
+    if name == b"LATCH_INPUT_VALUE".as_slice() {
+        return Some(4);
+    }
+    if name == b"CLOCK_ENABLE".as_slice() {
+        return Some(5);
+    }
+    if name == b"INPUT_CLK".as_slice() {
+        return Some(6);
+    }
+    if name == b"OUTPUT_CLK".as_slice() {
+        return Some(7);
+    }
+    if name == b"D_IN_0".as_slice() {
+        return Some(8);
+    }
+    if name == b"D_IN_1".as_slice() {
+        return Some(9);
+    }
+    None
+}
+
+// The place of a port of SB_GB.
+fn global_place(name: &[u8]) -> Option<usize>
+    ensures place { result ≡ port_place CellKind.Global name.now }
+    ensures few { IfSome result (λ place. place < 10) }
+{
+    if name == b"USER_SIGNAL_TO_GLOBAL_BUFFER".as_slice() {
+        return Some(0);
+    }
+    if name == b"GLOBAL_BUFFER_OUTPUT".as_slice() {
+        return Some(1);
+    }
+    None
+}
+
+impl CellKind {
+    /// The place of a port among the inputs and then the outputs of the kind, from 0. None exactly where the kind has
+    /// no port of that name; the ports of a cover have no names.
+    pub fn port_place(&self, name: &[u8]) -> Option<usize>
+        ensures place { result ≡ port_place self.now name.now }
+        ensures few { IfSome result (λ place. place < 10) }
+    {
+        match *self {
+            CellKind::Lut { .. } => lut_place(name),
+            CellKind::Cover { .. } => None,
+            CellKind::Carry => carry_place(name),
+            CellKind::Flop { enable, reset, .. } => flop_place(enable, reset, name),
+            CellKind::PadCell { .. } => pad_place(name),
+            CellKind::Global => global_place(name),
+        }
+    }
+
+    /// How many inputs the kind has.
+    pub fn ins_count(&self) -> usize
+        ensures { result ≡ ins_count self.now }
+    {
+        match *self {
+            CellKind::Lut { .. } => 4,
+            CellKind::Cover { width, .. } => usize::from(width),
+            CellKind::Carry => 3,
+            CellKind::Flop { enable, reset, .. } => {
+                2 + usize::from(enable) + usize::from(reset != Reset::Nothing)
+            }
+            CellKind::PadCell { .. } => 8,
+            CellKind::Global => 1,
+        }
+    }
+
+    /// How many outputs the kind has.
+    pub fn outs_count(&self) -> usize
+        ensures { result ≡ outs_count self.now }
+    {
+        match *self {
+            CellKind::PadCell { .. } => 2,
+            _ => 1,
+        }
+    }
+}

@@ -1,0 +1,16 @@
+//! Netlists: ports, and cells over named signals.
+#![tactic(auto)]
+
+mod cell;
+mod kind;
+mod names;
+mod netlist;
+mod port;
+mod ports;
+mod signals;
+
+pub use cell::Cell;
+pub use kind::{CellKind, Reset, kind_named};
+pub use netlist::{MOST_CELLS, MOST_NAMES, Netlist};
+pub use port::{Port, Way, merged};
+pub use signals::Signals;

@@ -1,0 +1,27 @@
+//! Names in the order in which they are first met.
+ghost use Rattle.std.specs.Prelude.{◌≡◌, ◌<◌, ◌≤◌, length, IfOk, OnOk, OnErr};
+ghost use Rattle.ice_net.specs.NetlistData.{texts, with_name, number_of_name};
+
+use ice_base::NoMemory;
+use indexmap::IndexSet;
+use std::alloc::Global;
+
+// The number of a name; a new name goes last.
+#[tactic(auto, using(crate::proofs::NameLists::found_names, crate::proofs::NameLists::found_within, crate::proofs::NameLists::new_within))]
+pub(crate) fn number_of(
+    alloc: Global,
+    names: &mut IndexSet<Vec<u8>>,
+    name: &[u8],
+) -> Result<usize, NoMemory>
+    ensures number { IfOk result (λ n. n ≡ number_of_name (texts names.old.keys) name.now) }
+    ensures appended { OnOk result (texts names.new.keys ≡ with_name (texts names.old.keys) name.now) }
+    ensures within { IfOk result (λ n. n < length (texts names.new.keys)) }
+    ensures refused { OnErr result (names.new.keys ≡ names.old.keys) }
+{
+    if let Some(number) = names.get_index_of(name) {
+        return Ok(number);
+    }
+    let key = Vec::from_slice(alloc, name)?;
+    let (number, _) = names.insert_full(key)?;
+    Ok(number)
+}

@@ -1,0 +1,142 @@
+//! Netlists as they are built.
+ghost use Rattle.std.specs.Prelude.{◌≡◌, ◌↔◌, ◌++◌, ◌∷◌, [], ◌<◌, ◌≤◌, length, slice_index_or, Some, None, IfOk, IfSome, OnOk, OnErr, IsTrue};
+ghost use Rattle.ice_net.specs.NetlistData.{empty_netlist, with_name, number_of_name, with_port, port_at, way_of};
+ghost use Rattle.ice_net.specs.Formed.{IsFormed, IsFormedCell};
+
+use crate::names::number_of;
+use crate::ports::{add_port, way_at};
+use crate::{Cell, Port, Way};
+use ice_base::{NoMemory, SignalNo};
+use indexmap::IndexSet;
+use std::alloc::Global;
+use std::marker::Model;
+
+/// The names that a netlist may have: up to this number.
+pub const MOST_NAMES: u32 = 1_073_741_823;
+
+/// The cells that a netlist may have: up to this number.
+pub const MOST_CELLS: usize = 1_073_741_823;
+
+/// A netlist: the names of its signals in the order of their numbers, its ports and its cells. Each cell is well
+/// formed. Contracts see it as a record of three lists.
+#[derive(Drop)]
+pub struct Netlist {
+    names: IndexSet<Vec<u8>>,
+    ports: Vec<Port>,
+    // The place of each signal's port. None stands behind the end.
+    places: Vec<Option<usize>>,
+    cells: Vec<Cell>,
+}
+
+impl Model for Netlist {
+    ghost use Rattle.ice_net.specs.NetlistData.{NetlistData, texts};
+    ghost use Rattle.ice_net.specs.Formed.{IsIndexed};
+
+    ghost Value = { NetlistData };
+
+    ghost view = { λ n. record { names = texts n.names.keys; ports = n.ports.items; cells = n.cells.items } };
+
+    ghost invariant = { λ n. IsIndexed (record { names = texts n.names.keys; ports = n.ports.items; cells = n.cells.items }) n.places.items };
+}
+
+impl Netlist {
+    /// The netlist without signals, ports and cells. It takes no memory.
+    pub fn new(alloc: Global) -> Netlist
+        ensures { result ≡ empty_netlist }
+    {
+        Netlist {
+            names: IndexSet::new(alloc),
+            ports: Vec::new(alloc),
+            places: Vec::new(alloc),
+            cells: Vec::new(alloc),
+        }
+    }
+
+    /// The number of names. It takes no memory.
+    pub fn signals(&self) -> u32
+        ensures count { result ≡ length self.now.names }
+        ensures few { result ≤ MOST_NAMES }
+    {
+        self.names.len() as u32
+    }
+
+    /// Whether the netlist has room for one more name. It takes no memory.
+    pub fn has_room_for_name(&self) -> bool
+        ensures { IsTrue result ↔ (length self.now.names < MOST_NAMES) }
+    {
+        self.signals() < MOST_NAMES
+    }
+
+    /// Whether the netlist has room for one more cell. It takes no memory.
+    pub fn has_room_for_cell(&self) -> bool
+        ensures { IsTrue result ↔ (length self.now.cells < MOST_CELLS) }
+    {
+        self.cells.len() < MOST_CELLS
+    }
+
+    #[tactic(auto, using(crate::proofs::NetlistLaws::named_still_indexed))]
+    /// The number of a name; a new name goes last. After want of memory the netlist is as before.
+    pub fn signal(&mut self, alloc: Global, name: &[u8]) -> Result<SignalNo, NoMemory>
+        requires { length self.old.names < MOST_NAMES }
+        ensures number { IfOk result (λ signal. signal.0 ≡ number_of_name self.old.names name.now) }
+        ensures appended { OnOk result (self.new ≡ record self.old { names = with_name self.old.names name.now }) }
+        ensures within { IfOk result (λ signal. signal.0 < length self.new.names) }
+        ensures kept { length self.old.names ≤ length self.new.names }
+        ensures refused { OnErr result (self.new ≡ self.old) }
+    {
+        let number = number_of(alloc, &mut self.names, name)?;
+        Ok(SignalNo(number as u32))
+    }
+
+    /// The name of a signal. It takes no memory.
+    pub fn name(&self, signal: SignalNo) -> &[u8]
+        requires { signal.0 < length self.now.names }
+        ensures { result.now ≡ slice_index_or self.now.names signal.0 result.now }
+    {
+        self.names[signal.0 as usize].as_slice()
+    }
+
+    /// Makes a signal a port. A signal that is a port already becomes Both where the ways differ. After want of memory
+    /// the netlist is as before.
+    pub fn port(&mut self, signal: SignalNo, way: Way) -> Result<(), NoMemory>
+        requires { signal.0 < length self.old.names }
+        ensures added { OnOk result (self.new ≡ record self.old { ports = with_port self.old.ports signal way }) }
+        ensures refused { OnErr result (self.new ≡ self.old) }
+    {
+        add_port(&mut self.ports, &mut self.places, signal, way)
+    }
+
+    /// The way of a signal's port; None exactly where the signal is no port. It takes no memory.
+    pub fn way_of(&self, signal: SignalNo) -> Option<Way>
+        ensures { result ≡ way_of self.now.ports signal.0 }
+    {
+        way_at(&self.ports, &self.places, signal)
+    }
+
+    /// Adds a cell behind the others. After want of memory the netlist is as before.
+    pub fn cell(&mut self, cell: Cell) -> Result<(), NoMemory>
+        requires room { length self.old.cells < MOST_CELLS }
+        requires formed { IsFormedCell (length self.old.names) cell }
+        ensures added { OnOk result (self.new ≡ record self.old { cells = self.old.cells ++ cell ∷ [] }) }
+        ensures refused { OnErr result (self.new ≡ self.old) }
+    {
+        self.cells.push(cell)?;
+        Ok(())
+    }
+
+    /// The ports, in the order in which they were made.
+    pub fn ports(&self) -> &[Port]
+        ensures ports { result.now ≡ self.now.ports }
+        ensures formed { IsFormed self.now }
+    {
+        self.ports.as_slice()
+    }
+
+    /// The cells, in the order in which they were added.
+    pub fn cells(&self) -> &[Cell]
+        ensures cells { result.now ≡ self.now.cells }
+        ensures formed { IsFormed self.now }
+    {
+        self.cells.as_slice()
+    }
+}
