@@ -4,6 +4,7 @@ use Rattle.std.specs.Str.{bytes_eq}
 use Rattle.ice_base.specs.Text.{lines, numbered, words}
 use Rattle.ice_base.specs.Comments.{begins_with, uncommented}
 use Rattle.ice_pcf.specs.declared.constraint.Constraint.{Constraint}
+use Rattle.ice_pcf.specs.declared.options.Options.{Options}
 use Rattle.ice_pcf.specs.declared.fault.PcfFault.{PcfFault}
 use Rattle.ice_pcf.specs.declared.fault.PcfFault.TheVariants.{UnknownWord, Missing, Extra}
 
@@ -12,11 +13,6 @@ infixl 10 ◌>>=◌
 abbrev pub ◌>>=◌ : {A B : Type 0} → Result A PcfFault → (A → Result B PcfFault) → Result B PcfFault
 (Ok value) >>= next = next value
 (Err fault) >>= next = Err fault
-
--- what the options of a line say: whether the port may be missing, and the pull-up if it is given
-pub record Options : Type 0 where
-  pub lenient : Bool
-  pub pullup : Option Bool
 
 -- before its first option a line is strict, and says nothing of the pull-up
 abbrev pub no_options : Options

@@ -3,6 +3,7 @@
 
 mod constraint;
 mod fault;
+mod options;
 mod pcf;
 mod reading;
 
@@ -10,3 +11,6 @@ pub use constraint::Constraint;
 pub use fault::PcfFault;
 pub use pcf::Pcf;
 pub use reading::read_pcf;
+
+#[cfg(test)]
+mod tests;

@@ -4,16 +4,10 @@ ghost use Rattle.ice_base.specs.Cursors.{line_view};
 ghost use Rattle.ice_pcf.specs.Grammar.{line_says, set_io_says, no_options, pin_says, text_says};
 ghost use Rattle.ice_pcf.specs.Answers.{Gives};
 
+use crate::options::Options;
 use crate::{Constraint, Pcf, PcfFault};
 use ice_base::{Line, PlainWords, begins_with, lines_of, name_of, plain_words_of};
 use std::alloc::Global;
-
-// What the options of a line said so far.
-#[derive(Clone, Copy)]
-struct Options {
-    lenient: bool,
-    pullup: Option<bool>,
-}
 
 // The pin behind the name, and nothing more.
 fn pin(
@@ -23,7 +17,7 @@ fn pin(
     name: &[u8],
     words: &mut PlainWords<'_>,
 ) -> Result<Constraint, PcfFault>
-    ensures { Gives result (pin_says line (record { lenient = options.now.lenient; pullup = options.now.pullup }) name.now words.old) }
+    ensures { Gives result (pin_says line options.now name.now words.old) }
 {
     let Some(pin) = words.next() else {
         return Err(PcfFault::Missing { line });
