@@ -3,12 +3,14 @@
 
 mod constraint;
 mod fault;
+mod laws;
 mod options;
 mod pcf;
 mod reading;
 
 pub use constraint::Constraint;
 pub use fault::PcfFault;
+pub use laws::says_constraints_or_first_fault;
 pub use pcf::Pcf;
 pub use reading::read_pcf;
 
