@@ -65,7 +65,7 @@ meant_step l ls (Err f) e s m =
     record { before = []; line = l; behind = ls; stands = refl; sound_before = tt; faulty = e; number = subst (Names l.0) e (line_names l) }
 meant_step l ls (Ok said) e (Ok cs) m = record {
   sound = ((said, e), m.sound);
-  in_order = with_is said cs ∙ ap (λ xs. with_constraint said [] ++ xs) m.in_order ∙ ap (λ r. said_by r ++ flat_map (λ line. said_by (line_says line)) ls) (sym e)
+  in_order = with_is said cs ∙ ap (λ xs. with_constraint said [] ++ xs) m.in_order ∙ ap (λ r. said_by r ++ flat_map (λ line. said_by (line_says line)) ls) (sym e);
 }
 meant_step l ls (Ok said) e (Err f) m = record {
   before = l ∷ m.before;
@@ -74,7 +74,7 @@ meant_step l ls (Ok said) e (Err f) m = record {
   stands = ap (λ xs. l ∷ xs) m.stands;
   sound_before = ((said, e), m.sound_before);
   faulty = m.faulty;
-  number = m.number
+  number = m.number;
 }
 
 meant : (ls : List (ℕ × List ℕ)) → Meant ls (lines_say ls)

@@ -13,5 +13,4 @@ pub fn says_constraints_or_first_fault(text: &[u8])
     ensures fault { (f : PcfFault) → (text_says text.now ≡ Err f ↔ HasFirstFault text.now f) }
     ensures one { ((cs : List Constraint) × HasConstraints text.now cs) ⊎ ((f : PcfFault) × HasFirstFault text.now f) }
     ensures never_both { (cs : List Constraint) → (f : PcfFault) → HasConstraints text.now cs → HasFirstFault text.now f → ⊥ }
-{
-}
+{}
