@@ -2,7 +2,7 @@
 use Rattle.std.proofs.Common.{◌≡◌, ◌∙◌, ◌≤◌, ◌<◌, ℕ, Option, Some, List, sym, ap, subst, arith}
 use Rattle.ice_desk.specs.Desk.{Meaning, SameButReading, SameButSaying, Rose, after_one, HoldsAfter}
 use Rattle.ice_flow.specs.declared.cause.Cause.{Cause}
-use Rattle.ice_flow.specs.declared.cause.Cause.TheVariants.{Good, Usage, BadBlif, BadPin, Unreachable, ReadFault, WriteFault, NoMemory, TooLong, NotBuilt}
+use Rattle.ice_flow.specs.declared.cause.Cause.TheVariants.{Good, Usage, BadBlif, BadPcf, BadPin, Unreachable, ReadFault, WriteFault, NoMemory, TooLong, NotBuilt}
 use Rattle.ice_flow.specs.declared.cause.FileRole.{FileRole}
 use Rattle.ice_flow.specs.declared.cause.FileRole.TheVariants.{Chip, Pcf, Blif, Asc, Levels, Pins, Report, Standard}
 use Rattle.ice_flow.specs.Command.{Build}
@@ -34,6 +34,7 @@ written_is_true b old mid new chip pins netlist text (WriteFault role put) texts
 }
 written_is_true b old mid new chip pins netlist text Usage texts same built w = absurd w
 written_is_true b old mid new chip pins netlist text (BadBlif fault) texts same built w = absurd w
+written_is_true b old mid new chip pins netlist text (BadPcf fault) texts same built w = absurd w
 written_is_true b old mid new chip pins netlist text (BadPin fault) texts same built w = absurd w
 written_is_true b old mid new chip pins netlist text (Unreachable placement net sink) texts same built w = absurd w
 written_is_true b old mid new chip pins netlist text (ReadFault role) texts same built w = absurd w
@@ -59,6 +60,7 @@ true_while_said b old mid new (Good placement) same is = (
 )
 true_while_said b old mid new Usage same is = is
 true_while_said b old mid new (BadBlif fault) same is = is
+true_while_said b old mid new (BadPcf fault) same is = is
 true_while_said b old mid new (BadPin fault) same is = is
 true_while_said b old mid new (Unreachable placement net sink) same is = is
 true_while_said b old mid new (ReadFault role) same is = record {

@@ -1,55 +1,84 @@
 -- How the texts of a build stand, and what the bits of a route come to.
-use Rattle.std.proofs.Common.{◌≡◌, ◌⊎◌, ℕ, zero, suc, ◌<◌, Bool, true, false, None, Some, List, [], ◌∷◌, length, inl, inr, refl, ap, sym, ◌∙◌, subst, arith}
-use Rattle.std.specs.Prelude.{Ok, Err}
+use Rattle.std.proofs.Common.{◌≡◌, ◌≢◌, ◌⊎◌, ℕ, zero, suc, ◌<◌, Bool, true, false, Option, None, Some, List, [], ◌∷◌, length, map, inl, inr, refl, ap, sym, ◌∙◌, subst, arith}
+use Rattle.std.specs.Prelude.{Result, Ok, Err}
+use Rattle.std.specs.Str.{bytes_eq}
 use Rattle.ice_base.specs.declared.number.TileAt.{TileAt}
 use Rattle.ice_base.specs.declared.number.BitAt.{BitAt}
+use Rattle.ice_net.specs.NetlistData.{NetlistData}
+use Rattle.ice_pcf.specs.Grammar.{text_says}
+use Rattle.ice_pcf.specs.declared.constraint.Constraint.{Constraint}
+use Rattle.ice_pcf.specs.declared.fault.PcfFault.{PcfFault}
+use Rattle.ice_pcf.specs.declared.fault.PcfFault.TheVariants as pcf_fault
+use Rattle.ice_blif.specs.Grammar.{netlist_of}
+use Rattle.ice_blif.specs.declared.fault.BlifFault.{BlifFault}
+use Rattle.ice_blif.specs.declared.fault.BlifFault.TheVariants as blif_fault
 use Rattle.ice_flow.specs.declared.route.RouteRow.{RouteRow}
+use Rattle.ice_flow.specs.declared.cause.Cause.{Cause}
+use Rattle.ice_flow.specs.declared.cause.Cause.TheVariants.{Unreachable, NotBuilt, BadBlif, BadPcf, NoMemory}
+use Rattle.ice_flow.specs.declared.cause.FileRole.TheVariants.{Blif}
+use Rattle.ice_flow.specs.declared.chip_text.ChipStop.{ChipStop}
+use Rattle.ice_flow.specs.declared.chip_text.ChipStop.TheVariants as chip_stop
+use Rattle.ice_flow.specs.declared.pin_pads.PinsStop.{PinsStop}
+use Rattle.ice_flow.specs.declared.pin_pads.PinsStop.TheVariants as pins_stop
 use Rattle.ice_flow.specs.Lists.{At, Has}
-use Rattle.ice_flow.specs.Database.{Pad, SwitchGroup, Row, is_among_tiles, package_named}
-use Rattle.ice_flow.specs.Netlist.{Netlist}
+use Rattle.ice_flow.specs.Database.{Pad, SwitchGroup, Row, Database, is_among_tiles, package_named}
 use Rattle.ice_flow.specs.Routes.{IsUsable, IsWalk, IsSimple, IsUnreachable}
 use Rattle.ice_flow.specs.Configuration.{bits_in}
 use Rattle.ice_flow.specs.Behaviour.{IsFaultless}
 use Rattle.ice_flow.specs.FirstForm.{database_with, left_tile, right_tile, left_pad, right_pad, tiny}
 use Rattle.ice_flow.specs.ChipText.{groups_in, database_in, IsOfForm}
-use Rattle.ice_flow.specs.NetlistText.{netlist_in, buffer_netlist}
-use Rattle.ice_flow.specs.PinsText as pins_text
-use Rattle.ice_flow.specs.PinsText.{pins_in}
+use Rattle.ice_flow.specs.Buffers.{buffer_in, buffer_netlist}
+use Rattle.ice_flow.specs.PinPads as pin_pads
+use Rattle.ice_flow.specs.PinPads.{pads_in}
 use Rattle.ice_flow.specs.BufferForm.{buffer_plan}
 use Rattle.ice_flow.specs.Views.{IsCopyOf, AreCopies}
+use Rattle.ice_flow.specs.Readers.{Stops, stop_view}
 use Rattle.ice_flow.specs.Writing.{IsWritable, AreWritable}
-use Rattle.ice_flow.specs.Asc.{HoldsWritten}
-use Rattle.ice_flow.specs.Standing.{Standing, OtherChip, OtherNetlist, OtherPins, UnknownPin, Ready, standing_of, with_chip, with_netlist, with_pads, AreEnds}
-use Rattle.std.specs.Str.{bytes_eq}
-use Rattle.ice_flow.specs.declared.cause.Cause.{Cause}
-use Rattle.ice_flow.specs.declared.cause.Cause.TheVariants.{Unreachable}
-use Rattle.ice_flow.specs.declared.pins_text.PinsStop.{PinsStop}
-use Rattle.ice_flow.specs.declared.pins_text.PinsStop.TheVariants as pins_stop
-use Rattle.ice_flow.specs.Readers.{stop_view}
-use Rattle.ice_flow.specs.Answers.{no_places}
-use Rattle.ice_flow.specs.Built.{IsBuilt, IsRefusal, IsPinsRefusal}
+use Rattle.ice_flow.specs.Standing.{Standing, FaultyPins, FaultyNetlist, OtherChip, OtherNetlist, OtherPins, UnknownPin, Ready, standing_of, with_constraints, with_netlist, with_chip, with_buffer, with_pads, AreEnds}
+use Rattle.ice_flow.specs.Built.{IsBuilt, IsRefusal, IsChipRefusal, IsPcfRefusal, IsBlifRefusal, IsPinsRefusal, IsLaidOut, IsLayoutRefusal}
 use Rattle.ice_flow.proofs.PlaceFacts.{row_group}
 use Rattle.ice_flow.proofs.WalkFacts.{walk_usable}
 use Rattle.ice_flow.proofs.WrittenFaultless.{bits_are_faultless, bits_show_same}
 
 -- ---- how the texts stand
 
-pub stands_other_chip : (name chip pins netlist : List ℕ) → groups_in chip ≡ None → standing_of name chip pins netlist ≡ OtherChip
-stands_other_chip name chip pins netlist e = rw e refl
-
 pub database_is : (chip : List ℕ) (groups : List SwitchGroup) → groups_in chip ≡ Some groups → database_in chip ≡ Some (database_with groups)
 database_is chip groups e = rw e refl
 
-pub stands_other_netlist : (name chip pins netlist : List ℕ) (groups : List SwitchGroup) (line : ℕ) → groups_in chip ≡ Some groups → netlist_in netlist ≡ Err line
-    → standing_of name chip pins netlist ≡ OtherNetlist line
-stands_other_netlist name chip pins netlist groups line c n =
-    ap (λ d. with_chip name pins netlist d) (database_is chip groups c) ∙ ap (λ m. with_netlist (database_with groups) name pins m) n
+pub stands_by_pcf : (name chip pins netlist : List ℕ) (fault : PcfFault) → text_says pins ≡ Err fault → standing_of name chip pins netlist ≡ FaultyPins fault
+stands_by_pcf name chip pins netlist fault p = ap (λ r. with_constraints name chip netlist r) p
 
--- where chip and netlist are good, the pins decide
-pub stands_by_pins : (name chip pins netlist : List ℕ) (groups : List SwitchGroup) (circuit : Netlist) (standing : Standing) → groups_in chip ≡ Some groups → netlist_in netlist ≡ Ok circuit
-    → with_pads (database_with groups) circuit (pins_in (database_with groups) name pins circuit) ≡ standing → standing_of name chip pins netlist ≡ standing
-stands_by_pins name chip pins netlist groups circuit standing c n p =
-    ap (λ d. with_chip name pins netlist d) (database_is chip groups c) ∙ ap (λ m. with_netlist (database_with groups) name pins m) n ∙ p
+-- the constraints are good, and the netlist decides
+pub stands_by_netlist : (name chip pins netlist : List ℕ) (constraints : List Constraint) (standing : Standing) → text_says pins ≡ Ok constraints
+    → with_netlist name chip constraints (netlist_of netlist) ≡ standing → standing_of name chip pins netlist ≡ standing
+stands_by_netlist name chip pins netlist constraints standing p e = ap (λ r. with_constraints name chip netlist r) p ∙ e
+
+pub stands_by_blif : (name chip pins netlist : List ℕ) (constraints : List Constraint) (fault : BlifFault) → text_says pins ≡ Ok constraints → netlist_of netlist ≡ Err fault
+    → standing_of name chip pins netlist ≡ FaultyNetlist fault
+stands_by_blif name chip pins netlist constraints fault p n = stands_by_netlist name chip pins netlist constraints (FaultyNetlist fault) p (ap (λ r. with_netlist name chip constraints r) n)
+
+-- constraints and netlist are good, and the chip decides
+pub stands_by_chip : (name chip pins netlist : List ℕ) (constraints : List Constraint) (circuit : NetlistData) (standing : Standing) → text_says pins ≡ Ok constraints → netlist_of netlist ≡ Ok circuit
+    → with_chip name constraints circuit (database_in chip) ≡ standing → standing_of name chip pins netlist ≡ standing
+stands_by_chip name chip pins netlist constraints circuit standing p n e =
+    stands_by_netlist name chip pins netlist constraints standing p (ap (λ r. with_netlist name chip constraints r) n ∙ e)
+
+pub stands_other_chip : (name chip pins netlist : List ℕ) (constraints : List Constraint) (circuit : NetlistData) → text_says pins ≡ Ok constraints → netlist_of netlist ≡ Ok circuit
+    → groups_in chip ≡ None → standing_of name chip pins netlist ≡ OtherChip
+stands_other_chip name chip pins netlist constraints circuit p n c = stands_by_chip name chip pins netlist constraints circuit OtherChip p n (rw c refl)
+
+-- all texts are good and the chip is of the form, and the netlist's form decides
+pub stands_by_buffer : (name chip pins netlist : List ℕ) (constraints : List Constraint) (circuit : NetlistData) (groups : List SwitchGroup) (standing : Standing) → text_says pins ≡ Ok constraints
+    → netlist_of netlist ≡ Ok circuit → groups_in chip ≡ Some groups → with_buffer name constraints (database_with groups) (buffer_in circuit) ≡ standing → standing_of name chip pins netlist ≡ standing
+stands_by_buffer name chip pins netlist constraints circuit groups standing p n c e =
+    stands_by_chip name chip pins netlist constraints circuit standing p n (ap (λ d. with_chip name constraints circuit d) (database_is chip groups c) ∙ e)
+
+-- all but the pads is good, and they decide
+pub stands_by_pads : (name chip pins netlist a y : List ℕ) (constraints : List Constraint) (circuit : NetlistData) (groups : List SwitchGroup) (standing : Standing) → text_says pins ≡ Ok constraints
+    → netlist_of netlist ≡ Ok circuit → groups_in chip ≡ Some groups → buffer_in circuit ≡ Some (a, y)
+    → with_pads (database_with groups) (buffer_netlist a y) (pads_in (database_with groups) name a y constraints) ≡ standing → standing_of name chip pins netlist ≡ standing
+stands_by_pads name chip pins netlist a y constraints circuit groups standing p n c f e =
+    stands_by_buffer name chip pins netlist constraints circuit groups standing p n c (ap (λ o. with_buffer name constraints (database_with groups) o) f ∙ e)
 
 pub ends_of_form : (groups : List SwitchGroup) → AreEnds (database_with groups) (left_pad ∷ right_pad ∷ []) 0 2
 ends_of_form groups = record { input = left_pad; output = right_pad; are_pads = refl; is_root = refl; is_sink = refl }
@@ -90,22 +119,42 @@ route_writable groups start end xs rows form copies walk = record {
 
 -- ---- the bits of a route are the circuit
 
-pub route_built : (name chip pins netlist text a y : List ℕ) (groups : List SwitchGroup) (rows : List Row) → groups_in chip ≡ Some groups → IsOfForm groups
-    → netlist_in netlist ≡ Ok (buffer_netlist a y) → package_named (database_with groups) name ≡ Some tiny
-    → pins_in (database_with groups) name pins (buffer_netlist a y) ≡ Ok (left_pad ∷ right_pad ∷ [])
-    → IsWalk (database_with groups) 0 rows 2 → IsSimple 0 rows → HoldsWritten (database_with groups) (buffer_plan left_pad right_pad rows) text
-    → IsBuilt name chip pins netlist text
-route_built name chip pins netlist text a y groups rows c form n k p walk simple holds =
-    let circuit = buffer_netlist a y in
+-- pads were given, so the package is the one of the form
+pub chosen_is_tiny : (groups : List SwitchGroup) (name a y : List ℕ) (constraints : List Constraint) (pads : List Pad) → pads_in (database_with groups) name a y constraints ≡ Ok pads → package_named (database_with groups) name ≡ Some tiny
+chosen_is_tiny groups name a y constraints pads e = by (bytes_eq tiny.name name) refl
+  where
+    by : (t : Bool) → bytes_eq tiny.name name ≡ t → package_named (database_with groups) name ≡ Some tiny
+    by true is = rw is refl
+    by false is = let none : Err pin_pads.OtherForm ≡ Ok pads = rw is at e in cc none
+
+-- what `compile` has read when it comes to the route
+pub record HasRead (name chip pins netlist a y : List ℕ) (constraints : List Constraint) (circuit : NetlistData) (groups : List SwitchGroup) : Type 0 where
+  pub pcf : text_says pins ≡ Ok constraints
+  pub blif : netlist_of netlist ≡ Ok circuit
+  pub groups_are : groups_in chip ≡ Some groups
+  pub form : IsOfForm groups
+  pub buffer : buffer_in circuit ≡ Some (a, y)
+  pub pads : pads_in (database_with groups) name a y constraints ≡ Ok (left_pad ∷ right_pad ∷ [])
+
+ready : (name chip pins netlist a y : List ℕ) (constraints : List Constraint) (circuit : NetlistData) (groups : List SwitchGroup) → HasRead name chip pins netlist a y constraints circuit groups
+    → standing_of name chip pins netlist ≡ Ready (database_with groups) (buffer_netlist a y) (left_pad ∷ right_pad ∷ [])
+ready name chip pins netlist a y constraints circuit groups has =
+    stands_by_pads name chip pins netlist a y constraints circuit groups (Ready (database_with groups) (buffer_netlist a y) (left_pad ∷ right_pad ∷ [])) has.pcf has.blif has.groups_are has.buffer
+    (ap (λ r. with_pads (database_with groups) (buffer_netlist a y) r) has.pads)
+
+pub laid_out_built : (name chip pins netlist a y text : List ℕ) (constraints : List Constraint) (circuit : NetlistData) (groups : List SwitchGroup) → HasRead name chip pins netlist a y constraints circuit groups
+    → IsLaidOut groups text → IsBuilt name chip pins netlist text
+laid_out_built name chip pins netlist a y text constraints circuit groups has (rows, walk, simple, holds) =
     let db = database_with groups in
-    let pads : List Pad = left_pad ∷ right_pad ∷ [] in (
+    let pads : List Pad = left_pad ∷ right_pad ∷ [] in
+    (
       record {
         chip = db;
-        netlist = circuit;
+        netlist = buffer_netlist a y;
         pads = pads;
         root = 0;
         sink = 2;
-        is_ready = stands_by_pins name chip pins netlist groups circuit (Ready db circuit pads) c n (ap (λ r. with_pads db circuit r) p);
+        is_ready = ready name chip pins netlist a y constraints circuit groups has;
         are_ends = ends_of_form groups;
         walk = rows;
         is_walk = walk;
@@ -113,63 +162,86 @@ route_built name chip pins netlist text a y groups rows c form n k p walk simple
       record {
         chip = db;
         chosen = tiny;
-        netlist = circuit;
+        circuit = circuit;
+        input = a;
+        output = y;
+        constraints = constraints;
         pads = pads;
         configuration = holds.configuration;
-        is_chip = database_is chip groups c;
-        is_chosen = k;
-        is_netlist = n;
-        are_pads = p;
+        is_chip = database_is chip groups has.groups_are;
+        is_chosen = chosen_is_tiny groups name a y constraints pads has.pads;
+        is_circuit = has.blif;
+        is_buffer = has.buffer;
+        are_constraints = has.pcf;
+        are_pads = has.pads;
         decodes = holds.decodes;
-        faultless = subst (λ es. IsFaultless db (bits_in holds.configuration) es) (sym holds.extras) (bits_are_faultless groups rows form walk simple (bits_in holds.configuration) holds.bits);
-        shows_same = bits_show_same groups rows form walk simple (bits_in holds.configuration) holds.bits a y tiny.pads;
+        faultless = subst (λ es. IsFaultless db (bits_in holds.configuration) es) (sym holds.extras) (bits_are_faultless groups rows has.form walk simple (bits_in holds.configuration) holds.bits);
+        shows_same = bits_show_same groups rows has.form walk simple (bits_in holds.configuration) holds.bits a y tiny.pads;
       },
     )
 
--- ---- as `compile` has them
+pub layout_refused : (name chip pins netlist a y : List ℕ) (constraints : List Constraint) (circuit : NetlistData) (groups : List SwitchGroup) (cause : Cause) → HasRead name chip pins netlist a y constraints circuit groups
+    → IsLayoutRefusal groups cause → IsRefusal name chip pins netlist cause
+layout_refused name chip pins netlist a y constraints circuit groups cause has (inl e) = subst (λ (x : Cause). IsRefusal name chip pins netlist x) (sym e) tt
+layout_refused name chip pins netlist a y constraints circuit groups cause has (inr apart) =
+    subst (λ (x : Cause). IsRefusal name chip pins netlist x) (sym apart.0) (
+      refl,
+      refl,
+      record {
+        chip = database_with groups;
+        netlist = buffer_netlist a y;
+        pads = left_pad ∷ right_pad ∷ [];
+        root = 0;
+        is_ready = ready name chip pins netlist a y constraints circuit groups has;
+        are_ends = ends_of_form groups;
+        unreachable = apart.1;
+      },
+    )
 
--- pads were given, so the package is the one of the form
-pub chosen_is_tiny : (groups : List SwitchGroup) (name text : List ℕ) (circuit : Netlist) (pads : List Pad) → pins_in (database_with groups) name text circuit ≡ Ok pads → package_named (database_with groups) name ≡ Some tiny
-chosen_is_tiny groups name text circuit pads e = by (bytes_eq tiny.name name) refl
-  where
-    by : (t : Bool) → bytes_eq tiny.name name ≡ t → package_named (database_with groups) name ≡ Some tiny
-    by true is = rw is refl
-    by false is = let none : Err pins_text.OtherForm ≡ Ok pads = rw is at e in cc none
+-- ---- refusals of the texts
 
-pub pins_refused : (name chip pins netlist a y : List ℕ) (groups : List SwitchGroup) (stop : PinsStop) (cause : Cause) → groups_in chip ≡ Some groups → netlist_in netlist ≡ Ok (buffer_netlist a y)
-    → pins_in (database_with groups) name pins (buffer_netlist a y) ≡ Err (stop_view stop) → IsPinsRefusal stop cause → IsRefusal name chip pins netlist cause
-pins_refused name chip pins netlist a y groups pins_stop.OtherForm cause c n p is =
-    subst (λ (x : Cause). IsRefusal name chip pins netlist x) (sym is) (stands_by_pins name chip pins netlist groups (buffer_netlist a y) OtherPins c n (ap (λ r. with_pads (database_with groups) (buffer_netlist a y) r) p))
-pins_refused name chip pins netlist a y groups (pins_stop.UnknownPin line) cause c n p is =
-    subst (λ (x : Cause). IsRefusal name chip pins netlist x) (sym is) (stands_by_pins name chip pins netlist groups (buffer_netlist a y) (UnknownPin line) c n (ap (λ r. with_pads (database_with groups) (buffer_netlist a y) r) p))
+pub pcf_refused : (name chip pins netlist : List ℕ) (fault : PcfFault) (cause : Cause) → (fault ≢ pcf_fault.NoMemory → text_says pins ≡ Err fault) → IsPcfRefusal fault cause → IsRefusal name chip pins netlist cause
+pcf_refused name chip pins netlist fault cause says (inl e) = subst (λ (x : Cause). IsRefusal name chip pins netlist x) (sym e) tt
+pcf_refused name chip pins netlist fault cause says (inr is) =
+    subst (λ (x : Cause). IsRefusal name chip pins netlist x) (sym is.0) (stands_by_pcf name chip pins netlist fault (says is.1))
+
+pub blif_refused : (name chip pins netlist : List ℕ) (constraints : List Constraint) (fault : BlifFault) (cause : Cause) → text_says pins ≡ Ok constraints
+    → (fault ≢ blif_fault.NoMemory → netlist_of netlist ≡ Err fault) → IsBlifRefusal fault cause → IsRefusal name chip pins netlist cause
+blif_refused name chip pins netlist constraints fault cause p says (inl e) = subst (λ (x : Cause). IsRefusal name chip pins netlist x) (sym e) tt
+blif_refused name chip pins netlist constraints fault cause p says (inr is) =
+    subst (λ (x : Cause). IsRefusal name chip pins netlist x) (sym is.0) (stands_by_blif name chip pins netlist constraints fault p (says is.1))
+
+pub chip_refused : (name chip pins netlist : List ℕ) (constraints : List Constraint) (circuit : NetlistData) (stop : ChipStop) (cause : Cause) → text_says pins ≡ Ok constraints → netlist_of netlist ≡ Ok circuit
+    → Stops stop (groups_in chip) → IsChipRefusal stop cause → IsRefusal name chip pins netlist cause
+chip_refused name chip pins netlist constraints circuit chip_stop.NoMemory cause p n says is = subst (λ (x : Cause). IsRefusal name chip pins netlist x) (sym is) tt
+chip_refused name chip pins netlist constraints circuit chip_stop.OtherForm cause p n says is =
+    subst (λ (x : Cause). IsRefusal name chip pins netlist x) (sym is) (stands_other_chip name chip pins netlist constraints circuit p n says)
+
+pub buffer_refused : (name chip pins netlist : List ℕ) (constraints : List Constraint) (circuit : NetlistData) (groups : List SwitchGroup) (cause : Cause) → text_says pins ≡ Ok constraints → netlist_of netlist ≡ Ok circuit
+    → groups_in chip ≡ Some groups → buffer_in circuit ≡ None → cause ≡ NotBuilt Blif → IsRefusal name chip pins netlist cause
+buffer_refused name chip pins netlist constraints circuit groups cause p n c f is =
+    subst (λ (x : Cause). IsRefusal name chip pins netlist x) (sym is)
+    (stands_by_buffer name chip pins netlist constraints circuit groups OtherNetlist p n c (ap (λ o. with_buffer name constraints (database_with groups) o) f))
+
+pub pads_refused : (name chip pins netlist a y : List ℕ) (constraints : List Constraint) (circuit : NetlistData) (groups : List SwitchGroup) (stop : PinsStop) (cause : Cause) → text_says pins ≡ Ok constraints
+    → netlist_of netlist ≡ Ok circuit → groups_in chip ≡ Some groups → buffer_in circuit ≡ Some (a, y) → pads_in (database_with groups) name a y constraints ≡ Err (stop_view stop) → IsPinsRefusal stop cause
+    → IsRefusal name chip pins netlist cause
+pads_refused name chip pins netlist a y constraints circuit groups pins_stop.OtherForm cause p n c f e is =
+    subst (λ (x : Cause). IsRefusal name chip pins netlist x) (sym is)
+    (stands_by_pads name chip pins netlist a y constraints circuit groups OtherPins p n c f (ap (λ r. with_pads (database_with groups) (buffer_netlist a y) r) e))
+pads_refused name chip pins netlist a y constraints circuit groups (pins_stop.UnknownPin line) cause p n c f e is =
+    subst (λ (x : Cause). IsRefusal name chip pins netlist x) (sym is)
+    (stands_by_pads name chip pins netlist a y constraints circuit groups (UnknownPin line) p n c f (ap (λ r. with_pads (database_with groups) (buffer_netlist a y) r) e))
+
+-- ---- pads of the form
 
 -- the two pads of the form
 form_pads : (p q : Pad) → p ≡ left_pad → q ≡ right_pad → p ∷ q ∷ [] ≡ left_pad ∷ right_pad ∷ []
 form_pads p q e f = ap (λ (x : Pad). x ∷ q ∷ []) e ∙ ap (λ (x : Pad). left_pad ∷ x ∷ []) f
 
-pub pins_given : (groups : List SwitchGroup) (name text a y : List ℕ) (p q : Pad) → pins_in (database_with groups) name text (buffer_netlist a y) ≡ Ok (p ∷ q ∷ []) → p ≡ left_pad → q ≡ right_pad
-    → pins_in (database_with groups) name text (buffer_netlist a y) ≡ Ok (left_pad ∷ right_pad ∷ [])
-pins_given groups name text a y p q e left right = e ∙ ap Ok (form_pads p q left right)
-
-pub sink_apart : (name chip pins netlist a y : List ℕ) (groups : List SwitchGroup) (cause : Cause) → groups_in chip ≡ Some groups → netlist_in netlist ≡ Ok (buffer_netlist a y)
-    → pins_in (database_with groups) name pins (buffer_netlist a y) ≡ Ok (left_pad ∷ right_pad ∷ []) → IsUnreachable (database_with groups) 0 2
-    → cause ≡ Unreachable no_places (record { 0 = 0 }) (record { 0 = 2 }) → IsRefusal name chip pins netlist cause
-sink_apart name chip pins netlist a y groups cause c n p apart is =
-    let db = database_with groups in
-    let pads : List Pad = left_pad ∷ right_pad ∷ [] in
-    subst (λ (x : Cause). IsRefusal name chip pins netlist x) (sym is) (
-      refl,
-      refl,
-      record {
-        chip = db;
-        netlist = buffer_netlist a y;
-        pads = pads;
-        root = 0;
-        is_ready = stands_by_pins name chip pins netlist groups (buffer_netlist a y) (Ready db (buffer_netlist a y) pads) c n (ap (λ r. with_pads db (buffer_netlist a y) r) p);
-        are_ends = ends_of_form groups;
-        unreachable = apart;
-      },
-    )
+pub pads_given : (groups : List SwitchGroup) (name a y : List ℕ) (constraints : List Constraint) (p q : Pad) → pads_in (database_with groups) name a y constraints ≡ Ok (p ∷ q ∷ []) → p ≡ left_pad → q ≡ right_pad
+    → pads_in (database_with groups) name a y constraints ≡ Ok (left_pad ∷ right_pad ∷ [])
+pads_given groups name a y constraints p q e left right = e ∙ ap Ok (form_pads p q left right)
 
 pub ports_of_form : (p q : Pad) → p ≡ left_pad → q ≡ right_pad → (buffer_plan left_pad right_pad []).ports ≡ (buffer_plan p q []).ports
 ports_of_form p q e f = ap (λ (x : Pad). (buffer_plan x right_pad []).ports) (sym e) ∙ ap (λ (x : Pad). (buffer_plan p x []).ports) (sym f)

@@ -2,7 +2,7 @@
 use Rattle.std.proofs.Common.{◌≡◌, ◌⊎◌, inl, inr, zero, suc, ◌∙◌, ◌≤◌, ◌<◌, ◌+◌, ℕ, Option, Some, List, length, refl, sym, subst, true, arith, ◌^◌}
 use Rattle.ice_desk.specs.Desk.{Meaning, SameButReading, Rose, after_one, after_more}
 use Rattle.ice_flow.specs.declared.cause.Cause.{Cause}
-use Rattle.ice_flow.specs.declared.cause.Cause.TheVariants.{Good, Usage, BadBlif, BadPin, Unreachable, ReadFault, WriteFault, NoMemory, TooLong, NotBuilt}
+use Rattle.ice_flow.specs.declared.cause.Cause.TheVariants.{Good, Usage, BadBlif, BadPcf, BadPin, Unreachable, ReadFault, WriteFault, NoMemory, TooLong, NotBuilt}
 use Rattle.ice_flow.specs.declared.cause.FileRole.{FileRole}
 use Rattle.ice_flow.specs.Command.{Build, most_bytes}
 use Rattle.ice_flow.specs.Built.{IsReadStop}
@@ -33,6 +33,7 @@ stopped_at b old mid new name role place NoMemory p q n some few r m before stop
 stopped_at b old mid new name role place (Good placement) p q n some few r m before stop = absurd stop
 stopped_at b old mid new name role place Usage p q n some few r m before stop = absurd stop
 stopped_at b old mid new name role place (BadBlif fault) p q n some few r m before stop = absurd stop
+stopped_at b old mid new name role place (BadPcf fault) p q n some few r m before stop = absurd stop
 stopped_at b old mid new name role place (BadPin fault) p q n some few r m before stop = absurd stop
 stopped_at b old mid new name role place (Unreachable placement net sink) p q n some few r m before stop = absurd stop
 stopped_at b old mid new name role place (WriteFault of_role put) p q n some few r m before stop = absurd stop

@@ -2,22 +2,22 @@
 use Rattle.std.proofs.Common.{◌≡◌, ◌⊎◌, ◌∙◌, ◌≤◌, ◌<◌, ℕ, zero, suc, Option, None, Some, List, [], ◌∷◌, length, Bool, true, false, inl, inr, refl, sym, ap, subst, arith}
 use Rattle.ice_desk.specs.Desk.{Meaning}
 use Rattle.ice_flow.specs.declared.cause.Cause.{Cause}
-use Rattle.ice_flow.specs.declared.cause.Cause.TheVariants.{Good, Usage, BadBlif, BadPin, Unreachable, ReadFault, WriteFault, NoMemory, TooLong, NotBuilt}
+use Rattle.ice_flow.specs.declared.cause.Cause.TheVariants.{Good, Usage, BadBlif, BadPcf, BadPin, Unreachable, ReadFault, WriteFault, NoMemory, TooLong, NotBuilt}
 use Rattle.ice_flow.specs.declared.cause.FileRole.{FileRole}
 use Rattle.ice_flow.specs.declared.cause.FileRole.TheVariants.{Chip, Pcf, Blif, Asc, Levels, Pins, Report, Standard}
 use Rattle.ice_flow.specs.declared.cause.PinFault.TheVariants as pin_fault
-use Rattle.ice_flow.specs.declared.netlist_text.BlifFault.TheVariants as blif_fault
-use Rattle.ice_flow.specs.Readers.{fault_line}
+use Rattle.ice_blif.specs.declared.fault.BlifFault.{BlifFault}
+use Rattle.ice_pcf.specs.declared.fault.PcfFault.{PcfFault}
 use Rattle.ice_flow.specs.Database.{Pad, Database, wire_named}
 use Rattle.ice_flow.specs.Names.{pad_input_name, pad_output_name}
 use Rattle.ice_flow.specs.Netlist.{Netlist}
 use Rattle.ice_flow.specs.Routes.{IsWalk}
 use Rattle.ice_flow.specs.Command.{Build, most_bytes, status_of}
-use Rattle.ice_flow.specs.Standing.{Standing, OtherChip, OtherNetlist, OtherPins, UnknownPin, Ready, standing_of, AreEnds, IsApart, IsRoutable}
+use Rattle.ice_flow.specs.Standing.{Standing, FaultyPins, FaultyNetlist, OtherChip, OtherNetlist, OtherPins, UnknownPin, Ready, standing_of, AreEnds, IsApart, IsRoutable}
 use Rattle.ice_flow.specs.Headline.{IsCircuitOf}
 use Rattle.ice_flow.specs.Answers.{IsTextOf, AreTexts, OfTexts, Stands, Apart, Routable, IsTooLong, no_places, pin_fault_line, read_name, read_role, IsTrueOf}
 use Rattle.ice_flow.specs.Says.{IsSaid}
-use Rattle.ice_flow.specs.Rows.{Caused, IsInterrupted, IsDone, HoldsTexts, UsageRow, OtherChipRow, NetlistRow, OtherPinsRow, PinRow, UnreachableRow, DoneRow, ReadFaultRow, WriteFaultRow, NoMemoryRow, IsFirstTooLong, TooLongRow, HeadlineRow, SaidRow}
+use Rattle.ice_flow.specs.Rows.{Caused, IsInterrupted, IsDone, HoldsTexts, ComesExactly, UsageRow, OtherChipRow, BlifRow, PcfRow, OtherNetlistRow, OtherPinsRow, PinRow, UnreachableRow, DoneRow, ReadFaultRow, WriteFaultRow, NoMemoryRow, IsFirstTooLong, TooLongRow, HeadlineRow, SaidRow}
 
 -- the texts that were read are those that the files hold
 text_is : (desk : Meaning) (name text bytes : List ℕ) → IsTextOf desk name text → desk.tells ≡ true → desk.files name ≡ Some bytes → text ≡ bytes
@@ -34,7 +34,8 @@ at_files b desk P chip pins netlist holds (c, p, n, texts, is) =
 Matches : Build → List ℕ → List ℕ → List ℕ → Cause → Type 0
 Matches b chip pins netlist (Good placement) = Routable b chip pins netlist
 Matches b chip pins netlist Usage = ⊥
-Matches b chip pins netlist (BadBlif fault) = Stands b (OtherNetlist (fault_line fault)) chip pins netlist
+Matches b chip pins netlist (BadBlif fault) = Stands b (FaultyNetlist fault) chip pins netlist
+Matches b chip pins netlist (BadPcf fault) = Stands b (FaultyPins fault) chip pins netlist
 Matches b chip pins netlist (BadPin fault) = Stands b (UnknownPin (pin_fault_line fault)) chip pins netlist
 Matches b chip pins netlist (Unreachable placement net sink) = (placement ≡ no_places) × (net ≡ record { 0 = 0 }) × Apart b sink.0 chip pins netlist
 Matches b chip pins netlist (ReadFault role) = Unit {0}
@@ -42,6 +43,7 @@ Matches b chip pins netlist (WriteFault role put) = Routable b chip pins netlist
 Matches b chip pins netlist NoMemory = Unit {0}
 Matches b chip pins netlist (TooLong role limit) = ⊥
 Matches b chip pins netlist (NotBuilt Chip) = Stands b OtherChip chip pins netlist
+Matches b chip pins netlist (NotBuilt Blif) = Stands b OtherNetlist chip pins netlist
 Matches b chip pins netlist (NotBuilt Pcf) = Stands b OtherPins chip pins netlist
 Matches b chip pins netlist (NotBuilt role) = ⊥
 
@@ -60,7 +62,8 @@ matches : (b : Build) (old new : Meaning) (cause : Cause) (chip pins netlist : L
 unfolding Matches
 matches b old new (Good placement) chip pins netlist holds is = at_files b old (Routable b) chip pins netlist holds is.1.texts
 matches b old new Usage chip pins netlist holds is = is
-matches b old new (BadBlif fault) chip pins netlist holds is = at_files b old (Stands b (OtherNetlist (fault_line fault))) chip pins netlist holds is
+matches b old new (BadBlif fault) chip pins netlist holds is = at_files b old (Stands b (FaultyNetlist fault)) chip pins netlist holds is
+matches b old new (BadPcf fault) chip pins netlist holds is = at_files b old (Stands b (FaultyPins fault)) chip pins netlist holds is
 matches b old new (BadPin fault) chip pins netlist holds is = at_files b old (Stands b (UnknownPin (pin_fault_line fault))) chip pins netlist holds is
 matches b old new (Unreachable placement net sink) chip pins netlist holds is = (is.0, is.1, at_files b old (Apart b sink.0) chip pins netlist holds is.2)
 matches b old new (ReadFault role) chip pins netlist holds is = tt
@@ -69,24 +72,28 @@ matches b old new NoMemory chip pins netlist holds is = tt
 matches b old new (TooLong role limit) chip pins netlist holds is = long_not b old new role limit chip pins netlist holds is
 matches b old new (NotBuilt Chip) chip pins netlist holds is = at_files b old (Stands b OtherChip) chip pins netlist holds is
 matches b old new (NotBuilt Pcf) chip pins netlist holds is = at_files b old (Stands b OtherPins) chip pins netlist holds is
-matches b old new (NotBuilt Blif) chip pins netlist holds is = is
+matches b old new (NotBuilt Blif) chip pins netlist holds is = at_files b old (Stands b OtherNetlist) chip pins netlist holds is
 matches b old new (NotBuilt Asc) chip pins netlist holds is = is
 matches b old new (NotBuilt Levels) chip pins netlist holds is = is
 matches b old new (NotBuilt Pins) chip pins netlist holds is = is
 matches b old new (NotBuilt Report) chip pins netlist holds is = is
 matches b old new (NotBuilt Standard) chip pins netlist holds is = is
 
--- how the texts stand, as far as a cause tells: which of the four, or all good
+-- how the texts stand, as far as a cause tells
 pub data Kind : Type 0 where
+  OfFaultyPins : PcfFault → Kind
+  OfFaultyNetlist : BlifFault → Kind
   OfChip : Kind
-  OfNetlist : ℕ → Kind
+  OfNetlist : Kind
   OfPins : Kind
   OfPin : ℕ → Kind
   OfReady : Kind
 
 kind : Standing → Kind
+kind (FaultyPins fault) = OfFaultyPins fault
+kind (FaultyNetlist fault) = OfFaultyNetlist fault
 kind OtherChip = OfChip
-kind (OtherNetlist line) = OfNetlist line
+kind OtherNetlist = OfNetlist
 kind OtherPins = OfPins
 kind (UnknownPin line) = OfPin line
 kind (Ready chip netlist pads) = OfReady
@@ -95,7 +102,8 @@ kind (Ready chip netlist pads) = OfReady
 told : Cause → Option Kind
 told (Good placement) = Some OfReady
 told Usage = None
-told (BadBlif fault) = Some (OfNetlist (fault_line fault))
+told (BadBlif fault) = Some (OfFaultyNetlist fault)
+told (BadPcf fault) = Some (OfFaultyPins fault)
 told (BadPin fault) = Some (OfPin (pin_fault_line fault))
 told (Unreachable placement net sink) = Some OfReady
 told (ReadFault role) = None
@@ -103,6 +111,7 @@ told (WriteFault role put) = Some OfReady
 told NoMemory = None
 told (TooLong role limit) = None
 told (NotBuilt Chip) = Some OfChip
+told (NotBuilt Blif) = Some OfNetlist
 told (NotBuilt Pcf) = Some OfPins
 told (NotBuilt role) = None
 
@@ -112,6 +121,7 @@ unfolding Matches told kind
 tells_right b chip pins netlist (Good placement) m = inr (rw m.is_ready refl)
 tells_right b chip pins netlist Usage m = absurd m
 tells_right b chip pins netlist (BadBlif fault) m = inr (rw m refl)
+tells_right b chip pins netlist (BadPcf fault) m = inr (rw m refl)
 tells_right b chip pins netlist (BadPin fault) m = inr (rw m refl)
 tells_right b chip pins netlist (Unreachable placement net sink) m = inr (rw m.2.is_ready refl)
 tells_right b chip pins netlist (ReadFault role) m = inl tt
@@ -120,93 +130,43 @@ tells_right b chip pins netlist NoMemory m = inl tt
 tells_right b chip pins netlist (TooLong role limit) m = absurd m
 tells_right b chip pins netlist (NotBuilt Chip) m = inr (rw m refl)
 tells_right b chip pins netlist (NotBuilt Pcf) m = inr (rw m refl)
-tells_right b chip pins netlist (NotBuilt Blif) m = absurd m
+tells_right b chip pins netlist (NotBuilt Blif) m = inr (rw m refl)
 tells_right b chip pins netlist (NotBuilt Asc) m = absurd m
 tells_right b chip pins netlist (NotBuilt Levels) m = absurd m
 tells_right b chip pins netlist (NotBuilt Pins) m = absurd m
 tells_right b chip pins netlist (NotBuilt Report) m = absurd m
 tells_right b chip pins netlist (NotBuilt Standard) m = absurd m
 
--- the causes of each kind
-is_other_chip : (cause : Cause) → told cause ≡ Some OfChip → cause ≡ NotBuilt Chip
-unfolding told
-is_other_chip (Good placement) e = cc e
-is_other_chip Usage e = cc e
-is_other_chip (BadBlif fault) e = cc e
-is_other_chip (BadPin fault) e = cc e
-is_other_chip (Unreachable placement net sink) e = cc e
-is_other_chip (ReadFault role) e = cc e
-is_other_chip (WriteFault role put) e = cc e
-is_other_chip NoMemory e = cc e
-is_other_chip (TooLong role limit) e = cc e
-is_other_chip (NotBuilt Chip) e = refl
-is_other_chip (NotBuilt Pcf) e = cc e
-is_other_chip (NotBuilt Blif) e = cc e
-is_other_chip (NotBuilt Asc) e = cc e
-is_other_chip (NotBuilt Levels) e = cc e
-is_other_chip (NotBuilt Pins) e = cc e
-is_other_chip (NotBuilt Report) e = cc e
-is_other_chip (NotBuilt Standard) e = cc e
+-- the one cause of each kind but that of good texts
+cause_of : Kind → Cause
+cause_of (OfFaultyPins fault) = BadPcf fault
+cause_of (OfFaultyNetlist fault) = BadBlif fault
+cause_of OfChip = NotBuilt Chip
+cause_of OfNetlist = NotBuilt Blif
+cause_of OfPins = NotBuilt Pcf
+cause_of (OfPin line) = BadPin (pin_fault.UnknownPin line)
+cause_of OfReady = NoMemory
 
-is_other_pins : (cause : Cause) → told cause ≡ Some OfPins → cause ≡ NotBuilt Pcf
-unfolding told
-is_other_pins (Good placement) e = cc e
-is_other_pins Usage e = cc e
-is_other_pins (BadBlif fault) e = cc e
-is_other_pins (BadPin fault) e = cc e
-is_other_pins (Unreachable placement net sink) e = cc e
-is_other_pins (ReadFault role) e = cc e
-is_other_pins (WriteFault role put) e = cc e
-is_other_pins NoMemory e = cc e
-is_other_pins (TooLong role limit) e = cc e
-is_other_pins (NotBuilt Chip) e = cc e
-is_other_pins (NotBuilt Pcf) e = refl
-is_other_pins (NotBuilt Blif) e = cc e
-is_other_pins (NotBuilt Asc) e = cc e
-is_other_pins (NotBuilt Levels) e = cc e
-is_other_pins (NotBuilt Pins) e = cc e
-is_other_pins (NotBuilt Report) e = cc e
-is_other_pins (NotBuilt Standard) e = cc e
-
-is_other_netlist : (cause : Cause) (line : ℕ) → told cause ≡ Some (OfNetlist line) → cause ≡ BadBlif (blif_fault.NotYet line)
-unfolding told
-is_other_netlist (Good placement) line e = cc e
-is_other_netlist Usage line e = cc e
-is_other_netlist (BadBlif (blif_fault.NotYet n)) line e = cc e
-is_other_netlist (BadPin fault) line e = cc e
-is_other_netlist (Unreachable placement net sink) line e = cc e
-is_other_netlist (ReadFault role) line e = cc e
-is_other_netlist (WriteFault role put) line e = cc e
-is_other_netlist NoMemory line e = cc e
-is_other_netlist (TooLong role limit) line e = cc e
-is_other_netlist (NotBuilt Chip) line e = cc e
-is_other_netlist (NotBuilt Pcf) line e = cc e
-is_other_netlist (NotBuilt Blif) line e = cc e
-is_other_netlist (NotBuilt Asc) line e = cc e
-is_other_netlist (NotBuilt Levels) line e = cc e
-is_other_netlist (NotBuilt Pins) line e = cc e
-is_other_netlist (NotBuilt Report) line e = cc e
-is_other_netlist (NotBuilt Standard) line e = cc e
-
-is_unknown_pin : (cause : Cause) (line : ℕ) → told cause ≡ Some (OfPin line) → cause ≡ BadPin (pin_fault.UnknownPin line)
-unfolding told
-is_unknown_pin (Good placement) line e = cc e
-is_unknown_pin Usage line e = cc e
-is_unknown_pin (BadBlif fault) line e = cc e
-is_unknown_pin (BadPin (pin_fault.UnknownPin n)) line e = cc e
-is_unknown_pin (Unreachable placement net sink) line e = cc e
-is_unknown_pin (ReadFault role) line e = cc e
-is_unknown_pin (WriteFault role put) line e = cc e
-is_unknown_pin NoMemory line e = cc e
-is_unknown_pin (TooLong role limit) line e = cc e
-is_unknown_pin (NotBuilt Chip) line e = cc e
-is_unknown_pin (NotBuilt Pcf) line e = cc e
-is_unknown_pin (NotBuilt Blif) line e = cc e
-is_unknown_pin (NotBuilt Asc) line e = cc e
-is_unknown_pin (NotBuilt Levels) line e = cc e
-is_unknown_pin (NotBuilt Pins) line e = cc e
-is_unknown_pin (NotBuilt Report) line e = cc e
-is_unknown_pin (NotBuilt Standard) line e = cc e
+is_told : (cause : Cause) (k : Kind) → told cause ≡ Some k → (k ≡ OfReady) ⊎ (cause ≡ cause_of k)
+unfolding told cause_of
+is_told (Good placement) k e = let same : OfReady ≡ k = cc e in inl (sym same)
+is_told Usage k e = cc e
+is_told (BadBlif fault) k e = let same : OfFaultyNetlist fault ≡ k = cc e in inr (ap cause_of same)
+is_told (BadPcf fault) k e = let same : OfFaultyPins fault ≡ k = cc e in inr (ap cause_of same)
+is_told (BadPin (pin_fault.UnknownPin line)) k e = let same : OfPin line ≡ k = cc e in inr (ap cause_of same)
+is_told (Unreachable placement net sink) k e = let same : OfReady ≡ k = cc e in inl (sym same)
+is_told (ReadFault role) k e = cc e
+is_told (WriteFault role put) k e = let same : OfReady ≡ k = cc e in inl (sym same)
+is_told NoMemory k e = cc e
+is_told (TooLong role limit) k e = cc e
+is_told (NotBuilt Chip) k e = let same : OfChip ≡ k = cc e in inr (ap cause_of same)
+is_told (NotBuilt Pcf) k e = let same : OfPins ≡ k = cc e in inr (ap cause_of same)
+is_told (NotBuilt Blif) k e = let same : OfNetlist ≡ k = cc e in inr (ap cause_of same)
+is_told (NotBuilt Asc) k e = cc e
+is_told (NotBuilt Levels) k e = cc e
+is_told (NotBuilt Pins) k e = cc e
+is_told (NotBuilt Report) k e = cc e
+is_told (NotBuilt Standard) k e = cc e
 
 -- a cause of good texts: the work is done, or a sink is apart
 is_ready : (b : Build) (chip pins netlist : List ℕ) (cause : Cause) → Matches b chip pins netlist cause → told cause ≡ Some OfReady
@@ -215,6 +175,7 @@ unfolding Matches told
 is_ready b chip pins netlist (Good placement) m e = inl (tt, m)
 is_ready b chip pins netlist Usage m e = cc e
 is_ready b chip pins netlist (BadBlif fault) m e = cc e
+is_ready b chip pins netlist (BadPcf fault) m e = cc e
 is_ready b chip pins netlist (BadPin fault) m e = cc e
 is_ready b chip pins netlist (Unreachable placement net sink) m e = inr (sink.0, ap (λ p. Unreachable p net sink) m.0 ∙ ap (λ n. Unreachable no_places n sink) m.1, m.2)
 is_ready b chip pins netlist (ReadFault role) m e = cc e
@@ -254,45 +215,43 @@ pub usage_row : (request : Option Build) (old new : Meaning) (cause : Cause) →
 usage_row None old new cause caused = ((λ e. refl), (λ e. caused))
 usage_row (Some b) old new cause caused = ((λ e. absurd (subst (λ (x : Cause). IsTrueOf b old new x) e caused)), (λ e. cc e))
 
-pub other_chip_row : (request : Option Build) (old new : Meaning) (cause : Cause) → Caused request old new cause → OtherChipRow request old cause
-unfolding kind
-other_chip_row request old new cause caused = record {
-  only = only_of request old new cause (NotBuilt Chip) (λ b. Stands b OtherChip) (λ e. cc e) (λ b is. is) caused;
-  always = λ b chip pins netlist e holds is. elim (always_of request old new cause b chip pins netlist OfChip caused e holds (rw is refl)) [
-    | inl t ↦ inl (is_other_chip cause t)
-    | inr s ↦ inr s
+-- a refusal of one standing comes exactly where the texts stand so
+standing_row : (request : Option Build) (old new : Meaning) (cause other : Cause) (s : Standing) → (other ≡ Usage → ⊥) → (kind s ≡ OfReady → ⊥) → cause_of (kind s) ≡ other
+    → ((b : Build) → IsTrueOf b old new other → OfTexts b old (Stands b s)) → Caused request old new cause → ComesExactly request old (λ c. c ≡ other) (λ b. Stands b s) cause
+standing_row request old new cause other s not_usage not_ready is_cause true_of caused = record {
+  only = only_of request old new cause other (λ b. Stands b s) not_usage true_of caused;
+  always = λ b chip pins netlist e holds is. elim (always_of request old new cause b chip pins netlist (kind s) caused e holds (ap kind is)) [
+    | inl t ↦ elim (is_told cause (kind s) t) [
+      | inl ready ↦ absurd (not_ready ready)
+      | inr same ↦ inl (same ∙ is_cause)
+    ]
+    | inr stopped ↦ inr stopped
   ];
 }
 
-pub netlist_row : (request : Option Build) (old new : Meaning) (cause : Cause) → Caused request old new cause → NetlistRow request old cause
-unfolding kind
-netlist_row request old new cause caused line = record {
-  only = only_of request old new cause (BadBlif (blif_fault.NotYet line)) (λ b. Stands b (OtherNetlist line)) (λ e. cc e) (λ b is. is) caused;
-  always = λ b chip pins netlist e holds is. elim (always_of request old new cause b chip pins netlist (OfNetlist line) caused e holds (rw is refl)) [
-    | inl t ↦ inl (is_other_netlist cause line t)
-    | inr s ↦ inr s
-  ];
-}
+pub pcf_row : (request : Option Build) (old new : Meaning) (cause : Cause) → Caused request old new cause → PcfRow request old cause
+unfolding kind cause_of
+pcf_row request old new cause caused fault = standing_row request old new cause (BadPcf fault) (FaultyPins fault) (λ e. cc e) (λ e. cc e) refl (λ b is. is) caused
+
+pub blif_row : (request : Option Build) (old new : Meaning) (cause : Cause) → Caused request old new cause → BlifRow request old cause
+unfolding kind cause_of
+blif_row request old new cause caused fault = standing_row request old new cause (BadBlif fault) (FaultyNetlist fault) (λ e. cc e) (λ e. cc e) refl (λ b is. is) caused
+
+pub other_chip_row : (request : Option Build) (old new : Meaning) (cause : Cause) → Caused request old new cause → OtherChipRow request old cause
+unfolding kind cause_of
+other_chip_row request old new cause caused = standing_row request old new cause (NotBuilt Chip) OtherChip (λ e. cc e) (λ e. cc e) refl (λ b is. is) caused
+
+pub other_netlist_row : (request : Option Build) (old new : Meaning) (cause : Cause) → Caused request old new cause → OtherNetlistRow request old cause
+unfolding kind cause_of
+other_netlist_row request old new cause caused = standing_row request old new cause (NotBuilt Blif) OtherNetlist (λ e. cc e) (λ e. cc e) refl (λ b is. is) caused
 
 pub other_pins_row : (request : Option Build) (old new : Meaning) (cause : Cause) → Caused request old new cause → OtherPinsRow request old cause
-unfolding kind
-other_pins_row request old new cause caused = record {
-  only = only_of request old new cause (NotBuilt Pcf) (λ b. Stands b OtherPins) (λ e. cc e) (λ b is. is) caused;
-  always = λ b chip pins netlist e holds is. elim (always_of request old new cause b chip pins netlist OfPins caused e holds (rw is refl)) [
-    | inl t ↦ inl (is_other_pins cause t)
-    | inr s ↦ inr s
-  ];
-}
+unfolding kind cause_of
+other_pins_row request old new cause caused = standing_row request old new cause (NotBuilt Pcf) OtherPins (λ e. cc e) (λ e. cc e) refl (λ b is. is) caused
 
 pub pin_row : (request : Option Build) (old new : Meaning) (cause : Cause) → Caused request old new cause → PinRow request old cause
-unfolding kind
-pin_row request old new cause caused line = record {
-  only = only_of request old new cause (BadPin (pin_fault.UnknownPin line)) (λ b. Stands b (UnknownPin line)) (λ e. cc e) (λ b is. is) caused;
-  always = λ b chip pins netlist e holds is. elim (always_of request old new cause b chip pins netlist (OfPin line) caused e holds (rw is refl)) [
-    | inl t ↦ inl (is_unknown_pin cause line t)
-    | inr s ↦ inr s
-  ];
-}
+unfolding kind cause_of
+pin_row request old new cause caused line = standing_row request old new cause (BadPin (pin_fault.UnknownPin line)) (UnknownPin line) (λ e. cc e) (λ e. cc e) refl (λ b is. is) caused
 
 -- ---- good texts
 
@@ -307,15 +266,19 @@ ends_alike chip pads root sink other_root other_sink p q =
     (cc roots, cc sinks)
 
 ready_chip : Standing → Option Database
+ready_chip (FaultyPins fault) = None
+ready_chip (FaultyNetlist fault) = None
 ready_chip OtherChip = None
-ready_chip (OtherNetlist line) = None
+ready_chip OtherNetlist = None
 ready_chip OtherPins = None
 ready_chip (UnknownPin line) = None
 ready_chip (Ready chip netlist pads) = Some chip
 
 ready_pads : Standing → Option (List Pad)
+ready_pads (FaultyPins fault) = None
+ready_pads (FaultyNetlist fault) = None
 ready_pads OtherChip = None
-ready_pads (OtherNetlist line) = None
+ready_pads OtherNetlist = None
 ready_pads OtherPins = None
 ready_pads (UnknownPin line) = None
 ready_pads (Ready chip netlist pads) = Some pads
@@ -369,6 +332,7 @@ done_texts : (b : Build) (old new : Meaning) (cause : Cause) → IsTrueOf b old 
 done_texts b old new (Good placement) is done = is.1.texts
 done_texts b old new Usage is done = absurd done
 done_texts b old new (BadBlif fault) is done = absurd done
+done_texts b old new (BadPcf fault) is done = absurd done
 done_texts b old new (BadPin fault) is done = absurd done
 done_texts b old new (Unreachable placement net sink) is done = absurd done
 done_texts b old new (ReadFault role) is done = absurd done
@@ -465,7 +429,8 @@ same_role b old new role Standard limit place is t long r cases before = absurd 
 too_long_always : (b : Build) (old new : Meaning) (cause : Cause) (role : FileRole) → IsTrueOf b old new cause → old.tells ≡ true → IsFirstTooLong b old role → (cause ≡ TooLong role most_bytes) ⊎ IsInterrupted cause
 too_long_always b old new (Good placement) role is t long = absurd (read_not_long b old role (Routable b) t long is.1.texts)
 too_long_always b old new Usage role is t long = absurd is
-too_long_always b old new (BadBlif fault) role is t long = absurd (read_not_long b old role (Stands b (OtherNetlist (fault_line fault))) t long is)
+too_long_always b old new (BadBlif fault) role is t long = absurd (read_not_long b old role (Stands b (FaultyNetlist fault)) t long is)
+too_long_always b old new (BadPcf fault) role is t long = absurd (read_not_long b old role (Stands b (FaultyPins fault)) t long is)
 too_long_always b old new (BadPin fault) role is t long = absurd (read_not_long b old role (Stands b (UnknownPin (pin_fault_line fault))) t long is)
 too_long_always b old new (Unreachable placement net sink) role is t long = absurd (read_not_long b old role (Apart b sink.0) t long is.2)
 too_long_always b old new (ReadFault of_role) role is t long = inr tt
@@ -476,7 +441,7 @@ too_long_always b old new (TooLong of_role limit) role is t long =
     inl (ap (λ (x : FileRole). TooLong x limit) same ∙ ap (λ n. TooLong role n) is.is_limit)
 too_long_always b old new (NotBuilt Chip) role is t long = absurd (read_not_long b old role (Stands b OtherChip) t long is)
 too_long_always b old new (NotBuilt Pcf) role is t long = absurd (read_not_long b old role (Stands b OtherPins) t long is)
-too_long_always b old new (NotBuilt Blif) role is t long = absurd is
+too_long_always b old new (NotBuilt Blif) role is t long = absurd (read_not_long b old role (Stands b OtherNetlist) t long is)
 too_long_always b old new (NotBuilt Asc) role is t long = absurd is
 too_long_always b old new (NotBuilt Levels) role is t long = absurd is
 too_long_always b old new (NotBuilt Pins) role is t long = absurd is
@@ -496,6 +461,7 @@ good_file : (b : Build) (old new : Meaning) (cause : Cause) → IsTrueOf b old n
 good_file b old new (Good placement) is e t = (is.1.circuit.0, is.1.circuit.1 t, is.1.circuit.2)
 good_file b old new Usage is e t = absurd is
 good_file b old new (BadBlif fault) is e t = absurd (omega (arith, e))
+good_file b old new (BadPcf fault) is e t = absurd (omega (arith, e))
 good_file b old new (BadPin fault) is e t = absurd (omega (arith, e))
 good_file b old new (Unreachable placement net sink) is e t = absurd (omega (arith, e))
 good_file b old new (ReadFault role) is e t = absurd (omega (arith, e))

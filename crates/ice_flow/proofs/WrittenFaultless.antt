@@ -17,7 +17,7 @@ use Rattle.ice_flow.specs.Written.{written}
 use Rattle.ice_flow.specs.FirstForm as form
 use Rattle.ice_flow.specs.FirstForm.{database_with, left_tile, right_tile, left_pad, right_pad, wire_names}
 use Rattle.ice_flow.specs.ChipText.{IsOfForm}
-use Rattle.ice_flow.specs.NetlistText.{buffer_netlist}
+use Rattle.ice_flow.specs.Buffers.{buffer_netlist}
 use Rattle.ice_flow.specs.BufferForm.{buffer_plan}
 use Rattle.ice_flow.specs.Same.{ShowsSame}
 use Rattle.ice_flow.proofs.ListFacts.{any_has}

@@ -3,14 +3,13 @@ use Rattle.std.specs.Prelude.{◌≡◌, ℕ, ◌<◌, ◌≤◌, true, ◌==◌
 use Rattle.ice_desk.specs.Desk.{Meaning, Rose, after_one, after_more, HoldsAfter}
 use Rattle.ice_flow.specs.declared.cause.Placement.{Placement}
 use Rattle.ice_flow.specs.declared.cause.Cause.{Cause}
-use Rattle.ice_flow.specs.declared.cause.Cause.TheVariants.{Good, Usage, BadBlif, BadPin, Unreachable, ReadFault, WriteFault, NoMemory, TooLong, NotBuilt}
+use Rattle.ice_flow.specs.declared.cause.Cause.TheVariants.{Good, Usage, BadBlif, BadPcf, BadPin, Unreachable, ReadFault, WriteFault, NoMemory, TooLong, NotBuilt}
 use Rattle.ice_flow.specs.declared.cause.FileRole.{FileRole}
 use Rattle.ice_flow.specs.declared.cause.FileRole.TheVariants.{Chip, Pcf, Blif, Asc}
 use Rattle.ice_flow.specs.declared.cause.PinFault.TheVariants as pin_fault
 use Rattle.ice_flow.specs.declared.cause.PinFault.{PinFault}
-use Rattle.ice_flow.specs.Readers.{fault_line}
 use Rattle.ice_flow.specs.Command.{Build, most_bytes}
-use Rattle.ice_flow.specs.Standing.{Standing, OtherChip, OtherNetlist, OtherPins, UnknownPin, standing_of, IsApart, IsRoutable}
+use Rattle.ice_flow.specs.Standing.{Standing, FaultyPins, FaultyNetlist, OtherChip, OtherNetlist, OtherPins, UnknownPin, standing_of, IsApart, IsRoutable}
 use Rattle.ice_flow.specs.Headline.{IsCircuitOf}
 
 -- the text that was read from a file: the file's own, where the desk tells its contents
@@ -98,7 +97,8 @@ no_places = record { at = [] }
 abbrev pub IsTrueOf : Build → Meaning → Meaning → Cause → Type 0
 IsTrueOf b old new (Good placement) = (placement ≡ no_places) × IsGood b old new
 IsTrueOf b old new Usage = ⊥
-IsTrueOf b old new (BadBlif fault) = OfTexts b old (Stands b (OtherNetlist (fault_line fault)))
+IsTrueOf b old new (BadBlif fault) = OfTexts b old (Stands b (FaultyNetlist fault))
+IsTrueOf b old new (BadPcf fault) = OfTexts b old (Stands b (FaultyPins fault))
 IsTrueOf b old new (BadPin fault) = OfTexts b old (Stands b (UnknownPin (pin_fault_line fault)))
 IsTrueOf b old new (Unreachable placement net sink) = (placement ≡ no_places) × (net ≡ record { 0 = 0 }) × OfTexts b old (Apart b sink.0)
 IsTrueOf b old new (ReadFault role) = IsReadFault b old new role
@@ -106,5 +106,6 @@ IsTrueOf b old new (WriteFault role put) = IsWriteFault b old new role put
 IsTrueOf b old new NoMemory = new.makes ≡ old.makes
 IsTrueOf b old new (TooLong role limit) = IsTooLong b old new role limit
 IsTrueOf b old new (NotBuilt Chip) = OfTexts b old (Stands b OtherChip)
+IsTrueOf b old new (NotBuilt Blif) = OfTexts b old (Stands b OtherNetlist)
 IsTrueOf b old new (NotBuilt Pcf) = OfTexts b old (Stands b OtherPins)
 IsTrueOf b old new (NotBuilt role) = ⊥

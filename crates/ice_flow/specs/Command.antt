@@ -3,13 +3,15 @@ use Rattle.std.specs.Prelude.{ℕ, Bool, ◌&&◌, not, Option, Some, None, List
 use Rattle.std.specs.Str.{bytes_eq}
 use Rattle.ice_base.specs.Comments.{begins_with}
 use Rattle.ice_flow.specs.declared.cause.Cause.{Cause}
-use Rattle.ice_flow.specs.declared.cause.Cause.TheVariants.{Good, Usage, BadBlif, BadPin, Unreachable, ReadFault, WriteFault, NoMemory, TooLong, NotBuilt}
+use Rattle.ice_flow.specs.declared.cause.Cause.TheVariants.{Good, Usage, BadBlif, BadPcf, BadPin, Unreachable, ReadFault, WriteFault, NoMemory, TooLong, NotBuilt}
 use Rattle.ice_flow.specs.declared.cause.FileRole.{FileRole}
 use Rattle.ice_flow.specs.declared.cause.FileRole.TheVariants.{Chip, Pcf, Blif, Asc, Levels, Pins, Report, Standard}
 use Rattle.ice_flow.specs.declared.cause.PinFault.{PinFault}
 use Rattle.ice_flow.specs.declared.cause.PinFault.TheVariants as pin_fault
-use Rattle.ice_flow.specs.declared.netlist_text.BlifFault.{BlifFault}
-use Rattle.ice_flow.specs.declared.netlist_text.BlifFault.TheVariants as blif_fault
+use Rattle.ice_blif.specs.declared.fault.BlifFault.{BlifFault}
+use Rattle.ice_blif.specs.declared.fault.BlifFault.TheVariants as blif_fault
+use Rattle.ice_pcf.specs.declared.fault.PcfFault.{PcfFault}
+use Rattle.ice_pcf.specs.declared.fault.PcfFault.TheVariants as pcf_fault
 
 -- the words of `build CHIP PACKAGE PCF BLIF ASC`: names of files, and the name of a package
 pub record Build : Type 0 where
@@ -44,6 +46,7 @@ abbrev pub status_of : Cause → ℕ
 status_of (Good placement) = 0
 status_of Usage = 2
 status_of (BadBlif fault) = 3
+status_of (BadPcf fault) = 4
 status_of (BadPin fault) = 7
 status_of (Unreachable placement net sink) = 9
 status_of (ReadFault role) = 11
@@ -67,8 +70,29 @@ abbrev pub joined : List (List ℕ) → List ℕ
 joined [] = []
 joined (piece ∷ pieces) = piece ++ joined pieces
 
+-- the line of a text at which a fault stands, and the fault's name
+abbrev pub faulty_line : List ℕ → ℕ → List ℕ → List ℕ
+faulty_line head line cause = joined (head ∷ decimal line ∷ cause ∷ [])
+
 abbrev pub blif_line : BlifFault → List ℕ
-blif_line (blif_fault.NotYet line) = joined (codes "error 3 blif line " ∷ decimal line ∷ codes " notyet\n" ∷ [])
+blif_line (blif_fault.NoModel line) = faulty_line (codes "error 3 blif line ") line (codes " nomodel\n")
+blif_line (blif_fault.SecondModel line) = faulty_line (codes "error 3 blif line ") line (codes " secondmodel\n")
+blif_line (blif_fault.UnknownDirective line) = faulty_line (codes "error 3 blif line ") line (codes " unknowndirective\n")
+blif_line (blif_fault.UnknownCell line) = faulty_line (codes "error 3 blif line ") line (codes " unknowncell\n")
+blif_line (blif_fault.UnknownPort line) = faulty_line (codes "error 3 blif line ") line (codes " unknownport\n")
+blif_line (blif_fault.PortTwice line) = faulty_line (codes "error 3 blif line ") line (codes " porttwice\n")
+blif_line (blif_fault.BadParam line) = faulty_line (codes "error 3 blif line ") line (codes " badparam\n")
+blif_line (blif_fault.BadCover line) = faulty_line (codes "error 3 blif line ") line (codes " badcover\n")
+blif_line (blif_fault.TooWide line) = faulty_line (codes "error 3 blif line ") line (codes " toowide\n")
+blif_line (blif_fault.NoEnd line) = faulty_line (codes "error 3 blif line ") line (codes " noend\n")
+blif_line (blif_fault.TooMany line limit) = faulty_line (codes "error 3 blif line ") line (codes " toomany\n")
+blif_line blif_fault.NoMemory = faulty_line (codes "error 3 blif line ") 0 (codes " nomemory\n")
+
+abbrev pub pcf_line : PcfFault → List ℕ
+pcf_line (pcf_fault.UnknownWord line) = faulty_line (codes "error 4 pcf line ") line (codes " unknownword\n")
+pcf_line (pcf_fault.Missing line) = faulty_line (codes "error 4 pcf line ") line (codes " missing\n")
+pcf_line (pcf_fault.Extra line) = faulty_line (codes "error 4 pcf line ") line (codes " extra\n")
+pcf_line pcf_fault.NoMemory = faulty_line (codes "error 4 pcf line ") 0 (codes " nomemory\n")
 
 abbrev pub pin_line : PinFault → List ℕ
 pin_line (pin_fault.UnknownPin line) = joined (codes "error 7 pin unknownpin line " ∷ decimal line ∷ codes "\n" ∷ [])
@@ -78,6 +102,7 @@ abbrev pub line_of : Cause → List ℕ
 line_of (Good placement) = []
 line_of Usage = joined (codes "error 2 usage\n" ∷ [])
 line_of (BadBlif fault) = blif_line fault
+line_of (BadPcf fault) = pcf_line fault
 line_of (BadPin fault) = pin_line fault
 line_of (Unreachable placement net sink) = joined (codes "error 9 unreachable net " ∷ decimal net.0 ∷ codes " sink " ∷ decimal sink.0 ∷ codes "\n" ∷ [])
 line_of (ReadFault role) = joined (codes "error 11 read " ∷ role_name role ∷ codes "\n" ∷ [])

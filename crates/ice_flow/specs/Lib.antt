@@ -14,8 +14,8 @@ pub mod Views
 pub mod BufferForm
 pub mod PlainLines
 pub mod ChipText
-pub mod NetlistText
-pub mod PinsText
+pub mod Buffers
+pub mod PinPads
 pub mod Readers
 pub mod Asc
 pub mod Writing

@@ -2,13 +2,14 @@
 use Rattle.std.specs.Prelude.{◌≡◌, ◌≢◌, ◌⊎◌, ◌↔◌, ℕ, ◌<◌, ◌≤◌, true, Option, None, Some, List, ◌++◌, length}
 use Rattle.ice_desk.specs.Desk.{Meaning, Rose}
 use Rattle.ice_flow.specs.declared.cause.Cause.{Cause}
-use Rattle.ice_flow.specs.declared.cause.Cause.TheVariants.{Good, Usage, BadBlif, BadPin, Unreachable, ReadFault, WriteFault, NoMemory, TooLong, NotBuilt}
+use Rattle.ice_flow.specs.declared.cause.Cause.TheVariants.{Good, Usage, BadBlif, BadPcf, BadPin, Unreachable, ReadFault, WriteFault, NoMemory, TooLong, NotBuilt}
 use Rattle.ice_flow.specs.declared.cause.FileRole.{FileRole}
 use Rattle.ice_flow.specs.declared.cause.FileRole.TheVariants.{Chip, Pcf, Blif}
 use Rattle.ice_flow.specs.declared.cause.PinFault.TheVariants as pin_fault
-use Rattle.ice_flow.specs.declared.netlist_text.BlifFault.TheVariants as blif_fault
+use Rattle.ice_blif.specs.declared.fault.BlifFault.{BlifFault}
+use Rattle.ice_pcf.specs.declared.fault.PcfFault.{PcfFault}
 use Rattle.ice_flow.specs.Command.{Build, most_bytes}
-use Rattle.ice_flow.specs.Standing.{OtherChip, OtherNetlist, OtherPins, UnknownPin}
+use Rattle.ice_flow.specs.Standing.{FaultyPins, FaultyNetlist, OtherChip, OtherNetlist, OtherPins, UnknownPin}
 use Rattle.ice_flow.specs.Headline.{IsCircuitOf}
 use Rattle.ice_flow.specs.Answers.{OfTexts, Stands, Apart, Routable, IsReadFault, IsTooLong, IsWriteFault, no_places, IsTrueOf}
 use Rattle.ice_flow.specs.Says.{SaysFront}
@@ -54,9 +55,17 @@ UsageRow request cause = (cause ≡ Usage) ↔ (request ≡ None)
 abbrev pub OtherChipRow : Option Build → Meaning → Cause → Type 0
 OtherChipRow request old cause = ComesExactly request old (λ c. c ≡ NotBuilt Chip) (λ b. Stands b OtherChip) cause
 
--- status 3: exactly where the netlist's text is of another form, with the first line that is
-abbrev pub NetlistRow : Option Build → Meaning → Cause → Type 0
-NetlistRow request old cause = (line : ℕ) → ComesExactly request old (λ c. c ≡ BadBlif (blif_fault.NotYet line)) (λ b. Stands b (OtherNetlist line)) cause
+-- status 3: exactly where the netlist's text has a fault, with the first one
+abbrev pub BlifRow : Option Build → Meaning → Cause → Type 0
+BlifRow request old cause = (fault : BlifFault) → ComesExactly request old (λ c. c ≡ BadBlif fault) (λ b. Stands b (FaultyNetlist fault)) cause
+
+-- status 4: exactly where the text of the pins has a fault, with the first one
+abbrev pub PcfRow : Option Build → Meaning → Cause → Type 0
+PcfRow request old cause = (fault : PcfFault) → ComesExactly request old (λ c. c ≡ BadPcf fault) (λ b. Stands b (FaultyPins fault)) cause
+
+-- status 18 of the netlist: exactly where it is of another form than the one that is built so far
+abbrev pub OtherNetlistRow : Option Build → Meaning → Cause → Type 0
+OtherNetlistRow request old cause = ComesExactly request old (λ c. c ≡ NotBuilt Blif) (λ b. Stands b OtherNetlist) cause
 
 -- status 18 of the pins: exactly where their text, the package or the pads are of another form
 abbrev pub OtherPinsRow : Option Build → Meaning → Cause → Type 0

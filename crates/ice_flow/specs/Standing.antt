@@ -1,38 +1,56 @@
 -- What the three texts of a build say, in the order in which they are looked at.
 use Rattle.std.specs.Prelude.{◌≡◌, ℕ, Option, None, Some, Result, Ok, Err, List, [], ◌∷◌}
+use Rattle.ice_net.specs.NetlistData.{NetlistData}
+use Rattle.ice_pcf.specs.Grammar.{text_says}
+use Rattle.ice_pcf.specs.declared.constraint.Constraint.{Constraint}
+use Rattle.ice_pcf.specs.declared.fault.PcfFault.{PcfFault}
+use Rattle.ice_blif.specs.Grammar.{netlist_of}
+use Rattle.ice_blif.specs.declared.fault.BlifFault.{BlifFault}
 use Rattle.ice_flow.specs.Database.{Pad, Row, Database, wire_named}
 use Rattle.ice_flow.specs.Names.{pad_input_name, pad_output_name}
 use Rattle.ice_flow.specs.Netlist.{Netlist}
 use Rattle.ice_flow.specs.Routes.{IsWalk, IsUnreachable}
 use Rattle.ice_flow.specs.ChipText.{database_in}
-use Rattle.ice_flow.specs.NetlistText.{netlist_in}
-use Rattle.ice_flow.specs.PinsText as pins_text
-use Rattle.ice_flow.specs.PinsText.{PinsFault, pins_in}
+use Rattle.ice_flow.specs.Buffers.{buffer_in, buffer_netlist}
+use Rattle.ice_flow.specs.PinPads as pin_pads
+use Rattle.ice_flow.specs.PinPads.{PinsFault, pads_in}
 
--- the first text that is of another form, or names a pin that isn't there; or the chip, the netlist and the pads of its ports
+-- The first fault of the texts; or the first of them that is of another form than the one that is built so far, or a pin
+-- that isn't there; or the chip, the netlist and the pads of its ports.
 pub data Standing : Type 0 where
+  FaultyPins : PcfFault → Standing
+  FaultyNetlist : BlifFault → Standing
   OtherChip : Standing
-  OtherNetlist : ℕ → Standing
+  OtherNetlist : Standing
   OtherPins : Standing
   UnknownPin : ℕ → Standing
   Ready : Database → Netlist → List Pad → Standing
 
 abbrev pub with_pads : Database → Netlist → Result (List Pad) PinsFault → Standing
 with_pads chip netlist (Ok pads) = Ready chip netlist pads
-with_pads chip netlist (Err pins_text.OtherForm) = OtherPins
-with_pads chip netlist (Err (pins_text.UnknownPin line)) = UnknownPin line
+with_pads chip netlist (Err pin_pads.OtherForm) = OtherPins
+with_pads chip netlist (Err (pin_pads.UnknownPin line)) = UnknownPin line
 
-abbrev pub with_netlist : Database → List ℕ → List ℕ → Result Netlist ℕ → Standing
-with_netlist chip name pins (Err line) = OtherNetlist line
-with_netlist chip name pins (Ok netlist) = with_pads chip netlist (pins_in chip name pins netlist)
+abbrev pub with_buffer : List ℕ → List Constraint → Database → Option (List ℕ × List ℕ) → Standing
+with_buffer name constraints chip None = OtherNetlist
+with_buffer name constraints chip (Some ports) = with_pads chip (buffer_netlist ports.0 ports.1) (pads_in chip name ports.0 ports.1 constraints)
 
-abbrev pub with_chip : List ℕ → List ℕ → List ℕ → Option Database → Standing
-with_chip name pins netlist None = OtherChip
-with_chip name pins netlist (Some chip) = with_netlist chip name pins (netlist_in netlist)
+abbrev pub with_chip : List ℕ → List Constraint → NetlistData → Option Database → Standing
+with_chip name constraints circuit None = OtherChip
+with_chip name constraints circuit (Some chip) = with_buffer name constraints chip (buffer_in circuit)
 
--- first the text of the chip, then the text of the netlist, then the text of the pins for the package of this name
+abbrev pub with_netlist : List ℕ → List ℕ → List Constraint → Result NetlistData BlifFault → Standing
+with_netlist name chip constraints (Err fault) = FaultyNetlist fault
+with_netlist name chip constraints (Ok circuit) = with_chip name constraints circuit (database_in chip)
+
+abbrev pub with_constraints : List ℕ → List ℕ → List ℕ → Result (List Constraint) PcfFault → Standing
+with_constraints name chip netlist (Err fault) = FaultyPins fault
+with_constraints name chip netlist (Ok constraints) = with_netlist name chip constraints (netlist_of netlist)
+
+-- first the faults of the text of the pins, then those of the netlist's text; then the forms of chip, netlist and pins,
+-- for the package of this name
 abbrev pub standing_of : List ℕ → List ℕ → List ℕ → List ℕ → Standing
-standing_of name chip pins netlist = with_chip name pins netlist (database_in chip)
+standing_of name chip pins netlist = with_constraints name chip netlist (text_says pins)
 
 -- the wires between which a buffer's net leads: from the wire of the input's pad to the wire that the output's pad drives out
 pub record AreEnds (chip : Database) (pads : List Pad) (root sink : ℕ) : Type 0 where

@@ -2,8 +2,9 @@
 
 ghost use Rattle.std.specs.Prelude.{◌≡◌, []};
 
-use crate::netlist_text::BlifFault;
 use ice_base::{NetNo, TileAt, WireNo};
+use ice_blif::BlifFault;
+use ice_pcf::PcfFault;
 use std::alloc::Global;
 use std::marker::Model;
 
@@ -70,6 +71,8 @@ pub enum Cause {
     Usage,
     /// 3: the netlist text is refused.
     BadBlif(BlifFault),
+    /// 4: the text of the pins is refused.
+    BadPcf(PcfFault),
     /// 7: the pins are refused.
     BadPin(PinFault),
     /// 9: no walk leads from the net's root to this sink.

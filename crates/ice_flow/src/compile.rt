@@ -1,20 +1,23 @@
 //! From the three texts of a build to the text of the bits.
 ghost use Rattle.std.specs.Prelude.{◌≡◌, [], IfOk, IfErr, map};
 ghost use Rattle.ice_flow.specs.BufferForm.{buffer_plan};
-ghost use Rattle.ice_flow.specs.Views.{pad_view, port_pad_view};
-ghost use Rattle.ice_flow.specs.Built.{IsPinsRefusal};
-ghost use Rattle.ice_flow.specs.Built.{IsBuilt, IsRefusal};
+ghost use Rattle.ice_flow.specs.Views.{groups_view, pad_view, port_pad_view};
+ghost use Rattle.ice_flow.specs.ChipText.{IsOfForm};
+ghost use Rattle.ice_flow.specs.FirstForm.{left_pad, right_pad};
+ghost use Rattle.ice_flow.specs.Built.{IsChipRefusal, IsPinsRefusal, IsBlifRefusal, IsPcfRefusal, IsLaidOut, IsLayoutRefusal, IsBuilt, IsRefusal};
 ghost use Rattle.ice_flow.specs.Answers.{no_places};
 
 use crate::asc::write_bits;
+use crate::buffer::buffer_of;
 use crate::cause::{Cause, FileRole, PinFault, Placement, Places};
 use crate::chip::Group;
 use crate::chip_text::{ChipStop, read_chip};
-use crate::netlist_text::{Buffer, read_netlist};
 use crate::pad::PortPad;
-use crate::pins_text::{PinsStop, PortPads, read_pins};
+use crate::pin_pads::{PinsStop, PortPads, port_pads};
 use crate::search::find_walk;
 use ice_base::{NetNo, NoMemory, WireNo};
+use ice_blif::{BlifFault, read_blif};
+use ice_pcf::{PcfFault, read_pcf};
 use std::alloc::Global;
 
 /// The wire that has the level of the input's pad, in the form of chip that is built so far.
@@ -29,7 +32,8 @@ const PLAIN_INPUT: u8 = 0b000001;
 /// The pin type of a pad that is always driven.
 const PLAIN_OUTPUT: u8 = 0b011001;
 
-/// The text of the bits, or why there is none. All memory of a build beside its texts is taken here.
+/// The text of the bits, or why there is none: first the faults of the texts, then what is of another form than the one
+/// that is built so far. All memory of a build beside its texts is taken here.
 pub fn compile(
     alloc: Global,
     package: &[u8],
@@ -40,48 +44,95 @@ pub fn compile(
     ensures built { IfOk result (λ text. IsBuilt «package».now chip_text.now pins_text.now netlist_text.now text.items) }
     ensures refused { IfErr result (λ cause. IsRefusal «package».now chip_text.now pins_text.now netlist_text.now cause) }
 {
+    let pcf = match read_pcf(alloc, pins_text) {
+        Ok(pcf) => pcf,
+        Err(fault) => return Err(pcf_refusal(fault)),
+    };
+    let netlist = match read_blif(alloc, netlist_text) {
+        Ok(netlist) => netlist,
+        Err(fault) => return Err(blif_refusal(fault)),
+    };
     let groups = match read_chip(alloc, chip_text) {
         Ok(groups) => groups,
-        Err(ChipStop::OtherForm) => return Err(Cause::NotBuilt {
-            role: FileRole::Chip,
-        }),
-        Err(ChipStop::NoMemory) => return Err(Cause::NoMemory),
+        Err(stop) => return Err(chip_refusal(stop)),
     };
-    let buffer = match read_netlist(netlist_text) {
-        Ok(buffer) => buffer,
-        Err(fault) => return Err(Cause::BadBlif(fault)),
+    let Some(buffer) = buffer_of(&netlist) else {
+        return Err(not_built(FileRole::Blif));
     };
-    let pads = match read_pins(pins_text, package, &buffer) {
+    let pads = match port_pads(pcf.constraints(), package, &buffer) {
         Ok(pads) => pads,
-        Err(stop) => return Err(pins_refusal(&stop)),
+        Err(stop) => return Err(pins_refusal(stop)),
     };
-    let path = match find_walk(alloc, &groups, ROOT, SINK) {
+    lay_out(alloc, &groups, &pads)
+}
+
+// The bits of a route between the pads, as a text.
+fn lay_out(alloc: Global, groups: &[Group], pads: &PortPads) -> Result<Vec<u8>, Cause>
+    requires form { IsOfForm (groups_view groups.now) }
+    requires input { pad_view pads.now.input ≡ left_pad }
+    requires output { pad_view pads.now.output ≡ right_pad }
+    ensures laid { IfOk result (λ text. IsLaidOut (groups_view groups.now) text.items) }
+    ensures refused { IfErr result (λ cause. IsLayoutRefusal (groups_view groups.now) cause) }
+{
+    let path = match find_walk(alloc, groups, ROOT, SINK) {
         Ok(Some(path)) => path,
         Ok(None) => return Err(unreachable_sink(alloc)),
         Err(NoMemory) => return Err(Cause::NoMemory),
     };
-    let roots = [pads.input];
-    let ports = port_pads(&pads);
-    match write_bits(alloc, &path, &roots, &ports) {
+    match write_bits(alloc, &path, &[pads.input], &typed_pads(pads)) {
         Ok(text) => Ok(text),
         Err(NoMemory) => Err(Cause::NoMemory),
     }
 }
 
-// Why there are no pads.
-fn pins_refusal(stop: &PinsStop) -> Cause
-    ensures { IsPinsRefusal stop.now result }
+fn not_built(role: FileRole) -> Cause
+    ensures { result ≡ Cause.NotBuilt role }
+{
+    Cause::NotBuilt { role }
+}
+
+// Why there is no chip.
+fn chip_refusal(stop: ChipStop) -> Cause
+    ensures { IsChipRefusal stop result }
 {
     match stop {
-        PinsStop::OtherForm => Cause::NotBuilt {
-            role: FileRole::Pcf,
-        },
-        PinsStop::UnknownPin { line } => Cause::BadPin(PinFault::UnknownPin { line: *line }),
+        ChipStop::OtherForm => not_built(FileRole::Chip),
+        ChipStop::NoMemory => Cause::NoMemory,
+    }
+}
+
+// Why there are no pin constraints.
+fn pcf_refusal(fault: PcfFault) -> Cause
+    ensures { IsPcfRefusal fault result }
+{
+    match fault {
+        PcfFault::NoMemory => Cause::NoMemory,
+        fault => Cause::BadPcf(fault),
+    }
+}
+
+// Why there is no netlist.
+fn blif_refusal(fault: BlifFault) -> Cause
+    ensures { IsBlifRefusal fault result }
+{
+    match fault {
+        BlifFault::NoMemory => Cause::NoMemory,
+        fault => Cause::BadBlif(fault),
+    }
+}
+
+// Why there are no pads.
+fn pins_refusal(stop: PinsStop) -> Cause
+    ensures { IsPinsRefusal stop result }
+{
+    match stop {
+        PinsStop::OtherForm => not_built(FileRole::Pcf),
+        PinsStop::UnknownPin { line } => Cause::BadPin(PinFault::UnknownPin { line }),
     }
 }
 
 // The pads of the two ports, with their pin types.
-fn port_pads(pads: &PortPads) -> [PortPad; 2]
+fn typed_pads(pads: &PortPads) -> [PortPad; 2]
     ensures { map port_pad_view result ≡ (buffer_plan (pad_view pads.now.input) (pad_view pads.now.output) []).ports }
 {
     [

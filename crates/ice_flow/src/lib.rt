@@ -5,6 +5,7 @@ mod asc;
 #[cfg(test)]
 mod asc_tests;
 mod bits;
+mod buffer;
 mod build;
 mod bundle;
 mod cause;
@@ -14,9 +15,8 @@ mod compile;
 mod functions;
 mod index;
 mod levels;
-mod netlist_text;
 mod pad;
-mod pins_text;
+mod pin_pads;
 mod place;
 mod plain;
 #[cfg(test)]
@@ -35,5 +35,4 @@ mod top_call;
 mod usable;
 
 pub use cause::{Cause, Done, FileRole, PinFault, Placement, Places};
-pub use netlist_text::BlifFault;
 pub use top_call::run;

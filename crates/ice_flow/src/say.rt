@@ -1,13 +1,14 @@
 //! Saying the line of a refusal, piece by piece. It takes no memory.
 ghost use Rattle.std.specs.Prelude.{◌≡◌, map, decimal, codes, ◌∷◌, []};
 ghost use Rattle.ice_desk.specs.Desk.{SameButSaying, SameTest};
-ghost use Rattle.ice_flow.specs.Command.{joined, line_of, role_name, blif_line, pin_line};
+ghost use Rattle.ice_flow.specs.Command.{joined, faulty_line, line_of, role_name, blif_line, pcf_line, pin_line};
 ghost use Rattle.ice_flow.specs.Says.{IsSaid};
 ghost use Rattle.ice_flow.specs.Pieces.{piece_text};
 
 use crate::cause::{Cause, FileRole, PinFault};
-use crate::netlist_text::BlifFault;
+use ice_blif::BlifFault;
 use ice_desk::Desk;
+use ice_pcf::PcfFault;
 use itoa::Buffer;
 
 // Says a text. Whether no say failed: after a failed one nothing more is said.
@@ -122,6 +123,52 @@ fn five(head: &'static [u8], piece: Piece, middle: &'static [u8], other: Piece) 
     ]
 }
 
+// A fault of the netlist's text at a line.
+fn blif_line(line: u32, cause: &'static [u8]) -> [Piece; 5]
+    ensures { joined (map piece_text result) ≡ faulty_line (codes "error 3 blif line ") line cause.now }
+{
+    three(b"error 3 blif line ", Piece::Number(line as u64), cause)
+}
+
+// A fault of the text of the pins at a line.
+fn pcf_line(line: u32, cause: &'static [u8]) -> [Piece; 5]
+    ensures { joined (map piece_text result) ≡ faulty_line (codes "error 4 pcf line ") line cause.now }
+{
+    three(b"error 4 pcf line ", Piece::Number(line as u64), cause)
+}
+
+// The line of a fault of the netlist's text.
+fn blif_pieces(fault: BlifFault) -> [Piece; 5]
+    ensures { joined (map piece_text result) ≡ blif_line fault }
+{
+    match fault {
+        BlifFault::NoModel { line } => blif_line(line, b" nomodel\n"),
+        BlifFault::SecondModel { line } => blif_line(line, b" secondmodel\n"),
+        BlifFault::UnknownDirective { line } => blif_line(line, b" unknowndirective\n"),
+        BlifFault::UnknownCell { line } => blif_line(line, b" unknowncell\n"),
+        BlifFault::UnknownPort { line } => blif_line(line, b" unknownport\n"),
+        BlifFault::PortTwice { line } => blif_line(line, b" porttwice\n"),
+        BlifFault::BadParam { line } => blif_line(line, b" badparam\n"),
+        BlifFault::BadCover { line } => blif_line(line, b" badcover\n"),
+        BlifFault::TooWide { line } => blif_line(line, b" toowide\n"),
+        BlifFault::NoEnd { line } => blif_line(line, b" noend\n"),
+        BlifFault::TooMany { line, .. } => blif_line(line, b" toomany\n"),
+        BlifFault::NoMemory => blif_line(0, b" nomemory\n"),
+    }
+}
+
+// The line of a fault of the text of the pins.
+fn pcf_pieces(fault: PcfFault) -> [Piece; 5]
+    ensures { joined (map piece_text result) ≡ pcf_line fault }
+{
+    match fault {
+        PcfFault::UnknownWord { line } => pcf_line(line, b" unknownword\n"),
+        PcfFault::Missing { line } => pcf_line(line, b" missing\n"),
+        PcfFault::Extra { line } => pcf_line(line, b" extra\n"),
+        PcfFault::NoMemory => pcf_line(0, b" nomemory\n"),
+    }
+}
+
 // The line of a refusal, and nothing where the work is done.
 fn line_pieces(cause: &Cause) -> [Piece; 5]
     ensures { joined (map piece_text result) ≡ line_of cause.now }
@@ -129,13 +176,8 @@ fn line_pieces(cause: &Cause) -> [Piece; 5]
     match cause {
         Cause::Good { .. } => one(b""),
         Cause::Usage => one(b"error 2 usage\n"),
-        Cause::BadBlif(BlifFault::NotYet { line }) => {
-            three(
-                b"error 3 blif line ",
-                Piece::Number(*line as u64),
-                b" notyet\n",
-            )
-        }
+        Cause::BadBlif(fault) => blif_pieces(*fault),
+        Cause::BadPcf(fault) => pcf_pieces(*fault),
         Cause::BadPin(PinFault::UnknownPin { line }) => {
             three(
                 b"error 7 pin unknownpin line ",

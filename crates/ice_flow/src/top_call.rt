@@ -2,7 +2,7 @@
 ghost use Rattle.std.specs.Prelude.{◌≡◌, true, map, string_bytes};
 ghost use Rattle.ice_desk.specs.Desk.{SameButSaying, SameTest};
 ghost use Rattle.ice_flow.specs.Command.{request_of, status_of, line_of};
-ghost use Rattle.ice_flow.specs.Rows.{Caused, UsageRow, OtherChipRow, NetlistRow, OtherPinsRow, PinRow, UnreachableRow, DoneRow, ReadFaultRow, WriteFaultRow, NoMemoryRow, TooLongRow, HeadlineRow, SaidRow, KeptRow, MayUse};
+ghost use Rattle.ice_flow.specs.Rows.{Caused, UsageRow, OtherChipRow, BlifRow, PcfRow, OtherNetlistRow, OtherPinsRow, PinRow, UnreachableRow, DoneRow, ReadFaultRow, WriteFaultRow, NoMemoryRow, TooLongRow, HeadlineRow, SaidRow, KeptRow, MayUse};
 
 use crate::build::build;
 use crate::cause::{Cause, Done};
@@ -19,6 +19,7 @@ fn status(cause: &Cause) -> u8
         Cause::Good { .. } => 0,
         Cause::Usage => 2,
         Cause::BadBlif(_) => 3,
+        Cause::BadPcf(_) => 4,
         Cause::BadPin(_) => 7,
         Cause::Unreachable { .. } => 9,
         Cause::ReadFault { .. } => 11,
@@ -68,7 +69,8 @@ pub fn run<D: Desk, G: Gate>(alloc: Global, words: &[String], desk: &mut D, _gat
     ensures headline { HeadlineRow (request_of (map string_bytes words.now)) (D.seen desk.old) (D.seen desk.new) result.status }
     ensures done { DoneRow (request_of (map string_bytes words.now)) (D.seen desk.old) result.cause }
     ensures usage { UsageRow (request_of (map string_bytes words.now)) result.cause }
-    ensures bad_blif { NetlistRow (request_of (map string_bytes words.now)) (D.seen desk.old) result.cause }
+    ensures bad_pcf { PcfRow (request_of (map string_bytes words.now)) (D.seen desk.old) result.cause }
+    ensures bad_blif { BlifRow (request_of (map string_bytes words.now)) (D.seen desk.old) result.cause }
     ensures bad_pin { PinRow (request_of (map string_bytes words.now)) (D.seen desk.old) result.cause }
     ensures unreachable { UnreachableRow (request_of (map string_bytes words.now)) (D.seen desk.old) result.cause }
     ensures read_fault { ReadFaultRow (request_of (map string_bytes words.now)) (D.seen desk.old) (D.seen desk.new) result.cause }
@@ -76,6 +78,7 @@ pub fn run<D: Desk, G: Gate>(alloc: Global, words: &[String], desk: &mut D, _gat
     ensures no_memory { NoMemoryRow (D.seen desk.old) (D.seen desk.new) result.cause }
     ensures too_long { TooLongRow (request_of (map string_bytes words.now)) (D.seen desk.old) (D.seen desk.new) result.cause }
     ensures not_built_chip { OtherChipRow (request_of (map string_bytes words.now)) (D.seen desk.old) result.cause }
+    ensures not_built_netlist { OtherNetlistRow (request_of (map string_bytes words.now)) (D.seen desk.old) result.cause }
     ensures not_built_pins { OtherPinsRow (request_of (map string_bytes words.now)) (D.seen desk.old) result.cause }
     ensures caused { Caused (request_of (map string_bytes words.now)) (D.seen desk.old) (D.seen desk.new) result.cause }
     ensures said { (D.seen desk.old).tells ≡ true → SaidRow (D.seen desk.old) (D.seen desk.new) (line_of result.cause) }
