@@ -4,3 +4,4 @@ pub mod Wirings
 pub mod OpenCells
 pub mod CoverSignals
 pub mod KindForms
+pub mod Limits

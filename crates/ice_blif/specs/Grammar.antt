@@ -1,5 +1,5 @@
 -- The netlist of a text, or the first fault in it.
-use Rattle.std.specs.Prelude.{ℕ, ◌+◌, ◌-◌, Bool, true, false, ◌||◌, ◌==◌, List, [], ◌∷◌, ◌++◌, length, take, drop, position, nat_le, nat_lt, slice_set, slice_index_or, Option, Some, None, Result, Ok, Err, if◌then◌else◌, codes, bytes_eq}
+use Rattle.std.specs.Prelude.{◌≡◌, ℕ, ◌+◌, ◌-◌, Bool, true, false, ◌||◌, ◌==◌, List, [], ◌∷◌, ◌++◌, length, take, drop, position, nat_le, nat_lt, slice_set, slice_index_or, Option, Some, None, Result, Ok, Err, if◌then◌else◌, codes, bytes_eq}
 use Rattle.ice_base.specs.Text.{lines, numbered}
 use Rattle.ice_base.specs.Comments.{begins_with}
 use Rattle.ice_base.specs.declared.number.SignalNo.{SignalNo}
@@ -187,9 +187,13 @@ within_limits line r =
     else (if nat_lt 1048576 (length r.netlist.cells + count_of r.last) then Err (TooMany line 1048576)
     else Ok r)
 
--- a line of the model; `.` is 46. What a line is over the limits is found after its other faults
-abbrev pub line_says : FilledLine → Reader → Result Reader BlifFault
-line_says l r = (if begins_with 46 l.first then directive_says l.number r l.first l.others else row_or_fault l.number r l.first l.others) >>= within_limits l.number
+-- no limits
+abbrev pub no_limits : ℕ → Reader → Result Reader BlifFault
+no_limits line r = Ok r
+
+-- a line of the model; `.` is 46. That a line goes beyond the limits is found after its other faults
+abbrev pub line_says : (ℕ → Reader → Result Reader BlifFault) → FilledLine → Reader → Result Reader BlifFault
+line_says limits l r = (if begins_with 46 l.first then directive_says l.number r l.first l.others else row_or_fault l.number r l.first l.others) >>= limits l.number
 
 -- ---- the text
 -- behind `.end` only a second `.model` is a fault
@@ -202,19 +206,27 @@ abbrev pub ended : Reader → List FilledLine → Result NetlistData BlifFault
 ended r ls = after_end ls >>= (λ u. Ok (finished r.netlist r.last))
 
 -- the lines behind `.model`; `last` is the number of the text's last line
-abbrev pub model_says : ℕ → Reader → List FilledLine → Result NetlistData BlifFault
-model_says last r [] = Err (NoEnd last)
-model_says last r (l ∷ ls) = if bytes_eq l.first (codes ".end") then ended r ls else line_says l r >>= (λ s. model_says last s ls)
+abbrev pub model_says : (ℕ → Reader → Result Reader BlifFault) → ℕ → Reader → List FilledLine → Result NetlistData BlifFault
+model_says limits last r [] = Err (NoEnd last)
+model_says limits last r (l ∷ ls) =
+    if bytes_eq l.first (codes ".end") then ended r ls else line_says limits l r >>= (λ s. model_says limits last s ls)
 
 abbrev pub empty_reader : Reader
 empty_reader = record { netlist = empty_netlist; last = Nothing; rows = false }
 
 -- the lines of a text: `.model` comes first
-abbrev pub lines_say : ℕ → List FilledLine → Result NetlistData BlifFault
-lines_say last [] = Err (NoModel 0)
-lines_say last (l ∷ ls) = if bytes_eq l.first (codes ".model") then model_says last empty_reader ls else Err (NoModel l.number)
+abbrev pub lines_say : (ℕ → Reader → Result Reader BlifFault) → ℕ → List FilledLine → Result NetlistData BlifFault
+lines_say limits last [] = Err (NoModel 0)
+lines_say limits last (l ∷ ls) = if bytes_eq l.first (codes ".model") then model_says limits last empty_reader ls else Err (NoModel l.number)
+
+abbrev pub text_says : (ℕ → Reader → Result Reader BlifFault) → List ℕ → Result NetlistData BlifFault
+text_says limits text = lines_say limits (last_number 0 (numbered 1 (lines text))) (filled (joined (numbered 1 (lines text))))
+
+-- the text has this netlist, whatever its size
+abbrev pub HasNetlist : List ℕ → NetlistData → Type 0
+HasNetlist text n = text_says no_limits text ≡ Ok n
 
 -- the netlist of a text, or its first fault: of several lines with one the first, and of a line with several the one that comes
 -- first in the order of the faults
 abbrev pub netlist_of : List ℕ → Result NetlistData BlifFault
-netlist_of text = lines_say (last_number 0 (numbered 1 (lines text))) (filled (joined (numbered 1 (lines text))))
+netlist_of text = text_says within_limits text

@@ -145,7 +145,7 @@ pub(crate) fn line<'a>(
     words: &mut Cursor<'a>,
 ) -> Result<(), BlifFault>
     requires { IsReady 1048576 reader.old }
-    ensures reader { Gives (λ _. reader.new) result (line_says (record { number = first.entry.line; first = first.entry.word.now; others = words_left words.old }) reader.old) }
+    ensures reader { Gives (λ _. reader.new) result (line_says within_limits (record { number = first.entry.line; first = first.entry.word.now; others = words_left words.old }) reader.old) }
     ensures ready { OnOk result (IsReady 1048576 reader.new) }
     ensures within { OnOk result (IsWithin reader.new) }
     ensures lines { lines_left words.new ≡ lines_left words.old }

@@ -3,7 +3,7 @@ ghost use Rattle.std.specs.Prelude.{◌≡◌, IfOk};
 ghost use Rattle.ice_base.specs.Text.{lines, numbered};
 ghost use Rattle.ice_blif.specs.Answers.{Gives};
 ghost use Rattle.ice_blif.specs.Cells.{IsReady, IsWithin, IsWithinLimits};
-ghost use Rattle.ice_blif.specs.Grammar.{after_end, ended, model_says, empty_reader, netlist_of};
+ghost use Rattle.ice_blif.specs.Grammar.{after_end, ended, model_says, empty_reader, within_limits, netlist_of, HasNetlist};
 ghost use Rattle.ice_blif.specs.JoinedLines.{filled, lines_left, last_number};
 
 use crate::BlifFault;
@@ -41,7 +41,7 @@ fn ended(reader: Reader, words: &mut Cursor<'_>) -> Result<Netlist, BlifFault>
 
 // Reads the lines behind `.model`, of a text whose last line has this number.
 fn model(alloc: Global, text: &[u8], words: &mut Cursor<'_>) -> Result<Netlist, BlifFault>
-    ensures netlist { Gives (λ n. n) result (model_says (last_number 0 (numbered 1 (lines text.now))) empty_reader (filled (lines_left words.old))) }
+    ensures netlist { Gives (λ n. n) result (model_says within_limits (last_number 0 (numbered 1 (lines text.now))) empty_reader (filled (lines_left words.old))) }
     ensures limits { IfOk result IsWithinLimits }
 {
     let mut reader = Reader {
@@ -63,8 +63,10 @@ fn model(alloc: Global, text: &[u8], words: &mut Cursor<'_>) -> Result<Netlist, 
 /// The netlist of a text in the Berkeley logic interchange format, or the first fault in it: of several lines with a fault
 /// the first, and of a line with several faults the one that comes first in the order of `BlifFault`. Want of memory may
 /// come before any of them. A netlist has at most 65,534 signals and 1,048,576 cells.
+#[tactic(auto, using(crate::proofs::Limits::result_has))]
 pub fn read_blif(alloc: Global, text: &[u8]) -> Result<Netlist, BlifFault>
     ensures netlist { Gives (λ n. n) result (netlist_of text.now) }
+    ensures has { IfOk result (HasNetlist text.now) }
     ensures limits { IfOk result IsWithinLimits }
 {
     let mut words = Cursor::new(text);

@@ -63,3 +63,9 @@ new_names name keys now key is inserted =
 
 pub new_within : (now : List (Vec ℕ Global)) (n : ℕ) → n < length now → n < length (texts now)
 new_within now n lt = rw (texts_length now) lt
+
+-- ---- a name that is sought
+pub place_among_texts : (name : List ℕ) (keys : List (Vec ℕ Global)) → position (bytes_eq name) (texts keys) ≡ position (λ key. bytes_eq name key.items) keys
+place_among_texts name keys =
+    ap (λ n. if nat_lt n (length (texts keys)) then Some n else None) (place_texts name keys)
+    ∙ ap (λ long. if nat_lt (position_or_len (has_name name) keys) long then Some (position_or_len (has_name name) keys) else None) (texts_length keys)

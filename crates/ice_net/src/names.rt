@@ -1,5 +1,5 @@
 //! Names in the order in which they are first met.
-ghost use Rattle.std.specs.Prelude.{◌≡◌, ◌<◌, ◌≤◌, length, IfOk, OnOk, OnErr};
+ghost use Rattle.std.specs.Prelude.{◌≡◌, ◌<◌, ◌≤◌, length, position, bytes_eq, IfOk, IfSome, OnOk, OnErr};
 ghost use Rattle.ice_net.specs.NetlistData.{texts, with_name, number_of_name};
 
 use ice_base::NoMemory;
@@ -24,4 +24,13 @@ pub(crate) fn number_of(
     let key = Vec::from_slice(alloc, name)?;
     let (number, _) = names.insert_full(key)?;
     Ok(number)
+}
+
+// The number of a name that is there.
+#[tactic(auto, using(crate::proofs::NameLists::place_among_texts))]
+pub(crate) fn find(names: &IndexSet<Vec<u8>>, name: &[u8]) -> Option<usize>
+    ensures place { result ≡ position (bytes_eq name.now) (texts names.now.keys) }
+    ensures within { IfSome result (λ n. n < length (texts names.now.keys)) }
+{
+    names.get_index_of(name)
 }

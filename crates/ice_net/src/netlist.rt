@@ -1,9 +1,9 @@
 //! Netlists as they are built.
-ghost use Rattle.std.specs.Prelude.{◌≡◌, ◌↔◌, ◌++◌, ◌∷◌, [], ◌<◌, ◌≤◌, length, slice_index_or, Some, None, IfOk, IfSome, OnOk, OnErr, IsTrue};
+ghost use Rattle.std.specs.Prelude.{◌≡◌, ◌↔◌, ◌++◌, ◌∷◌, [], ◌<◌, ◌≤◌, length, slice_index_or, Some, None, option_map, position, bytes_eq, IfOk, IfSome, OnOk, OnErr, IsTrue};
 ghost use Rattle.ice_net.specs.NetlistData.{empty_netlist, with_name, number_of_name, with_port, port_at, way_of};
 ghost use Rattle.ice_net.specs.Formed.{IsFormed, IsFormedCell};
 
-use crate::names::number_of;
+use crate::names::{find, number_of};
 use crate::ports::{add_port, way_at};
 use crate::{Cell, Port, Way};
 use ice_base::{NoMemory, SignalNo};
@@ -86,6 +86,15 @@ impl Netlist {
     {
         let number = number_of(alloc, &mut self.names, name)?;
         Ok(SignalNo(number as u32))
+    }
+
+    /// The signal of a name; None exactly where no signal has it. It takes no memory.
+    pub fn find(&self, name: &[u8]) -> Option<SignalNo>
+        ensures place { option_map (λ signal. signal.0) result ≡ position (bytes_eq name.now) self.now.names }
+        ensures within { IfSome result (λ signal. signal.0 < length self.now.names) }
+    {
+        let number = find(&self.names, name)?;
+        Some(SignalNo(number as u32))
     }
 
     /// The name of a signal. It takes no memory.

@@ -1,0 +1,68 @@
+-- The limits of a netlist text, apart from the rest of its grammar.
+use Rattle.std.proofs.Common.{◌≡◌, ℕ, ◌+◌, ◌<◌, ◌≤◌, Bool, true, false, List, [], ◌∷◌, length, nat_lt, Result, Ok, Err, IfOk, if◌then◌else◌, codes, bytes_eq, refl, sym, ap, ◌∙◌, arith}
+use Rattle.ice_net.specs.NetlistData.{NetlistData}
+use Rattle.ice_blif.specs.declared.fault.BlifFault.{BlifFault}
+use Rattle.ice_blif.specs.declared.fault.BlifFault.TheVariants.{TooMany, NoModel, NoEnd}
+use Rattle.ice_blif.specs.declared.reader.Reader.{Reader}
+use Rattle.ice_base.specs.Text.{lines, numbered}
+use Rattle.ice_blif.specs.JoinedLines.{FilledLine, joined, filled, last_number}
+use Rattle.ice_blif.specs.Answers.{Gives}
+use Rattle.ice_blif.specs.Cells.{◌>>=◌, count_of}
+use Rattle.ice_blif.specs.Grammar.{within_limits, no_limits, line_says, model_says, lines_say, text_says, netlist_of, HasNetlist, ended, empty_reader}
+
+-- what a value that goes on was made of
+pub record Bound {A B : Type 0} (x : Result A BlifFault) (f : A → Result B BlifFault) (b : B) : Type 0 where
+  pub value : A
+  pub made : x ≡ Ok value
+  pub goes_on : f value ≡ Ok b
+
+bound : {A B : Type 0} (x : Result A BlifFault) (f : A → Result B BlifFault) (b : B) → (x >>= f) ≡ Ok b → Bound x f b
+bound (Ok a) f b h = record { value = a; made = refl; goes_on = h }
+bound (Err e) f b h = absurd (cc)
+
+
+within_by : (line : ℕ) (r s : Reader) (b c : Bool)
+    → (let said : Result Reader BlifFault = if b then Err (TooMany line 65534) else (if c then Err (TooMany line 1048576) else Ok r) in said) ≡ Ok s → r ≡ s
+within_by line r s true c h = absurd (cc)
+within_by line r s false true h = absurd (cc)
+within_by line r s false false h = cc
+
+within_same : (line : ℕ) (r s : Reader) → within_limits line r ≡ Ok s → r ≡ s
+within_same line r s h = within_by line r s (nat_lt 65534 (length r.netlist.names)) (nat_lt 1048576 (length r.netlist.cells + count_of r.last)) h
+
+-- a line within the limits says the same without them
+line_has : (l : FilledLine) (r s : Reader) → line_says within_limits l r ≡ Ok s → line_says no_limits l r ≡ Ok s
+line_has l r s h =
+    let parts = bound _ (within_limits l.number) s h in
+    ap (λ x. x >>= no_limits l.number) parts.made ∙ ap Ok (within_same l.number parts.value s parts.goes_on)
+
+model_step : (last : ℕ) (l : FilledLine) (ls : List FilledLine) (r : Reader) (n : NetlistData) (b : Bool)
+    → ((s : Reader) → model_says within_limits last s ls ≡ Ok n → model_says no_limits last s ls ≡ Ok n)
+    → (if b then ended r ls else line_says within_limits l r >>= (λ s. model_says within_limits last s ls)) ≡ Ok n
+    → (if b then ended r ls else line_says no_limits l r >>= (λ s. model_says no_limits last s ls)) ≡ Ok n
+model_step last l ls r n true rest h = h
+model_step last l ls r n false rest h =
+    let parts = bound (line_says within_limits l r) (λ s. model_says within_limits last s ls) n h in
+    ap (λ x. x >>= (λ s. model_says no_limits last s ls)) (line_has l r parts.value parts.made) ∙ rest parts.value parts.goes_on
+
+model_has : (last : ℕ) (ls : List FilledLine) (r : Reader) (n : NetlistData) → model_says within_limits last r ls ≡ Ok n → model_says no_limits last r ls ≡ Ok n
+model_has last [] r n h = absurd (cc)
+model_has last (l ∷ ls) r n h = model_step last l ls r n (bytes_eq l.first (codes ".end")) (λ s. model_has last ls s n) h
+
+lines_step : (last : ℕ) (l : FilledLine) (ls : List FilledLine) (n : NetlistData) (b : Bool)
+    → (if b then model_says within_limits last empty_reader ls else Err (NoModel l.number)) ≡ Ok n
+    → (if b then model_says no_limits last empty_reader ls else Err (NoModel l.number)) ≡ Ok n
+lines_step last l ls n true h = model_has last ls empty_reader n h
+lines_step last l ls n false h = absurd (cc)
+
+lines_has : (last : ℕ) (ls : List FilledLine) (n : NetlistData) → lines_say within_limits last ls ≡ Ok n → lines_say no_limits last ls ≡ Ok n
+lines_has last [] n h = absurd (cc)
+lines_has last (l ∷ ls) n h = lines_step last l ls n (bytes_eq l.first (codes ".model")) h
+
+-- a text with a netlist within the limits has that netlist
+pub within_has : (text : List ℕ) (n : NetlistData) → netlist_of text ≡ Ok n → HasNetlist text n
+within_has text n h = lines_has (last_number 0 (numbered 1 (lines text))) (filled (joined (numbered 1 (lines text)))) n h
+
+pub result_has : (text : List ℕ) (result : Result NetlistData BlifFault) → Gives (λ n. n) result (netlist_of text) → IfOk result (HasNetlist text)
+result_has text (Ok n) h = within_has text n h
+result_has text (Err e) h = tt
