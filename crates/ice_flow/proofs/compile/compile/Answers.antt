@@ -1,48 +1,57 @@
-use Rattle.std.proofs.Common.{List, [], ◌∷◌, ap, sym, ◌∙◌, subst}
-use Rattle.ice_flow.specs.Database.{Pad}
-use Rattle.ice_flow.specs.FirstForm.{left_pad, right_pad}
-use Rattle.ice_flow.specs.NetlistText.{buffer_netlist}
-use Rattle.ice_flow.specs.BufferForm.{buffer_plan}
-use Rattle.ice_flow.specs.Views.{groups_view, pad_view, AreCopies}
-use Rattle.ice_flow.specs.declared.route.RouteRow.{RouteRow}
-use Rattle.ice_flow.specs.Writing.{AreWritable}
-use Rattle.ice_flow.proofs.Compiling.{pins_refused, pins_given, chosen_is_tiny, sink_apart, route_writable, route_built, ports_of_form}
+use Rattle.std.proofs.Common.{◌≡◌, List, subst, sym}
+use Rattle.std.specs.Prelude.{Err, Ok, IfOk, IfErr}
+use Rattle.std.proofs.lemmas.Result.{IfOk-weaker, IfErr-weaker}
+use Rattle.ice_pcf.specs.declared.constraint.Constraint.{Constraint}
+use Rattle.ice_flow.specs.declared.chip.Group.{Group}
+use Rattle.ice_flow.specs.FirstForm.{database_with}
+use Rattle.ice_flow.specs.PinPads.{pads_in}
+use Rattle.ice_flow.specs.Views.{groups_view, pad_view}
+use Rattle.ice_flow.specs.Readers.{pads_answer}
+use Rattle.ice_flow.specs.Built.{IsBuilt, IsRefusal, IsLaidOut, IsLayoutRefusal}
+use Rattle.ice_flow.proofs.Compiling.{HasRead, pads_given, pads_refused, laid_out_built, layout_refused}
 use Rattle.ice_flow.proofs.compile.compile.Goals as goal
 
-pub returns-in-Err-read_pins-clause-refused : goal.returns-in-Err-read_pins-clause-refused
-returns-in-Err-read_pins-clause-refused c =
-    let groups = groups_view c.in-Ok.groups.items in
-    let buffer = c.in-Ok-read_netlist.buffer in
-    pins_refused c.args.package.now c.args.chip_text.now c.args.pins_text.now c.args.netlist_text.now buffer.input.now buffer.output.now groups c.in-Err-read_pins.stop c.pins_refusal.result
-    c.in-Ok.ensures.groups c.in-Ok-read_netlist.ensures (c.in-Err-read_pins.ensures.pads groups) c.pins_refusal.ensures
+pub returns-in-Err-port_pads-clause-refused : goal.returns-in-Err-port_pads-clause-refused
+returns-in-Err-port_pads-clause-refused c =
+    let groups = groups_view c.in-Ok-read_chip.groups.items in
+    let buffer = c.in-Some.buffer in
+    pads_refused c.args.package.now c.args.chip_text.now c.args.pins_text.now c.args.netlist_text.now buffer.input.now buffer.output.now c.in-Ok.pcf c.in-Ok-read_blif.netlist groups c.in-Err-port_pads.stop c.pins_refusal.result
+    c.in-Ok.ensures c.in-Ok-read_blif.ensures.netlist c.in-Ok-read_chip.ensures.groups (sym c.in-Some.ensures)
+    (subst (λ (cs : List Constraint). pads_in (database_with groups) c.args.package.now buffer.input.now buffer.output.now cs ≡ pads_answer (Err c.in-Err-port_pads.stop)) c.constraints.ensures (c.in-Err-port_pads.ensures.pads groups))
+    c.pins_refusal.ensures
 
-pub returns-in-Ok-None-clause-refused : goal.returns-in-Ok-None-clause-refused
-returns-in-Ok-None-clause-refused c =
-    let groups = groups_view c.in-Ok.groups.items in
-    let buffer = c.in-Ok-read_netlist.buffer in
-    let pads = c.in-Ok-read_pins.pads in
-    sink_apart c.args.package.now c.args.chip_text.now c.args.pins_text.now c.args.netlist_text.now buffer.input.now buffer.output.now groups c.unreachable_sink.result
-    c.in-Ok.ensures.groups c.in-Ok-read_netlist.ensures
-    (pins_given groups c.args.package.now c.args.pins_text.now buffer.input.now buffer.output.now (pad_view pads.input) (pad_view pads.output) (c.in-Ok-read_pins.ensures.pads groups) c.in-Ok-read_pins.ensures.form.0 c.in-Ok-read_pins.ensures.form.1)
-    (rw (c.in-Ok-None.field-0-is, c.deref.ensures.value) at c.in-Ok-None.ensures) c.unreachable_sink.ensures
+pub returns-clause-built : goal.returns-clause-built
+returns-clause-built c =
+    let groups = groups_view c.in-Ok-read_chip.groups.items in
+    let buffer = c.in-Some.buffer in
+    let pads = c.in-Ok-port_pads.pads in
+    let given = subst (λ (cs : List Constraint). pads_in (database_with groups) c.args.package.now buffer.input.now buffer.output.now cs ≡ pads_answer (Ok pads)) c.constraints.ensures (c.in-Ok-port_pads.ensures.pads groups) in
+    let read : HasRead c.args.package.now c.args.chip_text.now c.args.pins_text.now c.args.netlist_text.now buffer.input.now buffer.output.now c.in-Ok.pcf c.in-Ok-read_blif.netlist groups = record {
+      pcf = c.in-Ok.ensures;
+      blif = c.in-Ok-read_blif.ensures.netlist;
+      groups_are = c.in-Ok-read_chip.ensures.groups;
+      form = c.in-Ok-read_chip.ensures.form;
+      buffer = sym c.in-Some.ensures;
+      pads = pads_given groups c.args.package.now buffer.input.now buffer.output.now c.in-Ok.pcf (pad_view pads.input) (pad_view pads.output) given c.in-Ok-port_pads.ensures.form.0 c.in-Ok-port_pads.ensures.form.1;
+    } in
+    IfOk-weaker c.lay_out.result (λ text. IsLaidOut groups text.items) (λ text. IsBuilt c.args.package.now c.args.chip_text.now c.args.pins_text.now c.args.netlist_text.now text.items)
+    (λ text laid. laid_out_built c.args.package.now c.args.chip_text.now c.args.pins_text.now c.args.netlist_text.now buffer.input.now buffer.output.now text.items c.in-Ok.pcf c.in-Ok-read_blif.netlist groups read laid)
+    (subst (λ (gs : List Group). IfOk c.lay_out.result (λ text. IsLaidOut (groups_view gs) text.items)) c.deref.ensures.value c.lay_out.ensures.laid)
 
-pub write_bits-requires : goal.write_bits-requires
-write_bits-requires c =
-    let groups = groups_view c.in-Ok.groups.items in
-    let route = rw (c.in-Ok-Some.field-0-is, c.deref.ensures.value) at c.in-Ok-Some.ensures in
-    subst (λ (xs : List RouteRow). AreWritable xs) (sym c.deref-2.ensures.value) (route_writable groups 0 2 c.in-Ok-Some.path.items route.0 c.in-Ok.ensures.form route.1 route.2)
-
-pub returns-in-Ok-write_bits-clause-built : goal.returns-in-Ok-write_bits-clause-built
-returns-in-Ok-write_bits-clause-built c =
-    let groups = groups_view c.in-Ok.groups.items in
-    let buffer = c.in-Ok-read_netlist.buffer in
-    let pads = c.in-Ok-read_pins.pads in
-    let route = rw (c.in-Ok-Some.field-0-is, c.deref.ensures.value) at c.in-Ok-Some.ensures in
-    let copies = subst (λ (xs : List RouteRow). AreCopies xs route.0) (sym c.deref-2.ensures.value) route.1 in
-    let left = c.in-Ok-read_pins.ensures.form.0 in
-    let right = c.in-Ok-read_pins.ensures.form.1 in
-    let given = pins_given groups c.args.package.now c.args.pins_text.now buffer.input.now buffer.output.now (pad_view pads.input) (pad_view pads.output) (c.in-Ok-read_pins.ensures.pads groups) c.in-Ok-read_pins.ensures.form.0 c.in-Ok-read_pins.ensures.form.1 in
-    route_built c.args.package.now c.args.chip_text.now c.args.pins_text.now c.args.netlist_text.now c.in-Ok-write_bits.text.items buffer.input.now buffer.output.now groups route.0
-    c.in-Ok.ensures.groups c.in-Ok.ensures.form c.in-Ok-read_netlist.ensures (chosen_is_tiny groups c.args.package.now c.args.pins_text.now (buffer_netlist buffer.input.now buffer.output.now) (left_pad ∷ right_pad ∷ []) given) given route.2 route.3
-    (c.in-Ok-write_bits.ensures groups (buffer_plan left_pad right_pad route.0) copies (ap (λ (p : Pad). p ∷ []) (sym left))
-    (ports_of_form (pad_view pads.input) (pad_view pads.output) left right ∙ sym c.port_pads-ports.ensures))
+pub returns-clause-refused : goal.returns-clause-refused
+returns-clause-refused c =
+    let groups = groups_view c.in-Ok-read_chip.groups.items in
+    let buffer = c.in-Some.buffer in
+    let pads = c.in-Ok-port_pads.pads in
+    let given = subst (λ (cs : List Constraint). pads_in (database_with groups) c.args.package.now buffer.input.now buffer.output.now cs ≡ pads_answer (Ok pads)) c.constraints.ensures (c.in-Ok-port_pads.ensures.pads groups) in
+    let read : HasRead c.args.package.now c.args.chip_text.now c.args.pins_text.now c.args.netlist_text.now buffer.input.now buffer.output.now c.in-Ok.pcf c.in-Ok-read_blif.netlist groups = record {
+      pcf = c.in-Ok.ensures;
+      blif = c.in-Ok-read_blif.ensures.netlist;
+      groups_are = c.in-Ok-read_chip.ensures.groups;
+      form = c.in-Ok-read_chip.ensures.form;
+      buffer = sym c.in-Some.ensures;
+      pads = pads_given groups c.args.package.now buffer.input.now buffer.output.now c.in-Ok.pcf (pad_view pads.input) (pad_view pads.output) given c.in-Ok-port_pads.ensures.form.0 c.in-Ok-port_pads.ensures.form.1;
+    } in
+    IfErr-weaker c.lay_out.result (λ cause. IsLayoutRefusal groups cause) (λ cause. IsRefusal c.args.package.now c.args.chip_text.now c.args.pins_text.now c.args.netlist_text.now cause)
+    (λ cause refused. layout_refused c.args.package.now c.args.chip_text.now c.args.pins_text.now c.args.netlist_text.now buffer.input.now buffer.output.now c.in-Ok.pcf c.in-Ok-read_blif.netlist groups cause read refused)
+    (subst (λ (gs : List Group). IfErr c.lay_out.result (λ cause. IsLayoutRefusal (groups_view gs) cause)) c.deref.ensures.value c.lay_out.ensures.refused)

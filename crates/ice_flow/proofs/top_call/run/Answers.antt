@@ -1,6 +1,6 @@
 use Rattle.std.proofs.Common.{map, string_bytes}
 use Rattle.ice_flow.specs.Command.{request_of}
-use Rattle.ice_flow.proofs.RowLaws.{headline_row, done_row, usage_row, netlist_row, pin_row, unreachable_row, read_fault_row, write_fault_row, no_memory_row, too_long_row, other_chip_row, other_pins_row}
+use Rattle.ice_flow.proofs.RowLaws.{headline_row, done_row, usage_row, pcf_row, blif_row, pin_row, unreachable_row, read_fault_row, write_fault_row, no_memory_row, too_long_row, other_chip_row, other_netlist_row, other_pins_row}
 use Rattle.ice_flow.proofs.top_call.run.Goals as goal
 
 pub returns-clause-headline : goal.returns-clause-headline
@@ -12,8 +12,11 @@ returns-clause-done g c = done_row (request_of (map string_bytes c.args.words.no
 pub returns-clause-usage : goal.returns-clause-usage
 returns-clause-usage g c = usage_row (request_of (map string_bytes c.args.words.now)) (g.D.Desk.seen c.args.desk.now) (g.D.Desk.seen c.answer.new.desk) c.answer.result.cause c.answer.ensures.caused
 
+pub returns-clause-bad_pcf : goal.returns-clause-bad_pcf
+returns-clause-bad_pcf g c = pcf_row (request_of (map string_bytes c.args.words.now)) (g.D.Desk.seen c.args.desk.now) (g.D.Desk.seen c.answer.new.desk) c.answer.result.cause c.answer.ensures.caused
+
 pub returns-clause-bad_blif : goal.returns-clause-bad_blif
-returns-clause-bad_blif g c = netlist_row (request_of (map string_bytes c.args.words.now)) (g.D.Desk.seen c.args.desk.now) (g.D.Desk.seen c.answer.new.desk) c.answer.result.cause c.answer.ensures.caused
+returns-clause-bad_blif g c = blif_row (request_of (map string_bytes c.args.words.now)) (g.D.Desk.seen c.args.desk.now) (g.D.Desk.seen c.answer.new.desk) c.answer.result.cause c.answer.ensures.caused
 
 pub returns-clause-bad_pin : goal.returns-clause-bad_pin
 returns-clause-bad_pin g c = pin_row (request_of (map string_bytes c.args.words.now)) (g.D.Desk.seen c.args.desk.now) (g.D.Desk.seen c.answer.new.desk) c.answer.result.cause c.answer.ensures.caused
@@ -35,6 +38,9 @@ returns-clause-too_long g c = too_long_row (request_of (map string_bytes c.args.
 
 pub returns-clause-not_built_chip : goal.returns-clause-not_built_chip
 returns-clause-not_built_chip g c = other_chip_row (request_of (map string_bytes c.args.words.now)) (g.D.Desk.seen c.args.desk.now) (g.D.Desk.seen c.answer.new.desk) c.answer.result.cause c.answer.ensures.caused
+
+pub returns-clause-not_built_netlist : goal.returns-clause-not_built_netlist
+returns-clause-not_built_netlist g c = other_netlist_row (request_of (map string_bytes c.args.words.now)) (g.D.Desk.seen c.args.desk.now) (g.D.Desk.seen c.answer.new.desk) c.answer.result.cause c.answer.ensures.caused
 
 pub returns-clause-not_built_pins : goal.returns-clause-not_built_pins
 returns-clause-not_built_pins g c = other_pins_row (request_of (map string_bytes c.args.words.now)) (g.D.Desk.seen c.args.desk.now) (g.D.Desk.seen c.answer.new.desk) c.answer.result.cause c.answer.ensures.caused
