@@ -1,10 +1,12 @@
 //! Cases of texts of the form that is built so far, and of others.
 use crate::chip::Group;
 use crate::chip_text::{ChipStop, read_chip};
-use crate::netlist_text::{BlifFault, Buffer, read_netlist};
+use crate::buffer::{Buffer, buffer_of};
 use crate::pad::Pad;
-use crate::pins_text::{PinsStop, read_pins};
+use crate::pin_pads::{PinsStop, PortPads, port_pads};
 use ice_base::{BitAt, TileAt, WireNo};
+use ice_blif::read_blif;
+use ice_pcf::read_pcf;
 use std::alloc::Global;
 use std::process::Abort;
 
@@ -174,137 +176,99 @@ fn another_header_is_refused(rt: HostRuntime) {
 }
 
 #[test]
-fn netlists_of_a_buffer_are_read(rt: HostRuntime) {
+fn netlists_of_a_buffer_are_found(rt: HostRuntime) {
     for text in [
         b".model top\n.inputs led\n.outputs y\n.names led y\n1 1\n.end\n".as_slice(),
-        b"\n\t.model  top\r\n\n.inputs led \n.outputs y\n .names led\ty\n1  1\n\n.end",
+        b"# made by hand\n\t.model  top\r\n\n.inputs \\\nled \n.outputs y\n .names led\ty\n1  1 # one\n\n.end",
     ] {
-        let buffer = read_netlist(text).expect(&rt, "a buffer");
+        let netlist = read_blif(rt.alloc(), text).expect(&rt, "a netlist");
+        let buffer = buffer_of(&netlist).expect(&rt, "a buffer");
         assert_eq!(rt; buffer.input, b"led".as_slice());
         assert_eq!(rt; buffer.output, b"y".as_slice());
     }
 }
 
 #[test]
-fn the_first_line_of_another_form_is_named(rt: HostRuntime) {
-    for (text, line) in [
-        (b"".as_slice(), 0),
-        (b"\n \n", 2),
-        (b".model\n.inputs a\n", 1),
-        (b".model top top\n.inputs a\n", 1),
-        (b".model top\\\n.inputs a\n", 1),
-        (b".model #top\n.inputs a\n", 1),
-        (b".model top\n# a comment\n.inputs a\n", 2),
-        (b"\n.model top\n\n.inputs a b\n.outputs y\n", 4),
-        (b".model top\n.inputs a\\ \n.outputs y\n", 2),
-        (b".model top\n.inputs a\n.outputs a\n.names a a\n", 3),
-        (b".model top\n.inputs a\n.outputs $undef\n", 3),
-        (b".model top\n.inputs a\n.outputs y\n.names y a\n1 1\n", 4),
-        (
-            b".model top\n.inputs a\n.outputs y\n.names a y\n0 1\n.end\n",
-            5,
-        ),
-        (
-            b".model top\n.inputs a\n.outputs y\n.names a y\n1 1 # one\n",
-            5,
-        ),
-        (
-            b".model top\n.inputs a\n.outputs y\n.names a y\n1 1\n.end x\n",
-            6,
-        ),
-        (b".model top\n.inputs a\n.outputs y\n.names a y\n1 1\n\n", 6),
-        (
-            b".model top\n.inputs a\n.outputs y\n.names a y\n1 1\n.end\n\n.end\n",
-            8,
-        ),
-    ] {
-        assert_eq!(rt;
-            read_netlist(text).err(),
-            Some(BlifFault::NotYet { line }),
-            "of {text:?}"
-        );
-    }
-}
-
-// Fails unless the constraints are refused so, for a buffer from `a` to `y`.
-fn expect_stop(rt: &impl Abort, text: &[u8], package: &[u8], stop: PinsStop) {
-    let buffer = Buffer {
-        input: b"a",
-        output: b"y",
-    };
-    assert_eq!(rt;
-        read_pins(text, package, &buffer).err(),
-        Some(stop),
-        "of {text:?}"
-    );
-}
-
-#[test]
-fn pins_are_those_of_the_ports(rt: HostRuntime) {
-    let left = Pad {
-        tile: TileAt { x: 0, y: 0 },
-        pio: 0,
-    };
-    let right = Pad {
-        tile: TileAt { x: 1, y: 0 },
-        pio: 0,
-    };
-    let buffer = Buffer {
-        input: b"a",
-        output: b"y",
-    };
-    let pads = read_pins(
-        b"# pins\n set_io a 1 # left\n\nset_io\ty 2\r\n",
-        b"tiny",
-        &buffer,
-    )
-    .expect(&rt, "pads");
-    assert_eq!(rt; pads.input, left);
-    assert_eq!(rt; pads.output, right);
-    expect_stop(
-        &rt,
-        b"# pins\nset_io a 1\nset_io y 3\n",
-        b"tiny",
-        PinsStop::UnknownPin { line: 3 },
-    );
-    expect_stop(
-        &rt,
-        b"set_io a 01\nset_io y 3\n",
-        b"tiny",
-        PinsStop::UnknownPin { line: 1 },
-    );
-    expect_stop(
-        &rt,
-        b"set_io a 1\nset_io y 2\n",
-        b"tq144",
-        PinsStop::OtherForm,
-    );
-    expect_stop(&rt, b"set_io a 3\nset_io y 2\n", b"", PinsStop::OtherForm);
-}
-
-#[test]
-fn pins_of_another_form_are_refused(rt: HostRuntime) {
+fn other_netlists_are_no_buffers(rt: HostRuntime) {
     for text in [
-        b"".as_slice(),
-        b"set_io a 1\n",
-        b"set_io a 1\nset_io y 1\n",
-        b"set_io a 2\nset_io y 1\n",
-        b"set_io a 2\nset_io y 3\n",
-        b"set_io y 2\nset_io a 1\n",
-        b"set_io a 1 3\nset_io y 2\n",
-        b"set_io -nowarn a 1\nset_io y 2\n",
-        b"set_frequency a 1\nset_io y 2\n",
-        b"set_io a 1\nset_io y\n",
-        b"set_io a 1\nset_io y 2\nset_frequency a 12\n",
+        b".model top\n.inputs a\n.outputs y\n.names a y\n0 1\n.end\n".as_slice(),
+        b".model top\n.inputs a\n.outputs y\n.names y\n1\n.end\n",
+        b".model top\n.inputs a\n.outputs y\n.names y a\n1 1\n.end\n",
+        b".model top\n.inputs a b\n.outputs y\n.names a b y\n11 1\n.end\n",
+        b".model top\n.inputs a\n.outputs y z\n.names a y\n1 1\n.names a z\n1 1\n.end\n",
+        b".model top\n.outputs y\n.inputs a\n.names a y\n1 1\n.end\n",
+        b".model top\n.inputs a\n.outputs y\n.end\n",
     ] {
-        expect_stop(&rt, text, b"tiny", PinsStop::OtherForm);
+        let netlist = read_blif(rt.alloc(), text).expect(&rt, "a netlist");
+        assert!(rt; buffer_of(&netlist).is_none(), "of {text:?}");
     }
-    let option = Buffer {
-        input: b"-a",
+}
+
+// The pads that constraints give a buffer from `a` to `y`.
+fn pads_of(
+    rt: &impl Abort,
+    alloc: Global,
+    text: &[u8],
+    package: &[u8],
+) -> Result<PortPads, PinsStop> {
+    let buffer = Buffer {
+        input: b"a",
         output: b"y",
     };
-    assert_eq!(rt;
-        read_pins(b"set_io -a 1\nset_io y 2\n", b"tiny", &option).err(),
-        Some(PinsStop::OtherForm)
-    );
+    let pcf = read_pcf(alloc, text).expect(rt, "constraints");
+    port_pads(pcf.constraints(), package, &buffer)
+}
+
+#[test]
+fn pads_are_those_of_the_ports(rt: HostRuntime) {
+    let expected = PortPads {
+        input: Pad {
+            tile: TileAt { x: 0, y: 0 },
+            pio: 0,
+        },
+        output: Pad {
+            tile: TileAt { x: 1, y: 0 },
+            pio: 0,
+        },
+    };
+    for text in [
+        b"# pins\n set_io a 1 # left\n\nset_io\ty 2\r\n".as_slice(),
+        b"set_io y 2\nset_io a 1\nset_frequency a 12\n",
+    ] {
+        let pads = pads_of(&rt, rt.alloc(), text, b"tiny").expect(&rt, "pads");
+        assert_eq!(rt; pads, expected, "of {text:?}");
+    }
+}
+
+#[test]
+fn the_first_unknown_pin_is_named(rt: HostRuntime) {
+    for (text, line) in [
+        (b"# pins\nset_io a 1\nset_io y 3\n".as_slice(), 3),
+        (b"set_io a 01\nset_io y 3\n", 1),
+        (b"set_io y 3\nset_io a 1\n", 1),
+    ] {
+        let answer = pads_of(&rt, rt.alloc(), text, b"tiny");
+        assert_eq!(rt; answer.err(), Some(PinsStop::UnknownPin { line }), "of {text:?}");
+    }
+}
+
+#[test]
+fn constraints_of_another_form_are_refused(rt: HostRuntime) {
+    for (text, package) in [
+        (b"".as_slice(), b"tiny".as_slice()),
+        (b"set_io a 1\n", b"tiny"),
+        (b"set_io a 1\nset_io y 1\n", b"tiny"),
+        (b"set_io a 2\nset_io y 1\n", b"tiny"),
+        (b"set_io a 2\nset_io y 3\n", b"tiny"),
+        (b"set_io -nowarn a 1\nset_io y 2\n", b"tiny"),
+        (b"set_io -pullup yes a 1\nset_io y 2\n", b"tiny"),
+        (b"set_io a 1\nset_io z 2\n", b"tiny"),
+        (b"set_io a 1\nset_io a 1\n", b"tiny"),
+        (b"set_io a 1\nset_io y 2\nset_io y 2\n", b"tiny"),
+        (b"set_io a 1\nset_io y 2\n", b"tq144"),
+        (b"set_io a 3\nset_io y 2\n", b""),
+    ] {
+        let answer = pads_of(&rt, rt.alloc(), text, package);
+        assert_eq!(rt; answer.err(), Some(PinsStop::OtherForm), "of {text:?}");
+    }
 }

@@ -266,8 +266,8 @@ fn refusals_say_their_cause_and_write_nothing(rt: HostRuntime) {
         &rt,
         alloc,
         &inverter,
-        3,
-        b"error 3 blif line 5 notyet\n",
+        18,
+        b"error 18 notbuilt blif\n",
         None,
     );
     let package = Case {
@@ -278,21 +278,57 @@ fn refusals_say_their_cause_and_write_nothing(rt: HostRuntime) {
 }
 
 #[test]
+fn faults_of_the_texts_say_their_lines(rt: HostRuntime) {
+    let alloc = rt.alloc();
+    let memory = Case {
+        netlist: b".model top\n.inputs a\n.outputs y\n.gate SB_RAM40_4K RADDR[0]=a RDATA[0]=y\n.end\n",
+        ..EXAMPLE
+    };
+    compare(
+        &rt,
+        alloc,
+        &memory,
+        3,
+        b"error 3 blif line 4 unknowncell\n",
+        None,
+    );
+    let no_pin = Case {
+        pins: b"\nset_io a\n",
+        ..EXAMPLE
+    };
+    compare(
+        &rt,
+        alloc,
+        &no_pin,
+        4,
+        b"error 4 pcf line 2 missing\n",
+        None,
+    );
+}
+
+#[test]
 fn the_first_text_that_is_wrong_is_refused(rt: HostRuntime) {
     let alloc = rt.alloc();
     let all = Case {
+        switches: b"1 0\n",
+        pins: b"set_pin a 9\n",
+        netlist: b"",
+        ..EXAMPLE
+    };
+    compare(&rt, alloc, &all, 4, b"error 4 pcf line 1 unknownword\n", None);
+    let two = Case {
         switches: b"1 0\n",
         pins: b"set_io a 9\n",
         netlist: b"",
         ..EXAMPLE
     };
-    compare(&rt, alloc, &all, 18, b"error 18 notbuilt chip\n", None);
-    let two = Case {
+    compare(&rt, alloc, &two, 3, b"error 3 blif line 0 nomodel\n", None);
+    let chip = Case {
+        switches: b"1 0\n",
         pins: b"set_io a 9\n",
-        netlist: b"",
         ..EXAMPLE
     };
-    compare(&rt, alloc, &two, 3, b"error 3 blif line 0 notyet\n", None);
+    compare(&rt, alloc, &chip, 18, b"error 18 notbuilt chip\n", None);
     let pin_and_way = Case {
         switches: CUT_SWITCHES,
         pins: b"set_io a 1\nset_io y 9\n",
