@@ -1,6 +1,6 @@
 -- How the texts of a build stand, and what the bits of a route come to.
-use Rattle.std.proofs.Common.{◌≡◌, ◌≢◌, ◌⊎◌, ℕ, zero, suc, ◌<◌, Bool, true, false, Option, None, Some, List, [], ◌∷◌, length, map, inl, inr, refl, ap, sym, ◌∙◌, subst, arith}
-use Rattle.std.specs.Prelude.{Result, Ok, Err}
+use Rattle.std.proofs.Common.{◌≡◌, ◌≢◌, ◌⊎◌, ℕ, zero, suc, ◌<◌, Bool, true, false, None, Some, List, [], ◌∷◌, length, inl, inr, refl, ap, sym, ◌∙◌, subst, arith}
+use Rattle.std.specs.Prelude.{Ok, Err}
 use Rattle.std.specs.Str.{bytes_eq}
 use Rattle.ice_base.specs.declared.number.TileAt.{TileAt}
 use Rattle.ice_base.specs.declared.number.BitAt.{BitAt}
@@ -14,15 +14,15 @@ use Rattle.ice_blif.specs.declared.fault.BlifFault.{BlifFault}
 use Rattle.ice_blif.specs.declared.fault.BlifFault.TheVariants as blif_fault
 use Rattle.ice_flow.specs.declared.route.RouteRow.{RouteRow}
 use Rattle.ice_flow.specs.declared.cause.Cause.{Cause}
-use Rattle.ice_flow.specs.declared.cause.Cause.TheVariants.{Unreachable, NotBuilt, BadBlif, BadPcf, NoMemory}
+use Rattle.ice_flow.specs.declared.cause.Cause.TheVariants.{NotBuilt}
 use Rattle.ice_flow.specs.declared.cause.FileRole.TheVariants.{Blif}
 use Rattle.ice_flow.specs.declared.chip_text.ChipStop.{ChipStop}
 use Rattle.ice_flow.specs.declared.chip_text.ChipStop.TheVariants as chip_stop
 use Rattle.ice_flow.specs.declared.pin_pads.PinsStop.{PinsStop}
 use Rattle.ice_flow.specs.declared.pin_pads.PinsStop.TheVariants as pins_stop
 use Rattle.ice_flow.specs.Lists.{At, Has}
-use Rattle.ice_flow.specs.Database.{Pad, SwitchGroup, Row, Database, is_among_tiles, package_named}
-use Rattle.ice_flow.specs.Routes.{IsUsable, IsWalk, IsSimple, IsUnreachable}
+use Rattle.ice_flow.specs.Database.{Pad, SwitchGroup, Row, is_among_tiles, package_named}
+use Rattle.ice_flow.specs.Routes.{IsUsable, IsWalk}
 use Rattle.ice_flow.specs.Configuration.{bits_in}
 use Rattle.ice_flow.specs.Behaviour.{IsFaultless}
 use Rattle.ice_flow.specs.FirstForm.{database_with, left_tile, right_tile, left_pad, right_pad, tiny}
@@ -146,8 +146,7 @@ pub laid_out_built : (name chip pins netlist a y text : List ℕ) (constraints :
     → IsLaidOut groups text → IsBuilt name chip pins netlist text
 laid_out_built name chip pins netlist a y text constraints circuit groups has (rows, walk, simple, holds) =
     let db = database_with groups in
-    let pads : List Pad = left_pad ∷ right_pad ∷ [] in
-    (
+    let pads : List Pad = left_pad ∷ right_pad ∷ [] in (
       record {
         chip = db;
         netlist = buffer_netlist a y;

@@ -1,5 +1,5 @@
 -- The pads of a buffer's ports, by pin constraints of the form that is built so far: one plain constraint for each port.
-use Rattle.std.specs.Prelude.{ℕ, Bool, true, false, ◌&&◌, ◌||◌, not, Option, None, Some, List, [], ◌∷◌, if◌then◌else◌, Result, Ok, Err, is_some, is_none}
+use Rattle.std.specs.Prelude.{ℕ, Bool, ◌&&◌, ◌||◌, not, Option, None, Some, List, [], ◌∷◌, if◌then◌else◌, Result, Ok, Err, is_some, is_none}
 use Rattle.std.specs.Str.{bytes_eq}
 use Rattle.std.specs.List.{list_all}
 use Rattle.ice_pcf.specs.declared.constraint.Constraint.{Constraint}

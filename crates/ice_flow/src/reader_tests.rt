@@ -1,7 +1,7 @@
 //! Cases of texts of the form that is built so far, and of others.
+use crate::buffer::{Buffer, buffer_of};
 use crate::chip::Group;
 use crate::chip_text::{ChipStop, read_chip};
-use crate::buffer::{Buffer, buffer_of};
 use crate::pad::Pad;
 use crate::pin_pads::{PinsStop, PortPads, port_pads};
 use ice_base::{BitAt, TileAt, WireNo};
@@ -248,7 +248,11 @@ fn the_first_unknown_pin_is_named(rt: HostRuntime) {
         (b"set_io y 3\nset_io a 1\n", 1),
     ] {
         let answer = pads_of(&rt, rt.alloc(), text, b"tiny");
-        assert_eq!(rt; answer.err(), Some(PinsStop::UnknownPin { line }), "of {text:?}");
+        assert_eq!(rt;
+            answer.err(),
+            Some(PinsStop::UnknownPin { line }),
+            "of {text:?}"
+        );
     }
 }
 

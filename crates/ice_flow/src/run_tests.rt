@@ -262,14 +262,7 @@ fn refusals_say_their_cause_and_write_nothing(rt: HostRuntime) {
         netlist: b".model top\n.inputs a\n.outputs y\n.names a y\n0 1\n.end\n",
         ..EXAMPLE
     };
-    compare(
-        &rt,
-        alloc,
-        &inverter,
-        18,
-        b"error 18 notbuilt blif\n",
-        None,
-    );
+    compare(&rt, alloc, &inverter, 18, b"error 18 notbuilt blif\n", None);
     let package = Case {
         words: &["build", "chip", "big", "pins", "netlist", "bits"],
         ..EXAMPLE
@@ -315,7 +308,14 @@ fn the_first_text_that_is_wrong_is_refused(rt: HostRuntime) {
         netlist: b"",
         ..EXAMPLE
     };
-    compare(&rt, alloc, &all, 4, b"error 4 pcf line 1 unknownword\n", None);
+    compare(
+        &rt,
+        alloc,
+        &all,
+        4,
+        b"error 4 pcf line 1 unknownword\n",
+        None,
+    );
     let two = Case {
         switches: b"1 0\n",
         pins: b"set_io a 9\n",
