@@ -1,5 +1,5 @@
 -- Where a line ends in a backslash before blanks.
-use Rattle.std.proofs.Common.{◌≡◌, ◌≢◌, ℕ, ◌+◌, ◌-◌, ◌<◌, ◌≤◌, ◌==◌, Bool, true, false, ◌&&◌, List, [], ◌∷◌, length, take, drop, get_or, zero, suc, refl, sym, ap, ◌∙◌, arith, rules, tests, if◌then◌else◌, Option, Some, None}
+use Rattle.std.proofs.Common.{◌≡◌, ◌≢◌, ℕ, ◌-◌, ◌<◌, ◌≤◌, ◌==◌, Bool, true, false, ◌&&◌, List, [], ◌∷◌, length, take, drop, get_or, zero, suc, refl, sym, ap, ◌∙◌, arith, rules, tests, if◌then◌else◌, Option, Some, None}
 use Rattle.std.specs.List.{list_all}
 use Rattle.ice_base.specs.Text.{is_blank}
 use Rattle.ice_blif.specs.JoinedLines.{before_backslash, in_front_of}

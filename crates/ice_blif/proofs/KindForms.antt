@@ -1,5 +1,5 @@
 -- Cells whose parameters are read.
-use Rattle.std.proofs.Common.{◌≡◌, ◌∙◌, ℕ, sym, length}
+use Rattle.std.proofs.Common.{◌∙◌, ℕ, sym}
 use Rattle.ice_net.specs.declared.cell.Cell.{Cell}
 use Rattle.ice_net.specs.declared.kind.CellKind.{CellKind}
 use Rattle.ice_net.specs.Formed.{IsFormedCell}

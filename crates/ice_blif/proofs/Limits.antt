@@ -1,14 +1,14 @@
 -- The limits of a netlist text, apart from the rest of its grammar.
-use Rattle.std.proofs.Common.{◌≡◌, ℕ, ◌+◌, ◌<◌, ◌≤◌, Bool, true, false, List, [], ◌∷◌, length, nat_lt, Result, Ok, Err, IfOk, if◌then◌else◌, codes, bytes_eq, refl, sym, ap, ◌∙◌, arith}
+use Rattle.std.proofs.Common.{◌≡◌, ℕ, ◌+◌, Bool, true, false, List, [], ◌∷◌, length, nat_lt, Result, Ok, Err, IfOk, if◌then◌else◌, codes, bytes_eq, refl, ap, ◌∙◌}
 use Rattle.ice_net.specs.NetlistData.{NetlistData}
 use Rattle.ice_blif.specs.declared.fault.BlifFault.{BlifFault}
-use Rattle.ice_blif.specs.declared.fault.BlifFault.TheVariants.{TooMany, NoModel, NoEnd}
+use Rattle.ice_blif.specs.declared.fault.BlifFault.TheVariants.{TooMany, NoModel}
 use Rattle.ice_blif.specs.declared.reader.Reader.{Reader}
 use Rattle.ice_base.specs.Text.{lines, numbered}
 use Rattle.ice_blif.specs.JoinedLines.{FilledLine, joined, filled, last_number}
 use Rattle.ice_blif.specs.Answers.{Gives}
 use Rattle.ice_blif.specs.Cells.{◌>>=◌, count_of}
-use Rattle.ice_blif.specs.Grammar.{within_limits, no_limits, line_says, model_says, lines_say, text_says, netlist_of, HasNetlist, ended, empty_reader}
+use Rattle.ice_blif.specs.Grammar.{within_limits, no_limits, line_says, model_says, lines_say, netlist_of, HasNetlist, ended, empty_reader}
 
 -- what a value that goes on was made of
 pub record Bound {A B : Type 0} (x : Result A BlifFault) (f : A → Result B BlifFault) (b : B) : Type 0 where
@@ -19,7 +19,6 @@ pub record Bound {A B : Type 0} (x : Result A BlifFault) (f : A → Result B Bli
 bound : {A B : Type 0} (x : Result A BlifFault) (f : A → Result B BlifFault) (b : B) → (x >>= f) ≡ Ok b → Bound x f b
 bound (Ok a) f b h = record { value = a; made = refl; goes_on = h }
 bound (Err e) f b h = absurd (cc)
-
 
 within_by : (line : ℕ) (r s : Reader) (b c : Bool)
     → (let said : Result Reader BlifFault = if b then Err (TooMany line 65534) else (if c then Err (TooMany line 1048576) else Ok r) in said) ≡ Ok s → r ≡ s

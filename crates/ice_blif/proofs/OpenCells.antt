@@ -1,5 +1,5 @@
 -- Cells that are made of what was read.
-use Rattle.std.proofs.Common.{◌≡◌, ℕ, ◌+◌, ◌-◌, ◌<◌, ◌≤◌, ◌%◌, ◌^◌, Bool, true, false, List, [], ◌∷◌, ◌++◌, length, length-append, Option, Some, None, All, refl, sym, ap, ◌∙◌, arith, zero, suc, lit≤, subst}
+use Rattle.std.proofs.Common.{◌≡◌, ℕ, ◌+◌, ◌-◌, ◌<◌, ◌≤◌, ◌%◌, ◌^◌, Bool, true, false, [], ◌∷◌, length, length-append, Option, Some, None, refl, sym, arith, zero, suc, lit≤, subst}
 use Rattle.std.proofs.lemmas.Nat.{pow_pos}
 use Rattle.std.proofs.Math.Nat.{mod-lt}
 use Rattle.std.proofs.lemmas.List.Elements.{All-weaker}
@@ -82,6 +82,6 @@ finished_count n (Rows cover) = length-append n.cells (cover_cell cover ∷ [])
 -- the netlist with the last cell is within the limits
 pub finished_within : (r : Reader) → IsWithin r → IsWithinLimits (finished r.netlist r.last)
 finished_within r h = record {
-    signals = rw (finished_names r.netlist r.last) h.signals;
-    cells = omega (arith, finished_count r.netlist r.last, h.cells);
-  }
+  signals = rw (finished_names r.netlist r.last) h.signals;
+  cells = omega (arith, finished_count r.netlist r.last, h.cells);
+}

@@ -1,5 +1,5 @@
 -- The signals of cells, as they are connected.
-use Rattle.std.proofs.Common.{◌≡◌, ℕ, ◌+◌, ◌<◌, ◌≤◌, Bool, true, false, List, length, length-take, length-drop, take, drop, Option, Some, None, All, slice_set, ◌∙◌, arith}
+use Rattle.std.proofs.Common.{◌≡◌, ℕ, ◌+◌, ◌≤◌, Bool, true, false, List, length, length-take, length-drop, drop, Option, Some, None, All, slice_set, ◌∙◌, arith}
 use Rattle.std.proofs.lemmas.List.Elements.{All-weaker, All-set, All-take, All-drop}
 use Rattle.ice_base.specs.declared.number.SignalNo.{SignalNo}
 use Rattle.ice_net.specs.declared.kind.Reset.{Reset}

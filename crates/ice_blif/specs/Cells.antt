@@ -1,6 +1,5 @@
 -- The cell that was made last, and what rows and parameters add to it.
-use Rattle.std.specs.Prelude.{◌≡◌, ℕ, ◌+◌, ◌-◌, ◌^◌, ◌≤◌, ◌<◌, Bool, true, false, ◌==◌, List, [], ◌∷◌, ◌++◌, length, take, drop, Option, Some, None, Result, Ok, Err, if◌then◌else◌, bit_or, codes, bytes_eq, All}
-use Rattle.ice_base.specs.declared.number.SignalNo.{SignalNo}
+use Rattle.std.specs.Prelude.{◌≡◌, ℕ, ◌+◌, ◌^◌, ◌≤◌, Bool, ◌==◌, List, [], ◌∷◌, ◌++◌, length, Option, Some, None, Result, Ok, Err, if◌then◌else◌, bit_or, codes, bytes_eq, All}
 use Rattle.ice_net.specs.declared.cell.Cell.{Cell}
 use Rattle.ice_net.specs.declared.kind.CellKind as kinds
 use Rattle.ice_net.specs.declared.kind.CellKind.{CellKind}
@@ -8,7 +7,7 @@ use Rattle.ice_net.specs.declared.kind.CellKind.TheVariants.{Lut, Carry, Flop, P
 use Rattle.ice_net.specs.NetlistData.{NetlistData}
 use Rattle.ice_net.specs.Formed.{IsFormedCell, IsPresent}
 use Rattle.ice_blif.specs.declared.fault.BlifFault.{BlifFault}
-use Rattle.ice_blif.specs.declared.fault.BlifFault.TheVariants.{BadCover, BadParam}
+use Rattle.ice_blif.specs.declared.fault.BlifFault.TheVariants.{BadCover}
 use Rattle.ice_blif.specs.declared.reader.Cover.{Cover}
 use Rattle.ice_blif.specs.declared.reader.Last.{Last}
 use Rattle.ice_blif.specs.declared.reader.Last.TheVariants.{Nothing, Gate, Rows}

@@ -10,7 +10,7 @@ use Rattle.ice_net.specs.declared.port.Way.TheVariants.{Input, Output, Both}
 use Rattle.ice_net.specs.Kinds.{kind_of, port_place, ins_count, outs_count}
 use Rattle.ice_net.specs.NetlistData.{NetlistData, empty_netlist, with_name, number_of_name, with_port, way_of}
 use Rattle.ice_blif.specs.declared.fault.BlifFault.{BlifFault}
-use Rattle.ice_blif.specs.declared.fault.BlifFault.TheVariants.{NoModel, SecondModel, UnknownDirective, UnknownCell, UnknownPort, PortTwice, BadParam, BadCover, TooWide, NoEnd, TooMany}
+use Rattle.ice_blif.specs.declared.fault.BlifFault.TheVariants.{NoModel, SecondModel, UnknownDirective, UnknownCell, UnknownPort, PortTwice, BadCover, TooWide, NoEnd, TooMany}
 use Rattle.ice_blif.specs.declared.reader.Cover.{Cover}
 use Rattle.ice_blif.specs.declared.reader.Last.{Last}
 use Rattle.ice_blif.specs.declared.reader.Last.TheVariants.{Nothing, Gate, Rows}

@@ -1,5 +1,5 @@
 -- Names in the order in which they are first met.
-use Rattle.std.proofs.Common.{◌≡◌, ℕ, ◌+◌, ◌<◌, ◌≤◌, Bool, true, false, not, ◌||◌, List, [], ◌∷◌, ◌++◌, length, map, length-append, refl, sym, ap, ◌∙◌, arith, rules, tests, suc, add-one, if◌then◌else◌, Vec, bytes_eq, Option, Some, None, position, nat_lt, subst, is_some}
+use Rattle.std.proofs.Common.{◌≡◌, ℕ, ◌+◌, ◌<◌, Bool, true, false, not, ◌||◌, List, [], ◌∷◌, ◌++◌, length, refl, sym, ap, ◌∙◌, rules, tests, suc, if◌then◌else◌, Vec, bytes_eq, Some, None, position, nat_lt, subst}
 use Rattle.std.specs.List.{list_any, position_or_len}
 use Rattle.std.specs.declared.alloc.Global.{Global}
 use Rattle.ice_net.specs.NetlistData.{texts, with_name, number_of_name}

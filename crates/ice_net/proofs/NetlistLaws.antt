@@ -1,5 +1,5 @@
 -- A netlist stays well formed as it grows.
-use Rattle.std.proofs.Common.{◌≡◌, ℕ, ◌+◌, ◌<◌, ◌≤◌, Bool, true, false, List, [], ◌∷◌, ◌++◌, length, length-append, refl, sym, ap, ◌∙◌, arith, rules, if◌then◌else◌, Option, Some, None, All, bytes_eq}
+use Rattle.std.proofs.Common.{◌≡◌, ℕ, ◌+◌, ◌<◌, ◌≤◌, Bool, true, false, List, [], ◌∷◌, ◌++◌, length, length-append, arith, if◌then◌else◌, Option, Some, None, bytes_eq}
 use Rattle.std.specs.List.{list_any}
 use Rattle.std.proofs.lemmas.List.Elements.{All-weaker, All-push}
 use Rattle.ice_base.specs.declared.number.SignalNo.{SignalNo}
@@ -7,8 +7,8 @@ use Rattle.ice_net.specs.declared.cell.Cell.{Cell}
 use Rattle.ice_net.specs.declared.port.Port.{Port}
 use Rattle.ice_net.specs.declared.kind.CellKind.{CellKind}
 use Rattle.ice_net.specs.declared.kind.CellKind.TheVariants.{Lut, Cover, Carry, Flop, PadCell, Global}
-use Rattle.ice_net.specs.NetlistData.{NetlistData, PlacesAre, with_name}
-use Rattle.ice_net.specs.Formed.{IsFormed, IsIndexed, IsFormedCell, IsFormedCover, IsPortBelow, IsBelow, IsPresent, IsFormedKind}
+use Rattle.ice_net.specs.NetlistData.{NetlistData, with_name}
+use Rattle.ice_net.specs.Formed.{IsFormed, IsIndexed, IsFormedCell, IsPortBelow, IsBelow, IsPresent, IsFormedKind}
 
 -- ---- more signals
 below_more : (m n : ℕ) → m ≤ n → (s : Option SignalNo) → IsBelow m s → IsBelow n s
@@ -22,11 +22,11 @@ present_more m n le (Some s) h = omega arith
 kind_more : (m n : ℕ) → m ≤ n → (kind : CellKind) (ins outs : List (Option SignalNo)) → IsFormedKind m kind ins outs → IsFormedKind n kind ins outs
 kind_more m n le (Lut table) ins outs h = tt
 kind_more m n le (Cover table width) ins outs h = record {
-    narrow = h.narrow;
-    fits = h.fits;
-    ins_present = All-weaker (IsPresent m) (IsPresent n) (present_more m n le) ins h.ins_present;
-    outs_present = All-weaker (IsPresent m) (IsPresent n) (present_more m n le) outs h.outs_present;
-  }
+  narrow = h.narrow;
+  fits = h.fits;
+  ins_present = All-weaker (IsPresent m) (IsPresent n) (present_more m n le) ins h.ins_present;
+  outs_present = All-weaker (IsPresent m) (IsPresent n) (present_more m n le) outs h.outs_present;
+}
 kind_more m n le Carry ins outs h = tt
 kind_more m n le (Flop falling enable reset) ins outs h = tt
 kind_more m n le (PadCell pin_type pullup) ins outs h = h
@@ -35,12 +35,12 @@ kind_more m n le Global ins outs h = tt
 -- a cell stays well formed where there are more signals
 pub formed_more : (m n : ℕ) → m ≤ n → (cell : Cell) → IsFormedCell m cell → IsFormedCell n cell
 formed_more m n le cell h = record {
-    ins_long = h.ins_long;
-    outs_long = h.outs_long;
-    ins_below = All-weaker (IsBelow m) (IsBelow n) (below_more m n le) cell.ins h.ins_below;
-    outs_below = All-weaker (IsBelow m) (IsBelow n) (below_more m n le) cell.outs h.outs_below;
-    kind = kind_more m n le cell.kind cell.ins cell.outs h.kind;
-  }
+  ins_long = h.ins_long;
+  outs_long = h.outs_long;
+  ins_below = All-weaker (IsBelow m) (IsBelow n) (below_more m n le) cell.ins h.ins_below;
+  outs_below = All-weaker (IsBelow m) (IsBelow n) (below_more m n le) cell.outs h.outs_below;
+  kind = kind_more m n le cell.kind cell.ins cell.outs h.kind;
+}
 
 port_more : (m n : ℕ) → m ≤ n → (port : Port) → IsPortBelow m port → IsPortBelow n port
 port_more m n le port h = omega arith
@@ -55,10 +55,10 @@ names_grow names name = by (list_any (bytes_eq name) names)
 
 grown : (n : NetlistData) (names : List (List ℕ)) → length n.names ≤ length names → length names ≤ 1073741823 → IsFormed n → IsFormed (record { names = names; ports = n.ports; cells = n.cells })
 grown n names le few h = record {
-    few = few;
-    ports = All-weaker (IsPortBelow (length n.names)) (IsPortBelow (length names)) (port_more (length n.names) (length names) le) n.ports h.ports;
-    cells = All-weaker (IsFormedCell (length n.names)) (IsFormedCell (length names)) (formed_more (length n.names) (length names) le) n.cells h.cells;
-  }
+  few = few;
+  ports = All-weaker (IsPortBelow (length n.names)) (IsPortBelow (length names)) (port_more (length n.names) (length names) le) n.ports h.ports;
+  cells = All-weaker (IsFormedCell (length n.names)) (IsFormedCell (length names)) (formed_more (length n.names) (length names) le) n.cells h.cells;
+}
 
 -- in the words of the netlist's fields
 pub named_still_indexed : (names now : List (List ℕ)) (ports : List Port) (cells : List Cell) (places : List (Option ℕ)) (name : List ℕ)
@@ -76,10 +76,10 @@ pub celled_still_indexed : (names : List (List ℕ)) (ports : List Port) (cells 
     → IsIndexed (record { names = names; ports = ports; cells = cells }) places → IsFormedCell (length names) cell
     → IsIndexed (record { names = names; ports = ports; cells = cells ++ cell ∷ [] }) places
 celled_still_indexed names ports cells places cell h formed = record {
-    formed = record {
-      few = h.formed.few;
-      ports = h.formed.ports;
-      cells = All-push (IsFormedCell (length names)) cells cell h.formed.cells formed;
-    };
-    places_are = h.places_are;
-  }
+  formed = record {
+    few = h.formed.few;
+    ports = h.formed.ports;
+    cells = All-push (IsFormedCell (length names)) cells cell h.formed.cells formed;
+  };
+  places_are = h.places_are;
+}

@@ -1,5 +1,5 @@
 -- The place of each signal's port, as ports are added.
-use Rattle.std.proofs.Common.{◌≡◌, ◌≢◌, ℕ, ◌+◌, ◌<◌, ◌≤◌, ◌==◌, Bool, true, false, not, List, [], ◌∷◌, ◌++◌, length, length-append, refl, sym, ap, ◌∙◌, arith, rules, tests, if◌then◌else◌, Option, Some, None, position, nat_lt, slice_index_or, slice_set, get_or-set_other, get_or-set_same}
+use Rattle.std.proofs.Common.{◌≡◌, ◌≢◌, ℕ, ◌+◌, ◌<◌, ◌≤◌, ◌==◌, Bool, true, false, not, List, [], ◌∷◌, ◌++◌, length, length-append, refl, sym, ap, ◌∙◌, arith, rules, tests, if◌then◌else◌, Option, Some, None, nat_lt, slice_index_or, slice_set, get_or-set_other, get_or-set_same}
 use Rattle.std.specs.List.{position_or_len}
 use Rattle.std.proofs.lemmas.List.Folds.{position_or_len_push}
 use Rattle.ice_base.specs.declared.number.SignalNo.{SignalNo}

@@ -74,8 +74,8 @@ impl Netlist {
         self.cells.len() < MOST_CELLS
     }
 
-    #[tactic(auto, using(crate::proofs::NetlistLaws::named_still_indexed))]
     /// The number of a name; a new name goes last. After want of memory the netlist is as before.
+    #[tactic(auto, using(crate::proofs::NetlistLaws::named_still_indexed))]
     pub fn signal(&mut self, alloc: Global, name: &[u8]) -> Result<SignalNo, NoMemory>
         requires { length self.old.names < MOST_NAMES }
         ensures number { IfOk result (λ signal. signal.0 ≡ number_of_name self.old.names name.now) }

@@ -6,9 +6,18 @@ use std::test::Fail;
 #[test]
 fn names_are_numbered_as_they_are_met(rt: HostRuntime) -> Result<(), Fail> {
     let mut netlist = Netlist::new(rt.alloc());
-    for (name, number) in [(b"b".as_slice(), 0), (b"a", 1), (b"b", 0), (b"", 2), (b"a", 1)] {
+    for (name, number) in [
+        (b"b".as_slice(), 0),
+        (b"a", 1),
+        (b"b", 0),
+        (b"", 2),
+        (b"a", 1),
+    ] {
         assert!(rt; netlist.has_room_for_name());
-        assert!(rt; netlist.signal(rt.alloc(), name)? == SignalNo(number), "of {name:?}");
+        assert!(rt;
+            netlist.signal(rt.alloc(), name)? == SignalNo(number),
+            "of {name:?}"
+        );
     }
     assert_eq!(rt; netlist.signals(), 3);
     assert!(rt; netlist.name(SignalNo(1)) == b"a".as_slice());
@@ -72,8 +81,19 @@ fn the_twenty_flip_flops_have_their_ports(rt: HostRuntime) {
         assert_eq!(rt; kind.ins_count(), ins, "of {word:?}");
         assert!(rt; kind.port_place(b"Q") == Some(ins), "of {word:?}");
     }
-    for word in [b"SB_DFFNN".as_slice(), b"SB_DFFSE", b"SB_DFFEE", b"DFF", b"SB_LUT", b"$_DFF_P_"] {
+    for word in [
+        b"SB_DFFNN".as_slice(),
+        b"SB_DFFSE",
+        b"SB_DFFEE",
+        b"DFF",
+        b"SB_LUT",
+        b"$_DFF_P_",
+    ] {
         assert!(rt; kind_named(word).is_none(), "of {word:?}");
     }
-    assert!(rt; CellKind::Cover { table: 0, width: 1 }.port_place(b"I0").is_none());
+    assert!(rt;
+        CellKind::Cover { table: 0, width: 1 }
+            .port_place(b"I0")
+            .is_none()
+    );
 }

@@ -1,4 +1,4 @@
-use Rattle.std.proofs.Common.{◌≤◌, length, arith}
+use Rattle.std.proofs.Common.{length, arith}
 use Rattle.ice_blif.proofs.directive.param_directive.Goals as goal
 
 pub returns-clause-ready : goal.returns-clause-ready

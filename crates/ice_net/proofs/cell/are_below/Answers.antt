@@ -1,4 +1,4 @@
-use Rattle.std.proofs.Common.{◌≡◌, ◌<◌, ◌≤◌, length, get_or, None, refl, rules}
+use Rattle.std.proofs.Common.{◌<◌, ◌≤◌, length, get_or, None, refl, rules}
 use Rattle.ice_net.specs.Formed.{IsBelow}
 use Rattle.ice_net.proofs.SignalLists.{below_seen, below_all}
 use Rattle.ice_net.proofs.cell.are_below.Goals as goal

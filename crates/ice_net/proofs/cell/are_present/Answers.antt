@@ -1,4 +1,4 @@
-use Rattle.std.proofs.Common.{◌≡◌, ◌<◌, ◌≤◌, length, get_or, None, refl, rules}
+use Rattle.std.proofs.Common.{◌<◌, ◌≤◌, length, get_or, None, refl, rules}
 use Rattle.ice_net.specs.Formed.{IsPresent}
 use Rattle.ice_net.proofs.SignalLists.{present_seen, present_all}
 use Rattle.ice_net.proofs.cell.are_present.Goals as goal

@@ -1,4 +1,4 @@
-use Rattle.std.proofs.Common.{◌≡◌, sym, ◌∙◌}
+use Rattle.std.proofs.Common.{sym, ◌∙◌}
 use Rattle.ice_net.proofs.NameLists.{found_number, new_number, new_names}
 use Rattle.ice_net.proofs.names.number_of.Goals as goal
 

@@ -1,4 +1,4 @@
-use Rattle.std.proofs.Common.{◌≡◌, None, length, slice_index_or, rules, sym, ◌∙◌}
+use Rattle.std.proofs.Common.{◌≡◌, None, length, slice_index_or, rules, ◌∙◌}
 use Rattle.std.proofs.lemmas.List.{get_or_default}
 use Rattle.ice_net.proofs.PortPlaces.{new_place}
 use Rattle.ice_net.proofs.ports.add_port.Goals as goal
