@@ -253,7 +253,7 @@ module _ (n : ℕ) (d : ℕ → List ℕ) where
         rw e (search_enter marks (set next p at) path order q moved.1 is_new
             (λ r end. let f : p ≡ r = At_same path (length path - 1) p r last end in (at, subst (λ t. At (d t) at q) f has))),
         (let k = new_count-enter marks q is_new in let l : length after ≡ length path + 1 = ap length e ∙ length_push path q in omega arith),
-        λ r at_new. elim (At_set_cases marks q r Open New (slice_get_within marks q New is_new) at_new) [ inl both ↦ cc both.1 | inr old ↦ old.1 ],
+        λ r at_new. elim (At_set_cases marks q r Open New (slice_get_within marks q New is_new) at_new) [ inl both ↦ cc | inr old ↦ old.1 ],
       )
 
   -- the first point of a path is entered

@@ -1,20 +1,21 @@
-//! The values of all points, in an order.
+//! The evaluator: the values of all points, found in an order.
 ghost use Rattle.std.specs.Prelude.{◌≡◌, ℕ, ◌+◌, ◌<◌, Bool, false, List, map, length, slice_index_or, Some};
 ghost use Rattle.ice_value.specs.System.{System, value};
 ghost use Rattle.ice_value.specs.Order.{IsOrder};
 
-/// Numbered points that depend on one another, at a moment at which each source has its value.
+/// Numbered points that depend on one another, at one moment: what its flip-flops keep and the levels at its inputs are part
+/// of the system.
 pub trait Points {
     /// How many points there are.
     ghost points: { Self → ℕ };
 
-    /// What each depends on, and what its value is made of.
+    /// What each point depends on, and the value that it makes of the values of those.
     ghost system: { Self → System ℕ Bool };
 
-    /// What is to hold of the points when they are evaluated.
+    /// What holds of the points whenever they are evaluated.
     ghost is_ready: { Self → Type 0 };
 
-    /// The value of a point, where those that it depends on have theirs.
+    /// The value that a point makes of the values at the points that it depends on.
     fn local(&self, point: usize, values: &[bool]) -> bool
         requires ready { is_ready self.now }
         requires point { point < points self.now }
@@ -22,7 +23,7 @@ pub trait Points {
         ensures { result ≡ (system self.now).local point (map (λ q. slice_index_or values.now q false) ((system self.now).depends point)) };
 }
 
-/// Fills an array with the values of all points.
+/// Fills an array with the values of all points, each found once. What the array had before doesn't matter. It takes no memory.
 pub fn evaluate<P: Points>(points: &P, order: &[usize], values: &mut [bool])
     requires ready { P.is_ready points.now }
     requires order { IsOrder (P.points points.now) (P.system points.now).depends order.now }

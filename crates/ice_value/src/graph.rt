@@ -1,4 +1,4 @@
-//! Which points each point depends on.
+//! Graphs: which points each point depends on.
 ghost use Rattle.std.specs.Prelude.{◌≡◌, ◌==◌, ◌↔◌, ℕ, ◌<◌, ◌≤◌, [], ◌∷◌, ◌++◌, length, slice_index_or, IsTrue, OnOk, OnErr};
 ghost use Rattle.ice_value.specs.Order.{At};
 ghost use Rattle.ice_value.specs.Graph.{depends_of, IsWithin, rows_of, AreEnds};
@@ -6,12 +6,13 @@ ghost use Rattle.ice_value.specs.Graph.{depends_of, IsWithin, rows_of, AreEnds};
 use std::alloc::{AllocError, Global};
 use std::marker::Model;
 
-/// For each point, numbered from 0, the points that it depends on, kept in two flat arrays.
+/// The points that each point depends on, points being numbered from 0 in the order in which they are pushed. Contracts see
+/// the list of the rows, one for each point.
 #[derive(Drop)]
 pub struct Graph {
-    /// Where the dependences of each point end.
+    // Where the dependences of each point end in the flat list.
     ends: Vec<usize>,
-    /// The dependences of all points, one point after another.
+    // The dependences of all points, one point after another.
     flat: Vec<usize>,
 }
 
@@ -45,7 +46,7 @@ impl Graph {
         self.ends.len()
     }
 
-    /// Whether there is none.
+    /// Whether there are no points.
     #[tactic(auto, using(crate::proofs::Rows::row_counts))]
     pub fn is_empty(&self) -> bool
         ensures { result ≡ (length self.now == 0) }
@@ -53,7 +54,10 @@ impl Graph {
         self.len() == 0
     }
 
-    /// Adds a point, and what it depends on.
+    /// Adds a point, with the points that it depends on. They may be points that come later, or the point itself.
+    ///
+    /// # Errors
+    /// Want of memory; the graph is as it was then.
     pub fn push(&mut self, depends: &[usize]) -> Result<(), AllocError>
         ensures ok { OnOk result (self.new ≡ self.old ++ depends.now ∷ []) }
         ensures err { OnErr result (self.new ≡ self.old) }
@@ -77,7 +81,7 @@ impl Graph {
         true
     }
 
-    /// What a point depends on.
+    /// The points that a point depends on, as they were pushed.
     #[tactic(auto, using(crate::proofs::Rows::row_counts))]
     pub fn depends(&self, point: usize) -> &[usize]
         requires { point < length self.now }
@@ -87,12 +91,12 @@ impl Graph {
     }
 }
 
-/// Whether all of a list are below a number.
-pub fn are_below(row: &[usize], points: usize) -> bool
-    ensures { IsTrue result ↔ ((k q : ℕ) → At row.now k q → q < points) }
+// Whether all points of a row are below a number.
+fn are_below(row: &[usize], points: usize) -> bool
+    ensures { IsTrue result ↔ ((k point : ℕ) → At row.now k point → point < points) }
 {
-    for &q in row {
-        if q >= points {
+    for &point in row {
+        if point >= points {
             return false;
         }
     }

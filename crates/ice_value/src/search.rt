@@ -1,4 +1,5 @@
-//! An order of all points, or a cycle, by a walk along the dependences.
+//! An order of all points of a graph, or a cycle in it, by one walk in depth along the dependences. The walk keeps its path in
+//! an array and doesn't recur. It keeps a cursor for each point, so it looks at no dependence more than twice.
 ghost use Rattle.std.specs.Prelude.{◌≡◌, ℕ, ◌+◌, ◌*◌, ◌-◌, ◌<◌, ◌≤◌, List, [], length, IfOk, IfSome, IfNone};
 ghost use Rattle.ice_value.specs.Graph.{IsWithin};
 ghost use Rattle.ice_value.specs.Order.{At, Has};
@@ -7,18 +8,19 @@ ghost use Rattle.ice_value.specs.Outcome.{IsOutcome};
 use crate::graph::Graph;
 use std::alloc::{AllocError, Global};
 
-/// An order of all points, each after all that it depends on; or a cycle, of which each point depends on the next,
-/// and the last on the first.
+/// What the search for an order finds in a graph.
 #[derive(Debug, Drop)]
 pub enum Outcome {
+    /// All points of the graph, each once, and after all the points that it depends on.
     Order(Vec<usize>),
+    /// Points of the graph, at least one and none of them twice. Each depends on the next, and the last on the first.
     Cycle(Vec<usize>),
 }
 
 // How far the search has come with a point.
 #[derive(Clone, Copy)]
 enum Mark {
-    // It has not been entered.
+    // The search has not entered it.
     New,
     // It is on the path.
     Open,
@@ -26,20 +28,20 @@ enum Mark {
     Done,
 }
 
-// The first dependence from `from` on that is not in the order, or how many there are.
-fn first_not_done(marks: &[Mark], targets: &[usize], from: usize) -> usize
-    requires { (j q : ℕ) → At targets.now j q → q < length marks.now }
-    ensures bound { result ≤ length targets.now }
-    ensures passed { (j q : ℕ) → from ≤ j → j < result → At targets.now j q → At marks.now q Mark.Done }
-    ensures stopped { (q : ℕ) → At targets.now result q → At marks.now q Mark.Done → ⊥ }
+// The place of the first dependence, from the cursor on, that is not in the order yet; or how many dependences there are.
+fn first_not_done(marks: &[Mark], reads: &[usize], cursor: usize) -> usize
+    requires { (j point : ℕ) → At reads.now j point → point < length marks.now }
+    ensures bound { result ≤ length reads.now }
+    ensures passed { (j point : ℕ) → cursor ≤ j → j < result → At reads.now j point → At marks.now point Mark.Done }
+    ensures stopped { (point : ℕ) → At reads.now result point → At marks.now point Mark.Done → ⊥ }
 {
-    for at in from..targets.len() {
-        match marks[targets[at]] {
+    for place in cursor..reads.len() {
+        match marks[reads[place]] {
             Mark::Done => {}
-            Mark::New | Mark::Open => return at,
+            Mark::New | Mark::Open => return place,
         }
     }
-    targets.len()
+    reads.len()
 }
 
 // Where a point stands in a list that has it.
@@ -50,23 +52,24 @@ fn place_of(points: &[usize], point: usize) -> usize
     points.iter().position(|p| *p == point).unwrap()
 }
 
-// A search along the dependences.
+// A search for an order, on its way through a graph.
 #[derive(Drop)]
 struct Search {
-    // How far each point is.
+    // How far it has come with each point.
     marks: Vec<Mark>,
-    // For each point, how many of its dependences are in the order for sure.
+    // For each point its cursor: the dependences before it are in the order, and are not looked at again.
     next: Vec<usize>,
-    // Points that are entered, each of which depends on the next.
+    // The way down to where it is: each point depends on the next.
     path: Vec<usize>,
-    // Points whose dependences are all in the order before them.
+    // The points that it is done with, each after all that it depends on.
     order: Vec<usize>,
 }
 
 impl Search {
     ghost use Rattle.ice_value.specs.SearchState.{IsSearching, GoesOn, ClosesCycle};
 
-    // Goes on from the last point of the path. Answers where on the path a cycle starts.
+    // One move: goes on from the last point of the path to one that it depends on, or back. Answers where on the path a cycle
+    // starts, if the point closes one.
     fn step(&mut self, graph: &Graph, point: usize) -> Result<Option<usize>, AllocError>
         requires within { IsWithin graph.now }
         requires search { IsSearching graph.now self.old }
@@ -74,22 +77,22 @@ impl Search {
         ensures goes_on { IfOk result (λ cycle. IfNone cycle (GoesOn graph.now self.old self.new)) }
         ensures cycle { IfOk result (λ cycle. IfSome cycle (λ start. ClosesCycle graph.now self.new start)) }
     {
-        let targets = graph.depends(point);
-        let at = first_not_done(&self.marks, targets, self.next[point]);
-        self.next[point] = at;
-        if at == targets.len() {
+        let reads = graph.depends(point);
+        let cursor = first_not_done(&self.marks, reads, self.next[point]);
+        self.next[point] = cursor;
+        if cursor == reads.len() {
             let _ = self.path.pop();
             self.marks[point] = Mark::Done;
             self.order.push(point)?;
             return Ok(None);
         }
-        let target = targets[at];
-        if let Mark::New = self.marks[target] {
-            self.marks[target] = Mark::Open;
-            self.path.push(target)?;
+        let read = reads[cursor];
+        if let Mark::New = self.marks[read] {
+            self.marks[read] = Mark::Open;
+            self.path.push(read)?;
             return Ok(None);
         }
-        Ok(Some(place_of(&self.path, target)))
+        Ok(Some(place_of(&self.path, read)))
     }
 }
 
@@ -109,7 +112,8 @@ impl Search {
         })
     }
 
-    // Goes from a point as far as it leads. Answers where on the path a cycle starts; else the path is empty again.
+    // Puts a point and all that it depends on, near and far, into the order. Answers where on the path a cycle starts, if
+    // there is one among them; otherwise the path is empty again.
     fn visit(&mut self, graph: &Graph, root: usize) -> Result<Option<usize>, AllocError>
         requires within { IsWithin graph.now }
         requires search { IsSearching graph.now self.old }
@@ -135,7 +139,11 @@ impl Search {
     }
 }
 
-/// An order of all points of a graph, or a cycle in it. It takes time in proportion to the points and dependences.
+/// An order of all points of a graph, each after all that it depends on, or else a cycle in it. A point that depends on itself
+/// is a cycle. The time is proportional to the number of points and dependences together, and so is the memory.
+///
+/// # Errors
+/// Want of memory alone.
 pub fn order(alloc: Global, graph: &Graph) -> Result<Outcome, AllocError>
     requires { IsWithin graph.now }
     ensures { IfOk result (IsOutcome graph.now) }
@@ -148,39 +156,4 @@ pub fn order(alloc: Global, graph: &Graph) -> Result<Outcome, AllocError>
     }
     let Search { order, .. } = search;
     Ok(Outcome::Order(order))
-}
-
-#[cfg(test)]
-mod tests {
-    use super::*;
-    use std::test::Fail;
-
-    #[test]
-    fn orders(rt: HostRuntime) -> Result<(), Fail> {
-        let mut graph = Graph::new(rt.alloc());
-        graph.push(&[1, 2])?;
-        graph.push(&[2])?;
-        graph.push(&[])?;
-        assert!(rt; graph.is_within());
-        match order(rt.alloc(), &graph)? {
-            Outcome::Order(order) => assert_eq!(rt; order.as_slice(), [2, 1, 0].as_slice()),
-            Outcome::Cycle(_) => panic!(rt; "a cycle"),
-        }
-        Ok(())
-    }
-
-    #[test]
-    fn finds_a_cycle(rt: HostRuntime) -> Result<(), Fail> {
-        let mut graph = Graph::new(rt.alloc());
-        graph.push(&[1])?;
-        graph.push(&[3, 2])?;
-        graph.push(&[1])?;
-        graph.push(&[])?;
-        assert!(rt; graph.is_within());
-        match order(rt.alloc(), &graph)? {
-            Outcome::Order(_) => panic!(rt; "an order"),
-            Outcome::Cycle(cycle) => assert_eq!(rt; cycle.as_slice(), [1, 2].as_slice()),
-        }
-        Ok(())
-    }
 }

@@ -3,5 +3,5 @@ use Rattle.ice_value.specs.Order.{At}
 use Rattle.ice_value.specs.declared.search.Mark.TheVariants.{Done}
 use Rattle.ice_value.proofs.search.first_not_done.Given as goal
 
-abbrev pub invariant-loop-at : goal.invariant-loop-at
-invariant-loop-at l = (j q : ℕ) → l.from ≤ j → j < l.at → At l.targets j q → At l.marks q Done
+abbrev pub invariant-loop-place : goal.invariant-loop-place
+invariant-loop-place l = (j point : ℕ) → l.cursor ≤ j → j < l.place → At l.reads j point → At l.marks point Done
