@@ -1,17 +1,20 @@
--- Points of one system that carry those of another have their values.
+-- Points of one system that carry the nodes of another have the nodes' values. In the lemmas p is a point and q a node, d a
+-- depth, K a number above all depths, and n a number of steps.
 use Rattle.std.proofs.Common.{◌≡◌, ◌⊎◌, ℕ, zero, suc, ◌+◌, ◌*◌, ◌<◌, ◌≤◌, Option, None, Some, List, [], ◌∷◌, map, inl, inr, refl, ap, sym, ◌∙◌, subst, arith}
 use Rattle.ice_value.specs.System.{together, value}
 use Rattle.ice_value.specs.Order.{Has}
 use Rattle.ice_value.specs.Inputs.{reading, try_reading, gapped}
 use Rattle.ice_value.specs.Carrying.{Pairs, Passes, Rests, Makes, Moves, level}
-use Rattle.ice_value.proofs.Gaps.{value-gapped}
+use Rattle.ice_value.proofs.Gaps.{value_gapped}
 use Rattle.ice_value.proofs.Together.{Has_head, Has_tail}
 
+-- a product grows with its factor
 pub mul_more : (a b k : ℕ) → a ≤ b → a * k ≤ b * k
 mul_more a b k le = grind arith
 
 module _ {P Q A : Type 0} (inputs : P → List (Option P)) (outer : Q → List (Option Q)) (bare : A)
     (local : P → List A → A) (made : Q → List A → A) (M : ℕ → P → Option Q → Type 0) where
+  -- what a point's inputs read is what the node's inputs read
   pairs_read : (v : Q → A) (w : P → Option A) (ps : List (Option P)) (qs : List (Option Q)) → Pairs M ps qs
       → ((e : ℕ) (p : P) (q : Option Q) → Has qs q → M e p q → w p ≡ Some (reading bare v q))
       → together (map (try_reading bare w) ps) ≡ Some (map (reading bare v) qs)
@@ -22,6 +25,9 @@ module _ {P Q A : Type 0} (inputs : P → List (Option P)) (outer : Q → List (
   pairs_read v w (Some p ∷ ps) (q ∷ qs) pairs are =
       rw (are pairs.0.0 p q (Has_head q qs) pairs.0.1, pairs_read v w ps qs pairs.1 (λ e o r has. are e o r (Has_tail q r qs has)))
 
+  -- A point that carries a node has the node's value, with more steps than the node's rank and the point's depth make together.
+  -- The nodes have no loop, since ranks fall along their inputs; v meets the nodes' equations; and each point that carries
+  -- anything moves in one of the three ways. No rank of the points is asked for, and that they have values follows.
   pub value_carried : (v : Q → A) (rank : Q → ℕ) (K : ℕ)
       → ((q r : Q) → Has (outer q) (Some r) → rank r < rank q)
       → ((q : Q) → v q ≡ made q (map (reading bare v) (outer q)))
@@ -29,7 +35,7 @@ module _ {P Q A : Type 0} (inputs : P → List (Option P)) (outer : Q → List (
       → (n d : ℕ) (p : P) (q : Option Q) → M d p q → level rank q * K + d < n → value (gapped inputs bare local) n p ≡ Some (reading bare v q)
   value_carried v rank K falls meets moves zero d p q m lt = absurd (omega arith)
   value_carried v rank K falls meets moves (suc n) d p q m lt =
-      rw (value-gapped inputs bare local n p) (elim (moves d p q m).1 [
+      rw (value_gapped inputs bare local n p) (elim (moves d p q m).1 [
         | inl a ↦
             let below : a.depth < d = a.lower in
             let ih = value_carried v rank K falls meets moves n a.depth a.from q a.carries (omega arith) in

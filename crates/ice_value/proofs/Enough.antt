@@ -1,4 +1,6 @@
--- The number of points and one more is always enough: more steps give no point a value that has none with these.
+-- As many steps as there are points, and one more, are always enough: more steps give a value to no point that has none with
+-- these. The least number of steps with which a point has a value falls along dependences, so the number of listed points that
+-- need fewer is a rank, and it is below the number of points.
 use Rattle.std.proofs.Common.{◌≡◌, ◌⊎◌, ℕ, zero, suc, ◌+◌, ◌<◌, ◌≤◌, Bool, true, false, cond, leb, Option, None, Some, List, [], ◌∷◌, map, length, refl, ap, sym, ◌∙◌, subst, inl, inr, arith}
 use Rattle.std.proofs.lemmas.Bool.{cases_lt}
 use Rattle.std.proofs.lemmas.Bool.Decides.{leb_tells}

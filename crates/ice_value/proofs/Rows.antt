@@ -1,12 +1,12 @@
--- Rows in a flat list.
+-- Rows that stand one after another in a flat list.
 use Rattle.std.proofs.Common.{◌≡◌, ℕ, zero, suc, ◌+◌, ◌<◌, ◌≤◌, List, [], ◌∷◌, ◌++◌, refl, ap, sym, ◌∙◌, length, get_or, arith, length-append}
 use Rattle.std.specs.Prelude.{slice_range}
 use Rattle.std.proofs.lemmas.Grind.{common_steps}
 use Rattle.ice_value.specs.Graph.{rows_of, AreEnds}
 
-pub length-rows_of : (start : ℕ) (ends flat : List ℕ) → length (rows_of start ends flat) ≡ length ends
-length-rows_of start [] flat = refl
-length-rows_of start (e ∷ ends) flat = ap suc (length-rows_of e ends flat)
+pub length_rows_of : (start : ℕ) (ends flat : List ℕ) → length (rows_of start ends flat) ≡ length ends
+length_rows_of start [] flat = refl
+length_rows_of start (e ∷ ends) flat = ap suc (length_rows_of e ends flat)
 
 pub row_at : (start : ℕ) (ends flat : List ℕ) (i : ℕ) → i < length ends
     → get_or (rows_of start ends flat) i [] ≡ slice_range flat (get_or (start ∷ ends) i 0) (get_or ends i 0)
@@ -40,9 +40,9 @@ rows_push start [] flat new h = rw h (ap (λ r. r ∷ []) (range_new flat new))
 rows_push start (e ∷ ends) flat new h =
     rw (range_kept flat new start e h.0 (ends_bound e ends (length flat) h.1), rows_push e ends flat new h.1)
 
-pub ruleset row_counts = (length-rows_of)
+pub ruleset row_counts = (length_rows_of)
 
-pub ruleset row_parts = (length-rows_of, row_at, ends_at)
+pub ruleset row_parts = (length_rows_of, row_at, ends_at)
 
 pub rows_pushed : (ends old_ends flat old_flat new : List ℕ) (end : ℕ)
     → ends ≡ old_ends ++ end ∷ [] → flat ≡ old_flat ++ new → end ≡ length flat → AreEnds 0 old_ends (length old_flat)

@@ -1,4 +1,4 @@
--- The steps of the search keep what is to be kept.
+-- Each step of the search for an order keeps what the search keeps true: n points, point p depending on `d p`.
 use Rattle.std.proofs.Common.{◌≡◌, ◌≢◌, ℕ, zero, suc, ◌+◌, ◌-◌, ◌*◌, ◌<◌, ◌≤◌, List, [], ◌∷◌, ◌++◌, inl, inr, refl, ap, sym, ◌∙◌, subst, length, get_or, set, take, drop, replicate, arith, length-set, length-drop}
 use Rattle.std.proofs.lemmas.Bool.{cases_lt}
 use Rattle.std.proofs.lemmas.Option.{slice_get_within, slice_get-get_or}
@@ -10,58 +10,58 @@ use Rattle.ice_value.specs.declared.search.Mark.TheVariants.{New, Open, Done}
 use Rattle.ice_value.proofs.Places.{At_same, At_set_cases, At_set_same, At_set_other, At_push_cases, At_push_old, At_push_new, At_drop, At_replicate, At_last}
 
 -- a mark that is written changes the counts
-pub new_count-enter : (marks : List Mark) (q : ℕ) → At marks q New → suc (new_count (set marks q Open)) ≡ new_count marks
-new_count-enter [] q at = cc
-new_count-enter (New ∷ ms) zero at = refl
-new_count-enter (Open ∷ ms) zero at = cc
-new_count-enter (Done ∷ ms) zero at = cc
-new_count-enter (New ∷ ms) (suc q) at = ap suc (new_count-enter ms q at)
-new_count-enter (Open ∷ ms) (suc q) at = new_count-enter ms q at
-new_count-enter (Done ∷ ms) (suc q) at = new_count-enter ms q at
+pub new_count_enter : (marks : List Mark) (q : ℕ) → At marks q New → suc (new_count (set marks q Open)) ≡ new_count marks
+new_count_enter [] q at = cc
+new_count_enter (New ∷ ms) zero at = refl
+new_count_enter (Open ∷ ms) zero at = cc
+new_count_enter (Done ∷ ms) zero at = cc
+new_count_enter (New ∷ ms) (suc q) at = ap suc (new_count_enter ms q at)
+new_count_enter (Open ∷ ms) (suc q) at = new_count_enter ms q at
+new_count_enter (Done ∷ ms) (suc q) at = new_count_enter ms q at
 
-pub new_count-leave : (marks : List Mark) (q : ℕ) → At marks q Open → new_count (set marks q Done) ≡ new_count marks
-new_count-leave [] q at = cc
-new_count-leave (New ∷ ms) zero at = cc
-new_count-leave (Open ∷ ms) zero at = refl
-new_count-leave (Done ∷ ms) zero at = cc
-new_count-leave (New ∷ ms) (suc q) at = ap suc (new_count-leave ms q at)
-new_count-leave (Open ∷ ms) (suc q) at = new_count-leave ms q at
-new_count-leave (Done ∷ ms) (suc q) at = new_count-leave ms q at
+pub new_count_leave : (marks : List Mark) (q : ℕ) → At marks q Open → new_count (set marks q Done) ≡ new_count marks
+new_count_leave [] q at = cc
+new_count_leave (New ∷ ms) zero at = cc
+new_count_leave (Open ∷ ms) zero at = refl
+new_count_leave (Done ∷ ms) zero at = cc
+new_count_leave (New ∷ ms) (suc q) at = ap suc (new_count_leave ms q at)
+new_count_leave (Open ∷ ms) (suc q) at = new_count_leave ms q at
+new_count_leave (Done ∷ ms) (suc q) at = new_count_leave ms q at
 
-pub done_count-enter : (marks : List Mark) (q : ℕ) → At marks q New → done_count (set marks q Open) ≡ done_count marks
-done_count-enter [] q at = cc
-done_count-enter (New ∷ ms) zero at = refl
-done_count-enter (Open ∷ ms) zero at = cc
-done_count-enter (Done ∷ ms) zero at = cc
-done_count-enter (New ∷ ms) (suc q) at = done_count-enter ms q at
-done_count-enter (Open ∷ ms) (suc q) at = done_count-enter ms q at
-done_count-enter (Done ∷ ms) (suc q) at = ap suc (done_count-enter ms q at)
+pub done_count_enter : (marks : List Mark) (q : ℕ) → At marks q New → done_count (set marks q Open) ≡ done_count marks
+done_count_enter [] q at = cc
+done_count_enter (New ∷ ms) zero at = refl
+done_count_enter (Open ∷ ms) zero at = cc
+done_count_enter (Done ∷ ms) zero at = cc
+done_count_enter (New ∷ ms) (suc q) at = done_count_enter ms q at
+done_count_enter (Open ∷ ms) (suc q) at = done_count_enter ms q at
+done_count_enter (Done ∷ ms) (suc q) at = ap suc (done_count_enter ms q at)
 
-pub done_count-leave : (marks : List Mark) (q : ℕ) → At marks q Open → done_count (set marks q Done) ≡ suc (done_count marks)
-done_count-leave [] q at = cc
-done_count-leave (New ∷ ms) zero at = cc
-done_count-leave (Open ∷ ms) zero at = refl
-done_count-leave (Done ∷ ms) zero at = cc
-done_count-leave (New ∷ ms) (suc q) at = done_count-leave ms q at
-done_count-leave (Open ∷ ms) (suc q) at = done_count-leave ms q at
-done_count-leave (Done ∷ ms) (suc q) at = ap suc (done_count-leave ms q at)
+pub done_count_leave : (marks : List Mark) (q : ℕ) → At marks q Open → done_count (set marks q Done) ≡ suc (done_count marks)
+done_count_leave [] q at = cc
+done_count_leave (New ∷ ms) zero at = cc
+done_count_leave (Open ∷ ms) zero at = refl
+done_count_leave (Done ∷ ms) zero at = cc
+done_count_leave (New ∷ ms) (suc q) at = done_count_leave ms q at
+done_count_leave (Open ∷ ms) (suc q) at = done_count_leave ms q at
+done_count_leave (Done ∷ ms) (suc q) at = ap suc (done_count_leave ms q at)
 
-done_count-all : (marks : List Mark) → ((q : ℕ) → q < length marks → At marks q Done) → done_count marks ≡ length marks
-done_count-all [] all = refl
-done_count-all (New ∷ ms) all = let e = all 0 (omega arith) in cc e
-done_count-all (Open ∷ ms) all = let e = all 0 (omega arith) in cc e
-done_count-all (Done ∷ ms) all = ap suc (done_count-all ms (λ q lt. all (suc q) (omega arith)))
+done_count_all : (marks : List Mark) → ((q : ℕ) → q < length marks → At marks q Done) → done_count marks ≡ length marks
+done_count_all [] all = refl
+done_count_all (New ∷ ms) all = let e = all 0 (omega arith) in cc e
+done_count_all (Open ∷ ms) all = let e = all 0 (omega arith) in cc e
+done_count_all (Done ∷ ms) all = ap suc (done_count_all ms (λ q lt. all (suc q) (omega arith)))
 
-done_count-start : (n : ℕ) → 0 ≡ done_count (replicate n New)
-done_count-start zero = refl
-done_count-start (suc n) = done_count-start n
+done_count_start : (n : ℕ) → 0 ≡ done_count (replicate n New)
+done_count_start zero = refl
+done_count_start (suc n) = done_count_start n
 
 module _ (n : ℕ) (d : ℕ → List ℕ) where
   pub search_start : IsSearch n d (replicate n New) (replicate n 0) [] []
   search_start = record {
     marks_length = length-replicate n New;
     next_length = length-replicate n 0;
-    count = done_count-start n;
+    count = done_count_start n;
     done = λ p at. let e = At_replicate n New p Done at in cc e;
     ordered = λ i p at. cc at;
     once = λ i j p at. cc at;
@@ -85,7 +85,7 @@ module _ (n : ℕ) (d : ℕ → List ℕ) where
       record {
         marks_length = length-set marks q Open ∙ s.marks_length;
         next_length = s.next_length;
-        count = s.count ∙ sym (done_count-enter marks q new);
+        count = s.count ∙ sym (done_count_enter marks q new);
         done = λ p at. elim (At_set_cases marks q p Open Done inside at) [ inl both ↦ cc both.1 | inr old ↦ s.done p old.1 ];
         ordered = λ i p at. kept p Done (λ e. cc e) (s.ordered i p at);
         once = s.once;
@@ -163,7 +163,7 @@ module _ (n : ℕ) (d : ℕ → List ℕ) where
       record {
         marks_length = length-set marks p Done ∙ s.marks_length;
         next_length = s.next_length;
-        count = length_push order p ∙ (let f = s.count in let g = done_count-leave marks p is_open in omega arith);
+        count = length_push order p ∙ (let f = s.count in let g = done_count_leave marks p is_open in omega arith);
         done = λ r at. elim (At_set_cases marks p r Done Done inside at) [
           | inl both ↦ (length order, subst (λ t. At (order ++ p ∷ []) (length order) t) (sym both.0) (At_push_new order p))
           | inr old ↦ (let has = s.done r old.1 in (has.0, At_push_old order p has.0 r has.1))
@@ -236,7 +236,7 @@ module _ (n : ℕ) (d : ℕ → List ℕ) where
       let ends : path ≡ rest ++ p ∷ [] = rw e (At_last path (length path - 1) p last here.2) in (
         rw f (search_leave marks (set next p at) path rest order p moved.1 ends
             (λ j q in'. moved.0 j q (let lt = slice_get_within (d p) j q in' in omega arith) in')),
-        (let k = new_count-leave marks p here.0 in let l : length path ≡ length rest + 1 = ap length ends ∙ length_push rest p in omega arith),
+        (let k = new_count_leave marks p here.0 in let l : length path ≡ length rest + 1 = ap length ends ∙ length_push rest p in omega arith),
         λ q at_new. elim (At_set_cases marks p q Done New (slice_get_within marks p Open here.0) at_new) [ inl both ↦ cc both.1 | inr old ↦ old.1 ],
       )
 
@@ -252,7 +252,7 @@ module _ (n : ℕ) (d : ℕ → List ℕ) where
       let moved = search_moved marks next path order p from at s last stood more in (
         rw e (search_enter marks (set next p at) path order q moved.1 is_new
             (λ r end. let f : p ≡ r = At_same path (length path - 1) p r last end in (at, subst (λ t. At (d t) at q) f has))),
-        (let k = new_count-enter marks q is_new in let l : length after ≡ length path + 1 = ap length e ∙ length_push path q in omega arith),
+        (let k = new_count_enter marks q is_new in let l : length after ≡ length path + 1 = ap length e ∙ length_push path q in omega arith),
         λ r at_new. elim (At_set_cases marks q r Open New (slice_get_within marks q New is_new) at_new) [ inl both ↦ cc | inr old ↦ old.1 ],
       )
 
@@ -296,7 +296,7 @@ module _ (n : ℕ) (d : ℕ → List ℕ) where
       let each : (q : ℕ) → q < length marks → At marks q Done
       = λ q lt. of q (get_or marks q Done) (slice_get-get_or marks q Done lt) in
       record {
-        count = s.count ∙ done_count-all marks each ∙ s.marks_length;
+        count = s.count ∙ done_count_all marks each ∙ s.marks_length;
         within = λ i p at. let lt = slice_get_within marks p Done (s.ordered i p at) in let e = s.marks_length in omega arith;
         each = λ p lt. s.done p (each p (let e = s.marks_length in omega arith));
         once = s.once;

@@ -1,4 +1,5 @@
--- The laws of values.
+-- The laws of values. In the lemmas s and t are systems, p and q points, f and g numbers of steps, v an assignment of values to
+-- points, and x a value.
 use Rattle.std.proofs.Common.{◌≡◌, ℕ, zero, suc, ◌+◌, ◌-◌, ◌<◌, ◌≤◌, Some, List, map, refl, ap, sym, ◌∙◌, subst, length, arith, add-suc, add-zero}
 use Rattle.std.specs.Prelude.{option_map}
 use Rattle.std.proofs.lemmas.Option.{slice_get_within}
@@ -18,6 +19,7 @@ pub value_more : {P A : Type 0} (s : System P A) (f : ℕ) (p : P) (x : A) (more
 value_more s f p x zero h = rw add-zero h
 value_more s f p x (suc more) h = rw add-suc (value_suc s (f + more) p x (value_more s f p x more h))
 
+-- the same, where one number of steps is at least the other
 pub value_at_more : {P A : Type 0} (s : System P A) (f g : ℕ) (p : P) (x : A) → f ≤ g → value s f p ≡ Some x → value s g p ≡ Some x
 value_at_more s f g p x le h =
     let e : f + (g - f) ≡ g = omega arith in
