@@ -1,10 +1,10 @@
 -- Points of one system that carry the nodes of another have the nodes' values. In the lemmas p is a point and q a node, d a
 -- depth, K a number above all depths, and n a number of steps.
-use Rattle.std.proofs.Common.{◌≡◌, ◌⊎◌, ℕ, zero, suc, ◌+◌, ◌*◌, ◌<◌, ◌≤◌, Option, None, Some, List, [], ◌∷◌, map, inl, inr, refl, ap, sym, ◌∙◌, subst, arith}
+use Rattle.std.proofs.Common.{◌≡◌, ℕ, zero, suc, ◌+◌, ◌*◌, ◌<◌, ◌≤◌, Option, None, Some, List, [], ◌∷◌, map, inl, inr, refl, ap, sym, ◌∙◌, subst, arith}
 use Rattle.ice_value.specs.System.{together, value}
 use Rattle.ice_value.specs.Order.{Has}
 use Rattle.ice_value.specs.Inputs.{reading, try_reading, gapped}
-use Rattle.ice_value.specs.Carrying.{Pairs, Passes, Rests, Makes, Moves, level}
+use Rattle.ice_value.specs.Carrying.{Pairs, Moves, level}
 use Rattle.ice_value.proofs.Gaps.{value_gapped}
 use Rattle.ice_value.proofs.Together.{Has_head, Has_tail}
 

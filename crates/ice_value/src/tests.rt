@@ -6,15 +6,26 @@ use std::process::Abort;
 use std::test::Fail;
 
 // Fails unless an evaluator that goes through the order finds all that each point reads ready, and each point once.
-fn expect_order(alloc: Global, rt: &impl Abort, graph: &Graph, order: &[usize]) -> Result<(), Fail> {
+fn expect_order(
+    alloc: Global,
+    rt: &impl Abort,
+    graph: &Graph,
+    order: &[usize],
+) -> Result<(), Fail> {
     let mut ready = vec![in alloc; false; graph.len()]?;
     assert_eq!(rt; order.len(), graph.len());
     for &point in order {
         assert!(rt; point < graph.len(), "{point} is no point");
         for read in graph.depends(point) {
-            assert!(rt; ready.get(*read).copied() == Some(true), "{point} stands before {read}");
+            assert!(rt;
+                ready.get(*read).copied() == Some(true),
+                "{point} stands before {read}"
+            );
         }
-        assert!(rt; ready.get(point).copied() == Some(false), "{point} stands twice");
+        assert!(rt;
+            ready.get(point).copied() == Some(false),
+            "{point} stands twice"
+        );
         if let Some(is_ready) = ready.get_mut(point) {
             *is_ready = true;
         }
@@ -23,7 +34,12 @@ fn expect_order(alloc: Global, rt: &impl Abort, graph: &Graph, order: &[usize]) 
 }
 
 // Fails unless there is this order.
-fn expect_ordered(alloc: Global, rt: &impl Abort, rows: &[&[usize]], expected: &[usize]) -> Result<(), Fail> {
+fn expect_ordered(
+    alloc: Global,
+    rt: &impl Abort,
+    rows: &[&[usize]],
+    expected: &[usize],
+) -> Result<(), Fail> {
     let mut graph = Graph::new(alloc);
     for row in rows {
         graph.push(row)?;
@@ -39,7 +55,12 @@ fn expect_ordered(alloc: Global, rt: &impl Abort, rows: &[&[usize]], expected: &
 }
 
 // Fails unless there is this cycle, begun at its least point.
-fn expect_cycle(alloc: Global, rt: &impl Abort, rows: &[&[usize]], expected: &[usize]) -> Result<(), Fail> {
+fn expect_cycle(
+    alloc: Global,
+    rt: &impl Abort,
+    rows: &[&[usize]],
+    expected: &[usize],
+) -> Result<(), Fail> {
     let mut graph = Graph::new(alloc);
     for row in rows {
         graph.push(row)?;
@@ -72,7 +93,12 @@ fn a_cycle_stands_against_an_order(rt: HostRuntime) -> Result<(), Fail> {
     // A loop of two, a point that depends on itself, and a loop of three behind a point that is on none.
     expect_cycle(rt.alloc(), &rt, &[&[1], &[0]], &[0, 1])?;
     expect_cycle(rt.alloc(), &rt, &[&[], &[0, 1]], &[1])?;
-    expect_cycle(rt.alloc(), &rt, &[&[3], &[2], &[3, 0], &[4, 1], &[]], &[1, 2, 3])
+    expect_cycle(
+        rt.alloc(),
+        &rt,
+        &[&[3], &[2], &[3, 0], &[4, 1], &[]],
+        &[1, 2, 3],
+    )
 }
 
 #[test]
