@@ -1,0 +1,12 @@
+pub mod Together
+pub mod Gaps
+pub mod Values
+pub mod Cycles
+pub mod Machines
+pub mod Rows
+pub mod Turns
+pub mod Places
+pub mod SearchSteps
+pub mod FillingSteps
+pub mod Carrying
+pub mod Enough

@@ -1,0 +1,14 @@
+use Rattle.std.proofs.Common.{ℕ, List, length, subst, arith}
+use Rattle.std.proofs.lemmas.Option.{slice_get_within}
+use Rattle.ice_value.specs.Graph.{depends_of}
+use Rattle.ice_value.specs.Search.{IsSearch}
+use Rattle.ice_value.specs.declared.search.Mark.TheVariants.{New}
+use Rattle.ice_value.proofs.SearchSteps.{search_finish}
+use Rattle.ice_value.proofs.search.order.Goals as goal
+
+pub returns : goal.returns
+returns c =
+    let s = c.loop-root.search in
+    search_finish (length c.args.graph.now) (depends_of c.args.graph.now) s.marks.items s.next.items s.order.items
+    (subst (λ (path : List ℕ). IsSearch (length c.args.graph.now) (depends_of c.args.graph.now) s.marks.items s.next.items path s.order.items) c.loop-root.invariant.path c.loop-root.invariant.search)
+    (λ q at. let lt = slice_get_within s.marks.items q New at in let e = c.loop-root.invariant.search.marks_length in c.loop-root.invariant.entered q (omega arith) at)

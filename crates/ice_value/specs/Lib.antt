@@ -1,0 +1,10 @@
+pub mod System
+pub mod Inputs
+pub mod Order
+pub mod Machine
+pub mod Carrying
+pub mod Graph
+pub mod Search
+pub mod SearchState
+pub mod Outcome
+pub mod Laws
