@@ -1,8 +1,7 @@
 -- A list of edges whose rows rise is no longer than there are numbers of rows.
-use Rattle.std.proofs.Common.{◌≡◌, ℕ, zero, suc, ◌+◌, ◌-◌, ◌^◌, ◌≤◌, ◌<◌, List, [], ◌∷◌, Some, length, get_or, slice_get, refl, arith}
+use Rattle.std.proofs.Common.{◌≡◌, ℕ, zero, suc, ◌-◌, ◌^◌, ◌≤◌, ◌<◌, List, [], ◌∷◌, Some, length, get_or, slice_get, refl, arith}
 use Rattle.ice_graph.specs.declared.edge.Edge.{Edge}
-use Rattle.ice_graph.specs.Network.{RowsRise, AreBetween}
-use Rattle.ice_graph.proofs.Counting.{edge_at}
+use Rattle.ice_graph.specs.Network.{RowsRise}
 
 -- the row at a place is at least the place's number
 at_least : (edges : List Edge) (k : ℕ) (e : Edge) → RowsRise edges → slice_get edges k ≡ Some e → k ≤ e.row.0

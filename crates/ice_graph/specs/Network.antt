@@ -3,7 +3,7 @@ use Rattle.std.specs.Prelude.{◌≡◌, ℕ, ◌^◌, ◌≤◌, ◌<◌, List,
 use Rattle.ice_graph.specs.declared.edge.Edge.{Edge}
 use Rattle.ice_graph.specs.declared.edge.End.TheVariants.{Source, Target}
 use Rattle.ice_graph.specs.declared.graph.Graph.TheInside.{Inside}
-use Rattle.ice_graph.specs.Sorting.{AreAt, IsIndex}
+use Rattle.ice_graph.specs.Sorting.{IsIndex}
 
 -- the number of the wires, and the edges in the order of their rows
 pub record Network : Type 0 where
