@@ -82,7 +82,10 @@ impl Graph {
 
     /// The edges in the order of their rows.
     pub fn edges(&self) -> &[Edge]
-        ensures { result.now ≡ self.now.edges }
+        ensures edges { result.now ≡ self.now.edges }
+        ensures between { AreBetween self.now.wires self.now.edges }
+        ensures rise { RowsRise self.now.edges }
+        ensures few { length self.now.edges ≤ 2 ^ 32 }
     {
         &self.edges
     }
