@@ -4,6 +4,11 @@
 
 mod history;
 mod prices;
+mod rounds;
 
 pub use history::raise;
 pub use prices::Prices;
+pub use rounds::movers;
+
+#[cfg(test)]
+mod tests;
