@@ -31,8 +31,14 @@ fn all_but_the_stayer_move(rt: HostRuntime) {
     let tree = vec![in alloc; WireNo(0)].expect(&rt, "memory");
     let other = vec![in alloc; WireNo(0)].expect(&rt, "memory");
     let trees = [
-        Tree { wires: tree, rows: Vec::new(alloc) },
-        Tree { wires: other, rows: Vec::new(alloc) },
+        Tree {
+            wires: tree,
+            rows: Vec::new(alloc),
+        },
+        Tree {
+            wires: other,
+            rows: Vec::new(alloc),
+        },
     ];
     let nets = movers(alloc, 1, &[2], &trees).expect(&rt, "memory");
     assert_eq!(rt; nets.len(), 1);
