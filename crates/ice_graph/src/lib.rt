@@ -1,0 +1,12 @@
+//! Switches between wires as a graph: each edge is a row of the switch database that drives one wire
+//! from another, and the rows into a wire and from a wire are found at once.
+#![tactic(auto)]
+
+mod edge;
+mod graph;
+mod index;
+mod tree;
+
+pub use edge::Edge;
+pub use graph::Graph;
+pub use tree::Tree;

@@ -1,0 +1,35 @@
+-- The room that a search has.
+use Rattle.std.specs.Prelude.{◌≡◌, ℕ, ◌+◌, ◌≤◌, ◌<◌, List, [], Some, None, false, length, slice_get, vec_capacity}
+use Rattle.std.specs.BinaryHeap.{IsHeap, heap_items, heap_len, heap_capacity}
+use Rattle.ice_base.specs.declared.number.WireNo.{WireNo}
+use Rattle.ice_graph.specs.Network.{Network}
+use Rattle.ice_path.specs.declared.scratch.Scratch.TheInside.{Inside}
+use Rattle.ice_path.specs.Search.{label, done, sooner}
+
+-- for graphs of how many wires and how many edges there is room
+pub record Room : Type 0 where
+  pub wires : ℕ
+  pub edges : ℕ
+
+-- the room is for this graph
+abbrev pub IsFor : Network → Room → Type 0
+IsFor graph room = (room.wires ≡ graph.wires) × (room.edges ≡ length graph.edges)
+
+-- each wire of the tree is below n
+abbrev pub AreWires : ℕ → List WireNo → Type 0
+AreWires n tree = (k : ℕ) (v : WireNo) → slice_get tree k ≡ Some v → v.0 < n
+
+abbrev pub room_of : Inside → Room
+room_of a = record { wires = length a.labels.items; edges = a.edges }
+
+-- between two searches no wire has a label, none is settled or touched, and the queue is empty
+pub record IsClear (a : Inside) : Type 0 where
+  pub long : length a.settled.items ≡ length a.labels.items
+  pub fresh : (w : ℕ) → label a.labels.items w ≡ None
+  pub open_wires : (w : ℕ) → done a.settled.items w ≡ false
+  pub touched : a.touched.items ≡ []
+  pub space : length a.labels.items ≤ vec_capacity a.touched
+  pub queue : heap_items a.queue ≡ []
+  pub queue_len : heap_len a.queue ≡ 0
+  pub order : IsHeap sooner (heap_items a.queue)
+  pub room : length a.labels.items + a.edges ≤ heap_capacity a.queue

@@ -1,0 +1,90 @@
+-- Tentative labels of wires, and what the search keeps of them.
+use Rattle.std.specs.Prelude.{◌≡◌, ℕ, ◌+◌, ◌*◌, ◌≤◌, ◌<◌, ◌⊎◌, Bool, true, false, not, count_by, List, Option, Some, None, length, slice_index_or, slice_get, slice_set}
+use Rattle.std.specs.List.{All, Contains}
+use Rattle.std.specs.Ordering.{nat_cmp, ordering_then}
+use Rattle.std.specs.declared.cmp.Ordering.{Ordering}
+use Rattle.std.specs.declared.cmp.Reverse.{Reverse}
+use Rattle.ice_base.specs.declared.number.WireNo.{WireNo}
+use Rattle.ice_graph.specs.declared.edge.Edge.{Edge}
+use Rattle.ice_path.specs.Walks.{HasEdge, HasWalk, InTree}
+
+abbrev pub label : List (Option ℕ) → ℕ → Option ℕ
+label labels w = slice_index_or labels w None
+
+abbrev pub done : List Bool → ℕ → Bool
+done settled w = slice_index_or settled w false
+
+-- a label of at most c
+abbrev pub AtMost : List (Option ℕ) → ℕ → ℕ → Type 0
+AtMost labels w c = (l : ℕ) × (label labels w ≡ Some l) × (l ≤ c)
+
+-- an open wire with the least label of those that aren't settled, or none where each wire with a label is settled
+abbrev pub IsLeastOpen : List (Option ℕ) → List Bool → Option (ℕ × ℕ) → Type 0
+IsLeastOpen labels settled None = (w k : ℕ) → label labels w ≡ Some k → done settled w ≡ true
+IsLeastOpen labels settled (Some r) =
+    (label labels r.0 ≡ Some r.1) × (done settled r.0 ≡ false)
+    × ((w k : ℕ) → label labels w ≡ Some k → done settled w ≡ false → r.1 ≤ k)
+
+-- the label of w is lowered to d, unless it is no more than that
+abbrev pub Lowers : List (Option ℕ) → List (Option ℕ) → ℕ → ℕ → Type 0
+Lowers old new w d = (new ≡ slice_set old w (Some d)) × ((l : ℕ) → label old w ≡ Some l → d < l) ⊎ (new ≡ old) × AtMost old w d
+
+-- the first n of the rows that leave a wire of label c have lowered the labels of wires that aren't settled
+pub record Relaxes (rows : List Edge) (price : ℕ → ℕ) (settled : List Bool) (c n : ℕ) (old new : List (Option ℕ)) : Type 0 where
+  pub lower : (w l : ℕ) → label old w ≡ Some l → AtMost new w l
+  pub fixed : (w : ℕ) → done settled w ≡ true → label new w ≡ label old w
+  pub reached : (k : ℕ) (e : Edge) → k < n → slice_get rows k ≡ Some e → done settled e.to.0 ≡ false → AtMost new e.to.0 (c + price e.to.0)
+  pub made : (w l : ℕ) → label new w ≡ Some l → (label old w ≡ Some l) ⊎ ((e : Edge) × HasEdge rows e × (e.to.0 ≡ w) × (l ≡ c + price w))
+
+-- the search so far, with this many wires settled
+pub record Searches (edges : List Edge) (price : ℕ → ℕ) (tree : List WireNo) (most count : ℕ) (labels : List (Option ℕ)) (settled : List Bool) : Type 0 where
+  pub attained : (w l : ℕ) → label labels w ≡ Some l → HasWalk edges price tree w l
+  pub closed : (w : ℕ) → done settled w ≡ true → (l : ℕ) × (label labels w ≡ Some l) × ((e : Edge) → HasEdge edges e → e.from.0 ≡ w → AtMost labels e.to.0 (l + price e.to.0))
+  pub rooted : (w : ℕ) → InTree tree w → label labels w ≡ Some 0
+  pub order : (a b la lb : ℕ) → done settled a ≡ true → done settled b ≡ false → label labels a ≡ Some la → label labels b ≡ Some lb → la ≤ lb
+  pub bound : (w l : ℕ) → label labels w ≡ Some l → l ≤ count * most
+
+-- the first n wires of the tree have the label 0, no other wire has one, and none is settled
+pub record Starts (tree : List WireNo) (n : ℕ) (labels : List (Option ℕ)) (settled : List Bool) : Type 0 where
+  pub rooted : (k : ℕ) (v : WireNo) → k < n → slice_get tree k ≡ Some v → label labels v.0 ≡ Some 0
+  pub made : (w l : ℕ) → label labels w ≡ Some l → InTree tree w × (l ≡ 0)
+  pub fresh : (w : ℕ) → done settled w ≡ false
+
+-- how many wires aren't settled
+abbrev pub opens : List Bool → ℕ
+opens settled = count_by not settled
+
+-- how many edges leave a wire that isn't settled
+abbrev pub open_edges : List Bool → List Edge → ℕ
+open_edges settled edges = count_by (λ e. not (done settled e.from.0)) edges
+
+-- an entry of the queue: a label, and the wire that had it when the entry was made
+abbrev pub Entry : Type 0
+Entry = Reverse ℕ × ℕ
+
+abbrev pub entry : ℕ → ℕ → Entry
+entry l w = (record { 0 = l }, w)
+
+-- the queue's order: the less the label, the sooner
+abbrev pub sooner : Entry → Entry → Ordering
+sooner x y = ordering_then (nat_cmp y.0.0 x.0.0) (nat_cmp x.1 y.1)
+
+-- each open wire with a label waits in the queue under it, and no entry is below its wire's label
+pub record Queues (settled : List Bool) (labels : List (Option ℕ)) (queue : List Entry) : Type 0 where
+  pub waits : (w l : ℕ) → label labels w ≡ Some l → done settled w ≡ false → Contains queue (entry l w)
+  pub sound : All (λ (x : Entry). AtMost labels x.1 x.0.0) queue
+
+abbrev pub unlabelled : Option ℕ → Bool
+unlabelled None = true
+unlabelled (Some l) = false
+
+-- each wire with a label is among those that were touched, and there is room for each other wire
+pub record Touches (labels : List (Option ℕ)) (touched : List ℕ) : Type 0 where
+  pub covers : (w l : ℕ) → label labels w ≡ Some l → Contains touched w
+  pub room : length touched + count_by unlabelled labels ≡ length labels
+  pub within : All (λ w. w < length labels) touched
+
+-- only these wires have a label or are settled
+pub record IsOnlyAt (wires : List ℕ) (labels : List (Option ℕ)) (settled : List Bool) : Type 0 where
+  pub labelled : (w l : ℕ) → label labels w ≡ Some l → Contains wires w
+  pub closed : (w : ℕ) → done settled w ≡ true → Contains wires w

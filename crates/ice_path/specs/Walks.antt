@@ -1,0 +1,38 @@
+-- Walks in a graph, and what they cost. A price is given for each wire.
+use Rattle.std.specs.Prelude.{◌≡◌, ℕ, ◌+◌, ◌≤◌, List, [], ◌∷◌, Some, slice_get}
+use Rattle.ice_base.specs.declared.number.WireNo.{WireNo}
+use Rattle.ice_graph.specs.declared.edge.Edge.{Edge}
+
+-- the edge stands in the graph
+abbrev pub HasEdge : List Edge → Edge → Type 0
+HasEdge edges e = (k : ℕ) × (slice_get edges k ≡ Some e)
+
+-- a walk of edges of the graph from the wire a to the wire b: each edge enters the wire that the next one leaves
+abbrev pub IsWalk : List Edge → ℕ → List Edge → ℕ → Type 0
+IsWalk edges a [] b = a ≡ b
+IsWalk edges a (e ∷ walk) b = HasEdge edges e × (e.from.0 ≡ a) × IsWalk edges e.to.0 walk b
+
+-- the sum of the prices of the wires that the walk enters
+abbrev pub cost : (ℕ → ℕ) → List Edge → ℕ
+cost price [] = 0
+cost price (e ∷ walk) = price e.to.0 + cost price walk
+
+-- the wire is one of the tree
+abbrev pub InTree : List WireNo → ℕ → Type 0
+InTree tree w = (k : ℕ) × (v : WireNo) × (slice_get tree k ≡ Some v) × (v.0 ≡ w)
+
+-- a walk from the tree to the wire costs this
+abbrev pub HasWalk : List Edge → (ℕ → ℕ) → List WireNo → ℕ → ℕ → Type 0
+HasWalk edges price tree w c = (start : ℕ) × (walk : List Edge) × InTree tree start × IsWalk edges start walk w × (cost price walk ≡ c)
+
+-- each walk from the tree to the wire costs at least as much
+abbrev pub IsLeast : List Edge → (ℕ → ℕ) → List WireNo → ℕ → ℕ → Type 0
+IsLeast edges price tree w c = (start : ℕ) (walk : List Edge) → InTree tree start → IsWalk edges start walk w → c ≤ cost price walk
+
+-- the label of a wire: the least cost of a walk from the tree to it
+abbrev pub IsLabel : List Edge → (ℕ → ℕ) → List WireNo → ℕ → ℕ → Type 0
+IsLabel edges price tree w c = HasWalk edges price tree w c × IsLeast edges price tree w c
+
+-- no walk leads from the tree to the wire
+abbrev pub NoWalk : List Edge → List WireNo → ℕ → Type 0
+NoWalk edges tree w = (start : ℕ) (walk : List Edge) → InTree tree start → IsWalk edges start walk w → ⊥
