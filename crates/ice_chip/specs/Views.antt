@@ -1,5 +1,5 @@
 -- The rows of a chip database as the definitions see them.
-use Rattle.std.specs.Prelude.{List, map}
+use Rattle.std.specs.Prelude.{map}
 use Rattle.ice_chip.specs.Database.{FunctionRow, WireName, SwitchRow, SwitchGroup, PackageRows, Parts}
 use Rattle.ice_chip.specs.declared.rows.Function.{Function}
 use Rattle.ice_chip.specs.declared.rows.NameRow.{NameRow}
