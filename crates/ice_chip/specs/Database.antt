@@ -59,7 +59,16 @@ pub record Parts : Type 0 where
 -- a database without rows
 abbrev pub no_parts : ℕ → ℕ → ℕ → Parts
 no_parts width height wires = record {
-  width = width; height = height; wires = wires;
-  tiles = []; functions = []; names = []; groups = []; packages = [];
-  gbufin = []; gbufpin = []; ieren = []; colbuf = [];
+  width = width;
+  height = height;
+  wires = wires;
+  tiles = [];
+  functions = [];
+  names = [];
+  groups = [];
+  packages = [];
+  gbufin = [];
+  gbufpin = [];
+  ieren = [];
+  colbuf = [];
 }

@@ -25,11 +25,16 @@ package_view p = record { name = p.name; pins = p.pins.entries; pads = p.pads.ke
 
 abbrev pub parts_view : ChipParts → Parts
 parts_view p = record {
-  width = p.width; height = p.height; wires = p.wires;
+  width = p.width;
+  height = p.height;
+  wires = p.wires;
   tiles = p.tiles.entries;
   functions = map function_view p.functions.items;
   names = map name_view p.names.items;
   groups = map group_view p.groups.items;
   packages = map package_view p.packages.items;
-  gbufin = p.gbufin.items; gbufpin = p.gbufpin.items; ieren = p.ieren.items; colbuf = p.colbuf.items;
+  gbufin = p.gbufin.items;
+  gbufpin = p.gbufpin.items;
+  ieren = p.ieren.items;
+  colbuf = p.colbuf.items;
 }

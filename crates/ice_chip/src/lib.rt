@@ -4,6 +4,8 @@
 
 mod parts;
 mod rows;
+mod whole;
 
 pub use parts::{ChipParts, Package, TileLine};
 pub use rows::{Function, Group, NameRow, Pad, Row, TileKind};
+pub use whole::{PlacedName, WireLine};
