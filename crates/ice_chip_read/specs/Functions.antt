@@ -57,13 +57,6 @@ is_foreign Logic name = false
 is_foreign RamBottom name = false
 is_foreign RamTop name = false
 
--- the columns of a tile's bits, which have 16 rows
-abbrev pub columns : TileKind → ℕ
-columns Io = 18
-columns Logic = 54
-columns RamBottom = 42
-columns RamTop = 42
-
 abbrev pub same_kind : TileKind → TileKind → Bool
 same_kind Io Io = true
 same_kind Logic Logic = true

@@ -6,6 +6,7 @@ use Rattle.ice_base.specs.Text.{lines, numbered}
 use Rattle.ice_base.specs.Comments.{begins_with}
 use Rattle.ice_base.specs.declared.number.TileAt.{TileAt}
 use Rattle.ice_base.specs.declared.number.BitAt.{BitAt}
+use Rattle.ice_chip.specs.Places.{same_tile, columns, tile_known}
 use Rattle.ice_chip.specs.Database.{Parts, PackageRows}
 use Rattle.ice_chip.specs.declared.rows.TileKind.{TileKind}
 use Rattle.ice_chip.specs.declared.rows.Pad.{Pad}
@@ -20,7 +21,7 @@ use Rattle.ice_chip_read.specs.PlainLines.{plain_lines}
 use Rattle.ice_chip_read.specs.Faults.{◌>>=◌}
 use Rattle.ice_chip_read.specs.Words.{number, two, three, ended}
 use Rattle.ice_chip_read.specs.Bits.{bits_in, values_in}
-use Rattle.ice_chip_read.specs.Functions.{is_read, is_foreign, columns, function_line}
+use Rattle.ice_chip_read.specs.Functions.{is_read, is_foreign, function_line}
 use Rattle.ice_chip_read.specs.Headings.{heading_of}
 use Rattle.ice_chip_read.specs.Reading.{Reading, begun, closed, tile_at, no_group, no_package}
 
@@ -49,9 +50,6 @@ wire_in line parts wire = if nat_lt wire parts.wires then Ok wire else Err (OutO
 
 abbrev pub global_in : ℕ → ℕ → Result ℕ LineFault
 global_in line global = if nat_lt global 8 then Ok global else Err (OutOfRange line)
-
-abbrev pub same_tile : TileAt → TileAt → Bool
-same_tile a b = (a.x == b.x) && (a.y == b.y)
 
 abbrev pub same_pad : Pad → Pad → Bool
 same_pad a b = same_tile a.tile b.tile && (a.pio == b.pio)
@@ -109,7 +107,7 @@ new_tile r line kind tile (Some old) = Err (Twice line old.line)
 abbrev pub tile_heading : Reading → ℕ → TileKind → List (List ℕ) → Result Reading LineFault
 tile_heading r line kind ws =
     two line ws >>= (λ a. ended line a.1 >>= (λ u. tile_in line r.parts a.0.0 a.0.1 >>= (λ tile.
-    new_tile r line kind tile (lookup (same_tile tile) r.parts.tiles))))
+    new_tile r line kind tile (tile_known r.parts.tiles tile))))
 
 abbrev pub bits_heading : Reading → ℕ → TileKind → List (List ℕ) → Result Reading LineFault
 bits_heading r line kind ws =

@@ -10,7 +10,6 @@ ghost use Rattle.ice_chip_read.specs.Functions.{
   is_read,
   is_of_pll,
   is_foreign,
-  columns,
   same_kind,
   function_line,
 };
@@ -120,18 +119,6 @@ pub fn is_foreign(kind: TileKind, name: &[u8]) -> bool
         TileKind::Logic => false,
         TileKind::RamBottom => false,
         TileKind::RamTop => false,
-    }
-}
-
-/// How many columns the bits of a kind of tile have.
-pub fn columns(kind: TileKind) -> u8
-    ensures { result ≡ columns kind }
-{
-    match kind {
-        TileKind::Io => 18,
-        TileKind::Logic => 54,
-        TileKind::RamBottom => 42,
-        TileKind::RamTop => 42,
     }
 }
 

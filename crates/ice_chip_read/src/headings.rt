@@ -16,7 +16,6 @@ ghost use Rattle.ice_chip_read.specs.Lines.{
 ghost use Rattle.ice_chip_read.specs.Views.{Says, Gives, reading_view};
 
 use crate::bits::group_bits;
-use crate::functions::columns;
 use crate::ranges::{tile_in, wire_in};
 use crate::reading::{Reading, begin};
 use crate::section::{Heading, Section};
@@ -134,7 +133,7 @@ fn tile_heading(
     let (x, y) = two(line, &mut words)?;
     ended(line, words)?;
     let tile = tile_in(line, &reading.parts, x, y)?;
-    if let Some(old) = reading.parts.tiles.get(&tile) {
+    if let Some(old) = reading.parts.tile_at(tile) {
         return Err(ReadStop::Fault(LineFault::Twice {
             line,
             other: old.line,
@@ -156,7 +155,7 @@ fn bits_heading(
 {
     let (width, height) = two(line, &mut words)?;
     ended(line, words)?;
-    if width != u32::from(columns(kind)) || height != 16 {
+    if width != u32::from(kind.columns()) || height != 16 {
         return Err(LineFault::OutOfRange { line });
     }
     reading.section = Section::Bits(kind);

@@ -15,3 +15,6 @@ mod words;
 
 pub use fault::{LineFault, ReadStop};
 pub use read::read_parts;
+
+#[cfg(test)]
+mod tests;

@@ -18,7 +18,7 @@ ghost use Rattle.ice_chip_read.specs.Lines.{
 ghost use Rattle.ice_chip_read.specs.Views.{Gives, reading_view};
 
 use crate::bits::{bits, values};
-use crate::functions::{columns, function_line, is_foreign, is_read};
+use crate::functions::{function_line, is_foreign, is_read};
 use crate::ranges::{global_in, pad_in, tile_in, wire_in};
 use crate::reading::Reading;
 use crate::section::Section;
@@ -142,7 +142,7 @@ fn kept_function(
 ) -> Result<(), ReadStop>
     ensures { Gives (λ _. reading_view reading.new) result (kept_function (reading_view reading.old) line kind name.now words.entry) }
 {
-    let bits = bits(alloc, line, columns(kind), words)?;
+    let bits = bits(alloc, line, kind.columns(), words)?;
     let name = name_of(alloc, name)?;
     reading.parts.functions.push(Function {
         kind,
