@@ -1,0 +1,7 @@
+use Rattle.std.proofs.Common.{◌≡◌, drop, map}
+use Rattle.ice_chip.specs.Views.{group_view, parts_view}
+use Rattle.ice_chip.specs.WholeFaults.{group_beyond_tile}
+use Rattle.ice_chip.proofs.parts.ChipParts.group_beyond_tile.Given as goal
+
+abbrev pub invariant-loop-group : goal.invariant-loop-group
+invariant-loop-group l = group_beyond_tile (parts_view l.self).tiles (parts_view l.self).groups ≡ group_beyond_tile (parts_view l.self).tiles (map group_view (drop l.group-index l.self.groups.items))

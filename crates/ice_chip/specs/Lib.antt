@@ -1,0 +1,4 @@
+pub mod Database
+pub mod Places
+pub mod Views
+pub mod WholeFaults

@@ -1,0 +1,79 @@
+//! The rows of a chip database.
+
+use ice_base::{BitAt, Name, RowNo, TileAt, WireNo};
+
+/// The kinds of tiles that hold configuration bits.
+#[derive(Clone, Copy, Debug, PartialEq, Eq, Hash)]
+pub enum TileKind {
+    /// Two pads at the border of the chip.
+    Io,
+    /// Eight logic cells.
+    Logic,
+    /// The lower half of a block of memory.
+    RamBottom,
+    /// The upper half of a block of memory.
+    RamTop,
+}
+
+/// A pad: one of the two of an IO tile.
+#[derive(Clone, Copy, Debug, PartialEq, Eq, Hash)]
+pub struct Pad {
+    /// The tile of the pad.
+    pub tile: TileAt,
+    /// Which of the tile's two pads: 0 or 1.
+    pub pio: u8,
+}
+
+/// A function of the tiles of one kind: a name for configuration bits.
+#[derive(Debug, Drop)]
+pub struct Function {
+    /// The kind of tile.
+    pub kind: TileKind,
+    /// The name, as in `LC_0` or `IoCtrl.IE_1`.
+    pub name: Name,
+    /// The bits in the order in which the database names them.
+    pub bits: Vec<BitAt>,
+    /// The number of its line.
+    pub line: u32,
+}
+
+/// A name of a wire at a place.
+#[derive(Debug, Drop)]
+pub struct NameRow {
+    /// The wire.
+    pub wire: WireNo,
+    /// The place, at which there need not be a tile.
+    pub tile: TileAt,
+    /// The name.
+    pub name: Name,
+    /// The number of its line.
+    pub line: u32,
+}
+
+/// A row of a group: where the group's bits have these values, the group's wire takes the value of the source.
+#[derive(Debug, Drop)]
+pub struct Row {
+    /// One value for each bit of the group.
+    pub values: Vec<bool>,
+    /// The wire whose value is taken.
+    pub source: WireNo,
+    /// The number of its line.
+    pub line: u32,
+}
+
+/// A group of switches in a tile into one wire: one section of the database.
+#[derive(Debug, Drop)]
+pub struct Group {
+    /// The place of the group.
+    pub tile: TileAt,
+    /// The wire that the switches drive.
+    pub wire: WireNo,
+    /// The bits that choose among the rows; one bit or more.
+    pub bits: Vec<BitAt>,
+    /// The number of its first row, which is the number of rows of the groups before it.
+    pub first: RowNo,
+    /// The rows in the order of the text.
+    pub rows: Vec<Row>,
+    /// The number of the line of its heading.
+    pub line: u32,
+}

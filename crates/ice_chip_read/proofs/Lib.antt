@@ -1,0 +1,3 @@
+mod BitCuts
+mod KnownLists
+mod Entries

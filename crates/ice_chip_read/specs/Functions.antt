@@ -1,0 +1,70 @@
+-- Which functions of a kind of tile are read or kept.
+use Rattle.std.specs.Prelude.{ℕ, ◌==◌, Bool, ◌||◌, ◌&&◌, true, false, Option, Some, None, List, [], ◌∷◌, codes, bytes_eq, if◌then◌else◌}
+use Rattle.ice_chip.specs.declared.rows.TileKind.{TileKind}
+use Rattle.ice_chip.specs.declared.rows.TileKind.TheVariants.{Io, Logic, RamBottom, RamTop}
+use Rattle.ice_chip.specs.Database.{FunctionRow}
+
+-- the bits of the eight logic cells
+abbrev pub is_logic_cell : List ℕ → Bool
+is_logic_cell name =
+    bytes_eq name (codes "LC_0") || bytes_eq name (codes "LC_1") || bytes_eq name (codes "LC_2") || bytes_eq name (codes "LC_3")
+    || bytes_eq name (codes "LC_4") || bytes_eq name (codes "LC_5") || bytes_eq name (codes "LC_6") || bytes_eq name (codes "LC_7")
+
+-- the column buffers of the eight globals
+abbrev pub is_column_buffer : List ℕ → Bool
+is_column_buffer name =
+    bytes_eq name (codes "ColBufCtrl.glb_netwk_0") || bytes_eq name (codes "ColBufCtrl.glb_netwk_1")
+    || bytes_eq name (codes "ColBufCtrl.glb_netwk_2") || bytes_eq name (codes "ColBufCtrl.glb_netwk_3")
+    || bytes_eq name (codes "ColBufCtrl.glb_netwk_4") || bytes_eq name (codes "ColBufCtrl.glb_netwk_5")
+    || bytes_eq name (codes "ColBufCtrl.glb_netwk_6") || bytes_eq name (codes "ColBufCtrl.glb_netwk_7")
+
+-- the six bits of the pin type of pad 0
+abbrev pub is_first_pin_type : List ℕ → Bool
+is_first_pin_type name =
+    bytes_eq name (codes "IOB_0.PINTYPE_0") || bytes_eq name (codes "IOB_0.PINTYPE_1") || bytes_eq name (codes "IOB_0.PINTYPE_2")
+    || bytes_eq name (codes "IOB_0.PINTYPE_3") || bytes_eq name (codes "IOB_0.PINTYPE_4") || bytes_eq name (codes "IOB_0.PINTYPE_5")
+
+-- the six bits of the pin type of pad 1
+abbrev pub is_second_pin_type : List ℕ → Bool
+is_second_pin_type name =
+    bytes_eq name (codes "IOB_1.PINTYPE_0") || bytes_eq name (codes "IOB_1.PINTYPE_1") || bytes_eq name (codes "IOB_1.PINTYPE_2")
+    || bytes_eq name (codes "IOB_1.PINTYPE_3") || bytes_eq name (codes "IOB_1.PINTYPE_4") || bytes_eq name (codes "IOB_1.PINTYPE_5")
+
+-- the input enables and pull-ups of the two pads
+abbrev pub is_pad_enable : List ℕ → Bool
+is_pad_enable name =
+    bytes_eq name (codes "IoCtrl.IE_0") || bytes_eq name (codes "IoCtrl.REN_0") || bytes_eq name (codes "IoCtrl.IE_1") || bytes_eq name (codes "IoCtrl.REN_1")
+
+-- the functions that are read
+abbrev pub is_read : TileKind → List ℕ → Bool
+is_read Io name = is_first_pin_type name || is_second_pin_type name || is_pad_enable name || is_column_buffer name
+is_read Logic name = is_logic_cell name || bytes_eq name (codes "NegClk") || bytes_eq name (codes "CarryInSet") || is_column_buffer name
+is_read RamBottom name = is_column_buffer name
+is_read RamTop name = is_column_buffer name
+
+-- the name begins with `PLL.`: 80 is `P`, 76 is `L`, 46 is `.`
+abbrev pub is_of_pll : List ℕ → Bool
+is_of_pll [] = false
+is_of_pll (a ∷ []) = false
+is_of_pll (a ∷ b ∷ []) = false
+is_of_pll (a ∷ b ∷ c ∷ []) = false
+is_of_pll (a ∷ b ∷ c ∷ d ∷ name) = (a == 80) && (b == 76) && (c == 76) && (d == 46)
+
+-- the functions of PLLs and of pairs of pads, which are kept so that bits which set them can be refused
+abbrev pub is_foreign : TileKind → List ℕ → Bool
+is_foreign Io name = is_of_pll name || bytes_eq name (codes "IoCtrl.LVDS")
+is_foreign Logic name = false
+is_foreign RamBottom name = false
+is_foreign RamTop name = false
+
+abbrev pub same_kind : TileKind → TileKind → Bool
+same_kind Io Io = true
+same_kind Logic Logic = true
+same_kind RamBottom RamBottom = true
+same_kind RamTop RamTop = true
+same_kind a b = false
+
+-- the line of the function of this kind and name, where there is one
+abbrev pub function_line : TileKind → List ℕ → List FunctionRow → Option ℕ
+function_line kind name [] = None
+function_line kind name (f ∷ fs) = if same_kind f.kind kind && bytes_eq f.name name then Some f.line else function_line kind name fs

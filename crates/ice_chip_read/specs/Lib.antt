@@ -1,0 +1,9 @@
+pub mod PlainLines
+pub mod Faults
+pub mod Words
+pub mod Bits
+pub mod Functions
+pub mod Headings
+pub mod Reading
+pub mod Lines
+pub mod Views

@@ -1,0 +1,150 @@
+//! Which functions of a kind of tile are read or kept.
+ghost use Rattle.std.specs.Prelude.{◌≡◌, map, option_map};
+ghost use Rattle.ice_chip.specs.Views.{function_view};
+ghost use Rattle.ice_chip_read.specs.Functions.{
+  is_logic_cell,
+  is_column_buffer,
+  is_first_pin_type,
+  is_second_pin_type,
+  is_pad_enable,
+  is_read,
+  is_of_pll,
+  is_foreign,
+  same_kind,
+  function_line,
+};
+
+use ice_chip::{Function, TileKind};
+
+// The bits of the eight logic cells.
+fn is_logic_cell(name: &[u8]) -> bool
+    ensures { result ≡ is_logic_cell name.now }
+{
+    name == b"LC_0".as_slice()
+        || name == b"LC_1".as_slice()
+        || name == b"LC_2".as_slice()
+        || name == b"LC_3".as_slice()
+        || name == b"LC_4".as_slice()
+        || name == b"LC_5".as_slice()
+        || name == b"LC_6".as_slice()
+        || name == b"LC_7".as_slice()
+}
+
+// The column buffers of the eight globals.
+fn is_column_buffer(name: &[u8]) -> bool
+    ensures { result ≡ is_column_buffer name.now }
+{
+    name == b"ColBufCtrl.glb_netwk_0".as_slice()
+        || name == b"ColBufCtrl.glb_netwk_1".as_slice()
+        || name == b"ColBufCtrl.glb_netwk_2".as_slice()
+        || name == b"ColBufCtrl.glb_netwk_3".as_slice()
+        || name == b"ColBufCtrl.glb_netwk_4".as_slice()
+        || name == b"ColBufCtrl.glb_netwk_5".as_slice()
+        || name == b"ColBufCtrl.glb_netwk_6".as_slice()
+        || name == b"ColBufCtrl.glb_netwk_7".as_slice()
+}
+
+// The pin type of pad 0.
+fn is_first_pin_type(name: &[u8]) -> bool
+    ensures { result ≡ is_first_pin_type name.now }
+{
+    name == b"IOB_0.PINTYPE_0".as_slice()
+        || name == b"IOB_0.PINTYPE_1".as_slice()
+        || name == b"IOB_0.PINTYPE_2".as_slice()
+        || name == b"IOB_0.PINTYPE_3".as_slice()
+        || name == b"IOB_0.PINTYPE_4".as_slice()
+        || name == b"IOB_0.PINTYPE_5".as_slice()
+}
+
+// The pin type of pad 1.
+fn is_second_pin_type(name: &[u8]) -> bool
+    ensures { result ≡ is_second_pin_type name.now }
+{
+    name == b"IOB_1.PINTYPE_0".as_slice()
+        || name == b"IOB_1.PINTYPE_1".as_slice()
+        || name == b"IOB_1.PINTYPE_2".as_slice()
+        || name == b"IOB_1.PINTYPE_3".as_slice()
+        || name == b"IOB_1.PINTYPE_4".as_slice()
+        || name == b"IOB_1.PINTYPE_5".as_slice()
+}
+
+// The input enables and pull-ups of the two pads.
+fn is_pad_enable(name: &[u8]) -> bool
+    ensures { result ≡ is_pad_enable name.now }
+{
+    name == b"IoCtrl.IE_0".as_slice()
+        || name == b"IoCtrl.REN_0".as_slice()
+        || name == b"IoCtrl.IE_1".as_slice()
+        || name == b"IoCtrl.REN_1".as_slice()
+}
+
+/// Whether the function of this name is read in tiles of the kind.
+pub fn is_read(kind: TileKind, name: &[u8]) -> bool
+    ensures { result ≡ is_read kind name.now }
+{
+    match kind {
+        TileKind::Io => {
+            is_first_pin_type(name)
+                || is_second_pin_type(name)
+                || is_pad_enable(name)
+                || is_column_buffer(name)
+        }
+        TileKind::Logic => {
+            is_logic_cell(name)
+                || name == b"NegClk".as_slice()
+                || name == b"CarryInSet".as_slice()
+                || is_column_buffer(name)
+        }
+        TileKind::RamBottom => is_column_buffer(name),
+        TileKind::RamTop => is_column_buffer(name),
+    }
+}
+
+// Whether the name begins with `PLL.`
+fn is_of_pll(name: &[u8]) -> bool
+    ensures { result ≡ is_of_pll name.now }
+{
+    match name {
+        [a, b, c, d, ..] => *a == b'P' && *b == b'L' && *c == b'L' && *d == b'.',
+        _ => false,
+    }
+}
+
+/// Whether the function of this name is kept although it isn't read.
+pub fn is_foreign(kind: TileKind, name: &[u8]) -> bool
+    ensures { result ≡ is_foreign kind name.now }
+{
+    match kind {
+        TileKind::Io => is_of_pll(name) || name == b"IoCtrl.LVDS".as_slice(),
+        TileKind::Logic => false,
+        TileKind::RamBottom => false,
+        TileKind::RamTop => false,
+    }
+}
+
+// Whether two kinds are the same.
+fn same_kind(a: TileKind, b: TileKind) -> bool
+    ensures { result ≡ same_kind a b }
+{
+    match (a, b) {
+        (TileKind::Io, TileKind::Io) => true,
+        (TileKind::Logic, TileKind::Logic) => true,
+        (TileKind::RamBottom, TileKind::RamBottom) => true,
+        (TileKind::RamTop, TileKind::RamTop) => true,
+        _ => false,
+    }
+}
+
+/// The line of the first function of this kind and name. Read functions stand once, so that there are few such
+/// questions in the reading of a text.
+
+pub fn function_line(kind: TileKind, name: &[u8], functions: &[Function]) -> Option<u32>
+    ensures { result ≡ function_line kind name.now (map function_view functions.now) }
+{
+    for function in functions {
+        if same_kind(function.kind, kind) && function.name.as_bytes() == name {
+            return Some(function.line);
+        }
+    }
+    None
+}
