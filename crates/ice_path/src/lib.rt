@@ -8,3 +8,6 @@ mod search;
 mod start;
 
 pub use scratch::{Scratch, connect};
+
+#[cfg(test)]
+mod tests;
