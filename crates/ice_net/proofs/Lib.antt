@@ -2,3 +2,4 @@ pub mod NameLists
 pub mod NetlistLaws
 pub mod PortPlaces
 pub mod SignalLists
+pub mod MeaningExamples

@@ -56,6 +56,7 @@ names_grow names name = by (list_any (bytes_eq name) names)
 grown : (n : NetlistData) (names : List (List ℕ)) → length n.names ≤ length names → length names ≤ 1073741823 → IsFormed n → IsFormed (record { names = names; ports = n.ports; cells = n.cells })
 grown n names le few h = record {
   few = few;
+  few_cells = h.few_cells;
   ports = All-weaker (IsPortBelow (length n.names)) (IsPortBelow (length names)) (port_more (length n.names) (length names) le) n.ports h.ports;
   cells = All-weaker (IsFormedCell (length n.names)) (IsFormedCell (length names)) (formed_more (length n.names) (length names) le) n.cells h.cells;
 }
@@ -73,11 +74,12 @@ named_still_indexed names now ports cells places name h room is =
     }
 
 pub celled_still_indexed : (names : List (List ℕ)) (ports : List Port) (cells : List Cell) (places : List (Option ℕ)) (cell : Cell)
-    → IsIndexed (record { names = names; ports = ports; cells = cells }) places → IsFormedCell (length names) cell
+    → IsIndexed (record { names = names; ports = ports; cells = cells }) places → length cells < 1073741823 → IsFormedCell (length names) cell
     → IsIndexed (record { names = names; ports = ports; cells = cells ++ cell ∷ [] }) places
-celled_still_indexed names ports cells places cell h formed = record {
+celled_still_indexed names ports cells places cell h room formed = record {
   formed = record {
     few = h.formed.few;
+    few_cells = omega (arith, room, length-append cells (cell ∷ []));
     ports = h.formed.ports;
     cells = All-push (IsFormedCell (length names)) cells cell h.formed.cells formed;
   };

@@ -49,6 +49,7 @@ IsPortBelow signals port = port.signal.0 < signals
 -- a netlist whose ports and cells are over its own signals
 pub record IsFormed (n : NetlistData) : Type 0 where
   pub few : length n.names ≤ 1073741823
+  pub few_cells : length n.cells ≤ 1073741823
   pub ports : All (IsPortBelow (length n.names)) n.ports
   pub cells : All (IsFormedCell (length n.names)) n.cells
 

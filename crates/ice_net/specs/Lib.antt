@@ -1,3 +1,7 @@
 pub mod NetlistData
 pub mod Kinds
 pub mod Formed
+pub mod Drivers
+pub mod Flops
+pub mod Drives
+pub mod Meaning

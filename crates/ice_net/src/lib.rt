@@ -2,6 +2,8 @@
 #![tactic(auto)]
 
 mod cell;
+mod drive;
+mod driver;
 mod kind;
 mod names;
 mod netlist;
@@ -10,6 +12,8 @@ mod ports;
 mod signals;
 
 pub use cell::Cell;
+pub use drive::Drive;
+pub use driver::Driver;
 pub use kind::{CellKind, Reset, kind_named};
 pub use netlist::{MOST_CELLS, MOST_NAMES, Netlist};
 pub use port::{Port, Way, merged};
