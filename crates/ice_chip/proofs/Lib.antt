@@ -1,1 +1,16 @@
 mod Entries
+mod Firsts
+mod Keys
+mod Listing
+mod NameLists
+mod NamePlaces
+mod NamedRows
+mod Numbering
+mod Readers
+mod RowPlaces
+mod JoinedTests
+mod DerivedEquality
+mod SharedLaws
+mod FirstOfAll
+mod NeededNames
+mod LackingLaws

@@ -1,3 +1,4 @@
 mod BitCuts
 mod KnownLists
 mod Entries
+mod ReadParts

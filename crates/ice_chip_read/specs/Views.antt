@@ -2,7 +2,7 @@
 use Rattle.std.specs.Prelude.{◌≡◌, ℕ, List, ◌∷◌, Result, Ok, Err}
 use Rattle.ice_chip.specs.Views.{parts_view, group_view, package_view}
 use Rattle.ice_chip_read.specs.Reading as spec
-use Rattle.ice_chip_read.specs.declared.fault.LineFault.{LineFault}
+use Rattle.ice_chip.specs.declared.fault.ChipFault.{ChipFault}
 use Rattle.ice_chip_read.specs.declared.fault.ReadStop.{ReadStop}
 use Rattle.ice_chip_read.specs.declared.fault.ReadStop.TheVariants.{NoMemory, Fault}
 use Rattle.ice_chip_read.specs.declared.plain.PlainLine.{PlainLine}
@@ -13,16 +13,16 @@ abbrev pub plain_line_view : PlainLine → ℕ × List (List ℕ)
 plain_line_view line = (line.number, line.first.now ∷ line.others)
 
 -- what a function that takes no memory returned, seen by view, is what the definition says
-abbrev pub Says : {X Y : Type 0} → (X → Y) → Result X LineFault → Result Y LineFault → Type 0
+abbrev pub Says : {X Y : Type 0} → (X → Y) → Result X ChipFault → Result Y ChipFault → Type 0
 Says view (Ok x) said = said ≡ Ok (view x)
 Says view (Err fault) said = said ≡ Err fault
 
-abbrev pub Stops : {Y : Type 0} → ReadStop → Result Y LineFault → Type 0
+abbrev pub Stops : {Y : Type 0} → ReadStop → Result Y ChipFault → Type 0
 Stops NoMemory said = Unit {0}
 Stops (Fault fault) said = said ≡ Err fault
 
 -- what a function returned, seen by view, is what the definition says, unless memory ran out
-abbrev pub Gives : {X Y : Type 0} → (X → Y) → Result X ReadStop → Result Y LineFault → Type 0
+abbrev pub Gives : {X Y : Type 0} → (X → Y) → Result X ReadStop → Result Y ChipFault → Type 0
 Gives view (Ok x) said = said ≡ Ok (view x)
 Gives view (Err stop) said = Stops stop said
 

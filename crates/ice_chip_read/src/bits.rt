@@ -4,8 +4,9 @@ ghost use Rattle.ice_chip_read.specs.Bits.{cut_at, number_below, bit_in, bits_in
 ghost use Rattle.ice_chip_read.specs.Lines.{bits_at, group_bits, values_at, known_values};
 ghost use Rattle.ice_chip_read.specs.Views.{Gives};
 
-use crate::{LineFault, ReadStop};
+use crate::ReadStop;
 use ice_base::{BitAt, PlainWords, number_of};
+use ice_chip::ChipFault;
 use std::alloc::Global;
 
 // A number below a limit.
@@ -59,7 +60,7 @@ pub fn bits(
     let mut bits = Vec::new(alloc);
     while let Some(name) = names.next() {
         let Some(bit) = bit(columns, name) else {
-            return Err(ReadStop::Fault(LineFault::BadBit { line }));
+            return Err(ReadStop::Fault(ChipFault::BadBit { line }));
         };
         bits.push(bit)?;
     }
@@ -72,7 +73,7 @@ pub fn group_bits(alloc: Global, line: u32, names: PlainWords<'_>) -> Result<Vec
 {
     let bits = bits(alloc, line, 54, names)?;
     if bits.is_empty() {
-        return Err(ReadStop::Fault(LineFault::BadBit { line }));
+        return Err(ReadStop::Fault(ChipFault::BadBit { line }));
     }
     Ok(bits)
 }
@@ -96,7 +97,7 @@ fn known_values(alloc: Global, line: u32, digits: &[u8]) -> Result<Vec<bool>, Re
     let mut values = Vec::with_capacity(alloc, digits.len())?;
     for digit in digits {
         let Some(value) = digit_value(*digit) else {
-            return Err(ReadStop::Fault(LineFault::BadValues { line }));
+            return Err(ReadStop::Fault(ChipFault::BadValues { line }));
         };
         values.push(value)?;
     }
@@ -108,7 +109,7 @@ pub fn values(alloc: Global, line: u32, bits: usize, digits: &[u8]) -> Result<Ve
     ensures { Gives (λ values. values.items) result (values_at line bits digits.now) }
 {
     if digits.len() != bits {
-        return Err(ReadStop::Fault(LineFault::BadValues { line }));
+        return Err(ReadStop::Fault(ChipFault::BadValues { line }));
     }
     known_values(alloc, line, digits)
 }

@@ -15,14 +15,14 @@ ghost use Rattle.ice_chip_read.specs.Lines.{
 };
 ghost use Rattle.ice_chip_read.specs.Views.{Says, Gives, reading_view};
 
+use crate::ReadStop;
 use crate::bits::group_bits;
 use crate::ranges::{tile_in, wire_in};
 use crate::reading::{Reading, begin};
 use crate::section::{Heading, Section};
 use crate::words::{ended, number, one_word, three, two};
-use crate::{LineFault, ReadStop};
 use ice_base::{PlainWords, RowNo, WireNo, name_of};
-use ice_chip::{Group, Package, TileKind, TileLine};
+use ice_chip::{ChipFault, Group, Package, TileKind, TileLine};
 use indexmap::{IndexMap, IndexSet};
 use std::alloc::Global;
 
@@ -33,16 +33,16 @@ const MOST_WIRES: u32 = 262_144;
 const MOST_PLACES: u32 = 256;
 
 // The width, the height and the number of wires of a `.device` line.
-fn sizes(line: u32, mut words: PlainWords<'_>) -> Result<(u32, u32, u32), LineFault>
+fn sizes(line: u32, mut words: PlainWords<'_>) -> Result<(u32, u32, u32), ChipFault>
     ensures { Says (λ sizes. sizes) result (sizes_in line words.entry) }
 {
     let Some(name) = words.next() else {
-        return Err(LineFault::BadNumber { line });
+        return Err(ChipFault::BadNumber { line });
     };
     let sizes = three(line, &mut words)?;
     ended(line, words)?;
     if name != b"1k".as_slice() {
-        return Err(LineFault::BadName { line });
+        return Err(ChipFault::BadName { line });
     }
     Ok(sizes)
 }
@@ -54,23 +54,23 @@ fn begin_within(
     width: u32,
     height: u32,
     wires: u32,
-) -> Result<Reading, LineFault>
+) -> Result<Reading, ChipFault>
     ensures { Says reading_view result (begun_within line (width, height, wires)) }
 {
     if wires > MOST_WIRES {
-        return Err(LineFault::TooMany { limit: MOST_WIRES });
+        return Err(ChipFault::TooMany { limit: MOST_WIRES });
     }
     if width > MOST_PLACES {
-        return Err(LineFault::TooMany { limit: MOST_PLACES });
+        return Err(ChipFault::TooMany { limit: MOST_PLACES });
     }
     if height > MOST_PLACES {
-        return Err(LineFault::TooMany { limit: MOST_PLACES });
+        return Err(ChipFault::TooMany { limit: MOST_PLACES });
     }
     Ok(begin(alloc, line, width as u16, height as u16, wires))
 }
 
 /// What is read behind the first section's heading, `.device`.
-pub fn device_first(alloc: Global, line: u32, words: PlainWords<'_>) -> Result<Reading, LineFault>
+pub fn device_first(alloc: Global, line: u32, words: PlainWords<'_>) -> Result<Reading, ChipFault>
     ensures { Says reading_view result (device_first line words.entry) }
 {
     let (width, height, wires) = sizes(line, words)?;
@@ -78,11 +78,11 @@ pub fn device_first(alloc: Global, line: u32, words: PlainWords<'_>) -> Result<R
 }
 
 // A second `.device`, which is a fault in any case.
-fn device_again(reading: &Reading, line: u32, words: PlainWords<'_>) -> Result<(), LineFault>
+fn device_again(reading: &Reading, line: u32, words: PlainWords<'_>) -> Result<(), ChipFault>
     ensures { Says (λ _. reading_view reading.now) result (device_again (reading_view reading.now) line words.entry) }
 {
     let _sizes = sizes(line, words)?;
-    Err(LineFault::Twice {
+    Err(ChipFault::Twice {
         line,
         other: reading.device,
     })
@@ -113,7 +113,7 @@ fn plain_heading(
     section: Section,
     line: u32,
     words: PlainWords<'_>,
-) -> Result<(), LineFault>
+) -> Result<(), ChipFault>
     ensures { Says (λ _. reading_view reading.new) result (plain_heading (reading_view reading.old) section line words.entry) }
 {
     ended(line, words)?;
@@ -134,7 +134,7 @@ fn tile_heading(
     ended(line, words)?;
     let tile = tile_in(line, &reading.parts, x, y)?;
     if let Some(old) = reading.parts.tile_at(tile) {
-        return Err(ReadStop::Fault(LineFault::Twice {
+        return Err(ReadStop::Fault(ChipFault::Twice {
             line,
             other: old.line,
         }));
@@ -150,13 +150,13 @@ fn bits_heading(
     line: u32,
     kind: TileKind,
     mut words: PlainWords<'_>,
-) -> Result<(), LineFault>
+) -> Result<(), ChipFault>
     ensures { Says (λ _. reading_view reading.new) result (bits_heading (reading_view reading.old) line kind words.entry) }
 {
     let (width, height) = two(line, &mut words)?;
     ended(line, words)?;
     if width != u32::from(kind.columns()) || height != 16 {
-        return Err(LineFault::OutOfRange { line });
+        return Err(ChipFault::OutOfRange { line });
     }
     reading.section = Section::Bits(kind);
     Ok(())
@@ -170,7 +170,7 @@ fn net_heading(reading: &mut Reading, line: u32, mut words: PlainWords<'_>) -> R
     ended(line, words)?;
     let wire = wire_in(line, &reading.parts, wire)?;
     if let Some(other) = reading.nets.get(&wire) {
-        return Err(ReadStop::Fault(LineFault::Twice {
+        return Err(ReadStop::Fault(ChipFault::Twice {
             line,
             other: *other,
         }));

@@ -3,7 +3,6 @@
 
 mod bits;
 mod fault;
-mod functions;
 mod headings;
 mod plain;
 mod ranges;
@@ -11,10 +10,9 @@ mod read;
 mod reading;
 mod rows;
 mod section;
-mod words;
-
-pub use fault::{LineFault, ReadStop};
-pub use read::read_parts;
-
 #[cfg(test)]
 mod tests;
+mod words;
+
+use fault::ReadStop;
+pub use read::read_chip;

@@ -1,17 +1,19 @@
 //! Reading a chip text to the rows of its database.
 ghost use Rattle.std.specs.Prelude.{◌≡◌, ◌∷◌};
+ghost use Rattle.ice_chip.specs.Answers.{Answers};
 ghost use Rattle.ice_chip.specs.Views.{parts_view};
 ghost use Rattle.ice_chip_read.specs.Lines.{line_says, lines_say, first_says, plain_says, text_says};
+ghost use Rattle.ice_chip_read.specs.Whole.{chip_says};
 ghost use Rattle.ice_chip_read.specs.Views.{Says, Gives, reading_view};
 
+use crate::ReadStop;
 use crate::headings::{device_first, heading_line};
 use crate::plain::{PlainLine, PlainLines, plain_lines};
 use crate::reading::{Reading, close};
 use crate::rows::row_line;
 use crate::section::heading_named;
-use crate::{LineFault, ReadStop};
 use ice_base::{begins_with, lines_of};
-use ice_chip::ChipParts;
+use ice_chip::{Chip, ChipFault, ChipParts, build};
 use std::alloc::Global;
 
 // One line more.
@@ -32,11 +34,11 @@ fn take_line(alloc: Global, reading: &mut Reading, line: PlainLine<'_>) -> Resul
 }
 
 // The first line.
-fn take_first(alloc: Global, line: PlainLine<'_>) -> Result<Reading, LineFault>
+fn take_first(alloc: Global, line: PlainLine<'_>) -> Result<Reading, ChipFault>
     ensures { Says reading_view result (first_says line.entry.number (line.entry.first.now ∷ line.entry.others)) }
 {
     if line.first != b".device".as_slice() {
-        return Err(LineFault::NoDevice { line: line.number });
+        return Err(ChipFault::NoDevice { line: line.number });
     }
     device_first(alloc, line.number, line.others)
 }
@@ -56,7 +58,7 @@ fn read_lines(alloc: Global, mut lines: PlainLines<'_>) -> Result<Reading, ReadS
     ensures { Gives reading_view result (plain_says lines.entry) }
 {
     let Some(first) = lines.next() else {
-        return Err(ReadStop::Fault(LineFault::NoDevice { line: 0 }));
+        return Err(ReadStop::Fault(ChipFault::NoDevice { line: 0 }));
     };
     let mut reading = take_first(alloc, first)?;
     match take_lines(alloc, &mut reading, lines) {
@@ -65,16 +67,27 @@ fn read_lines(alloc: Global, mut lines: PlainLines<'_>) -> Result<Reading, ReadS
     }
 }
 
-/// The rows of the chip database that a text writes, or the first fault of its lines.
-///
-/// The faults that two lines far apart make together, as the same name of two wires in a tile, are not looked for.
-/// Where one line has several faults, the first of the list of [`LineFault`] is answered.
-pub fn read_parts(alloc: Global, text: &[u8]) -> Result<ChipParts, ReadStop>
+// The rows of the chip database that a text writes, or the first fault of its lines.
+fn read_parts(alloc: Global, text: &[u8]) -> Result<ChipParts, ReadStop>
     ensures { Gives parts_view result (text_says text.now) }
 {
     let mut reading = read_lines(alloc, plain_lines(lines_of(text)))?;
     match close(alloc, &mut reading) {
         Ok(()) => Ok(reading.parts),
         Err(stop) => Err(stop),
+    }
+}
+
+/// The chip that the text of a chip database writes, or its first fault.
+///
+/// A fault of a line comes before every fault of a later line, and the faults of the whole, which rows far apart make
+/// together, come behind all faults of lines. Of several faults of one line, and of the whole, the first in the list of
+/// [`ChipFault`] is answered. Want of memory may come before any of them.
+pub fn read_chip(alloc: Global, text: &[u8]) -> Result<Chip, ChipFault>
+    ensures { Answers result (chip_says text.now) }
+{
+    match read_parts(alloc, text) {
+        Ok(parts) => build(alloc, parts),
+        Err(stop) => Err(ChipFault::from(stop)),
     }
 }

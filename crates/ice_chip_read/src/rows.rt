@@ -17,15 +17,16 @@ ghost use Rattle.ice_chip_read.specs.Lines.{
 };
 ghost use Rattle.ice_chip_read.specs.Views.{Gives, reading_view};
 
+use crate::ReadStop;
 use crate::bits::{bits, values};
-use crate::functions::{function_line, is_foreign, is_read};
 use crate::ranges::{global_in, pad_in, tile_in, wire_in};
 use crate::reading::Reading;
 use crate::section::Section;
 use crate::words::{ended, number, one_word, three, three_from, two, two_from};
-use crate::{LineFault, ReadStop};
 use ice_base::{PlainWords, WireNo, name_of};
-use ice_chip::{Function, NameRow, Package, Pad, Row, TileKind};
+use ice_chip::{
+    ChipFault, Function, NameRow, Package, Pad, Row, TileKind, function_line, is_foreign, is_read,
+};
 use std::alloc::Global;
 
 // The most switch rows of a database.
@@ -166,7 +167,7 @@ fn function_row(
 {
     if is_read(kind, name) {
         if let Some(other) = function_line(kind, name, &reading.parts.functions) {
-            return Err(ReadStop::Fault(LineFault::Twice { line, other }));
+            return Err(ReadStop::Fault(ChipFault::Twice { line, other }));
         }
         return kept_function(alloc, reading, line, kind, name, words);
     }
@@ -215,7 +216,7 @@ fn switch_row(
     let source = wire_in(line, &reading.parts, source)?;
     let values = values(alloc, line, reading.group.bits.len(), digits)?;
     if reading.rows >= MOST_ROWS {
-        return Err(ReadStop::Fault(LineFault::TooMany { limit: MOST_ROWS }));
+        return Err(ReadStop::Fault(ChipFault::TooMany { limit: MOST_ROWS }));
     }
     reading.group.rows.push(Row {
         values,
@@ -237,7 +238,7 @@ pub fn row_line(
     ensures { Gives (λ _. reading_view reading.new) result (row_says (reading_view reading.old) line reading.old.section first.now words.entry) }
 {
     match reading.section {
-        Section::Rowless => Err(ReadStop::Fault(LineFault::BadNumber { line })),
+        Section::Rowless => Err(ReadStop::Fault(ChipFault::BadNumber { line })),
         Section::ReadOver => Ok(()),
         Section::Pins => pin_row(alloc, reading, line, first, words),
         Section::BufferInputs => buffer_input_row(reading, line, first, words),

@@ -1,192 +1,415 @@
 //! Chip texts, with what the reader expects of them.
 
-use crate::{LineFault, ReadStop, read_parts};
-use std::alloc::Global;
+use crate::read_chip;
+use ice_base::RowNo;
+use ice_chip::{Chip, ChipFault};
+use std::alloc::{AllocError, Global};
 use std::process::Abort;
 use std::test::Fail;
 
-const SMALL_CHIP: &[u8] = b".device 1k 2 1 4
+// The functions that IO tiles need: the heading, the first function, and the others.
+const IO_HEADING: &[u8] = b".io_tile_bits 18 16
+";
+
+const IO_FIRST: &[u8] = b"IOB_0.PINTYPE_0 B0[17]
+";
+
+const IO_OTHERS: &[u8] = b"IOB_0.PINTYPE_1 B1[17]
+IOB_0.PINTYPE_2 B2[17]
+IOB_0.PINTYPE_3 B3[17]
+IOB_0.PINTYPE_4 B4[17]
+IOB_0.PINTYPE_5 B5[17]
+IOB_1.PINTYPE_0 B6[17]
+IOB_1.PINTYPE_1 B7[17]
+IOB_1.PINTYPE_2 B8[17]
+IOB_1.PINTYPE_3 B9[17]
+IOB_1.PINTYPE_4 B10[17]
+IOB_1.PINTYPE_5 B11[17]
+IoCtrl.IE_0 B12[17]
+IoCtrl.REN_0 B13[17]
+IoCtrl.IE_1 B14[17]
+IoCtrl.REN_1 B15[17]
+";
+
+// Four wires: `span` has two groups, and is driven by a pad of each tile.
+const TILES_A: &[u8] = b".device 1k 2 1 4
 .pins tiny
 1 0 0 0
 2 1 0 0
-1 1 0 1
-3 0 0 0
 .ieren
 0 0 0 0 0 0
 1 0 0 1 0 0
 .io_tile 0 0
 .io_tile 1 0
-.io_tile_bits 18 16
-IOB_0.PINTYPE_0 B0[17]
-NegClk B16[99] x
-IoCtrl.LVDS B0[1] B0[0]
-.net 0
+";
+
+const WIRES_A: &[u8] = b".net 0
 0 0 io_0/D_IN_0
 .net 1
-0 0 span # of both tiles
+0 0 span
 1 0 span
-.extra_cell 0 0 PLL
-whatever
+.net 2
+1 0 io_0/D_OUT_0
+.net 3
+1 0 io_1/D_IN_0
 .buffer 0 0 1 B0[0]
 1 0
-.routing 1 0 2 B0[0] B01[001]
+.buffer 1 0 2 B0[0] B1[0]
 10 1
-01 3
 .buffer 1 0 1 B2[0]
 1 3
 ";
 
+// The text of these parts.
+fn text_of(alloc: Global, parts: &[&[u8]]) -> Result<Vec<u8>, AllocError> {
+    let mut text = Vec::new(alloc);
+    for part in parts {
+        text.extend_from_slice(part)?;
+    }
+    Ok(text)
+}
+
+// A text with the functions of IO tiles in between.
+fn with_io_bits(alloc: Global, before: &[u8], after: &[u8]) -> Result<Vec<u8>, AllocError> {
+    text_of(alloc, &[before, IO_HEADING, IO_FIRST, IO_OTHERS, after])
+}
+
+// The chip of a text with the functions of IO tiles in between.
+fn chip_of(alloc: Global, before: &[u8], after: &[u8]) -> Result<Chip, ChipFault> {
+    let text = with_io_bits(alloc, before, after)?;
+    read_chip(alloc, &text)
+}
+
+// Fails unless the chip has this many wires, and rows into these wires from these sources.
+fn expect_rows(rt: &impl Abort, chip: &Chip, wires: u32, rows: &[(u32, u32)]) {
+    assert_eq!(rt; chip.wires(), wires);
+    assert_eq!(rt; chip.rows() as usize, rows.len());
+    for (number, (target, source)) in rows.iter().enumerate() {
+        if number >= chip.rows() as usize {
+            return;
+        }
+        let (group, row) = chip.row(RowNo(number as u32));
+        assert_eq!(rt;
+            (group.wire.0, row.source.0),
+            (*target, *source),
+            "row {number}"
+        );
+    }
+}
+
 #[test]
-fn a_small_chip_is_read(rt: HostRuntime) -> Result<(), Fail> {
-    let parts = read_parts(rt.alloc(), SMALL_CHIP)?;
-    assert_eq!(rt; (parts.width, parts.height, parts.wires), (2, 1, 4));
-    assert_eq!(rt; parts.tiles.len(), 2);
-    assert_eq!(rt; parts.functions.len(), 2);
-    assert_eq!(rt; parts.names.len(), 3);
-    assert_eq!(rt; parts.groups.len(), 3);
-    assert_eq!(rt; parts.groups[1].rows.len(), 2);
-    assert_eq!(rt; parts.groups[2].first.0, 3);
-    assert_eq!(rt; parts.packages.len(), 1);
-    assert_eq!(rt; parts.packages[0].pins.len(), 3);
-    assert_eq!(rt; parts.packages[0].pads.len(), 2);
-    assert_eq!(rt; parts.ieren.len(), 2);
+fn chip_a_has_its_rows(rt: HostRuntime) -> Result<(), Fail> {
+    let chip = chip_of(rt.alloc(), TILES_A, WIRES_A)?;
+    expect_rows(&rt, &chip, 4, &[(1, 0), (2, 1), (1, 3)]);
     Ok(())
 }
 
 // Fails unless the text has this fault.
-fn expect_fault(rt: &impl Abort, alloc: Global, text: &[u8], fault: LineFault) {
-    assert_eq!(rt;
-        read_parts(alloc, text).err(),
-        Some(ReadStop::Fault(fault)),
-        "of {text:?}"
-    );
+fn expect_fault(rt: &impl Abort, alloc: Global, text: &[u8], fault: ChipFault) {
+    assert_eq!(rt; read_chip(alloc, text).err(), Some(fault), "of {text:?}");
+}
+
+// Fails unless the text has no fault.
+fn expect_chip(rt: &impl Abort, alloc: Global, text: &[u8]) {
+    assert!(rt; read_chip(alloc, text).is_ok(), "{text:?}");
+}
+
+// Fails unless each of these texts, behind the same device, has its fault.
+fn expect_faults(
+    rt: &impl Abort,
+    alloc: Global,
+    cases: &[(&[u8], ChipFault)],
+) -> Result<(), AllocError> {
+    for (lines, fault) in cases {
+        let text = text_of(alloc, &[DEVICE, lines])?;
+        expect_fault(rt, alloc, &text, *fault);
+    }
+    Ok(())
+}
+
+// Fails unless each of these texts, with the functions of IO tiles in between, has its fault.
+fn expect_io_faults(
+    rt: &impl Abort,
+    alloc: Global,
+    before: &[u8],
+    cases: &[(&[u8], ChipFault)],
+) -> Result<(), AllocError> {
+    for (after, fault) in cases {
+        let text = with_io_bits(alloc, before, after)?;
+        expect_fault(rt, alloc, &text, *fault);
+    }
+    Ok(())
+}
+
+// The first line of most texts that have a fault.
+const DEVICE: &[u8] = b".device 1k 2 1 4
+";
+
+// Two tiles of pads.
+const TWO_TILES: &[u8] = b".device 1k 2 1 4
+.io_tile 0 0
+.io_tile 1 0
+";
+
+#[test]
+fn a_bit_of_row_16_is_refused(rt: HostRuntime) -> Result<(), Fail> {
+    let first = b"IOB_0.PINTYPE_0 B16[17]\n".as_slice();
+    let parts = [TILES_A, IO_HEADING, first, IO_OTHERS, WIRES_A];
+    let text = text_of(rt.alloc(), &parts)?;
+    expect_fault(&rt, rt.alloc(), &text, ChipFault::BadBit { line: 11 });
+    Ok(())
+}
+
+#[test]
+fn groups_without_a_tile(rt: HostRuntime) -> Result<(), Fail> {
+    let cases = [
+        (
+            b".io_tile 0 0\n.buffer 1 0 1 B0[0]\n.buffer 1 0 2 B0[0]\n".as_slice(),
+            ChipFault::OutOfRange { line: 3 },
+        ),
+        (
+            b".io_tile 0 0\n.buffer 0 0 1 B0[18]\n.buffer 1 0 1 B0[0]\n",
+            ChipFault::OutOfRange { line: 4 },
+        ),
+        (
+            b".io_tile 0 0\n.buffer 1 0 1 B0[0]\n.buffer 0 0 1 B0[18]\n",
+            ChipFault::OutOfRange { line: 3 },
+        ),
+        (
+            b".io_tile 0 0\n.buffer 1 0 1 B0[0]\n.net 9\n",
+            ChipFault::OutOfRange { line: 4 },
+        ),
+    ];
+    expect_faults(&rt, rt.alloc(), &cases)?;
+    Ok(())
+}
+
+#[test]
+fn names_and_bits_far_apart(rt: HostRuntime) -> Result<(), Fail> {
+    let cases = [
+        (
+            b".io_tile 0 0\n.net 0\n0 0 a\n.net 1\n0 0 b\n0 0 a\n".as_slice(),
+            ChipFault::Twice { line: 7, other: 4 },
+        ),
+        (
+            b".io_tile 0 0\n.buffer 0 0 1 B0[17] B0[18]\n",
+            ChipFault::BadBit { line: 3 },
+        ),
+        (
+            b".io_tile 0 0\n.buffer 0 0 1 B0[18]\n.net 0\n0 0 a\n.net 1\n0 0 a\n",
+            ChipFault::Twice { line: 7, other: 5 },
+        ),
+        (
+            b".buffer 1 0 1 B0[0]\n.io_tile 1 0\n",
+            ChipFault::LacksFunction { line: 0 },
+        ),
+    ];
+    expect_faults(&rt, rt.alloc(), &cases)?;
+    Ok(())
+}
+
+#[test]
+fn functions_that_share_bits(rt: HostRuntime) -> Result<(), Fail> {
+    let cases = [
+        (
+            b".buffer 0 0 1 B3[17]\n".as_slice(),
+            ChipFault::SharedFunction { line: 21, other: 8 },
+        ),
+        (
+            b".buffer 0 0 1 B3[17]\n.net 0\n0 0 io_0/D_IN_0\n0 0 io_1/D_IN_0\n",
+            ChipFault::SharedFunction { line: 21, other: 8 },
+        ),
+        (
+            b"ColBufCtrl.glb_netwk_0 B0[0] B0[1]\n.net 0\n0 0 io_0/D_IN_0\n0 0 io_1/D_IN_0\n",
+            ChipFault::LacksFunction { line: 21 },
+        ),
+    ];
+    expect_io_faults(&rt, rt.alloc(), TWO_TILES, &cases)?;
+    Ok(())
+}
+
+#[test]
+fn a_function_shares_a_bit_with_an_earlier_group(rt: HostRuntime) -> Result<(), Fail> {
+    let before = b".device 1k 2 1 4\n.io_tile 0 0\n.buffer 0 0 1 B3[17]\n";
+    let fault = ChipFault::SharedFunction { line: 8, other: 3 };
+    expect_io_faults(&rt, rt.alloc(), before, &[(b"", fault)])?;
+    Ok(())
+}
+
+#[test]
+fn wires_of_two_pins(rt: HostRuntime) -> Result<(), Fail> {
+    let cases = [
+        (
+            b".net 0\n0 0 io_0/D_IN_0\n0 0 io_1/D_IN_0\n".as_slice(),
+            ChipFault::SharedPin {
+                line: 23,
+                other: 22,
+            },
+        ),
+        (
+            b".net 0\n0 0 fabout\n1 0 a\n1 0 fabout\n",
+            ChipFault::SharedPin {
+                line: 24,
+                other: 22,
+            },
+        ),
+        (
+            b".net 0\n0 0 glb_netwk_3\n1 0 glb_netwk_3\n0 0 glb_netwk_4\n",
+            ChipFault::SharedPin {
+                line: 24,
+                other: 22,
+            },
+        ),
+    ];
+    expect_io_faults(&rt, rt.alloc(), TWO_TILES, &cases)?;
+    Ok(())
+}
+
+// Fails unless these texts have no device, by this line.
+fn expect_no_device(rt: &impl Abort, alloc: Global, text: &[u8], line: u32) {
+    expect_fault(rt, alloc, text, ChipFault::NoDevice { line });
 }
 
 #[test]
 fn a_text_begins_with_its_device(rt: HostRuntime) {
-    for (text, line) in [
-        (b"".as_slice(), 0),
-        (b"\n# .device 1k 2 1 4\n".as_slice(), 0),
-        (b"1 0 0 0\n.device 1k 2 1 4\n".as_slice(), 1),
-        (b"\n.pins tiny\n".as_slice(), 2),
-    ] {
-        expect_fault(&rt, rt.alloc(), text, LineFault::NoDevice { line });
-    }
+    expect_no_device(&rt, rt.alloc(), b"", 0);
+    expect_no_device(&rt, rt.alloc(), b"\n# .device 1k 2 1 4\n", 0);
+    expect_no_device(&rt, rt.alloc(), b"1 0 0 0\n.device 1k 2 1 4\n", 1);
+    expect_no_device(&rt, rt.alloc(), b"\n.pins tiny\n", 2);
 }
 
 #[test]
-fn words_and_numbers_are_counted(rt: HostRuntime) {
-    for (text, line) in [
-        (b".device 1k 2 1\n".as_slice(), 1),
-        (b".device 8k 2 1 4 5\n".as_slice(), 1),
-        (b".device 1k 2 1 4\n0 0\n".as_slice(), 2),
-        (b".device 1k 2 1 4\n.buffer 300 0\n".as_slice(), 2),
-        (b".device 1k 2 1 4\n.io_tile 9 x\n".as_slice(), 2),
-        (b".device 1k 2 1 4\n.device\n".as_slice(), 2),
-        (b".device 1k 2 1 4\n.net 1\n0 0\n".as_slice(), 3),
-    ] {
-        expect_fault(&rt, rt.alloc(), text, LineFault::BadNumber { line });
-    }
+fn words_of_a_device_are_counted(rt: HostRuntime) {
+    let fault = ChipFault::BadNumber { line: 1 };
+    expect_fault(&rt, rt.alloc(), b".device 1k 2 1\n", fault);
+    expect_fault(&rt, rt.alloc(), b".device 8k 2 1 4 5\n", fault);
 }
 
 #[test]
-fn numbers_are_in_range(rt: HostRuntime) {
-    for (text, line) in [
-        (b".device 1k 2 1 4\n.io_tile 2 0\n".as_slice(), 2),
-        (b".device 1k 2 1 4\n.net 4\n".as_slice(), 2),
-        (b".device 1k 2 1 4\n.gbufin\n0 0 7\n0 0 8\n".as_slice(), 4),
-        (b".device 1k 2 1 4\n.pins t\n1 0 0 2\n".as_slice(), 3),
-        (b".device 1k 2 1 4\n.io_tile_bits 54 16\n".as_slice(), 2),
-    ] {
-        expect_fault(&rt, rt.alloc(), text, LineFault::OutOfRange { line });
-    }
+fn words_and_numbers_are_counted(rt: HostRuntime) -> Result<(), Fail> {
+    let cases = [
+        (b"0 0\n".as_slice(), ChipFault::BadNumber { line: 2 }),
+        (b".buffer 300 0\n", ChipFault::BadNumber { line: 2 }),
+        (b".io_tile 9 x\n", ChipFault::BadNumber { line: 2 }),
+        (b".device\n", ChipFault::BadNumber { line: 2 }),
+        (b".net 1\n0 0\n", ChipFault::BadNumber { line: 3 }),
+    ];
+    expect_faults(&rt, rt.alloc(), &cases)?;
+    Ok(())
 }
 
 #[test]
-fn what_stands_once_stands_once(rt: HostRuntime) {
-    for (text, line, other) in [
-        (b".device 1k 2 1 4\n.device 1k 300 1 4\n".as_slice(), 2, 1),
+fn numbers_are_in_range(rt: HostRuntime) -> Result<(), Fail> {
+    let cases = [
         (
-            b".device 1k 2 1 4\n.io_tile 1 0\n.ramb_tile 1 0\n".as_slice(),
-            3,
-            2,
+            b".io_tile 2 0\n".as_slice(),
+            ChipFault::OutOfRange { line: 2 },
         ),
+        (b".net 4\n", ChipFault::OutOfRange { line: 2 }),
         (
-            b".device 1k 2 1 4\n.net 1\n.net 2\n.net 1\n".as_slice(),
-            4,
-            2,
+            b".gbufin\n0 0 7\n0 0 8\n",
+            ChipFault::OutOfRange { line: 4 },
         ),
-        (
-            b".device 1k 2 1 4\n.logic_tile_bits 54 16\nLC_0 B0[0]\n.iolatch\n.logic_tile_bits 54 16\nLC_0 B99[0]\n".as_slice(),
-            6,
-            3,
-        ),
-    ] {
-        expect_fault(&rt, rt.alloc(), text, LineFault::Twice { line, other });
-    }
+        (b".pins t\n1 0 0 2\n", ChipFault::OutOfRange { line: 3 }),
+        (b".io_tile_bits 54 16\n", ChipFault::OutOfRange { line: 2 }),
+    ];
+    expect_faults(&rt, rt.alloc(), &cases)?;
+    Ok(())
 }
 
 #[test]
-fn bits_and_values_fit(rt: HostRuntime) {
-    for (text, line) in [
+fn what_stands_once_stands_once(rt: HostRuntime) -> Result<(), Fail> {
+    let cases = [
         (
-            b".device 1k 2 1 4\n.io_tile_bits 18 16\nIoCtrl.IE_0 B0[18]\n".as_slice(),
-            3,
-        ),
-        (b".device 1k 2 1 4\n.buffer 0 0 1\n".as_slice(), 2),
-        (
-            b".device 1k 2 1 4\n.buffer 0 0 1 B0[53] B16[0]\n".as_slice(),
-            2,
-        ),
-        (b".device 1k 2 1 4\n.buffer 0 0 1 B0[54]\n".as_slice(), 2),
-        (b".device 1k 2 1 4\n.buffer 0 0 1 B[0]\n".as_slice(), 2),
-    ] {
-        expect_fault(&rt, rt.alloc(), text, LineFault::BadBit { line });
-    }
-    for (text, line) in [
-        (
-            b".device 1k 2 1 4\n.buffer 0 0 1 B0[0]\n10 3\n".as_slice(),
-            3,
+            b".device 1k 300 1 4\n".as_slice(),
+            ChipFault::Twice { line: 2, other: 1 },
         ),
         (
-            b".device 1k 2 1 4\n.buffer 0 0 1 B0[0]\n2 3\n".as_slice(),
-            3,
+            b".io_tile 1 0\n.ramb_tile 1 0\n",
+            ChipFault::Twice { line: 3, other: 2 },
         ),
-    ] {
-        expect_fault(&rt, rt.alloc(), text, LineFault::BadValues { line });
-    }
+        (
+            b".net 1\n.net 2\n.net 1\n",
+            ChipFault::Twice { line: 4, other: 2 },
+        ),
+        (
+            b".logic_tile_bits 54 16\nLC_0 B0[0]\n.iolatch\n.logic_tile_bits 54 16\nLC_0 B99[0]\n",
+            ChipFault::Twice { line: 6, other: 3 },
+        ),
+    ];
+    expect_faults(&rt, rt.alloc(), &cases)?;
+    Ok(())
+}
+
+#[test]
+fn bits_fit(rt: HostRuntime) -> Result<(), Fail> {
+    let cases = [
+        (
+            b".io_tile_bits 18 16\nIoCtrl.IE_0 B0[18]\n".as_slice(),
+            ChipFault::BadBit { line: 3 },
+        ),
+        (b".buffer 0 0 1\n", ChipFault::BadBit { line: 2 }),
+        (
+            b".buffer 0 0 1 B0[53] B16[0]\n",
+            ChipFault::BadBit { line: 2 },
+        ),
+        (b".buffer 0 0 1 B0[54]\n", ChipFault::BadBit { line: 2 }),
+        (b".buffer 0 0 1 B[0]\n", ChipFault::BadBit { line: 2 }),
+    ];
+    expect_faults(&rt, rt.alloc(), &cases)?;
+    Ok(())
+}
+
+#[test]
+fn values_fit(rt: HostRuntime) -> Result<(), Fail> {
+    let cases = [
+        (
+            b".buffer 0 0 1 B0[0]\n10 3\n".as_slice(),
+            ChipFault::BadValues { line: 3 },
+        ),
+        (
+            b".buffer 0 0 1 B0[0]\n2 3\n",
+            ChipFault::BadValues { line: 3 },
+        ),
+    ];
+    expect_faults(&rt, rt.alloc(), &cases)?;
+    Ok(())
+}
+
+#[test]
+fn another_device_is_refused(rt: HostRuntime) {
+    let fault = ChipFault::BadName { line: 1 };
+    expect_fault(&rt, rt.alloc(), b".device 8k 1 1 1\n", fault);
+    expect_fault(&rt, rt.alloc(), b".device 8k 257 1 1\n", fault);
 }
 
 #[test]
 fn sizes_have_limits(rt: HostRuntime) {
-    expect_fault(
-        &rt,
-        rt.alloc(),
-        b".device 8k 1 1 1\n",
-        LineFault::BadName { line: 1 },
-    );
-    for (text, limit) in [
-        (b".device 1k 256 256 262145\n".as_slice(), 262_144),
-        (b".device 1k 257 256 262144\n".as_slice(), 256),
-        (b".device 1k 256 257 262144\n".as_slice(), 256),
-    ] {
-        expect_fault(&rt, rt.alloc(), text, LineFault::TooMany { limit });
-    }
-    assert!(rt; read_parts(rt.alloc(), b".device 1k 256 256 262144\n").is_ok());
+    let wires = ChipFault::TooMany { limit: 262_144 };
+    let places = ChipFault::TooMany { limit: 256 };
+    expect_fault(&rt, rt.alloc(), b".device 1k 256 256 262145\n", wires);
+    expect_fault(&rt, rt.alloc(), b".device 1k 257 256 262144\n", places);
+    expect_fault(&rt, rt.alloc(), b".device 1k 256 257 262144\n", places);
+    expect_chip(&rt, rt.alloc(), b".device 1k 256 256 262144\n");
 }
 
 #[test]
-fn the_first_fault_is_answered(rt: HostRuntime) {
-    expect_fault(
-        &rt,
-        rt.alloc(),
-        b".device 1k 2 1 4\n.net 4\n.io_tile 0\n",
-        LineFault::OutOfRange { line: 2 },
-    );
-    expect_fault(
-        &rt,
-        rt.alloc(),
-        b".device 1k 2 1 4\n.io_tile 0\n.net 4\n",
-        LineFault::BadNumber { line: 2 },
-    );
+fn the_first_fault_is_answered(rt: HostRuntime) -> Result<(), Fail> {
+    let cases = [
+        (
+            b".net 4\n.io_tile 0\n".as_slice(),
+            ChipFault::OutOfRange { line: 2 },
+        ),
+        (b".io_tile 0\n.net 4\n", ChipFault::BadNumber { line: 2 }),
+        (
+            b".buffer 0 0 1 B0[0]\n0 1\n2 1\n.net 1\n.net 1\n",
+            ChipFault::BadValues { line: 4 },
+        ),
+        (
+            b".net 1\n.net 1\n.buffer 0 0 1 B0[0]\n2 1\n",
+            ChipFault::Twice { line: 3, other: 2 },
+        ),
+    ];
+    expect_faults(&rt, rt.alloc(), &cases)?;
+    Ok(())
 }

@@ -1,7 +1,7 @@
 //! Which functions of a kind of tile are read or kept.
 ghost use Rattle.std.specs.Prelude.{◌≡◌, map, option_map};
 ghost use Rattle.ice_chip.specs.Views.{function_view};
-ghost use Rattle.ice_chip_read.specs.Functions.{
+ghost use Rattle.ice_chip.specs.Functions.{
   is_logic_cell,
   is_column_buffer,
   is_first_pin_type,
@@ -14,10 +14,10 @@ ghost use Rattle.ice_chip_read.specs.Functions.{
   function_line,
 };
 
-use ice_chip::{Function, TileKind};
+use crate::{Function, TileKind};
 
-// The bits of the eight logic cells.
-fn is_logic_cell(name: &[u8]) -> bool
+/// Whether the name is that of a logic cell's bits.
+pub fn is_logic_cell(name: &[u8]) -> bool
     ensures { result ≡ is_logic_cell name.now }
 {
     name == b"LC_0".as_slice()
@@ -122,8 +122,8 @@ pub fn is_foreign(kind: TileKind, name: &[u8]) -> bool
     }
 }
 
-// Whether two kinds are the same.
-fn same_kind(a: TileKind, b: TileKind) -> bool
+/// Whether two kinds are the same.
+pub fn same_kind(a: TileKind, b: TileKind) -> bool
     ensures { result ≡ same_kind a b }
 {
     match (a, b) {
@@ -137,7 +137,6 @@ fn same_kind(a: TileKind, b: TileKind) -> bool
 
 /// The line of the first function of this kind and name. Read functions stand once, so that there are few such
 /// questions in the reading of a text.
-
 pub fn function_line(kind: TileKind, name: &[u8], functions: &[Function]) -> Option<u32>
     ensures { result ≡ function_line kind name.now (map function_view functions.now) }
 {

@@ -1,0 +1,76 @@
+-- The maps and lists by which a chip answers at once, as what its rows make of them.
+use Rattle.std.specs.Prelude.{ℕ, zero, suc, ◌==◌, ◌&&◌, Bool, Option, None, Some, List, [], ◌∷◌, ◌++◌, map, slice_get, slice_set, slice_index_or, option_map, bytes_eq, if◌then◌else◌, Vec}
+use Rattle.std.specs.List.{list_any, position_or_len}
+use Rattle.std.specs.Map.{lookup}
+use Rattle.std.specs.Option.{option_and_then}
+use Rattle.std.specs.declared.alloc.Global.{Global}
+use Rattle.ice_chip.specs.Database.{WireName, SwitchGroup, SwitchRow}
+use Rattle.ice_chip.specs.Places.{same_tile}
+use Rattle.ice_chip.specs.WholeFaults.{placed}
+use Rattle.ice_chip.specs.Lookups.{in_group}
+use Rattle.ice_chip.specs.declared.whole.PlacedName.{PlacedName}
+use Rattle.ice_chip.specs.declared.index.NumberedName.{NumberedName}
+use Rattle.ice_chip.specs.declared.index.RowPlace.{RowPlace}
+
+-- ---- of the rows with one key the first counts
+abbrev pub put_first : {K V : Type 0} → List (K × V) → K × V → Option V → List (K × V)
+put_first entries row None = entries ++ row ∷ []
+put_first entries row (Some old) = entries
+
+abbrev pub with_first : {K V : Type 0} → (K → K → Bool) → List (K × V) → K × V → List (K × V)
+with_first eq entries row = put_first entries row (lookup (eq row.0) entries)
+
+abbrev pub firsts : {K V : Type 0} → (K → K → Bool) → List (K × V) → List (K × V) → List (K × V)
+firsts eq entries [] = entries
+firsts eq entries (row ∷ rows) = firsts eq (with_first eq entries row) rows
+
+-- ---- wires by names: each different name has a number, and each number at a place a wire
+pub record Numbered : Type 0 where
+  pub texts : List (List ℕ)
+  pub wires : List (NumberedName × ℕ)
+
+-- names without where they lie in memory
+abbrev pub texts : List (Vec ℕ Global) → List (List ℕ)
+texts keys = map (λ key. key.items) keys
+
+abbrev pub with_text : List (List ℕ) → List ℕ → List (List ℕ)
+with_text names name = if list_any (bytes_eq name) names then names else names ++ name ∷ []
+
+abbrev pub number_of_text : List (List ℕ) → List ℕ → ℕ
+number_of_text names name = position_or_len (bytes_eq name) names
+
+abbrev pub same_numbered : NumberedName → NumberedName → Bool
+same_numbered a b = same_tile a.tile b.tile && (a.number == b.number)
+
+abbrev pub with_named : Numbered → PlacedName × ℕ → Numbered
+with_named s row = record {
+  texts = with_text s.texts row.0.name;
+  wires = with_first same_numbered s.wires (record { tile = row.0.tile; number = number_of_text s.texts row.0.name }, row.1);
+}
+
+abbrev pub numbered : Numbered → List (PlacedName × ℕ) → Numbered
+numbered s [] = s
+numbered s (row ∷ rows) = numbered (with_named s row) rows
+
+-- ---- the names of each wire
+abbrev pub lists_of : List (Vec PlacedName Global) → List (List PlacedName)
+lists_of lists = map (λ list. list.items) lists
+
+abbrev pub with_listed : List (List PlacedName) → WireName → List (List PlacedName)
+with_listed lists n = slice_set lists n.wire (slice_index_or lists n.wire [] ++ placed n ∷ [])
+
+abbrev pub listed : List (List PlacedName) → List WireName → List (List PlacedName)
+listed lists [] = lists
+listed lists (n ∷ ns) = listed (with_listed lists n) ns
+
+-- ---- the group of each row, and its number there
+abbrev pub row_in : SwitchGroup → ℕ → Option (SwitchGroup × SwitchRow)
+row_in g row = option_map (in_group g) (slice_get g.rows row)
+
+abbrev pub row_at : List SwitchGroup → RowPlace → Option (SwitchGroup × SwitchRow)
+row_at groups place = option_and_then (λ g. row_in g place.row) (slice_get groups place.group)
+
+-- the places of the first rows of a group
+abbrev pub places_up_to : ℕ → ℕ → List RowPlace
+places_up_to group zero = []
+places_up_to group (suc n) = places_up_to group n ++ record { group = group; row = n } ∷ []

@@ -1,0 +1,208 @@
+//! A chip: the rows of a database in which no fault is, each found at once.
+ghost use Rattle.std.specs.Prelude.{◌≡◌, ◌<◌, None, Some, IsSome, IfOk, map, length, slice_get, option_map};
+ghost use Rattle.ice_chip.specs.Answers.{Answers, chip_of};
+ghost use Rattle.ice_chip.specs.IsRead.{IsRead, IsChip};
+ghost use Rattle.ice_chip.specs.Whole.{whole_fault};
+ghost use Rattle.ice_chip.specs.Indices.{row_at};
+ghost use Rattle.ice_chip.specs.Lookups.{tile_of, kind_at, names_of, wire_named, rows_of, package_of, global_of, ieren_of, colbuf_of, function_of};
+ghost use Rattle.ice_chip.specs.Views.{function_view, row_view, group_view, package_view, parts_view};
+
+use crate::index::{RowPlace, column_buffers, globals, input_enables, tiles};
+use crate::lists::names_by_wire;
+use crate::name_places::{FunctionPlaces, place_of, places_of_packages};
+use crate::names::NameIndex;
+use crate::places::row_places;
+use crate::{ChipFault, ChipParts, Function, Group, Package, Pad, PlacedName, Row, Tile, TileKind};
+use ice_base::{NoMemory, RowNo, TileAt, WireNo};
+use indexmap::IndexMap;
+use std::alloc::Global;
+use std::marker::Model;
+
+/// A chip. Contracts see it as the rows of its database. No reader takes memory.
+#[derive(Drop)]
+pub struct Chip {
+    // The rows.
+    parts: ChipParts,
+    // The tiles in the order of the text.
+    tiles: Vec<Tile>,
+    // The names of each wire.
+    lists: Vec<Vec<PlacedName>>,
+    // The wires by their names at places.
+    names: NameIndex,
+    // Where each switch row stands.
+    places: Vec<RowPlace>,
+    // The tile that feeds each global.
+    globals: IndexMap<u8, TileAt>,
+    // The input enable of each pad.
+    enables: IndexMap<Pad, Pad>,
+    // The tile that holds the column buffers of each tile.
+    buffers: IndexMap<TileAt, TileAt>,
+    // Where the first function of each kind and name stands.
+    function_places: FunctionPlaces,
+    // Where the first package of each name stands.
+    package_places: IndexMap<Vec<u8>, usize>,
+}
+
+impl Model for Chip {
+    ghost use Rattle.ice_chip.specs.Database.{Parts};
+
+    ghost Value = { Parts };
+
+    ghost use Rattle.ice_chip.specs.ChipForm.{chip_view, IsIndexed};
+
+    ghost view = { chip_view };
+
+    ghost invariant = { IsIndexed };
+}
+
+impl Chip {
+    /// The tiles in the order of the text.
+    pub fn tiles(&self) -> &[Tile]
+        ensures { result.now ≡ map tile_of self.now.tiles }
+    {
+        &self.tiles
+    }
+
+    /// The groups of switches in the order of the text.
+    pub fn groups(&self) -> &[Group]
+        ensures { map group_view result.now ≡ self.now.groups }
+    {
+        &self.parts.groups
+    }
+
+    /// All functions that are kept, in the order of the text.
+    pub fn functions(&self) -> &[Function]
+        ensures { map function_view result.now ≡ self.now.functions }
+    {
+        &self.parts.functions
+    }
+
+    /// The number of the wires.
+    pub fn wires(&self) -> u32
+        ensures wires { result ≡ self.now.wires }
+        ensures chip { IsChip self.now }
+    {
+        self.parts.wires
+    }
+
+    /// The number of the switch rows.
+    pub fn rows(&self) -> u32
+        ensures { result ≡ length (rows_of self.now.groups) }
+    {
+        self.places.len() as u32
+    }
+
+    /// A switch row with its group. The number is in range.
+    #[tactic(auto, using(crate::proofs::Readers::place_within, crate::proofs::Readers::place_found))]
+    pub fn row(&self, row: RowNo) -> (&Group, &Row)
+        requires { row.0 < length (rows_of self.now.groups) }
+        ensures { slice_get (rows_of self.now.groups) row.0 ≡ Some (group_view result.0.now, row_view result.1.now) }
+    {
+        row_in(&self.parts.groups, self.places[row.0 as usize])
+    }
+
+    /// The names of a wire at places with a tile, in the order of the text. The wire is one of the chip.
+    #[tactic(auto, using(crate::proofs::Readers::list_within, crate::proofs::Readers::names_found))]
+    pub fn names(&self, wire: WireNo) -> &[PlacedName]
+        requires { wire.0 < self.now.wires }
+        ensures { result.now ≡ names_of self.now wire.0 }
+    {
+        &self.lists[wire.0 as usize]
+    }
+
+    /// The kind of the tile at a place, or None exactly where no tile stands there.
+    pub fn kind_at(&self, tile: TileAt) -> Option<TileKind>
+        ensures { result ≡ kind_at self.now tile }
+    {
+        self.parts.tile_at(tile).map(|known| known.kind)
+    }
+
+    /// The wire that has the name at the place, or None exactly where none has it.
+    #[tactic(auto, using(crate::proofs::Readers::wire_found))]
+    pub fn wire_named(&self, tile: TileAt, name: &[u8]) -> Option<WireNo>
+        ensures { option_map (λ wire. wire.0) result ≡ wire_named self.now tile name.now }
+    {
+        self.names.wire(tile, name).map(WireNo)
+    }
+
+    /// The first package of the name, or None exactly where there is none.
+    pub fn package(&self, name: &[u8]) -> Option<&Package>
+        ensures { option_map (λ p. package_view p.now) result ≡ package_of self.now name.now }
+    {
+        let place = place_of(&self.package_places, name)?;
+        self.parts.packages.get(place)
+    }
+
+    /// The pad whose input enable and pull-up serve this pad, or None exactly where no row that counts says so.
+    #[tactic(auto, using(crate::proofs::Readers::enable_found))]
+    pub fn ieren_of(&self, pad: Pad) -> Option<Pad>
+        ensures { result ≡ ieren_of self.now pad }
+    {
+        self.enables.get(&pad).copied()
+    }
+
+    /// The tile that holds the column buffers of a tile, or None exactly where no row that counts says so.
+    #[tactic(auto, using(crate::proofs::Readers::buffer_found))]
+    pub fn colbuf_of(&self, tile: TileAt) -> Option<TileAt>
+        ensures { result ≡ colbuf_of self.now tile }
+    {
+        self.buffers.get(&tile).copied()
+    }
+
+    /// The first function of the kind and name, or None exactly where there is none.
+    pub fn function(&self, kind: TileKind, name: &[u8]) -> Option<&Function>
+        ensures { option_map (λ f. function_view f.now) result ≡ function_of self.now kind name.now }
+    {
+        let place = self.function_places.find(kind, name)?;
+        self.parts.functions.get(place)
+    }
+
+    /// The tile whose `fabout` feeds a global, or None exactly where no row says so.
+    #[tactic(auto, using(crate::proofs::Readers::global_found))]
+    pub fn global_of(&self, n: u8) -> Option<TileAt>
+        ensures { result ≡ global_of self.now n }
+    {
+        self.globals.get(&n).copied()
+    }
+}
+
+// The row at its place, with its group.
+#[tactic(auto, using(crate::proofs::Readers::group_within, crate::proofs::Readers::row_within, crate::proofs::Readers::row_is))]
+fn row_in(groups: &[Group], place: RowPlace) -> (&Group, &Row)
+    requires { IsSome (row_at (map group_view groups.now) place) }
+    ensures { row_at (map group_view groups.now) place ≡ Some (group_view result.0.now, row_view result.1.now) }
+{
+    let group = &groups[place.group];
+    (group, &group.rows[place.row])
+}
+
+/// The chip of these rows, or the first fault of the whole.
+pub fn build(alloc: Global, parts: ChipParts) -> Result<Chip, ChipFault>
+    requires { IsRead (parts_view parts) }
+    ensures { Answers result (chip_of (parts_view parts)) }
+{
+    if let Some(fault) = parts.whole_fault(alloc)? {
+        return Err(fault);
+    }
+    Ok(indexed(alloc, parts)?)
+}
+
+// The chip of rows without a fault.
+fn indexed(alloc: Global, parts: ChipParts) -> Result<Chip, NoMemory>
+    requires read { IsRead (parts_view parts) }
+    requires faultless { whole_fault (parts_view parts) ≡ None }
+    ensures { IfOk result (λ chip. chip ≡ parts_view parts) }
+{
+    Ok(Chip {
+        tiles: tiles(alloc, &parts)?,
+        lists: names_by_wire(alloc, &parts)?,
+        names: NameIndex::new(alloc, &parts)?,
+        places: row_places(alloc, &parts.groups)?,
+        globals: globals(alloc, &parts)?,
+        enables: input_enables(alloc, &parts)?,
+        buffers: column_buffers(alloc, &parts)?,
+        function_places: FunctionPlaces::new(alloc, &parts.functions)?,
+        package_places: places_of_packages(alloc, &parts.packages)?,
+        parts,
+    })
+}

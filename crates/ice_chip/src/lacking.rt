@@ -1,0 +1,177 @@
+//! Functions that a kind of tile lacks, or has with another number of bits.
+ghost use Rattle.std.specs.Prelude.{◌≡◌, map};
+ghost use Rattle.ice_chip.specs.LacksFunction.{is_of_kind, has_kind, has_tile, is_buffer_source, has_function, has_column_buffers, has_logic, has_pin_types, has_pad_enables, has_needed, lacks_needed, bits_needed, has_wrong_bits, wrong_bits, lacks_function};
+ghost use Rattle.ice_chip.specs.Views.{function_view, parts_view};
+
+use crate::functions::{is_logic_cell, same_kind};
+use crate::least::least_of;
+use crate::{ChipParts, Function, TileKind, TileLine, function_line, is_read};
+
+// Whether there is a tile of the kind.
+fn is_of_kind(kind: TileKind, tile: Option<TileLine>) -> bool
+    ensures { result ≡ is_of_kind kind tile }
+{
+    match tile {
+        None => false,
+        Some(tile) => same_kind(tile.kind, kind),
+    }
+}
+
+// Whether the kind has a function of the name.
+fn has_function(kind: TileKind, name: &[u8], functions: &[Function]) -> bool
+    ensures { result ≡ has_function kind name.now (map function_view functions.now) }
+{
+    function_line(kind, name, functions).is_some()
+}
+
+// Whether the kind has the column buffers of all eight globals.
+pub fn has_column_buffers(kind: TileKind, functions: &[Function]) -> bool
+    ensures { result ≡ has_column_buffers kind (map function_view functions.now) }
+{
+    has_function(kind, b"ColBufCtrl.glb_netwk_0", functions)
+        && has_function(kind, b"ColBufCtrl.glb_netwk_1", functions)
+        && has_function(kind, b"ColBufCtrl.glb_netwk_2", functions)
+        && has_function(kind, b"ColBufCtrl.glb_netwk_3", functions)
+        && has_function(kind, b"ColBufCtrl.glb_netwk_4", functions)
+        && has_function(kind, b"ColBufCtrl.glb_netwk_5", functions)
+        && has_function(kind, b"ColBufCtrl.glb_netwk_6", functions)
+        && has_function(kind, b"ColBufCtrl.glb_netwk_7", functions)
+}
+
+// Whether there are the functions of logic cells, of their clock and of their first carry.
+fn has_logic(functions: &[Function]) -> bool
+    ensures { result ≡ has_logic (map function_view functions.now) }
+{
+    has_function(TileKind::Logic, b"LC_0", functions)
+        && has_function(TileKind::Logic, b"LC_1", functions)
+        && has_function(TileKind::Logic, b"LC_2", functions)
+        && has_function(TileKind::Logic, b"LC_3", functions)
+        && has_function(TileKind::Logic, b"LC_4", functions)
+        && has_function(TileKind::Logic, b"LC_5", functions)
+        && has_function(TileKind::Logic, b"LC_6", functions)
+        && has_function(TileKind::Logic, b"LC_7", functions)
+        && has_function(TileKind::Logic, b"NegClk", functions)
+        && has_function(TileKind::Logic, b"CarryInSet", functions)
+}
+
+// Whether there are all bits of the pin types of both pads.
+fn has_pin_types(functions: &[Function]) -> bool
+    ensures { result ≡ has_pin_types (map function_view functions.now) }
+{
+    has_function(TileKind::Io, b"IOB_0.PINTYPE_0", functions)
+        && has_function(TileKind::Io, b"IOB_0.PINTYPE_1", functions)
+        && has_function(TileKind::Io, b"IOB_0.PINTYPE_2", functions)
+        && has_function(TileKind::Io, b"IOB_0.PINTYPE_3", functions)
+        && has_function(TileKind::Io, b"IOB_0.PINTYPE_4", functions)
+        && has_function(TileKind::Io, b"IOB_0.PINTYPE_5", functions)
+        && has_function(TileKind::Io, b"IOB_1.PINTYPE_0", functions)
+        && has_function(TileKind::Io, b"IOB_1.PINTYPE_1", functions)
+        && has_function(TileKind::Io, b"IOB_1.PINTYPE_2", functions)
+        && has_function(TileKind::Io, b"IOB_1.PINTYPE_3", functions)
+        && has_function(TileKind::Io, b"IOB_1.PINTYPE_4", functions)
+        && has_function(TileKind::Io, b"IOB_1.PINTYPE_5", functions)
+}
+
+// Whether there are the input enables and pull-ups of both pads.
+fn has_pad_enables(functions: &[Function]) -> bool
+    ensures { result ≡ has_pad_enables (map function_view functions.now) }
+{
+    has_function(TileKind::Io, b"IoCtrl.IE_0", functions)
+        && has_function(TileKind::Io, b"IoCtrl.REN_0", functions)
+        && has_function(TileKind::Io, b"IoCtrl.IE_1", functions)
+        && has_function(TileKind::Io, b"IoCtrl.REN_1", functions)
+}
+
+// Whether the kind has all functions that it needs.
+fn has_needed(is_source: bool, kind: TileKind, functions: &[Function]) -> bool
+    ensures { result ≡ has_needed is_source kind (map function_view functions.now) }
+{
+    match kind {
+        TileKind::Io => has_pin_types(functions) && has_pad_enables(functions),
+        TileKind::Logic => {
+            has_logic(functions) && (!is_source || has_column_buffers(TileKind::Logic, functions))
+        }
+        TileKind::RamBottom => !is_source || has_column_buffers(TileKind::RamBottom, functions),
+        TileKind::RamTop => !is_source || has_column_buffers(TileKind::RamTop, functions),
+    }
+}
+
+// The number of bits of a read function.
+fn bits_needed(name: &[u8]) -> usize
+    ensures { result ≡ bits_needed name.now }
+{
+    if is_logic_cell(name) { 20 } else { 1 }
+}
+
+impl ChipParts {
+    // Whether a tile is of the kind.
+    fn has_tile(&self, kind: TileKind) -> bool
+        ensures { result ≡ has_tile kind (parts_view self.now).tiles }
+    {
+        for tile in self.tiles.values() {
+            if same_kind(tile.kind, kind) {
+                return true;
+            }
+        }
+        false
+    }
+
+    // Whether the source of a row of the column buffers is a tile of the kind.
+    fn is_buffer_source(&self, kind: TileKind) -> bool
+        ensures { result ≡ is_buffer_source kind (parts_view self.now).tiles (parts_view self.now).colbuf }
+    {
+        for (source, _) in &self.colbuf {
+            if is_of_kind(kind, self.tile_at(*source)) {
+                return true;
+            }
+        }
+        false
+    }
+
+    // Whether the kind has a tile and lacks a function that it needs.
+    fn lacks_needed(&self, kind: TileKind) -> bool
+        ensures { result ≡ lacks_needed (parts_view self.now) kind }
+    {
+        self.has_tile(kind) && !has_needed(self.is_buffer_source(kind), kind, &self.functions)
+    }
+
+    // Whether a read function of a kind that has a tile has a wrong number of bits.
+    fn has_wrong_bits(&self, function: &Function) -> bool
+        ensures { result ≡ has_wrong_bits (parts_view self.now).tiles (function_view function.now) }
+    {
+        let name = function.name.as_bytes();
+        is_read(function.kind, name)
+            && function.bits.len() != bits_needed(name)
+            && self.has_tile(function.kind)
+    }
+
+    // The least line of a function with a wrong number of bits.
+    fn wrong_bits(&self) -> Option<u32>
+        ensures { result ≡ wrong_bits (parts_view self.now).tiles None (parts_view self.now).functions }
+    {
+        let mut known = None;
+        for function in &self.functions {
+            if self.has_wrong_bits(function) {
+                known = Some(least_of(known, function.line));
+            }
+        }
+        known
+    }
+
+    /// The line 0, where a kind that has a tile lacks a function that it needs; or else the least line of a read function
+    /// of such a kind with a wrong number of bits, which is right where it is 20 for the logic cells and 1 for all
+    /// others. Logic and memory need column buffers where the source of a row of these is a tile of the kind. It takes
+    /// no memory.
+    pub fn lacks_function(&self) -> Option<u32>
+        ensures { result ≡ lacks_function (parts_view self.now) }
+    {
+        if self.lacks_needed(TileKind::Io)
+            || self.lacks_needed(TileKind::Logic)
+            || self.lacks_needed(TileKind::RamBottom)
+            || self.lacks_needed(TileKind::RamTop)
+        {
+            return Some(0);
+        }
+        self.wrong_bits()
+    }
+}

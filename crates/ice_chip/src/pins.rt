@@ -1,0 +1,101 @@
+//! Wires that lead to two pins.
+ghost use Rattle.std.specs.Prelude.{◌≡◌, IfOk, nat_eq};
+ghost use Rattle.std.specs.Map.{lookup};
+ghost use Rattle.ice_chip.specs.SharedPins.{is_pin, same_pin, with_pin, with_pin_name, shared_pin};
+ghost use Rattle.ice_chip.specs.WholeFaults.{clash_or};
+ghost use Rattle.ice_chip.specs.Views.{name_view, parts_view};
+
+use crate::{
+    ChipParts, NameRow, PlacedName, TileLine, is_global_name, is_input_name, is_output_name,
+};
+use ice_base::{NoMemory, name_of};
+use indexmap::IndexMap;
+use std::alloc::Global;
+
+/// A pin, and the line that names a wire as it.
+#[derive(Debug, Drop)]
+pub struct PinLine {
+    /// The pin.
+    pub pin: PlacedName,
+    /// The line.
+    pub line: u32,
+}
+
+// Whether the name is one of a pin of the tile.
+fn is_pin(tile: Option<TileLine>, name: &[u8]) -> bool
+    ensures { result ≡ is_pin tile name.now }
+{
+    match tile {
+        None => false,
+        Some(tile) => is_input_name(tile.kind, name) || is_output_name(tile.kind, name),
+    }
+}
+
+// Whether two names are of one pin.
+fn same_pin(a: &PlacedName, b: &PlacedName) -> bool
+    ensures { result ≡ same_pin a.now b.now }
+{
+    a.name == b.name && (a.tile == b.tile || is_global_name(a.name.as_bytes()))
+}
+
+// Notes a pin of a wire; or the lines of two pins of it, the later one first.
+fn note_pin(
+    seen: &mut IndexMap<u32, PinLine>,
+    wire: u32,
+    pin: PinLine,
+) -> Result<Option<(u32, u32)>, NoMemory>
+    ensures { IfOk result (λ lines. with_pin seen.old.entries (record { wire = wire; tile = pin.pin.tile; name = pin.pin.name; line = pin.line }) (lookup (nat_eq wire) seen.old.entries) ≡ clash_or lines seen.new.entries) }
+{
+    if let Some(first) = seen.get(&wire) {
+        if same_pin(&first.pin, &pin.pin) {
+            return Ok(None);
+        }
+        return Ok(Some((pin.line, first.line)));
+    }
+    seen.insert(wire, pin)?;
+    Ok(None)
+}
+
+// Notes a name of a wire, where it is one of a pin; or the lines of two pins of the wire, the later one first.
+fn note_pin_name(
+    alloc: Global,
+    tile: Option<TileLine>,
+    seen: &mut IndexMap<u32, PinLine>,
+    row: &NameRow,
+) -> Result<Option<(u32, u32)>, NoMemory>
+    ensures { IfOk result (λ lines. with_pin_name tile seen.old.entries (name_view row.now) ≡ clash_or lines seen.new.entries) }
+{
+    if !is_pin(tile, row.name.as_bytes()) {
+        return Ok(None);
+    }
+    let name = name_of(alloc, row.name.as_bytes())?;
+    let pin = PlacedName {
+        tile: row.tile,
+        name,
+    };
+    note_pin(
+        seen,
+        row.wire.0,
+        PinLine {
+            pin,
+            line: row.line,
+        },
+    )
+}
+
+impl ChipParts {
+    /// The first line that gives a wire another input or output name than an earlier line does, and the first line
+    /// that gives it one. One global in several tiles is one name. It fails for want of memory alone.
+    pub fn shared_pin(&self, alloc: Global) -> Result<Option<(u32, u32)>, NoMemory>
+        ensures { IfOk result (λ lines. lines ≡ shared_pin (parts_view self.now)) }
+    {
+        let mut seen = IndexMap::new(alloc);
+        for name in &self.names {
+            let lines = note_pin_name(alloc, self.tile_at(name.tile), &mut seen, name)?;
+            if lines.is_some() {
+                return Ok(lines);
+            }
+        }
+        Ok(None)
+    }
+}

@@ -1,0 +1,213 @@
+//! Bits that a read function shares with another function, with a group or with itself.
+ghost use Rattle.std.specs.Prelude.{◌≡◌, None, map, true, false, IfOk, OnOk};
+ghost use Rattle.std.specs.Map.{lookup};
+ghost use Rattle.ice_chip.specs.BitsUsed.{none_used, with_line, with_clash, with_use, with_uses, with_functions, with_groups};
+ghost use Rattle.ice_chip.specs.SharedFunction.{bit_use, function_uses, group_uses, two_lines, precedes, first_of, shared_function};
+ghost use Rattle.ice_chip.specs.UsedViews.{used_view};
+ghost use Rattle.ice_chip.specs.Views.{function_view, group_view, parts_view};
+
+use crate::least::least_of;
+use crate::{ChipParts, Function, Group, TileKind, TileLine, is_foreign, is_read};
+use ice_base::{BitAt, NoMemory};
+use indexmap::IndexMap;
+use std::alloc::Global;
+
+/// A bit of the tiles of a kind.
+#[derive(Clone, Copy, Debug, PartialEq, Eq, Hash)]
+pub struct KindBit {
+    /// The kind of tile.
+    pub kind: TileKind,
+    /// The bit.
+    pub bit: BitAt,
+}
+
+/// One use of a bit, by a function or a group.
+#[derive(Clone, Copy, Debug, PartialEq, Eq)]
+pub struct BitUse {
+    /// The bit.
+    pub place: KindBit,
+    /// Whether a read function uses it.
+    pub is_read: bool,
+    /// The line of the function or group.
+    pub line: u32,
+}
+
+/// What is known of the uses of bits so far.
+#[derive(Debug, Drop)]
+pub struct UsedBits {
+    /// The least line of the uses of each bit.
+    pub any: IndexMap<KindBit, u32>,
+    /// The least line of its uses by read functions.
+    pub read: IndexMap<KindBit, u32>,
+    /// The first two lines of uses that clash, the later one first.
+    pub shared: Option<(u32, u32)>,
+}
+
+// The later line and the earlier one.
+fn two_lines(a: u32, b: u32) -> (u32, u32)
+    ensures { result ≡ two_lines a b }
+{
+    if a < b { (b, a) } else { (a, b) }
+}
+
+// Whether two lines come before two others.
+fn precedes(lines: (u32, u32), others: (u32, u32)) -> bool
+    ensures { result ≡ precedes lines others }
+{
+    lines.0 < others.0 || lines.0 == others.0 && lines.1 < others.1
+}
+
+// The first two lines.
+fn first_of(known: Option<(u32, u32)>, lines: (u32, u32)) -> Option<(u32, u32)>
+    ensures { result ≡ first_of known lines }
+{
+    match known {
+        None => Some(lines),
+        Some(others) => {
+            if precedes(lines, others) {
+                Some(lines)
+            } else {
+                Some(others)
+            }
+        }
+    }
+}
+
+// The first two lines, with those of a use and of an earlier one, where it clashes with one.
+fn with_clash(known: Option<(u32, u32)>, line: u32, other: Option<u32>) -> Option<(u32, u32)>
+    ensures { result ≡ with_clash known line other }
+{
+    match other {
+        None => known,
+        Some(other) => first_of(known, two_lines(line, other)),
+    }
+}
+
+// Notes the line of a use of a bit.
+fn note_line(lines: &mut IndexMap<KindBit, u32>, place: KindBit, line: u32) -> Result<(), NoMemory>
+    ensures { OnOk result (lines.new.entries ≡ with_line lines.old.entries place line) }
+{
+    let least = least_of(lines.get(&place).copied(), line);
+    lines.insert(place, least)?;
+    Ok(())
+}
+
+impl UsedBits {
+    /// No uses.
+    pub fn new(alloc: Global) -> UsedBits
+        ensures { used_view result ≡ none_used }
+    {
+        UsedBits {
+            any: IndexMap::new(alloc),
+            read: IndexMap::new(alloc),
+            shared: None,
+        }
+    }
+
+    // Notes a use of a read function, which clashes with every use of its bit.
+    fn note_read(&mut self, place: KindBit, line: u32) -> Result<(), NoMemory>
+        ensures { OnOk result (used_view self.new ≡ with_use (used_view self.old) (record { place = place; is_read = true; line = line }) true) }
+    {
+        self.shared = with_clash(self.shared, line, self.any.get(&place).copied());
+        note_line(&mut self.any, place, line)?;
+        note_line(&mut self.read, place, line)
+    }
+
+    // Notes another use, which clashes with those of read functions.
+    fn note_other(&mut self, place: KindBit, line: u32) -> Result<(), NoMemory>
+        ensures { OnOk result (used_view self.new ≡ with_use (used_view self.old) (record { place = place; is_read = false; line = line }) false) }
+    {
+        self.shared = with_clash(self.shared, line, self.read.get(&place).copied());
+        note_line(&mut self.any, place, line)
+    }
+
+    // Notes a use.
+    fn note(&mut self, one: BitUse) -> Result<(), NoMemory>
+        ensures { OnOk result (used_view self.new ≡ with_use (used_view self.old) one one.is_read) }
+    {
+        if one.is_read {
+            return self.note_read(one.place, one.line);
+        }
+        self.note_other(one.place, one.line)
+    }
+
+    // Notes the uses of these bits.
+    fn note_bits(
+        &mut self,
+        kind: TileKind,
+        is_read: bool,
+        line: u32,
+        bits: &[BitAt],
+    ) -> Result<(), NoMemory>
+        ensures { OnOk result (used_view self.new ≡ with_uses (used_view self.old) (map (bit_use kind is_read line) bits.now)) }
+    {
+        for bit in bits {
+            let place = KindBit { kind, bit: *bit };
+            self.note(BitUse {
+                place,
+                is_read,
+                line,
+            })?;
+        }
+        Ok(())
+    }
+
+    // Notes the bits of a function.
+    fn note_function(&mut self, function: &Function) -> Result<(), NoMemory>
+        ensures { OnOk result (used_view self.new ≡ with_uses (used_view self.old) (function_uses (function_view function.now))) }
+    {
+        let name = function.name.as_bytes();
+        if is_read(function.kind, name) {
+            return self.note_bits(function.kind, true, function.line, &function.bits);
+        }
+        if is_foreign(function.kind, name) {
+            return self.note_bits(function.kind, false, function.line, &function.bits);
+        }
+        Ok(())
+    }
+
+    // Notes the bits of a group, where a tile stands at its place.
+    fn note_group(&mut self, tile: Option<TileLine>, group: &Group) -> Result<(), NoMemory>
+        ensures { OnOk result (used_view self.new ≡ with_uses (used_view self.old) (group_uses tile (group_view group.now))) }
+    {
+        match tile {
+            None => Ok(()),
+            Some(tile) => self.note_bits(tile.kind, false, group.line, &group.bits),
+        }
+    }
+}
+
+// Notes the bits of all functions.
+fn note_functions(used: &mut UsedBits, functions: &[Function]) -> Result<(), NoMemory>
+    ensures { OnOk result (used_view used.new ≡ with_functions (used_view used.old) (map function_view functions.now)) }
+{
+    for function in functions {
+        used.note_function(function)?;
+    }
+    Ok(())
+}
+
+impl ChipParts {
+    // Notes the bits of all groups.
+    fn note_groups(&self, used: &mut UsedBits) -> Result<(), NoMemory>
+        ensures { OnOk result (used_view used.new ≡ with_groups (parts_view self.now).tiles (used_view used.old) (parts_view self.now).groups) }
+    {
+        for group in &self.groups {
+            used.note_group(self.tile_at(group.tile), group)?;
+        }
+        Ok(())
+    }
+
+    /// The later and the earlier line of a bit that a read function shares: with another function of the kind that is
+    /// read or foreign, with a group in a tile of the kind, or with itself, where it names a bit twice. Of all such
+    /// lines those with the least later line, and of these the ones with the least earlier line. It fails for want of
+    /// memory alone.
+    pub fn shared_function(&self, alloc: Global) -> Result<Option<(u32, u32)>, NoMemory>
+        ensures { IfOk result (λ lines. lines ≡ shared_function (parts_view self.now)) }
+    {
+        let mut used = UsedBits::new(alloc);
+        note_functions(&mut used, &self.functions)?;
+        self.note_groups(&mut used)?;
+        Ok(used.shared)
+    }
+}

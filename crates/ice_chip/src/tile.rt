@@ -1,0 +1,13 @@
+//! Tiles with their kinds.
+
+use crate::TileKind;
+use ice_base::TileAt;
+
+/// A tile of the chip.
+#[derive(Clone, Copy, Debug, PartialEq, Eq)]
+pub struct Tile {
+    /// Its place.
+    pub at: TileAt,
+    /// Its kind.
+    pub kind: TileKind,
+}
