@@ -1,0 +1,28 @@
+use Rattle.std.proofs.Common.{◌≡◌, ◌∙◌, ℕ, List, length, sym, subst}
+use Rattle.ice_value.specs.Order.{IsOrder, IsSimpleCycle}
+use Rattle.ice_value.specs.Graph.{depends_of}
+use Rattle.ice_value.specs.Outcome.{IsOutcome}
+use Rattle.ice_check.specs.Loops.{cells_before}
+use Rattle.ice_check.proofs.Graphs.{order_of_graph, cycle_of_graph}
+use Rattle.ice_check.proofs.CellOrders.{no_cell_cycle}
+use Rattle.ice_check.proofs.order.order_of_cells.Goals as goal
+
+pub unreachable-requires : goal.unreachable-requires
+unreachable-requires c =
+    let n = c.args.netlist.now in
+    let rows : List (List ℕ) = c.in_ok-graph.graph in
+    let told : IsOutcome rows c.in_ok-order.field-0 = c.in_ok-order.ensures in
+    let found : IsSimpleCycle (length rows) (depends_of rows) c.in-Cycle.field-0.items = subst (IsOutcome rows) c.in-Cycle.is told in
+    no_cell_cycle n c.in_ok-graph.ensures.formed c.requires.signals c.in-Cycle.field-0.items
+    (cycle_of_graph (length n.cells) (cells_before n) rows c.in-Cycle.field-0.items c.in_ok-graph.ensures.graph found.below)
+
+pub returns : goal.returns
+returns c =
+    let n = c.args.netlist.now in
+    let rows : List (List ℕ) = c.in_ok-graph.graph in
+    let told : IsOutcome rows c.in_ok-order.field-0 = c.in_ok-order.ensures in
+    let found : IsOrder (length rows) (depends_of rows) c.in-Order.order.items = subst (IsOutcome rows) c.in-Order.is told in
+    let same : c.deref.result.now ≡ c.in-Order.order.items = c.deref.ensures.value in
+    let narrow : c.in_ok-order-in-Order.order.items ≡ c.deref.result.now = c.in_ok-order-in-Order.ensures in
+    subst (IsOrder (length n.cells) (cells_before n)) (sym (narrow ∙ same))
+    (order_of_graph (length n.cells) (cells_before n) rows c.in-Order.order.items c.in_ok-graph.ensures.graph found)

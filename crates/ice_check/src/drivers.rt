@@ -1,0 +1,71 @@
+//! What drives each signal of a netlist, and where its SB_IO is.
+ghost use Rattle.std.specs.Prelude.{◌≡◌, length, map, IfOk};
+ghost use Rattle.ice_net.specs.Drivers.{pin_of, driver_from};
+ghost use Rattle.ice_net.specs.Formed.{IsFormed};
+ghost use Rattle.ice_check.specs.Tables.{ArePlaces, AreDrivers, AreJoined};
+
+use crate::lists::{outputs, pads, pins};
+use crate::tables::places;
+use ice_base::NoMemory;
+use ice_net::{Driver, Netlist};
+use std::alloc::Global;
+
+/// The place of the first SB_IO at each signal, in the list of cells.
+///
+/// # Errors
+/// Want of memory alone.
+#[tactic(auto, using(crate::proofs::ListsBelow::pins_below))]
+pub(crate) fn buffers(alloc: Global, netlist: &Netlist) -> Result<Vec<Option<usize>>, NoMemory>
+    ensures places { IfOk result (λ table. ArePlaces (length netlist.now.names) (map pin_of netlist.now.cells) table.items) }
+    ensures formed { IsFormed netlist.now }
+{
+    let pins = pins(alloc, netlist.cells())?;
+    let table = places(alloc, netlist.signals() as usize, &pins)?;
+    Ok(table)
+}
+
+// What has the first of the places.
+fn driver_from(pad: Option<usize>, output: Option<usize>) -> Driver
+    ensures { result ≡ driver_from pad output }
+{
+    match (pad, output) {
+        (Some(port), _) => Driver::Pad(port),
+        (None, Some(cell)) => Driver::Output(cell),
+        (None, None) => Driver::Nothing,
+    }
+}
+
+// The drivers, by the first pad and the first output at each signal.
+#[tactic(auto, using(crate::proofs::DriverTables::joined_none, crate::proofs::DriverTables::joined_more))]
+fn joined(
+    alloc: Global,
+    pads: &[Option<usize>],
+    outputs: &[Option<usize>],
+) -> Result<Vec<Driver>, NoMemory>
+    requires { length outputs.now ≡ length pads.now }
+    ensures { IfOk result (λ table. AreJoined (length pads.now) pads.now outputs.now table.items) }
+{
+    let mut table = Vec::new(alloc);
+    for signal in 0..pads.len() {
+        table.push(driver_from(pads[signal], outputs[signal]))?;
+    }
+    Ok(table)
+}
+
+/// What drives each signal.
+///
+/// # Errors
+/// Want of memory alone.
+#[tactic(auto, using(crate::proofs::ListsBelow::pads_below, crate::proofs::ListsBelow::outputs_below, crate::proofs::DriverTables::drivers_joined))]
+pub(crate) fn drivers(alloc: Global, netlist: &Netlist) -> Result<Vec<Driver>, NoMemory>
+    ensures { IfOk result (λ table. AreDrivers netlist.now table.items) }
+{
+    let count = netlist.signals() as usize;
+    let buffers = buffers(alloc, netlist)?;
+    let outputs = outputs(alloc, netlist.cells())?;
+    let pads = pads(alloc, netlist, &buffers)?;
+    let pad_places = places(alloc, count, &pads)?;
+    let output_places = places(alloc, count, &outputs)?;
+    let table = joined(alloc, &pad_places, &output_places)?;
+    Ok(table)
+}
