@@ -1,0 +1,9 @@
+pub mod StepLists
+pub mod Digits
+pub mod Feeding
+pub mod Copying
+pub mod Settling
+pub mod Showing
+pub mod Remembering
+pub mod Within
+pub mod Running
