@@ -10,3 +10,6 @@ mod tree;
 pub use edge::Edge;
 pub use graph::Graph;
 pub use tree::Tree;
+
+#[cfg(test)]
+mod tests;

@@ -4,3 +4,7 @@ pub mod Settling
 pub mod Touching
 pub mod Starting
 pub mod Clearing
+pub mod Walking
+pub mod Taking
+pub mod Reaching
+pub mod Stepping

@@ -1,29 +1,20 @@
 -- One wire more is settled; and what is known at the end.
 use Rattle.std.proofs.Common.{◌≡◌, ◌≢◌, ℕ, zero, suc, ◌+◌, ◌≤◌, ◌<◌, Bool, true, false, not, cond, List, [], ◌∷◌, ◌++◌, Option, Some, None, length, get_or, slice_get, slice_set, refl, sym, ap, ◌∙◌, subst, arith, inl, inr, ◌⊎◌, get_or-set_same, get_or-set_other}
-use Rattle.std.proofs.lemmas.Bool.{cases_eq, false≢true}
+use Rattle.std.proofs.lemmas.Bool.{cases_lt, cases_eq, false≢true}
 use Rattle.std.proofs.lemmas.List.Sums.{sum_by-set, count_by-le-length}
 use Rattle.std.proofs.lemmas.Nat.{mul-le}
 use Rattle.std.specs.Prelude.{◌*◌, ◌-◌, ◌^◌, slice_index}
 use Rattle.ice_core.specs.declared.prices.Prices.{Prices}
 use Rattle.ice_core.specs.Congestion.{ArePrices, price as price_of}
-use Rattle.std.specs.List.{filter}
 use Rattle.std.proofs.lemmas.Bool.{eq-eqb, ne_eqb, eqb-true}
 use Rattle.std.proofs.lemmas.List.Sums.{sum_by-cons}
 use Rattle.ice_base.specs.declared.number.WireNo.{WireNo}
 use Rattle.ice_graph.specs.declared.edge.Edge.{Edge}
 use Rattle.ice_graph.specs.Rows.{rows_from, reads}
 use Rattle.ice_graph.specs.Network.{AreBetween}
-use Rattle.ice_path.specs.Walks.{HasEdge, IsWalk, IsLeast, NoWalk, cost}
-use Rattle.ice_path.specs.Search.{label, done, AtMost, IsLeastOpen, Relaxes, Searches, Starts, opens, open_edges}
-
--- a walk with one edge more
-walk_more : (edges : List Edge) (a b : ℕ) (path : List Edge) (e : Edge) → IsWalk edges a path b → HasEdge edges e → e.from.0 ≡ b → IsWalk edges a (path ++ e ∷ []) e.to.0
-walk_more edges a b [] e here has leaves = (has, leaves ∙ sym here, refl)
-walk_more edges a b (f ∷ path) e w has leaves = (w.0, w.1, walk_more edges f.to.0 b path e w.2 has leaves)
-
-cost_more : (price : ℕ → ℕ) (path : List Edge) (e : Edge) → cost price (path ++ e ∷ []) ≡ cost price path + price e.to.0
-cost_more price [] e = omega arith
-cost_more price (f ∷ path) e = omega (arith, cost_more price path e)
+use Rattle.ice_path.specs.Walks.{HasEdge, InTree, IsWalk, IsLeast, NoWalk, cost}
+use Rattle.ice_path.specs.Search.{label, done, AtMost, AreExact, IsLeastOpen, Relaxes, Searches, Starts, opens, open_edges}
+use Rattle.ice_path.proofs.Walking.{walk_more, cost_more, in_filter, of_filter}
 
 label_within : (labels : List (Option ℕ)) (w l : ℕ) → label labels w ≡ Some l → w < length labels
 label_within [] w l e = absurd (cc)
@@ -45,32 +36,11 @@ wire_within (f ∷ tree) (suc k) v at = omega (arith, wire_within tree k v at)
 
 -- an edge that leaves the wire u is one of the rows from u
 pub in_rows : (edges : List Edge) (u : ℕ) (e : Edge) → HasEdge edges e → e.from.0 ≡ u → HasEdge (rows_from edges u) e
-in_rows edges u e has leaves = in_filter edges has.0 has.1
-  where
-    in_filter : (fs : List Edge) (k : ℕ) → slice_get fs k ≡ Some e → HasEdge (filter (reads u) fs) e
-    in_filter [] k at = absurd (cc)
-    in_filter (f ∷ fs) zero at =
-        let same : f ≡ e = (cc) in
-        let yes' : reads u f ≡ true = eq-eqb f.from.0 u (ap (λ (g : Edge). g.from.0) same ∙ leaves) in
-        subst (λ b. HasEdge (cond b (f ∷ filter (reads u) fs) (filter (reads u) fs)) e) (sym yes') (0, at)
-    in_filter (f ∷ fs) (suc k) at = let rest = in_filter fs k at in by_head f fs (reads u f) rest
-      where
-        by_head : (f : Edge) (fs : List Edge) (b : Bool) → HasEdge (filter (reads u) fs) e → HasEdge (cond b (f ∷ filter (reads u) fs) (filter (reads u) fs)) e
-        by_head f fs true rest = (suc rest.0, rest.1)
-        by_head f fs false rest = rest
+in_rows edges u e has leaves = in_filter (reads u) e (eq-eqb e.from.0 u leaves) edges has.0 has.1
 
 -- each row from u is an edge that leaves u
 pub from_rows : (edges : List Edge) (u : ℕ) (e : Edge) → HasEdge (rows_from edges u) e → HasEdge edges e × (e.from.0 ≡ u)
-from_rows edges u e has = of_filter edges has.0 has.1
-  where
-    by_head : (f : Edge) (fs : List Edge) (b : Bool) → reads u f ≡ b → (k : ℕ) → slice_get (cond b (f ∷ filter (reads u) fs) (filter (reads u) fs)) k ≡ Some e → ((j : ℕ) → slice_get (filter (reads u) fs) j ≡ Some e → HasEdge fs e × (e.from.0 ≡ u)) → HasEdge (f ∷ fs) e × (e.from.0 ≡ u)
-    by_head f fs true is zero at go = (let same : f ≡ e = (cc) in ((0, at), ap (λ (g : Edge). g.from.0) (sym same) ∙ eqb-true f.from.0 u is))
-    by_head f fs true is (suc k) at go = (let t = go k at in ((suc t.0.0, t.0.1), t.1))
-    by_head f fs false is k at go = (let t = go k at in ((suc t.0.0, t.0.1), t.1))
-
-    of_filter : (fs : List Edge) (k : ℕ) → slice_get (filter (reads u) fs) k ≡ Some e → HasEdge fs e × (e.from.0 ≡ u)
-    of_filter [] k at = absurd (cc)
-    of_filter (f ∷ fs) k at = by_head f fs (reads u f) refl k at (λ j here. of_filter fs j here)
+from_rows edges u e has = let t = of_filter (reads u) e edges has.0 has.1 in (t.0, eqb-true e.from.0 u t.1)
 
 -- the rows from a wire lead to wires of the graph
 pub rows_to : (edges : List Edge) (n u k : ℕ) (e : Edge) → AreBetween n edges → slice_get (rows_from edges u) k ≡ Some e → e.to.0 < n
@@ -104,6 +74,34 @@ module _ (edges : List Edge) (price : ℕ → ℕ) (tree : List WireNo) (most co
   escapes : Searches edges price tree most count labels settled → (path : List Edge) (a b l : ℕ) → label labels a ≡ Some l → IsWalk edges a path b → Escapes l path b
   escapes h [] a b l at w = (a, l, at, omega arith, inr w)
   escapes h (e ∷ path) a b l at w = escapes_by h e path a b l at w.0 w.1 (λ k here. escapes h path e.to.0 b k here w.2) (done settled a) refl
+
+  -- a walk that costs less than the least open label leads to a wire with a label of at most its cost
+  arrives : Searches edges price tree most count labels settled → (u c : ℕ) → IsLeastOpen labels settled (Some (u, c)) → (w start : ℕ) (walk : List Edge)
+      → InTree tree start → IsWalk edges start walk w → cost price walk < c → AtMost labels w (cost price walk)
+  arrives h u c best w start walk root is less =
+      let t = escapes h walk start w 0 (h.rooted start root) is in
+      elim t.4 [
+        | inl open' ↦ absurd (omega (arith, best.2 t.0 t.1 t.2 open', t.3))
+        | inr same ↦ (t.1, ap (label labels) (sym same) ∙ t.2, omega (arith, t.3))
+      ]
+
+  -- the labels below the least open one are exact
+  pub exact : Searches edges price tree most count labels settled → (u c : ℕ) → IsLeastOpen labels settled (Some (u, c)) → AreExact edges price tree c labels
+  exact h u c best = record {
+    least = λ w l at less. (
+      h.attained w l at,
+      λ start walk root is. elim (cases_lt (cost price walk) c) [
+        | inl below ↦ (let t = arrives h u c best w start walk root is below in omega (arith, one_label labels w t.0 l t.1 at, t.2))
+        | inr le ↦ omega arith
+      ],
+    );
+    there = λ w l is less. (
+        let t = arrives h u c best w is.0.0 is.0.1 is.0.2 is.0.3 (omega (arith, is.0.4)) in
+        let walk = h.attained w t.0 t.1 in
+        let le = is.1 walk.0 walk.1 walk.2 walk.3 in
+        let same : t.0 ≡ l = omega (arith, t.2, is.0.4, walk.4, le) in
+        t.1 ∙ ap (λ k. Some k) same);
+  }
 
   -- where the least open label is the target's, no walk there costs less
   pub is_least : Searches edges price tree most count labels settled → (u c : ℕ) → IsLeastOpen labels settled (Some (u, c)) → IsLeast edges price tree u c

@@ -1,3 +1,4 @@
 pub mod Walks
 pub mod Search
+pub mod Paths
 pub mod Room

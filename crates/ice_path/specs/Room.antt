@@ -1,15 +1,17 @@
--- The room that a search has.
-use Rattle.std.specs.Prelude.{◌≡◌, ℕ, ◌+◌, ◌≤◌, ◌<◌, List, [], Some, None, false, length, slice_get, vec_capacity}
+-- The room that a search has, and the path that it left.
+use Rattle.std.specs.Prelude.{◌≡◌, ℕ, ◌+◌, ◌≤◌, ◌<◌, Option, List, [], Some, None, cond, false, length, slice_get, vec_capacity}
 use Rattle.std.specs.BinaryHeap.{IsHeap, heap_items, heap_len, heap_capacity}
 use Rattle.ice_base.specs.declared.number.WireNo.{WireNo}
 use Rattle.ice_graph.specs.Network.{Network}
+use Rattle.ice_graph.specs.declared.edge.Edge.{Edge}
 use Rattle.ice_path.specs.declared.scratch.Scratch.TheInside.{Inside}
 use Rattle.ice_path.specs.Search.{label, done, sooner}
 
--- for graphs of how many wires and how many edges there is room
+-- for graphs of how many wires and how many edges there is room, and the path of the last search if it found one
 pub record Room : Type 0 where
   pub wires : ℕ
   pub edges : ℕ
+  pub path : Option (List Edge)
 
 -- the room is for this graph
 abbrev pub IsFor : Network → Room → Type 0
@@ -20,9 +22,9 @@ abbrev pub AreWires : ℕ → List WireNo → Type 0
 AreWires n tree = (k : ℕ) (v : WireNo) → slice_get tree k ≡ Some v → v.0 < n
 
 abbrev pub room_of : Inside → Room
-room_of a = record { wires = length a.labels.items; edges = a.edges }
+room_of a = record { wires = length a.labels.items; edges = a.edges; path = cond a.found (Some a.path.items) None }
 
--- between two searches no wire has a label, none is settled or touched, and the queue is empty
+-- between two searches no wire has a label, none is settled or touched, the queue is empty, and a path of all wires has room
 pub record IsClear (a : Inside) : Type 0 where
   pub long : length a.settled.items ≡ length a.labels.items
   pub fresh : (w : ℕ) → label a.labels.items w ≡ None
@@ -33,3 +35,4 @@ pub record IsClear (a : Inside) : Type 0 where
   pub queue_len : heap_len a.queue ≡ 0
   pub order : IsHeap sooner (heap_items a.queue)
   pub room : length a.labels.items + a.edges ≤ heap_capacity a.queue
+  pub path : length a.labels.items ≤ vec_capacity a.path

@@ -6,7 +6,7 @@ use Rattle.std.specs.declared.cmp.Ordering.{Ordering}
 use Rattle.std.specs.declared.cmp.Reverse.{Reverse}
 use Rattle.ice_base.specs.declared.number.WireNo.{WireNo}
 use Rattle.ice_graph.specs.declared.edge.Edge.{Edge}
-use Rattle.ice_path.specs.Walks.{HasEdge, HasWalk, InTree}
+use Rattle.ice_path.specs.Walks.{HasEdge, HasWalk, IsLabel, InTree}
 
 abbrev pub label : List (Option ℕ) → ℕ → Option ℕ
 label labels w = slice_index_or labels w None
@@ -88,3 +88,14 @@ pub record Touches (labels : List (Option ℕ)) (touched : List ℕ) : Type 0 wh
 pub record IsOnlyAt (wires : List ℕ) (labels : List (Option ℕ)) (settled : List Bool) : Type 0 where
   pub labelled : (w l : ℕ) → label labels w ≡ Some l → Contains wires w
   pub closed : (w : ℕ) → done settled w ≡ true → Contains wires w
+
+-- the labels below c are the labels of the definition, and each wire with such a label has it
+pub record AreExact (edges : List Edge) (price : ℕ → ℕ) (tree : List WireNo) (c : ℕ) (labels : List (Option ℕ)) : Type 0 where
+  pub least : (w l : ℕ) → label labels w ≡ Some l → l < c → IsLabel edges price tree w l
+  pub there : (w l : ℕ) → IsLabel edges price tree w l → l < c → label labels w ≡ Some l
+
+-- the first of the rows whose source has the label l, or none where no source has it
+abbrev pub IsFirstFrom : List (Option ℕ) → ℕ → List Edge → Option Edge → Type 0
+IsFirstFrom labels l rows None = (k : ℕ) (e : Edge) → slice_get rows k ≡ Some e → label labels e.from.0 ≡ Some l → ⊥
+IsFirstFrom labels l rows (Some e) = (k : ℕ) × (slice_get rows k ≡ Some e) × (label labels e.from.0 ≡ Some l)
+    × ((j : ℕ) (d : Edge) → j < k → slice_get rows j ≡ Some d → label labels d.from.0 ≡ Some l → ⊥)

@@ -1,13 +1,17 @@
-//! Cheapest paths: the least cost of a walk from a route tree to a sink.
+//! Cheapest paths: the least cost of a walk from a route tree to a sink, and the taken path.
 #![tactic(auto)]
 
+mod back;
 mod clear;
+pub mod laws;
 mod queue;
 mod scratch;
 mod search;
 mod start;
 
-pub use scratch::{Scratch, connect};
+pub use scratch::{Scratch, connect, path};
 
+#[cfg(test)]
+mod generated;
 #[cfg(test)]
 mod tests;

@@ -5,7 +5,7 @@ ghost use Rattle.ice_core.specs.Congestion.{ArePrices, price};
 ghost use Rattle.ice_graph.specs.declared.edge.Edge.{Edge as Row};
 ghost use Rattle.ice_base.specs.declared.number.WireNo.{WireNo as Wire};
 ghost use Rattle.ice_graph.specs.Network.{AreBetween};
-ghost use Rattle.ice_path.specs.Search.{IsLeastOpen, Lowers, Relaxes, Searches, Starts, Queues, Touches, open_edges, sooner, done, label};
+ghost use Rattle.ice_path.specs.Search.{AreExact, IsLeastOpen, Lowers, Relaxes, Searches, Starts, Queues, Touches, open_edges, sooner, done, label};
 ghost use Rattle.ice_path.specs.Walks.{IsLabel, NoWalk};
 ghost use Rattle.std.specs.List.{Contains};
 
@@ -197,6 +197,9 @@ pub fn search(
     requires space { graph.now.wires ≤ vec_capacity touched.old }
     requires waits { Queues settled.old labels.old (heap_items queue.old) }
     ensures some { IfSome result (IsLabel graph.now.edges (price prices.now) tree.now target) }
+    ensures exact { IfSome result (λ c. AreExact graph.now.edges (price prices.now) tree.now c labels.new) }
+    ensures bound { IfSome result (λ c. c < 2 ^ 63) }
+    ensures length { length labels.new ≡ length labels.old }
     ensures none { IfNone result (NoWalk graph.now.edges tree.now target) }
     ensures order { IsHeap sooner (heap_items queue.new) }
     ensures capacity { heap_capacity queue.old ≤ heap_capacity queue.new }

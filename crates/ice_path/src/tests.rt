@@ -1,47 +1,168 @@
-//! Costs of walks in a small graph.
-use crate::{Scratch, connect};
+//! Costs and taken paths in small graphs.
+ghost use Rattle.std.specs.Prelude.{◌≡◌, ◌<◌, ◌≤◌, length};
+ghost use Rattle.ice_core.specs.Congestion.{ArePrices};
+ghost use Rattle.ice_path.specs.Room.{IsFor, AreWires};
+
+use crate::{Scratch, connect, path};
 use ice_base::{RowNo, WireNo};
 use ice_core::Prices;
 use ice_graph::{Edge, Graph, Tree};
+use std::alloc::Global;
 use std::process::Abort;
 use std::test::Fail;
 
-#[test]
-fn the_cheapest_walk_counts(rt: HostRuntime) {
-    let alloc = rt.alloc();
-    let edge = |row, from, to| Edge {
+// The cost of the taken path from these wires, and its rows.
+fn way(
+    rt: &impl Abort,
+    alloc: Global,
+    graph: &Graph,
+    prices: &Prices,
+    wires: &[WireNo],
+    target: u32,
+    scratch: &mut Scratch,
+) -> Option<(u64, Vec<u32>)>
+    requires prices { ArePrices prices.now }
+    requires wires { length prices.now.history.items ≡ graph.now.wires }
+    requires tree { AreWires graph.now.wires wires.now }
+    requires target { target < graph.now.wires }
+    requires scratch { IsFor graph.now scratch.old }
+    ensures { IsFor graph.now scratch.new }
+{
+    let tree = Tree {
+        wires: Vec::from_slice(alloc, wires).expect(rt, "memory"),
+        rows: Vec::new(alloc),
+    };
+    let Some(cost) = connect(graph, prices, &tree, WireNo(target), scratch) else {
+        return None;
+    };
+    let mut rows = Vec::new(alloc);
+    for edge in path(scratch) {
+        rows.push(edge.row.0).expect(rt, "memory");
+    }
+    Some((cost, rows))
+}
+
+// Fails unless the way has this cost and these rows.
+fn expect_way(rt: &impl Abort, way: Option<(u64, Vec<u32>)>, cost: u64, rows: &[u32]) {
+    let Some((found, taken)) = way else {
+        panic!(rt; "no way, but rows {rows:?}");
+    };
+    assert_eq!(rt; found, cost, "of rows {rows:?}");
+    assert_eq!(rt; taken.as_slice(), rows);
+}
+
+// An edge by the numbers of its row and its wires.
+fn edge(row: u32, from: u32, to: u32) -> Edge
+    ensures row { result.row.0 ≡ row }
+    ensures from { result.from.0 ≡ from }
+    ensures to { result.to.0 ≡ to }
+{
+    Edge {
         row: RowNo(row),
         from: WireNo(from),
         to: WireNo(to),
-    };
-    let edges = vec![in alloc; edge(0, 0, 1), edge(1, 0, 2), edge(2, 1, 3), edge(3, 2, 3)].expect(
-        &rt, "memory",
-    );
-    let graph = Graph::new(alloc, 5, edges).expect(&rt, "memory");
+    }
+}
+
+// What seven wires cost, of which wire 2 has a history and is held by others.
+fn prices_at(rt: &impl Abort, alloc: Global, round: u32, history: u8, others: u8) -> Prices
+    requires { (1 ≤ round) × (round ≤ 64) }
+    ensures prices { ArePrices result }
+    ensures length { length result.history.items ≡ 7 }
+{
+    Prices {
+        round,
+        history: vec![in alloc; 0, 0, history as u64, 0, 0, 0, 0].expect(rt, "memory"),
+        others: vec![in alloc; 0, 0, others as u32, 0, 0, 0, 0].expect(rt, "memory"),
+    }
+}
+
+#[test]
+fn a_short_way_and_a_long_way(rt: HostRuntime) {
+    let alloc = rt.alloc();
+    let edges = vec![in alloc;
+        edge(0, 0, 2),
+        edge(1, 1, 2),
+        edge(2, 0, 3),
+        edge(3, 1, 3),
+        edge(4, 3, 4),
+        edge(5, 2, 5),
+        edge(6, 4, 5),
+        edge(7, 2, 6),
+        edge(8, 4, 6),
+    ]
+    .expect(&rt, "memory");
+    let graph = Graph::new(alloc, 7, edges).expect(&rt, "memory");
     let mut scratch = Scratch::new(alloc, &graph).expect(&rt, "memory");
-    let prices = Prices {
-        round: 1,
-        history: vec![in alloc; 0, 6, 2, 0, 0].expect(&rt, "memory"),
-        others: vec![in alloc; 0, 0, 0, 0, 0].expect(&rt, "memory"),
-    };
-    let tree = Tree {
-        wires: vec![in alloc; WireNo(0)].expect(&rt, "memory"),
-        rows: Vec::new(alloc),
-    };
-    assert_eq!(rt;
-        connect(&graph, &prices, &tree, WireNo(3), &mut scratch),
-        Some(4)
+    let plain = prices_at(&rt, alloc, 1, 0, 0);
+    let crowded = prices_at(&rt, alloc, 2, 1, 1);
+    let tied = prices_at(&rt, alloc, 2, 1, 0);
+    let one = [WireNo(0)];
+    let two = [WireNo(0), WireNo(3)];
+    expect_way(
+        &rt,
+        way(&rt, alloc, &graph, &plain, &one, 5, &mut scratch),
+        2,
+        &[0, 5],
     );
-    assert_eq!(rt;
-        connect(&graph, &prices, &tree, WireNo(1), &mut scratch),
-        Some(7)
+    expect_way(
+        &rt,
+        way(&rt, alloc, &graph, &crowded, &one, 5, &mut scratch),
+        3,
+        &[2, 4, 6],
     );
-    assert_eq!(rt;
-        connect(&graph, &prices, &tree, WireNo(0), &mut scratch),
-        Some(0)
+    expect_way(
+        &rt,
+        way(&rt, alloc, &graph, &tied, &one, 5, &mut scratch),
+        3,
+        &[0, 5],
     );
-    assert_eq!(rt;
-        connect(&graph, &prices, &tree, WireNo(4), &mut scratch),
-        None
+    expect_way(
+        &rt,
+        way(&rt, alloc, &graph, &plain, &two, 6, &mut scratch),
+        2,
+        &[0, 7],
+    );
+    expect_way(
+        &rt,
+        way(&rt, alloc, &graph, &crowded, &two, 6, &mut scratch),
+        2,
+        &[4, 8],
+    );
+    expect_way(
+        &rt,
+        way(&rt, alloc, &graph, &plain, &two, 3, &mut scratch),
+        0,
+        &[],
+    );
+    assert!(rt; way(&rt, alloc, &graph, &plain, &two, 1, &mut scratch).is_none());
+    expect_way(
+        &rt,
+        way(&rt, alloc, &graph, &plain, &one, 2, &mut scratch),
+        1,
+        &[0],
+    );
+}
+
+#[test]
+fn the_first_row_goes_before_the_shorter_walk(rt: HostRuntime) {
+    let alloc = rt.alloc();
+    let edges = vec![in alloc;
+        edge(3, 0, 1),
+        edge(4, 1, 3),
+        edge(6, 3, 4),
+        edge(7, 0, 2),
+        edge(9, 2, 4),
+    ]
+    .expect(&rt, "memory");
+    let graph = Graph::new(alloc, 7, edges).expect(&rt, "memory");
+    let mut scratch = Scratch::new(alloc, &graph).expect(&rt, "memory");
+    let prices = prices_at(&rt, alloc, 1, 1, 0);
+    let tree = [WireNo(0)];
+    expect_way(
+        &rt,
+        way(&rt, alloc, &graph, &prices, &tree, 4, &mut scratch),
+        3,
+        &[3, 4, 6],
     );
 }

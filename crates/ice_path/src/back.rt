@@ -1,0 +1,109 @@
+//! Walking back from the target of a search to the tree.
+ghost use Rattle.std.specs.Prelude.{◌≡◌, ◌+◌, ◌<◌, ◌≤◌, ℕ, [], List, Option, Some, length, slice_get, vec_capacity, IfSome, OnSome};
+ghost use Rattle.ice_core.specs.Congestion.{ArePrices, price};
+ghost use Rattle.ice_graph.specs.declared.edge.Edge.{Edge as Row};
+ghost use Rattle.ice_path.specs.Search.{AreExact, IsFirstFrom, label};
+ghost use Rattle.ice_path.specs.Walks.{IsLabel};
+ghost use Rattle.ice_path.specs.Paths.{IsStepBack, IsTaken};
+
+use ice_base::WireNo;
+use ice_core::Prices;
+use ice_graph::{Edge, Graph};
+
+// The first of the rows whose source has this label.
+fn first_from(rows: &[Edge], labels: &[Option<u64>], cost: u64) -> Option<Edge>
+    requires within { (k : ℕ) (e : Row) → slice_get rows.now k ≡ Some e → e.from.0 < length labels.now }
+    ensures { IsFirstFrom labels.now cost rows.now result }
+{
+    for row in rows {
+        if labels[row.from.0 as usize] == Some(cost) {
+            return Some(*row);
+        }
+    }
+    None
+}
+
+// The step back from a wire of this label, which is not 0, with the label of its source.
+fn step_back(
+    graph: &Graph,
+    prices: &Prices,
+    tree: &[WireNo],
+    labels: &[Option<u64>],
+    wire: u32,
+    cost: u64,
+) -> (Edge, u64)
+    requires prices { ArePrices prices.now }
+    requires lengths { (length prices.now.history.items ≡ graph.now.wires) × (length labels.now ≡ graph.now.wires) }
+    requires wire { wire < graph.now.wires }
+    requires label { IsLabel graph.now.edges (price prices.now) tree.now wire cost }
+    requires exact { AreExact graph.now.edges (price prices.now) tree.now cost labels.now }
+    requires positive { 0 < cost }
+    ensures step { IsStepBack graph.now.edges (price prices.now) tree.now wire result.0 }
+    ensures source { IsLabel graph.now.edges (price prices.now) tree.now result.0.from.0 result.1 }
+    ensures labelled { label labels.now result.0.from.0 ≡ Some result.1 }
+    ensures less { result.1 < cost }
+    ensures within { result.0.from.0 < graph.now.wires }
+{
+    let (_tree, _edges) = (tree, graph.edges());
+    let before = cost - prices.of(WireNo(wire));
+    let Some(row) = first_from(graph.rows_into(WireNo(wire)), labels, before) else {
+        unreachable!()
+    };
+    (row, before)
+}
+
+// Appends the taken path to the target, which has this label.
+fn walk_back(
+    graph: &Graph,
+    prices: &Prices,
+    tree: &[WireNo],
+    labels: &[Option<u64>],
+    target: u32,
+    cost: u64,
+    path: &mut Vec<Edge>,
+)
+    requires prices { ArePrices prices.now }
+    requires lengths { (length prices.now.history.items ≡ graph.now.wires) × (length labels.now ≡ graph.now.wires) }
+    requires target { target < graph.now.wires }
+    requires label { IsLabel graph.now.edges (price prices.now) tree.now target cost }
+    requires exact { AreExact graph.now.edges (price prices.now) tree.now cost labels.now }
+    requires path { path.old.items ≡ [] }
+    requires space { graph.now.wires ≤ vec_capacity path.old }
+    ensures taken { IsTaken graph.now.edges (price prices.now) tree.now target path.new.items }
+    ensures space { vec_capacity path.new ≡ vec_capacity path.old }
+{
+    let (mut wire, mut rest) = (target, cost);
+    while rest > 0 {
+        let (row, before) = step_back(graph, prices, tree, labels, wire, rest);
+        path.push_reserved(row);
+        wire = row.from.0;
+        rest = before;
+    }
+    path.reverse();
+}
+
+// Appends the taken path to the target, where it has a label.
+pub fn take_path(
+    graph: &Graph,
+    prices: &Prices,
+    tree: &[WireNo],
+    labels: &[Option<u64>],
+    target: u32,
+    cost: Option<u64>,
+    path: &mut Vec<Edge>,
+)
+    requires prices { ArePrices prices.now }
+    requires lengths { (length prices.now.history.items ≡ graph.now.wires) × (length labels.now ≡ graph.now.wires) }
+    requires target { target < graph.now.wires }
+    requires label { IfSome cost (IsLabel graph.now.edges (price prices.now) tree.now target) }
+    requires exact { IfSome cost (λ c. AreExact graph.now.edges (price prices.now) tree.now c labels.now) }
+    requires path { path.old.items ≡ [] }
+    requires space { graph.now.wires ≤ vec_capacity path.old }
+    ensures taken { OnSome cost (IsTaken graph.now.edges (price prices.now) tree.now target path.new.items) }
+    ensures space { vec_capacity path.new ≡ vec_capacity path.old }
+{
+    let Some(cost) = cost else {
+        return;
+    };
+    walk_back(graph, prices, tree, labels, target, cost, path);
+}
