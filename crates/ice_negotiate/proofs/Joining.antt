@@ -1,0 +1,129 @@
+-- One sink more is joined to a tree.
+use Rattle.std.proofs.Common.{◌≡◌, ℕ, zero, suc, ◌≤◌, ◌<◌, ◌+◌, List, [], ◌∷◌, ◌++◌, Some, length, get_or, drop, map, slice_get, refl, sym, ap, ◌∙◌, subst, arith, inl, inr, ◌⊎◌}
+use Rattle.std.proofs.lemmas.List.{drop_more, drop_all}
+use Rattle.std.proofs.lemmas.Bool.{cases_eq}
+use Rattle.ice_base.specs.declared.number.WireNo.{WireNo}
+use Rattle.ice_graph.specs.declared.edge.Edge.{Edge}
+use Rattle.ice_graph.specs.Network.{Network, AreBetween}
+use Rattle.ice_path.specs.Walks.{HasEdge, InTree, IsWalk, NoWalk}
+use Rattle.ice_path.specs.Paths.{IsTaken}
+use Rattle.ice_path.proofs.Taking.{taken_cheapest, taken_unique}
+use Rattle.ice_negotiate.specs.Trees.{Route, bare, extended, IsJoined, AreJoined, IsTree, IsReached, IsRooted}
+
+walks_joined : (edges : List Edge) (a b c : ℕ) (one other : List Edge) → IsWalk edges a one b → IsWalk edges b other c → IsWalk edges a (one ++ other) c
+walks_joined edges a b c [] other h k = subst (λ x. IsWalk edges x other c) (sym h) k
+walks_joined edges a b c (e ∷ one) other h k = (h.0, h.1, walks_joined edges e.to.0 b c one other h.2 k)
+
+-- a walk leads on from the root to each wire that the walk enters
+entered_reached : (edges : List Edge) (root : WireNo) (a b : ℕ) (walk : List Edge) → (start : List Edge) → IsWalk edges root.0 start a → IsWalk edges a walk b → (k : ℕ) (e : Edge) → slice_get walk k ≡ Some e
+    → IsReached edges root e.to × HasEdge edges e
+entered_reached edges root a b [] start from h k e at = absurd (cc)
+entered_reached edges root a b (f ∷ walk) start from h zero e at =
+    let same : f ≡ e = (cc) in
+    let one : IsWalk edges root.0 (start ++ f ∷ []) f.to.0 = walks_joined edges root.0 a f.to.0 start (f ∷ []) from (h.0, h.1, refl) in
+    subst (λ (x : Edge). IsReached edges root x.to × HasEdge edges x) same ((start ++ f ∷ [], one), h.0)
+entered_reached edges root a b (f ∷ walk) start from h (suc k) e at =
+    entered_reached edges root f.to.0 b walk (start ++ f ∷ []) (walks_joined edges root.0 a f.to.0 start (f ∷ []) from (h.0, h.1, refl)) h.2 k e at
+
+-- an element behind an append is an old one or comes from a new one
+append_cases : (wires : List WireNo) (path : List Edge) (k : ℕ) (v : WireNo) → slice_get (wires ++ map (λ (e : Edge). e.to) path) k ≡ Some v
+    → (slice_get wires k ≡ Some v) ⊎ ((j : ℕ) × (e : Edge) × (slice_get path j ≡ Some e) × (e.to ≡ v))
+append_cases [] [] k v at = absurd (cc)
+append_cases [] (e ∷ path) zero v at = (let same : e.to ≡ v = (cc) in inr (0, e, refl, same))
+append_cases [] (e ∷ path) (suc k) v at = elim (append_cases [] path k v at) [
+  | inl bad ↦ absurd (cc)
+  | inr t ↦ inr (suc t.0, t.1, t.2, t.3)
+]
+append_cases (w ∷ wires) path zero v at = inl at
+append_cases (w ∷ wires) path (suc k) v at = append_cases wires path k v at
+
+append_old : (wires more : List WireNo) (k : ℕ) (v : WireNo) → slice_get wires k ≡ Some v → slice_get (wires ++ more) k ≡ Some v
+append_old [] more k v at = absurd (cc)
+append_old (w ∷ wires) more zero v at = at
+append_old (w ∷ wires) more (suc k) v at = append_old wires more k v at
+
+module _ (graph : Network) (root : WireNo) where
+  pub rooted_bare : root.0 < graph.wires → IsRooted graph root (root ∷ [])
+  rooted_bare lt = record {
+    within = λ k v at. (let same = only k v at in subst (λ (x : WireNo). x.0 < graph.wires) same lt);
+    root_in = (0, root, refl, refl);
+    reached = λ k v at. (let same = only k v at in ([], ap (λ (x : WireNo). x.0) same));
+  }
+    where
+      only : (k : ℕ) (v : WireNo) → slice_get (root ∷ []) k ≡ Some v → root ≡ v
+      only zero v at = cc
+      only (suc k) v at = absurd (cc)
+
+  -- a wire of the tree, and the walk to it from the root
+  in_tree_reached : (wires : List WireNo) → IsRooted graph root wires → (w : ℕ) → InTree wires w → (walk : List Edge) × IsWalk graph.edges root.0 walk w
+  in_tree_reached wires h w root' = let t = h.reached root'.0 root'.1 root'.2 in (t.0, subst (λ x. IsWalk graph.edges root.0 t.0 x) root'.3 t.1)
+
+  -- the sink behind a taken path is reached
+  pub sink_reached : (price : ℕ → ℕ) (wires : List WireNo) (sink : WireNo) (path : List Edge) → IsRooted graph root wires → IsTaken graph.edges price wires sink.0 path → IsReached graph.edges root sink
+  sink_reached price wires sink path h taken =
+      let t = taken_cheapest graph.edges price wires sink.0 path taken in
+      let start = in_tree_reached wires h t.0.0 t.0.1 in
+      (start.0 ++ path, walks_joined graph.edges root.0 t.0.0 sink.0 start.0 path start.1 t.0.2)
+
+  -- the tree with a taken path
+  pub rooted_more : (price : ℕ → ℕ) (wires : List WireNo) (sink : WireNo) (path : List Edge) → AreBetween graph.wires graph.edges → IsRooted graph root wires → IsTaken graph.edges price wires sink.0 path
+      → IsRooted graph root (wires ++ map (λ (e : Edge). e.to) path)
+  rooted_more price wires sink path between h taken =
+      let t = taken_cheapest graph.edges price wires sink.0 path taken in
+      let start = in_tree_reached wires h t.0.0 t.0.1 in
+      let entered = entered_reached graph.edges root t.0.0 sink.0 path start.0 start.1 t.0.2 in
+      record {
+        within = λ k v at. elim (append_cases wires path k v at) [
+          | inl old ↦ h.within k v old
+          | inr s ↦ (let e = entered s.0 s.1 s.2 in subst (λ (x : WireNo). x.0 < graph.wires) s.3 (between e.1.0 s.1 e.1.1).1)
+        ];
+        root_in = (h.root_in.0, h.root_in.1, append_old wires (map (λ (e : Edge). e.to) path) h.root_in.0 h.root_in.1 h.root_in.2, h.root_in.3);
+        reached = λ k v at. elim (append_cases wires path k v at) [
+          | inl old ↦ h.reached k v old
+          | inr s ↦ subst (IsReached graph.edges root) s.3 (entered s.0 s.1 s.2).0
+        ];
+      }
+
+  -- no walk leads from the tree, so none from the root
+  pub unreached : (wires : List WireNo) (sink : WireNo) → IsRooted graph root wires → NoWalk graph.edges wires sink.0 → IsReached graph.edges root sink → ⊥
+  unreached wires sink h none walk = none root.0 walk.0 h.root_in walk.1
+
+-- what is left to be joined, from the route so far
+pub record GoesOn (edges : List Edge) (price : ℕ → ℕ) (root : WireNo) (sinks : List WireNo) (i : ℕ) (route : Route) : Type 0 where
+  pub on : (whole : Route) → AreJoined edges price route (drop i sinks) whole → IsTree edges price root sinks whole
+
+pub goes_first : (edges : List Edge) (price : ℕ → ℕ) (root : WireNo) (sinks : List WireNo) (route : Route) → route ≡ bare root → GoesOn edges price root sinks 0 route
+goes_first edges price root sinks route same = record { on = λ whole h. subst (λ r. AreJoined edges price r sinks whole) same h }
+
+pub goes_more : (edges : List Edge) (price : ℕ → ℕ) (root : WireNo) (sinks : List WireNo) (i : ℕ) (d : WireNo) (route next : Route) → i < length sinks
+    → IsJoined edges price route (get_or sinks i d) next → GoesOn edges price root sinks i route → GoesOn edges price root sinks (i + 1) next
+goes_more edges price root sinks i d route next lt joined h = record {
+  on = λ whole rest. h.on whole (subst (λ xs. AreJoined edges price route xs whole) (sym (drop_more sinks i d lt)) (next, joined, rest));
+}
+
+pub goes_last : (edges : List Edge) (price : ℕ → ℕ) (root : WireNo) (sinks : List WireNo) (i : ℕ) (route : Route) → length sinks ≤ i → GoesOn edges price root sinks i route → IsTree edges price root sinks route
+goes_last edges price root sinks i route le h = h.on route (subst (λ xs. AreJoined edges price route xs route) (sym (drop_all i sinks le)) refl)
+
+wire_at : (wires : List WireNo) (k : ℕ) (d : WireNo) → k < length wires → slice_get wires k ≡ Some (get_or wires k d)
+wire_at [] k d lt = absurd (omega arith)
+wire_at (v ∷ wires) zero d lt = refl
+wire_at (v ∷ wires) (suc k) d lt = wire_at wires k d (omega arith)
+
+-- the sinks before i + 1 are reached
+pub reached_more : (edges : List Edge) (root : WireNo) (sinks : List WireNo) (i : ℕ) (d : WireNo) → i < length sinks → IsReached edges root (get_or sinks i d)
+    → ((k : ℕ) (v : WireNo) → k < i → slice_get sinks k ≡ Some v → IsReached edges root v) → (k : ℕ) (v : WireNo) → k < i + 1 → slice_get sinks k ≡ Some v → IsReached edges root v
+reached_more edges root sinks i d lt here before k v less at = elim (cases_eq k i) [
+  | inl same ↦ (let both : Some v ≡ Some (get_or sinks i d) = sym at ∙ (ap (λ j. slice_get sinks j) same ∙ wire_at sinks i d lt) in let is : v ≡ get_or sinks i d = (cc) in subst (IsReached edges root) (sym is) here)
+  | inr other ↦ before k v (grind arith) at
+]
+
+next_unique : (edges : List Edge) (price : ℕ → ℕ) (route : Route) (sink : WireNo) (one other : Route) → IsJoined edges price route sink one → IsJoined edges price route sink other → one ≡ other
+next_unique edges price route sink one other h k =
+    let same = taken_unique edges price route.wires sink.0 h.0 k.0 h.1 k.1 in
+    h.2 ∙ (ap (λ p. extended route p) same ∙ sym k.2)
+
+pub joined_unique : (edges : List Edge) (price : ℕ → ℕ) (route : Route) (sinks : List WireNo) (one other : Route) → AreJoined edges price route sinks one → AreJoined edges price route sinks other → one ≡ other
+joined_unique edges price route [] one other h k = sym h ∙ k
+joined_unique edges price route (sink ∷ sinks) one other h k =
+    let same = next_unique edges price route sink h.0 k.0 h.1 k.1 in
+    joined_unique edges price k.0 sinks one other (subst (λ r. AreJoined edges price r sinks one) same h.2) k.2

@@ -1,0 +1,22 @@
+use Rattle.std.proofs.Common.{◌≡◌, List, Option, Some, IfSome, sym, subst}
+use Rattle.ice_core.specs.Congestion.{price}
+use Rattle.ice_graph.specs.declared.edge.Edge.{Edge}
+use Rattle.ice_path.specs.Paths.{IsTaken}
+use Rattle.ice_negotiate.specs.Trees.{IsRooted}
+use Rattle.ice_negotiate.proofs.Joining.{rooted_more, sink_reached}
+use Rattle.ice_negotiate.proofs.tree.join.Goals as goal
+
+-- the path that is there is the taken one
+the_taken : (P : List Edge → Type 0) (found : Option (List Edge)) (path : List Edge) → found ≡ Some path → IfSome found P → P path
+the_taken P found path is h = subst (λ o. IfSome o P) is h
+
+pub returns-clause-rooted : goal.returns-clause-rooted
+returns-clause-rooted c =
+    let taken = the_taken (IsTaken c.args.graph.now.edges (price c.args.prices.now) c.args.tree.now.wires.items c.args.sink.0) c.connect.new.scratch.path c.path.result.now c.path.ensures c.in-Some.ensures.path in
+    subst (IsRooted c.args.graph.now c.args.root) (sym c.in_ok-extend.ensures.wires)
+    (rooted_more c.args.graph.now c.args.root (price c.args.prices.now) c.args.tree.now.wires.items c.args.sink c.path.result.now c.edges-edges.ensures.between c.requires.rooted taken)
+
+pub returns-clause-reached : goal.returns-clause-reached
+returns-clause-reached c =
+    let taken = the_taken (IsTaken c.args.graph.now.edges (price c.args.prices.now) c.args.tree.now.wires.items c.args.sink.0) c.connect.new.scratch.path c.path.result.now c.path.ensures c.in-Some.ensures.path in
+    sink_reached c.args.graph.now c.args.root (price c.args.prices.now) c.args.tree.now.wires.items c.args.sink c.path.result.now c.requires.rooted taken

@@ -1,0 +1,90 @@
+//! The tree of a net.
+ghost use Rattle.std.specs.Prelude.{◌≡◌, ◌<◌, ◌++◌, ℕ, map, length, slice_get, Some, IfOk, IfErr, OnOk};
+ghost use Rattle.ice_core.specs.Congestion.{ArePrices, price};
+ghost use Rattle.ice_base.specs.declared.number.WireNo.{WireNo as Wire};
+ghost use Rattle.ice_graph.specs.declared.edge.Edge.{Edge as Row};
+ghost use Rattle.ice_path.specs.Paths.{IsTaken};
+ghost use Rattle.ice_path.specs.Room.{IsFor, AreWires};
+ghost use Rattle.ice_negotiate.specs.Trees.{AreReached, IsCause, IsJoined, IsReached, IsRooted, IsTree, StopsAt, route_of};
+
+use crate::stop::TreeStop;
+use ice_base::{NoMemory, WireNo};
+use ice_core::Prices;
+use ice_graph::{Edge, Graph, Tree};
+use ice_path::{Scratch, connect, path};
+use std::alloc::Global;
+
+// Appends the wires that the edges enter, and their rows.
+fn extend(tree: &mut Tree, edges: &[Edge]) -> Result<(), NoMemory>
+    ensures wires { OnOk result (tree.new.wires.items ≡ tree.old.wires.items ++ map (λ (e : Row). e.to) edges.now) }
+    ensures rows { OnOk result (tree.new.rows.items ≡ tree.old.rows.items ++ map (λ (e : Row). e.row) edges.now) }
+{
+    for edge in edges {
+        tree.wires.push(edge.to)?;
+        tree.rows.push(edge.row)?;
+    }
+    Ok(())
+}
+
+// Joins a sink to the tree by the taken path.
+fn join(
+    graph: &Graph,
+    prices: &Prices,
+    root: WireNo,
+    sink: WireNo,
+    tree: &mut Tree,
+    scratch: &mut Scratch,
+) -> Result<(), TreeStop>
+    requires prices { ArePrices prices.now }
+    requires wires { length prices.now.history.items ≡ graph.now.wires }
+    requires sink { sink.0 < graph.now.wires }
+    requires rooted { IsRooted graph.now root tree.old.wires.items }
+    requires scratch { IsFor graph.now scratch.old }
+    ensures joined { OnOk result (IsJoined graph.now.edges (price prices.now) (route_of tree.old) sink (route_of tree.new)) }
+    ensures rooted { OnOk result (IsRooted graph.now root tree.new.wires.items) }
+    ensures reached { OnOk result (IsReached graph.now.edges root sink) }
+    ensures stop { IfErr result (StopsAt graph.now.edges root sink) }
+    ensures scratch { IsFor graph.now scratch.new }
+{
+    let (_root, _edges) = (root, graph.edges());
+    let Some(_cost) = connect(graph, prices, tree, sink, scratch) else {
+        return Err(TreeStop::Unreachable { sink });
+    };
+    extend(tree, path(scratch))?;
+    Ok(())
+}
+
+/// The tree of a net: its sinks joined to the root one by one in order, each by the taken path from the tree
+/// so far. A sink that the tree holds already adds nothing.
+///
+/// The scratch was made for this graph, the prices are for its wires, and root and sinks are wires of the
+/// graph. It answers `Unreachable` with the first sink to which no walk leads from the root, exactly where
+/// there is one, and `NoMemory` where it finds no memory for the tree.
+pub fn tree_of(
+    alloc: Global,
+    graph: &Graph,
+    prices: &Prices,
+    root: WireNo,
+    sinks: &[WireNo],
+    scratch: &mut Scratch,
+) -> Result<Tree, TreeStop>
+    requires prices { ArePrices prices.now }
+    requires wires { length prices.now.history.items ≡ graph.now.wires }
+    requires root { root.0 < graph.now.wires }
+    requires sinks { AreWires graph.now.wires sinks.now }
+    requires scratch { IsFor graph.now scratch.old }
+    ensures tree { IfOk result (λ tree. IsTree graph.now.edges (price prices.now) root sinks.now (route_of tree)) }
+    ensures rooted { IfOk result (λ tree. IsRooted graph.now root tree.wires.items) }
+    ensures reached { OnOk result (AreReached graph.now.edges root sinks.now) }
+    ensures stop { IfErr result (IsCause graph.now.edges root sinks.now) }
+    ensures scratch { IsFor graph.now scratch.new }
+{
+    let mut tree = Tree {
+        wires: vec![in alloc; root]?,
+        rows: Vec::new(alloc),
+    };
+    for sink in sinks {
+        join(graph, prices, root, *sink, &mut tree, scratch)?;
+    }
+    Ok(tree)
+}
