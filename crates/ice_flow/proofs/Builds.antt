@@ -1,17 +1,36 @@
 -- What the writing of good texts' bits comes to, and what saying a line leaves as it was.
-use Rattle.std.proofs.Common.{◌≡◌, ◌∙◌, ◌≤◌, ◌<◌, ℕ, Option, Some, List, sym, ap, subst, arith}
+use Rattle.std.proofs.Common.{◌≡◌, ◌∙◌, ◌≤◌, ℕ, Option, Some, List, sym, ap, subst, arith}
 use Rattle.ice_desk.specs.Desk.{Meaning, SameButReading, SameButSaying, Rose, after_one, HoldsAfter}
-use Rattle.ice_flow.specs.declared.cause.Cause.{Cause}
-use Rattle.ice_flow.specs.declared.cause.Cause.TheVariants.{Good, Usage, BadBlif, BadPcf, BadPin, Unreachable, ReadFault, WriteFault, NoMemory, TooLong, NotBuilt}
-use Rattle.ice_flow.specs.declared.cause.FileRole.{FileRole}
-use Rattle.ice_flow.specs.declared.cause.FileRole.TheVariants.{Chip, Pcf, Blif, Asc, Levels, Pins, Report, Standard}
+use Rattle.ice_answer.specs.declared.cause.Cause.{Cause}
+use Rattle.ice_answer.specs.declared.cause.Cause.TheVariants.{Good, Usage, BadBlif, BadPcf, BadChip, BadNet, BadPin, Unreachable, ReadFault, WriteFault, NoMemory, TooLong, BadLevels, NotBuilt}
+use Rattle.ice_answer.specs.declared.cause.FileRole.TheVariants.{Chip, Pcf, Blif, Asc, Levels, Pins, Report, Standard}
+use Rattle.ice_answer.specs.Reading.{IsUnread}
+use Rattle.ice_answer.proofs.ReadStops.{fault_said, long_said}
 use Rattle.ice_flow.specs.Command.{Build}
+use Rattle.ice_flow.specs.Standing.{standing_of}
 use Rattle.ice_flow.specs.Built.{IsBuilt}
-use Rattle.ice_flow.specs.Answers.{AreTexts, IsTrueOf, IsLastRead}
+use Rattle.ice_flow.specs.Answers.{AreTexts, files_of, IsTrueOf}
 use Rattle.ice_flow.specs.Building.{IsWritten}
 
+-- what stopped the reading is true of the build
+pub unread_is_true : (b : Build) (old new : Meaning) (cause : Cause) → IsUnread (files_of b) old new cause → IsTrueOf b old new cause
+unread_is_true b old new (Good placement) is = absurd is
+unread_is_true b old new Usage is = absurd is
+unread_is_true b old new (BadBlif fault) is = absurd is
+unread_is_true b old new (BadPcf fault) is = absurd is
+unread_is_true b old new (BadChip fault) is = absurd is
+unread_is_true b old new (BadNet fault) is = absurd is
+unread_is_true b old new (BadPin fault) is = absurd is
+unread_is_true b old new (Unreachable placement net sink) is = absurd is
+unread_is_true b old new (ReadFault role) is = is
+unread_is_true b old new (WriteFault role put) is = absurd is
+unread_is_true b old new NoMemory is = is
+unread_is_true b old new (TooLong role limit) is = is
+unread_is_true b old new (BadLevels line) is = absurd is
+unread_is_true b old new (NotBuilt role) is = absurd is
+
 pub written_is_true : (b : Build) (old mid new : Meaning) (chip pins netlist text : List ℕ) (cause : Cause) → AreTexts b old chip pins netlist → SameButReading old mid
-    → IsBuilt b.package_name chip pins netlist text → IsWritten b.asc text mid new cause → IsTrueOf b old new cause
+    → IsBuilt (standing_of b.package_name chip pins netlist) b.package_name chip pins netlist text → IsWritten b.asc text mid new cause → IsTrueOf b old new cause
 written_is_true b old mid new chip pins netlist text (Good placement) texts same built w = (
   w.0,
   record {
@@ -35,15 +54,15 @@ written_is_true b old mid new chip pins netlist text (WriteFault role put) texts
 written_is_true b old mid new chip pins netlist text Usage texts same built w = absurd w
 written_is_true b old mid new chip pins netlist text (BadBlif fault) texts same built w = absurd w
 written_is_true b old mid new chip pins netlist text (BadPcf fault) texts same built w = absurd w
+written_is_true b old mid new chip pins netlist text (BadChip fault) texts same built w = absurd w
+written_is_true b old mid new chip pins netlist text (BadNet fault) texts same built w = absurd w
+written_is_true b old mid new chip pins netlist text (BadLevels line) texts same built w = absurd w
 written_is_true b old mid new chip pins netlist text (BadPin fault) texts same built w = absurd w
 written_is_true b old mid new chip pins netlist text (Unreachable placement net sink) texts same built w = absurd w
 written_is_true b old mid new chip pins netlist text (ReadFault role) texts same built w = absurd w
 written_is_true b old mid new chip pins netlist text NoMemory texts same built w = absurd w
 written_is_true b old mid new chip pins netlist text (TooLong role limit) texts same built w = absurd w
 written_is_true b old mid new chip pins netlist text (NotBuilt role) texts same built w = absurd w
-
-last_read_said : (b : Build) (old mid new : Meaning) (role : FileRole) → SameButSaying mid new → IsLastRead b old mid role → IsLastRead b old new role
-last_read_said b old mid new role same is = record { place = is.place; some = is.some; few = is.few; begun = same.begins ∙ is.begun; is_role = is.is_role; before = is.before }
 
 files_said : (mid new : Meaning) (name : List ℕ) (P : Option (List ℕ) → Type 0) → SameButSaying mid new → P (mid.files name) → P (new.files name)
 files_said mid new name P same p = subst (λ (f : List ℕ → Option (List ℕ)). P (f name)) (sym same.files) p
@@ -61,12 +80,12 @@ true_while_said b old mid new (Good placement) same is = (
 true_while_said b old mid new Usage same is = is
 true_while_said b old mid new (BadBlif fault) same is = is
 true_while_said b old mid new (BadPcf fault) same is = is
+true_while_said b old mid new (BadChip fault) same is = is
+true_while_said b old mid new (BadNet fault) same is = is
+true_while_said b old mid new (BadLevels line) same is = is
 true_while_said b old mid new (BadPin fault) same is = is
 true_while_said b old mid new (Unreachable placement net sink) same is = is
-true_while_said b old mid new (ReadFault role) same is = record {
-  rose = (let r : Rose old.read_faults mid.read_faults = is.rose in let e : new.read_faults ≡ mid.read_faults = same.read_faults in omega arith);
-  last = last_read_said b old mid new role same is.last;
-}
+true_while_said b old mid new (ReadFault role) same is = fault_said (files_of b) old mid new role same is
 true_while_said b old mid new (WriteFault role put) same is = record {
   is_role = is.is_role;
   rose = (let r : Rose old.write_faults mid.write_faults = is.rose in let e : mid.write_faults ≤ new.write_faults = same.write_faults in omega arith);
@@ -76,12 +95,7 @@ true_while_said b old mid new (WriteFault role put) same is = record {
   holds = (is.holds.0, (λ t. files_said mid new b.asc (λ f. HoldsAfter is.holds.0 put (old.files b.asc) f) same (is.holds.1 t)), is.holds.2);
 }
 true_while_said b old mid new NoMemory same is = same.makes ∙ is
-true_while_said b old mid new (TooLong role limit) same is = record {
-  is_limit = is.is_limit;
-  given = (let r : limit < mid.given = is.given in let e : new.given ≡ mid.given = same.given in omega arith);
-  last = last_read_said b old mid new role same is.last;
-  longer = is.longer;
-}
+true_while_said b old mid new (TooLong role limit) same is = long_said (files_of b) old mid new role limit same is
 true_while_said b old mid new (NotBuilt Chip) same is = is
 true_while_said b old mid new (NotBuilt Pcf) same is = is
 true_while_said b old mid new (NotBuilt Blif) same is = is

@@ -1,6 +1,6 @@
 -- How the texts of a build stand, and what the bits of a route come to.
 use Rattle.std.proofs.Common.{◌≡◌, ◌≢◌, ◌⊎◌, ℕ, zero, suc, ◌<◌, Bool, true, false, None, Some, List, [], ◌∷◌, length, inl, inr, refl, ap, sym, ◌∙◌, subst, arith}
-use Rattle.std.specs.Prelude.{Ok, Err}
+use Rattle.std.specs.Prelude.{Result, Ok, Err}
 use Rattle.std.specs.Str.{bytes_eq}
 use Rattle.ice_base.specs.declared.number.TileAt.{TileAt}
 use Rattle.ice_base.specs.declared.number.BitAt.{BitAt}
@@ -13,9 +13,9 @@ use Rattle.ice_blif.specs.Grammar.{netlist_of}
 use Rattle.ice_blif.specs.declared.fault.BlifFault.{BlifFault}
 use Rattle.ice_blif.specs.declared.fault.BlifFault.TheVariants as blif_fault
 use Rattle.ice_flow.specs.declared.route.RouteRow.{RouteRow}
-use Rattle.ice_flow.specs.declared.cause.Cause.{Cause}
-use Rattle.ice_flow.specs.declared.cause.Cause.TheVariants.{NotBuilt}
-use Rattle.ice_flow.specs.declared.cause.FileRole.TheVariants.{Blif}
+use Rattle.ice_answer.specs.declared.cause.Cause.{Cause}
+use Rattle.ice_answer.specs.declared.cause.Cause.TheVariants.{NotBuilt}
+use Rattle.ice_answer.specs.declared.cause.FileRole.TheVariants.{Blif}
 use Rattle.ice_flow.specs.declared.chip_text.ChipStop.{ChipStop}
 use Rattle.ice_flow.specs.declared.chip_text.ChipStop.TheVariants as chip_stop
 use Rattle.ice_flow.specs.declared.pin_pads.PinsStop.{PinsStop}
@@ -34,8 +34,14 @@ use Rattle.ice_flow.specs.BufferForm.{buffer_plan}
 use Rattle.ice_flow.specs.Views.{IsCopyOf, AreCopies}
 use Rattle.ice_flow.specs.Readers.{Stops, stop_view}
 use Rattle.ice_flow.specs.Writing.{IsWritable, AreWritable}
-use Rattle.ice_flow.specs.Standing.{Standing, FaultyPins, FaultyNetlist, OtherChip, OtherNetlist, OtherPins, UnknownPin, Ready, standing_of, with_constraints, with_netlist, with_chip, with_buffer, with_pads, AreEnds}
-use Rattle.ice_flow.specs.Built.{IsBuilt, IsRefusal, IsChipRefusal, IsPcfRefusal, IsBlifRefusal, IsPinsRefusal, IsLaidOut, IsLayoutRefusal}
+use Rattle.ice_flow.specs.Standing.{Standing, FaultyPins, FaultyNetlist, OtherChip, OtherNetlist, OtherPins, UnknownPin, Ready, form_of, standing_of, with_database, with_constraints, with_netlist, with_chip, with_buffer, with_pads, AreEnds}
+use Rattle.ice_answer.specs.Refusals.{IsPcfRefusal, IsBlifRefusal, IsChipRefusal}
+use Rattle.ice_chip.specs.Database.{Parts}
+use Rattle.ice_chip.specs.declared.fault.ChipFault.{ChipFault}
+use Rattle.ice_chip.specs.declared.fault.ChipFault.TheVariants as chip_fault
+use Rattle.ice_chip.specs.Answers.{StopsBy}
+use Rattle.ice_chip_read.specs.Whole.{chip_says}
+use Rattle.ice_flow.specs.Built.{IsBuilt, IsRefusal, IsFormRefusal, IsPinsRefusal, IsLaidOut, IsLayoutRefusal}
 use Rattle.ice_flow.proofs.PlaceFacts.{row_group}
 use Rattle.ice_flow.proofs.WalkFacts.{walk_usable}
 use Rattle.ice_flow.proofs.WrittenFaultless.{bits_are_faultless, bits_show_same}
@@ -45,38 +51,38 @@ use Rattle.ice_flow.proofs.WrittenFaultless.{bits_are_faultless, bits_show_same}
 pub database_is : (chip : List ℕ) (groups : List SwitchGroup) → groups_in chip ≡ Some groups → database_in chip ≡ Some (database_with groups)
 database_is chip groups e = rw e refl
 
-pub stands_by_pcf : (name chip pins netlist : List ℕ) (fault : PcfFault) → text_says pins ≡ Err fault → standing_of name chip pins netlist ≡ FaultyPins fault
+pub stands_by_pcf : (name chip pins netlist : List ℕ) (fault : PcfFault) → text_says pins ≡ Err fault → form_of name chip pins netlist ≡ FaultyPins fault
 stands_by_pcf name chip pins netlist fault p = ap (λ r. with_constraints name chip netlist r) p
 
 -- the constraints are good, and the netlist decides
 pub stands_by_netlist : (name chip pins netlist : List ℕ) (constraints : List Constraint) (standing : Standing) → text_says pins ≡ Ok constraints
-    → with_netlist name chip constraints (netlist_of netlist) ≡ standing → standing_of name chip pins netlist ≡ standing
+    → with_netlist name chip constraints (netlist_of netlist) ≡ standing → form_of name chip pins netlist ≡ standing
 stands_by_netlist name chip pins netlist constraints standing p e = ap (λ r. with_constraints name chip netlist r) p ∙ e
 
 pub stands_by_blif : (name chip pins netlist : List ℕ) (constraints : List Constraint) (fault : BlifFault) → text_says pins ≡ Ok constraints → netlist_of netlist ≡ Err fault
-    → standing_of name chip pins netlist ≡ FaultyNetlist fault
+    → form_of name chip pins netlist ≡ FaultyNetlist fault
 stands_by_blif name chip pins netlist constraints fault p n = stands_by_netlist name chip pins netlist constraints (FaultyNetlist fault) p (ap (λ r. with_netlist name chip constraints r) n)
 
 -- constraints and netlist are good, and the chip decides
 pub stands_by_chip : (name chip pins netlist : List ℕ) (constraints : List Constraint) (circuit : NetlistData) (standing : Standing) → text_says pins ≡ Ok constraints → netlist_of netlist ≡ Ok circuit
-    → with_chip name constraints circuit (database_in chip) ≡ standing → standing_of name chip pins netlist ≡ standing
+    → with_chip name constraints circuit (database_in chip) ≡ standing → form_of name chip pins netlist ≡ standing
 stands_by_chip name chip pins netlist constraints circuit standing p n e =
     stands_by_netlist name chip pins netlist constraints standing p (ap (λ r. with_netlist name chip constraints r) n ∙ e)
 
 pub stands_other_chip : (name chip pins netlist : List ℕ) (constraints : List Constraint) (circuit : NetlistData) → text_says pins ≡ Ok constraints → netlist_of netlist ≡ Ok circuit
-    → groups_in chip ≡ None → standing_of name chip pins netlist ≡ OtherChip
+    → groups_in chip ≡ None → form_of name chip pins netlist ≡ OtherChip
 stands_other_chip name chip pins netlist constraints circuit p n c = stands_by_chip name chip pins netlist constraints circuit OtherChip p n (rw c refl)
 
 -- all texts are good and the chip is of the form, and the netlist's form decides
 pub stands_by_buffer : (name chip pins netlist : List ℕ) (constraints : List Constraint) (circuit : NetlistData) (groups : List SwitchGroup) (standing : Standing) → text_says pins ≡ Ok constraints
-    → netlist_of netlist ≡ Ok circuit → groups_in chip ≡ Some groups → with_buffer name constraints (database_with groups) (buffer_in circuit) ≡ standing → standing_of name chip pins netlist ≡ standing
+    → netlist_of netlist ≡ Ok circuit → groups_in chip ≡ Some groups → with_buffer name constraints (database_with groups) (buffer_in circuit) ≡ standing → form_of name chip pins netlist ≡ standing
 stands_by_buffer name chip pins netlist constraints circuit groups standing p n c e =
     stands_by_chip name chip pins netlist constraints circuit standing p n (ap (λ d. with_chip name constraints circuit d) (database_is chip groups c) ∙ e)
 
 -- all but the pads is good, and they decide
 pub stands_by_pads : (name chip pins netlist a y : List ℕ) (constraints : List Constraint) (circuit : NetlistData) (groups : List SwitchGroup) (standing : Standing) → text_says pins ≡ Ok constraints
     → netlist_of netlist ≡ Ok circuit → groups_in chip ≡ Some groups → buffer_in circuit ≡ Some (a, y)
-    → with_pads (database_with groups) (buffer_netlist a y) (pads_in (database_with groups) name a y constraints) ≡ standing → standing_of name chip pins netlist ≡ standing
+    → with_pads (database_with groups) (buffer_netlist a y) (pads_in (database_with groups) name a y constraints) ≡ standing → form_of name chip pins netlist ≡ standing
 stands_by_pads name chip pins netlist a y constraints circuit groups standing p n c f e =
     stands_by_buffer name chip pins netlist constraints circuit groups standing p n c (ap (λ o. with_buffer name constraints (database_with groups) o) f ∙ e)
 
@@ -137,13 +143,13 @@ pub record HasRead (name chip pins netlist a y : List ℕ) (constraints : List C
   pub pads : pads_in (database_with groups) name a y constraints ≡ Ok (left_pad ∷ right_pad ∷ [])
 
 ready : (name chip pins netlist a y : List ℕ) (constraints : List Constraint) (circuit : NetlistData) (groups : List SwitchGroup) → HasRead name chip pins netlist a y constraints circuit groups
-    → standing_of name chip pins netlist ≡ Ready (database_with groups) (buffer_netlist a y) (left_pad ∷ right_pad ∷ [])
+    → form_of name chip pins netlist ≡ Ready (database_with groups) (buffer_netlist a y) (left_pad ∷ right_pad ∷ [])
 ready name chip pins netlist a y constraints circuit groups has =
     stands_by_pads name chip pins netlist a y constraints circuit groups (Ready (database_with groups) (buffer_netlist a y) (left_pad ∷ right_pad ∷ [])) has.pcf has.blif has.groups_are has.buffer
     (ap (λ r. with_pads (database_with groups) (buffer_netlist a y) r) has.pads)
 
 pub laid_out_built : (name chip pins netlist a y text : List ℕ) (constraints : List Constraint) (circuit : NetlistData) (groups : List SwitchGroup) → HasRead name chip pins netlist a y constraints circuit groups
-    → IsLaidOut groups text → IsBuilt name chip pins netlist text
+    → IsLaidOut groups text → IsBuilt (form_of name chip pins netlist) name chip pins netlist text
 laid_out_built name chip pins netlist a y text constraints circuit groups has (rows, walk, simple, holds) =
     let db = database_with groups in
     let pads : List Pad = left_pad ∷ right_pad ∷ [] in (
@@ -180,10 +186,10 @@ laid_out_built name chip pins netlist a y text constraints circuit groups has (r
     )
 
 pub layout_refused : (name chip pins netlist a y : List ℕ) (constraints : List Constraint) (circuit : NetlistData) (groups : List SwitchGroup) (cause : Cause) → HasRead name chip pins netlist a y constraints circuit groups
-    → IsLayoutRefusal groups cause → IsRefusal name chip pins netlist cause
-layout_refused name chip pins netlist a y constraints circuit groups cause has (inl e) = subst (λ (x : Cause). IsRefusal name chip pins netlist x) (sym e) tt
+    → IsLayoutRefusal groups cause → IsRefusal (form_of name chip pins netlist) cause
+layout_refused name chip pins netlist a y constraints circuit groups cause has (inl e) = subst (λ (x : Cause). IsRefusal (form_of name chip pins netlist) x) (sym e) tt
 layout_refused name chip pins netlist a y constraints circuit groups cause has (inr apart) =
-    subst (λ (x : Cause). IsRefusal name chip pins netlist x) (sym apart.0) (
+    subst (λ (x : Cause). IsRefusal (form_of name chip pins netlist) x) (sym apart.0) (
       refl,
       refl,
       record {
@@ -199,38 +205,66 @@ layout_refused name chip pins netlist a y constraints circuit groups cause has (
 
 -- ---- refusals of the texts
 
-pub pcf_refused : (name chip pins netlist : List ℕ) (fault : PcfFault) (cause : Cause) → (fault ≢ pcf_fault.NoMemory → text_says pins ≡ Err fault) → IsPcfRefusal fault cause → IsRefusal name chip pins netlist cause
-pcf_refused name chip pins netlist fault cause says (inl e) = subst (λ (x : Cause). IsRefusal name chip pins netlist x) (sym e) tt
+pub pcf_refused : (name chip pins netlist : List ℕ) (fault : PcfFault) (cause : Cause) → (fault ≢ pcf_fault.NoMemory → text_says pins ≡ Err fault) → IsPcfRefusal fault cause → IsRefusal (form_of name chip pins netlist) cause
+pcf_refused name chip pins netlist fault cause says (inl e) = subst (λ (x : Cause). IsRefusal (form_of name chip pins netlist) x) (sym e) tt
 pcf_refused name chip pins netlist fault cause says (inr is) =
-    subst (λ (x : Cause). IsRefusal name chip pins netlist x) (sym is.0) (stands_by_pcf name chip pins netlist fault (says is.1))
+    subst (λ (x : Cause). IsRefusal (form_of name chip pins netlist) x) (sym is.0) (stands_by_pcf name chip pins netlist fault (says is.1))
 
 pub blif_refused : (name chip pins netlist : List ℕ) (constraints : List Constraint) (fault : BlifFault) (cause : Cause) → text_says pins ≡ Ok constraints
-    → (fault ≢ blif_fault.NoMemory → netlist_of netlist ≡ Err fault) → IsBlifRefusal fault cause → IsRefusal name chip pins netlist cause
-blif_refused name chip pins netlist constraints fault cause p says (inl e) = subst (λ (x : Cause). IsRefusal name chip pins netlist x) (sym e) tt
+    → (fault ≢ blif_fault.NoMemory → netlist_of netlist ≡ Err fault) → IsBlifRefusal fault cause → IsRefusal (form_of name chip pins netlist) cause
+blif_refused name chip pins netlist constraints fault cause p says (inl e) = subst (λ (x : Cause). IsRefusal (form_of name chip pins netlist) x) (sym e) tt
 blif_refused name chip pins netlist constraints fault cause p says (inr is) =
-    subst (λ (x : Cause). IsRefusal name chip pins netlist x) (sym is.0) (stands_by_blif name chip pins netlist constraints fault p (says is.1))
+    subst (λ (x : Cause). IsRefusal (form_of name chip pins netlist) x) (sym is.0) (stands_by_blif name chip pins netlist constraints fault p (says is.1))
 
 pub chip_refused : (name chip pins netlist : List ℕ) (constraints : List Constraint) (circuit : NetlistData) (stop : ChipStop) (cause : Cause) → text_says pins ≡ Ok constraints → netlist_of netlist ≡ Ok circuit
-    → Stops stop (groups_in chip) → IsChipRefusal stop cause → IsRefusal name chip pins netlist cause
-chip_refused name chip pins netlist constraints circuit chip_stop.NoMemory cause p n says is = subst (λ (x : Cause). IsRefusal name chip pins netlist x) (sym is) tt
+    → Stops stop (groups_in chip) → IsFormRefusal stop cause → IsRefusal (form_of name chip pins netlist) cause
+chip_refused name chip pins netlist constraints circuit chip_stop.NoMemory cause p n says is = subst (λ (x : Cause). IsRefusal (form_of name chip pins netlist) x) (sym is) tt
 chip_refused name chip pins netlist constraints circuit chip_stop.OtherForm cause p n says is =
-    subst (λ (x : Cause). IsRefusal name chip pins netlist x) (sym is) (stands_other_chip name chip pins netlist constraints circuit p n says)
+    subst (λ (x : Cause). IsRefusal (form_of name chip pins netlist) x) (sym is) (stands_other_chip name chip pins netlist constraints circuit p n says)
 
 pub buffer_refused : (name chip pins netlist : List ℕ) (constraints : List Constraint) (circuit : NetlistData) (groups : List SwitchGroup) (cause : Cause) → text_says pins ≡ Ok constraints → netlist_of netlist ≡ Ok circuit
-    → groups_in chip ≡ Some groups → buffer_in circuit ≡ None → cause ≡ NotBuilt Blif → IsRefusal name chip pins netlist cause
+    → groups_in chip ≡ Some groups → buffer_in circuit ≡ None → cause ≡ NotBuilt Blif → IsRefusal (form_of name chip pins netlist) cause
 buffer_refused name chip pins netlist constraints circuit groups cause p n c f is =
-    subst (λ (x : Cause). IsRefusal name chip pins netlist x) (sym is)
+    subst (λ (x : Cause). IsRefusal (form_of name chip pins netlist) x) (sym is)
     (stands_by_buffer name chip pins netlist constraints circuit groups OtherNetlist p n c (ap (λ o. with_buffer name constraints (database_with groups) o) f))
 
 pub pads_refused : (name chip pins netlist a y : List ℕ) (constraints : List Constraint) (circuit : NetlistData) (groups : List SwitchGroup) (stop : PinsStop) (cause : Cause) → text_says pins ≡ Ok constraints
     → netlist_of netlist ≡ Ok circuit → groups_in chip ≡ Some groups → buffer_in circuit ≡ Some (a, y) → pads_in (database_with groups) name a y constraints ≡ Err (stop_view stop) → IsPinsRefusal stop cause
-    → IsRefusal name chip pins netlist cause
+    → IsRefusal (form_of name chip pins netlist) cause
 pads_refused name chip pins netlist a y constraints circuit groups pins_stop.OtherForm cause p n c f e is =
-    subst (λ (x : Cause). IsRefusal name chip pins netlist x) (sym is)
+    subst (λ (x : Cause). IsRefusal (form_of name chip pins netlist) x) (sym is)
     (stands_by_pads name chip pins netlist a y constraints circuit groups OtherPins p n c f (ap (λ r. with_pads (database_with groups) (buffer_netlist a y) r) e))
 pads_refused name chip pins netlist a y constraints circuit groups (pins_stop.UnknownPin line) cause p n c f e is =
-    subst (λ (x : Cause). IsRefusal name chip pins netlist x) (sym is)
+    subst (λ (x : Cause). IsRefusal (form_of name chip pins netlist) x) (sym is)
     (stands_by_pads name chip pins netlist a y constraints circuit groups (UnknownPin line) p n c f (ap (λ r. with_pads (database_with groups) (buffer_netlist a y) r) e))
+
+-- ---- the chip text
+
+-- a fault that isn't want of memory is what the text says
+fault_is : (fault : ChipFault) (said : Result Parts ChipFault) → StopsBy fault said → fault ≢ chip_fault.NoMemory → said ≡ Err fault
+fault_is (chip_fault.NoDevice line) said is known = is
+fault_is (chip_fault.BadNumber line) said is known = is
+fault_is (chip_fault.BadName line) said is known = is
+fault_is (chip_fault.OutOfRange line) said is known = is
+fault_is (chip_fault.Twice line other) said is known = is
+fault_is (chip_fault.BadBit line) said is known = is
+fault_is (chip_fault.BadValues line) said is known = is
+fault_is (chip_fault.SharedFunction line other) said is known = is
+fault_is (chip_fault.LacksFunction line) said is known = is
+fault_is (chip_fault.SharedPin line other) said is known = is
+fault_is (chip_fault.TooMany limit) said is known = is
+fault_is chip_fault.NoMemory said is known = absurd (known refl)
+
+-- the chip text has a fault
+pub fault_refused : (name chip pins netlist : List ℕ) (fault : ChipFault) (cause : Cause) → StopsBy fault (chip_says chip) → IsChipRefusal fault cause
+    → IsRefusal (standing_of name chip pins netlist) cause
+fault_refused name chip pins netlist fault cause says (inl e) = subst (λ (x : Cause). IsRefusal (standing_of name chip pins netlist) x) (sym e) tt
+fault_refused name chip pins netlist fault cause says (inr is) =
+    subst (λ (x : Cause). IsRefusal (standing_of name chip pins netlist) x) (sym is.0) (ap (λ r. with_database (form_of name chip pins netlist) r) (fault_is fault (chip_says chip) says is.1))
+
+-- the chip text has a database, and the form decides
+pub stands_by_form : (name chip pins netlist : List ℕ) (parts : Parts) → chip_says chip ≡ Ok parts → form_of name chip pins netlist ≡ standing_of name chip pins netlist
+stands_by_form name chip pins netlist parts k = sym (ap (λ r. with_database (form_of name chip pins netlist) r) k)
 
 -- ---- pads of the form
 

@@ -28,6 +28,4 @@ pub mod WireNames
 pub mod UsableSteps
 pub mod WaySteps
 pub mod Builds
-pub mod ReadStops
 pub mod RowLaws
-pub mod Saying

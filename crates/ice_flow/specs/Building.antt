@@ -1,10 +1,10 @@
 -- What a build may change of the desk.
 use Rattle.std.specs.Prelude.{◌≡◌, ◌≢◌, ◌⊎◌, ℕ, ◌≤◌, true, List, Some}
 use Rattle.ice_desk.specs.Desk.{Meaning, Rose, after_one, HoldsAfter}
-use Rattle.ice_flow.specs.declared.cause.Cause.{Cause}
-use Rattle.ice_flow.specs.declared.cause.Cause.TheVariants.{Good, WriteFault}
-use Rattle.ice_flow.specs.declared.cause.FileRole.TheVariants.{Asc}
-use Rattle.ice_flow.specs.Answers.{no_places}
+use Rattle.ice_answer.specs.declared.cause.Cause.{Cause}
+use Rattle.ice_answer.specs.declared.cause.Cause.TheVariants.{Good, WriteFault}
+use Rattle.ice_answer.specs.declared.cause.FileRole.TheVariants.{Asc}
+use Rattle.ice_answer.specs.Causes.{no_places}
 use Rattle.ice_flow.specs.Rows.{IsDone}
 
 -- nothing was said, and no file but the one of this name changed

@@ -33,7 +33,5 @@ pub mod Command
 pub mod Answers
 pub mod Built
 pub mod Requests
-pub mod Says
-pub mod Pieces
 pub mod Rows
 pub mod Building

@@ -1,6 +1,9 @@
 -- What the three texts of a build say, in the order in which they are looked at.
 use Rattle.std.specs.Prelude.{◌≡◌, ℕ, Option, None, Some, Result, Ok, Err, List, [], ◌∷◌}
 use Rattle.ice_net.specs.NetlistData.{NetlistData}
+use Rattle.ice_chip.specs.Database.{Parts}
+use Rattle.ice_chip.specs.declared.fault.ChipFault.{ChipFault}
+use Rattle.ice_chip_read.specs.Whole.{chip_says}
 use Rattle.ice_pcf.specs.Grammar.{text_says}
 use Rattle.ice_pcf.specs.declared.constraint.Constraint.{Constraint}
 use Rattle.ice_pcf.specs.declared.fault.PcfFault.{PcfFault}
@@ -18,6 +21,7 @@ use Rattle.ice_flow.specs.PinPads.{PinsFault, pads_in}
 -- The first fault of the texts; or the first of them that is of another form than the one that is built so far, or a pin
 -- that isn't there; or the chip, the netlist and the pads of its ports.
 pub data Standing : Type 0 where
+  FaultyChip : ChipFault → Standing
   FaultyPins : PcfFault → Standing
   FaultyNetlist : BlifFault → Standing
   OtherChip : Standing
@@ -47,10 +51,18 @@ abbrev pub with_constraints : List ℕ → List ℕ → List ℕ → Result (Lis
 with_constraints name chip netlist (Err fault) = FaultyPins fault
 with_constraints name chip netlist (Ok constraints) = with_netlist name chip constraints (netlist_of netlist)
 
--- first the faults of the text of the pins, then those of the netlist's text; then the forms of chip, netlist and pins,
--- for the package of this name
+-- how texts stand of which the chip's has a database: first the faults of the text of the pins, then those of the netlist's
+-- text; then the forms of chip, netlist and pins, for the package of this name
+abbrev pub form_of : List ℕ → List ℕ → List ℕ → List ℕ → Standing
+form_of name chip pins netlist = with_constraints name chip netlist (text_says pins)
+
+abbrev pub with_database : Standing → Result Parts ChipFault → Standing
+with_database standing (Err fault) = FaultyChip fault
+with_database standing (Ok parts) = standing
+
+-- first the faults of the chip text
 abbrev pub standing_of : List ℕ → List ℕ → List ℕ → List ℕ → Standing
-standing_of name chip pins netlist = with_constraints name chip netlist (text_says pins)
+standing_of name chip pins netlist = with_database (form_of name chip pins netlist) (chip_says chip)
 
 -- the wires between which a buffer's net leads: from the wire of the input's pad to the wire that the output's pad drives out
 pub record AreEnds (chip : Database) (pads : List Pad) (root sink : ℕ) : Type 0 where
@@ -61,23 +73,23 @@ pub record AreEnds (chip : Database) (pads : List Pad) (root sink : ℕ) : Type 
   pub is_sink : wire_named chip output.tile (pad_output_name output.pio) ≡ Some sink
 
 -- all texts are good, and no walk leads to this sink
-pub record IsApart (name chip_text pins_text netlist_text : List ℕ) (sink : ℕ) : Type 0 where
+pub record IsApart (standing : Standing) (sink : ℕ) : Type 0 where
   pub chip : Database
   pub netlist : Netlist
   pub pads : List Pad
   pub root : ℕ
-  pub is_ready : standing_of name chip_text pins_text netlist_text ≡ Ready chip netlist pads
+  pub is_ready : standing ≡ Ready chip netlist pads
   pub are_ends : AreEnds chip pads root sink
   pub unreachable : IsUnreachable chip root sink
 
 -- all texts are good, and a walk leads to the sink
-pub record IsRoutable (name chip_text pins_text netlist_text : List ℕ) : Type 0 where
+pub record IsRoutable (standing : Standing) : Type 0 where
   pub chip : Database
   pub netlist : Netlist
   pub pads : List Pad
   pub root : ℕ
   pub sink : ℕ
-  pub is_ready : standing_of name chip_text pins_text netlist_text ≡ Ready chip netlist pads
+  pub is_ready : standing ≡ Ready chip netlist pads
   pub are_ends : AreEnds chip pads root sink
   pub walk : List Row
   pub is_walk : IsWalk chip root walk sink

@@ -293,7 +293,7 @@ fn read_groups(alloc: Global, mut lines: PlainLines<'_>) -> Result<Vec<Group>, C
 }
 
 /// The groups of a chip text of the form that is built so far.
-pub fn read_chip(alloc: Global, text: &[u8]) -> Result<Vec<Group>, ChipStop>
+pub fn read_form(alloc: Global, text: &[u8]) -> Result<Vec<Group>, ChipStop>
     ensures groups { Gives (λ groups. groups_view groups.items) result (groups_in text.now) }
     ensures form { IfOk result (λ groups. IsOfForm (groups_view groups.items)) }
 {

@@ -4,20 +4,24 @@ ghost use Rattle.ice_flow.specs.BufferForm.{buffer_plan};
 ghost use Rattle.ice_flow.specs.Views.{groups_view, pad_view, port_pad_view};
 ghost use Rattle.ice_flow.specs.ChipText.{IsOfForm};
 ghost use Rattle.ice_flow.specs.FirstForm.{left_pad, right_pad};
-ghost use Rattle.ice_flow.specs.Built.{IsChipRefusal, IsPinsRefusal, IsBlifRefusal, IsPcfRefusal, IsLaidOut, IsLayoutRefusal, IsBuilt, IsRefusal};
-ghost use Rattle.ice_flow.specs.Answers.{no_places};
+ghost use Rattle.ice_flow.specs.Built.{IsFormRefusal, IsPinsRefusal, IsLaidOut, IsLayoutRefusal, IsBuilt, IsRefusal};
+ghost use Rattle.ice_flow.specs.Standing.{form_of, standing_of};
+ghost use Rattle.ice_answer.specs.Causes.{no_places};
 
 use crate::asc::write_bits;
 use crate::buffer::buffer_of;
-use crate::cause::{Cause, FileRole, PinFault, Placement, Places};
 use crate::chip::Group;
-use crate::chip_text::{ChipStop, read_chip};
+use crate::chip_text::{ChipStop, read_form};
 use crate::pad::PortPad;
 use crate::pin_pads::{PinsStop, PortPads, port_pads};
 use crate::search::find_walk;
+use ice_answer::{
+    Cause, FileRole, PinFault, blif_refusal, chip_refusal, no_placement, pcf_refusal,
+};
 use ice_base::{NetNo, NoMemory, WireNo};
-use ice_blif::{BlifFault, read_blif};
-use ice_pcf::{PcfFault, read_pcf};
+use ice_blif::read_blif;
+use ice_chip_read::read_chip;
+use ice_pcf::read_pcf;
 use std::alloc::Global;
 
 /// The wire that has the level of the input's pad, in the form of chip that is built so far.
@@ -41,8 +45,25 @@ pub fn compile(
     pins_text: &[u8],
     netlist_text: &[u8],
 ) -> Result<Vec<u8>, Cause>
-    ensures built { IfOk result (λ text. IsBuilt «package».now chip_text.now pins_text.now netlist_text.now text.items) }
-    ensures refused { IfErr result (λ cause. IsRefusal «package».now chip_text.now pins_text.now netlist_text.now cause) }
+    ensures built { IfOk result (λ text. IsBuilt (standing_of «package».now chip_text.now pins_text.now netlist_text.now) «package».now chip_text.now pins_text.now netlist_text.now text.items) }
+    ensures refused { IfErr result (λ cause. IsRefusal (standing_of «package».now chip_text.now pins_text.now netlist_text.now) cause) }
+{
+    match read_chip(alloc, chip_text) {
+        Ok(_chip) => compile_form(alloc, package, chip_text, pins_text, netlist_text),
+        Err(fault) => Err(chip_refusal(fault)),
+    }
+}
+
+// The text of the bits of texts of which the chip's has a database.
+fn compile_form(
+    alloc: Global,
+    package: &[u8],
+    chip_text: &[u8],
+    pins_text: &[u8],
+    netlist_text: &[u8],
+) -> Result<Vec<u8>, Cause>
+    ensures built { IfOk result (λ text. IsBuilt (form_of «package».now chip_text.now pins_text.now netlist_text.now) «package».now chip_text.now pins_text.now netlist_text.now text.items) }
+    ensures refused { IfErr result (λ cause. IsRefusal (form_of «package».now chip_text.now pins_text.now netlist_text.now) cause) }
 {
     let pcf = match read_pcf(alloc, pins_text) {
         Ok(pcf) => pcf,
@@ -52,9 +73,9 @@ pub fn compile(
         Ok(netlist) => netlist,
         Err(fault) => return Err(blif_refusal(fault)),
     };
-    let groups = match read_chip(alloc, chip_text) {
+    let groups = match read_form(alloc, chip_text) {
         Ok(groups) => groups,
-        Err(stop) => return Err(chip_refusal(stop)),
+        Err(stop) => return Err(form_refusal(stop)),
     };
     let Some(buffer) = buffer_of(&netlist) else {
         return Err(not_built(FileRole::Blif));
@@ -91,33 +112,13 @@ fn not_built(role: FileRole) -> Cause
     Cause::NotBuilt { role }
 }
 
-// Why there is no chip.
-fn chip_refusal(stop: ChipStop) -> Cause
-    ensures { IsChipRefusal stop result }
+// Why there is no chip of the form that is built so far.
+fn form_refusal(stop: ChipStop) -> Cause
+    ensures { IsFormRefusal stop result }
 {
     match stop {
         ChipStop::OtherForm => not_built(FileRole::Chip),
         ChipStop::NoMemory => Cause::NoMemory,
-    }
-}
-
-// Why there are no pin constraints.
-fn pcf_refusal(fault: PcfFault) -> Cause
-    ensures { IsPcfRefusal fault result }
-{
-    match fault {
-        PcfFault::NoMemory => Cause::NoMemory,
-        fault => Cause::BadPcf(fault),
-    }
-}
-
-// Why there is no netlist.
-fn blif_refusal(fault: BlifFault) -> Cause
-    ensures { IsBlifRefusal fault result }
-{
-    match fault {
-        BlifFault::NoMemory => Cause::NoMemory,
-        fault => Cause::BadBlif(fault),
     }
 }
 
@@ -157,14 +158,5 @@ fn unreachable_sink(alloc: Global) -> Cause
         placement: no_placement(alloc),
         net: NetNo(0),
         sink: SINK,
-    }
-}
-
-/// The placement of no cluster.
-pub fn no_placement(alloc: Global) -> Placement
-    ensures { result ≡ no_places }
-{
-    Placement {
-        at: Places::new(alloc),
     }
 }

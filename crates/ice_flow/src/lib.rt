@@ -8,7 +8,6 @@ mod bits;
 mod buffer;
 mod build;
 mod bundle;
-mod cause;
 mod chip;
 mod chip_text;
 mod compile;
@@ -20,13 +19,14 @@ mod pin_pads;
 mod place;
 mod plain;
 #[cfg(test)]
+mod play_tests;
+#[cfg(test)]
 mod reader_tests;
 mod request;
 mod route;
 mod rows;
 #[cfg(test)]
 mod run_tests;
-mod say;
 mod search;
 #[cfg(test)]
 mod search_tests;
@@ -34,5 +34,5 @@ mod texts;
 mod top_call;
 mod usable;
 
-pub use cause::{Cause, Done, FileRole, PinFault, Placement, Places};
+pub use ice_answer::{Cause, Done, FileRole, PinFault, Placement, Places};
 pub use top_call::run;

@@ -1,7 +1,7 @@
 //! Cases of texts of the form that is built so far, and of others.
 use crate::buffer::{Buffer, buffer_of};
 use crate::chip::Group;
-use crate::chip_text::{ChipStop, read_chip};
+use crate::chip_text::{ChipStop, read_form};
 use crate::pad::Pad;
 use crate::pin_pads::{PinsStop, PortPads, port_pads};
 use ice_base::{BitAt, TileAt, WireNo};
@@ -57,7 +57,7 @@ fn read_parts(alloc: Global, parts: &[&[u8]]) -> Result<Vec<Group>, ChipStop> {
     for part in parts {
         text.extend_from_slice(part)?;
     }
-    read_chip(alloc, &text)
+    read_form(alloc, &text)
 }
 
 // What the reader answers for the chip text with these switches.

@@ -1,18 +1,28 @@
-//! The words of the program, read by hand: `build` and its five names.
+//! The words of the program, read by hand: a command and its names.
 ghost use Rattle.std.specs.Prelude.{◌≡◌, map, string_bytes, not, option_map};
 ghost use Rattle.ice_flow.specs.Command.{is_plain, are_plain, request_of};
-ghost use Rattle.ice_flow.specs.Requests.{request_view};
+ghost use Rattle.ice_flow.specs.Requests.{build_view, request_view};
 
 use ice_base::begins_with;
+use ice_play::NetRequest;
 
-/// What the words ask for: to build the text of bits at `asc` from the texts of three files, for a package.
+/// What a build is asked for: the text of bits at `asc` from the texts of three files, for a package.
 #[derive(Clone, Copy, Debug)]
-pub struct Request<'a> {
+pub struct BuildRequest<'a> {
     pub chip: &'a str,
     pub package_name: &'a str,
     pub pcf: &'a str,
     pub blif: &'a str,
     pub asc: &'a str,
+}
+
+/// What the words ask for.
+#[derive(Clone, Copy, Debug)]
+pub enum Request<'a> {
+    /// `build CHIP PACKAGE PCF BLIF ASC`.
+    Build(BuildRequest<'a>),
+    /// `play-net BLIF LEVELS`.
+    PlayNet(NetRequest<'a>),
 }
 
 // Whether a word stands for itself, and is no option.
@@ -27,8 +37,22 @@ pub fn read_request(words: &[String]) -> Option<Request<'_>>
     ensures { option_map request_view result ≡ request_of (map string_bytes words.now) }
 {
     match words {
+        [command, blif, levels] => {
+            let request = NetRequest {
+                blif: blif.as_str(),
+                levels: levels.as_str(),
+            };
+            if command.as_str() == "play-net"
+                && is_plain(request.blif)
+                && is_plain(request.levels)
+            {
+                Some(Request::PlayNet(request))
+            } else {
+                None
+            }
+        }
         [command, chip, package, pcf, blif, asc] => {
-            let request = Request {
+            let request = BuildRequest {
                 chip: chip.as_str(),
                 package_name: package.as_str(),
                 pcf: pcf.as_str(),
@@ -36,7 +60,7 @@ pub fn read_request(words: &[String]) -> Option<Request<'_>>
                 asc: asc.as_str(),
             };
             if command.as_str() == "build" && are_plain(&request) {
-                Some(request)
+                Some(Request::Build(request))
             } else {
                 None
             }
@@ -45,9 +69,9 @@ pub fn read_request(words: &[String]) -> Option<Request<'_>>
     }
 }
 
-// Whether all names stand for themselves.
-fn are_plain(request: &Request<'_>) -> bool
-    ensures { result ≡ are_plain (request_view request.now) }
+// Whether all names of a build stand for themselves.
+fn are_plain(request: &BuildRequest<'_>) -> bool
+    ensures { result ≡ are_plain (build_view request.now) }
 {
     is_plain(request.chip)
         && is_plain(request.package_name)

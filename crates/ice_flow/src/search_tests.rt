@@ -1,5 +1,5 @@
 //! Chips with few switches, and the walks over them from wire 0 to wire 2.
-use crate::chip_text::{HEADER, read_chip};
+use crate::chip_text::{HEADER, read_form};
 use crate::search::find_walk;
 use ice_base::WireNo;
 use std::process::Abort;
@@ -8,7 +8,7 @@ use std::process::Abort;
 fn expect_walk(rt: &(impl Abort + AllocGlobal), switches: &[u8], expected: Option<&[u32]>) {
     let mut text = Vec::from_slice(rt.alloc(), HEADER).expect(rt, "memory");
     text.extend_from_slice(switches).expect(rt, "memory");
-    let groups = read_chip(rt.alloc(), &text).expect(rt, "a chip");
+    let groups = read_form(rt.alloc(), &text).expect(rt, "a chip");
     let found = find_walk(rt.alloc(), &groups, WireNo(0), WireNo(2)).expect(rt, "memory");
     let Some(numbers) = expected else {
         assert!(rt; found.is_none(), "a walk over {switches:?}");

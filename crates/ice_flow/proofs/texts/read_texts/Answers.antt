@@ -1,8 +1,8 @@
-use Rattle.std.proofs.Common.{◌≡◌, ◌∙◌, ℕ, List, Option, Some, refl, subst, arith}
+use Rattle.std.proofs.Common.{arith}
 use Rattle.ice_desk.proofs.Desks.{reading_trans}
-use Rattle.ice_flow.specs.declared.cause.FileRole.TheVariants.{Chip, Pcf, Blif}
-use Rattle.ice_flow.specs.Requests.{request_view}
-use Rattle.ice_flow.proofs.ReadStops.{stopped_at, next_place, reading_refl, none_before, one_before, two_before}
+use Rattle.ice_flow.specs.Requests.{build_view}
+use Rattle.ice_flow.specs.Answers.{files_of}
+use Rattle.ice_answer.proofs.ReadStops.{stopped_at, next_place, reading_refl, none_before, one_more, text_before}
 use Rattle.ice_flow.proofs.texts.read_texts.Goals as goal
 
 pub returns-in-Err-read_text-clause-stop : goal.returns-in-Err-read_text-clause-stop
@@ -11,9 +11,10 @@ returns-in-Err-read_text-clause-stop g c =
     let old = D.seen c.args.desk.now in
     let mid = D.seen c.read_text.new.desk in
     let new = D.seen c.read_text-2.new.desk in
-    stopped_at (request_view c.args.request.now) old mid new c.args.request.now.pcf.now Pcf 2 c.in-Err-read_text.cause c.in-Ok.ensures.same c.in-Err-read_text.ensures.same
-    (next_place old.begins mid.begins new.begins 1 c.in-Ok.ensures.begun c.in-Err-read_text.ensures.begun) (omega arith) (omega arith) refl refl
-    (one_before (request_view c.args.request.now) old c.in-Ok.chip.items c.in-Ok.ensures.text c.in-Ok.ensures.fits) c.in-Err-read_text.ensures.stop
+    let files = files_of (build_view c.args.request.now) in
+    stopped_at files old mid new 2 c.in-Err-read_text.cause c.in-Ok.ensures.same c.in-Err-read_text.ensures.same
+    (next_place old.begins mid.begins new.begins 1 c.in-Ok.ensures.begun c.in-Err-read_text.ensures.begun) (omega arith) (omega arith)
+    (one_more files old 1 c.in-Ok.chip.items (none_before files old) c.in-Ok.ensures.text c.in-Ok.ensures.fits) c.in-Err-read_text.ensures.stop
 
 pub returns-in-Err-read_text-2-clause-stop : goal.returns-in-Err-read_text-2-clause-stop
 returns-in-Err-read_text-2-clause-stop g c =
@@ -22,16 +23,18 @@ returns-in-Err-read_text-2-clause-stop g c =
     let first = D.seen c.read_text.new.desk in
     let mid = D.seen c.read_text-2.new.desk in
     let new = D.seen c.read_text-3.new.desk in
-    stopped_at (request_view c.args.request.now) old mid new c.args.request.now.blif.now Blif 3 c.in-Err-read_text-2.cause
+    let files = files_of (build_view c.args.request.now) in
+    stopped_at files old mid new 3 c.in-Err-read_text-2.cause
     (reading_trans old first mid c.in-Ok.ensures.same c.in-Ok-read_text.ensures.same) c.in-Err-read_text-2.ensures.same
-    (next_place old.begins mid.begins new.begins 2 (next_place old.begins first.begins mid.begins 1 c.in-Ok.ensures.begun c.in-Ok-read_text.ensures.begun) c.in-Err-read_text-2.ensures.begun) (omega arith) (omega arith) refl refl
-    (two_before (request_view c.args.request.now) old c.in-Ok.chip.items c.in-Ok-read_text.pcf.items c.in-Ok.ensures.text c.in-Ok.ensures.fits
-    (λ t. subst (λ (f : List ℕ → Option (List ℕ)). f c.args.request.now.pcf.now ≡ Some c.in-Ok-read_text.pcf.items) c.in-Ok.ensures.same.files (c.in-Ok-read_text.ensures.text (c.in-Ok.ensures.same.tells ∙ t))) c.in-Ok-read_text.ensures.fits) c.in-Err-read_text-2.ensures.stop
+    (next_place old.begins mid.begins new.begins 2 (next_place old.begins first.begins mid.begins 1 c.in-Ok.ensures.begun c.in-Ok-read_text.ensures.begun) c.in-Err-read_text-2.ensures.begun) (omega arith) (omega arith)
+    (one_more files old 2 c.in-Ok-read_text.pcf.items
+    (one_more files old 1 c.in-Ok.chip.items (none_before files old) c.in-Ok.ensures.text c.in-Ok.ensures.fits)
+    (text_before old first c.args.request.now.pcf.now c.in-Ok-read_text.pcf.items c.in-Ok.ensures.same c.in-Ok-read_text.ensures.text) c.in-Ok-read_text.ensures.fits) c.in-Err-read_text-2.ensures.stop
 
 pub returns-in-Err-clause-stop : goal.returns-in-Err-clause-stop
 returns-in-Err-clause-stop g c =
     let D = g.D.Desk in
     let old = D.seen c.args.desk.now in
     let new = D.seen c.read_text.new.desk in
-    stopped_at (request_view c.args.request.now) old old new c.args.request.now.chip.now Chip 1 c.in-Err.cause (reading_refl old) c.in-Err.ensures.same c.in-Err.ensures.begun (omega arith) (omega arith) refl refl
-    (none_before (request_view c.args.request.now) old) c.in-Err.ensures.stop
+    let files = files_of (build_view c.args.request.now) in
+    stopped_at files old old new 1 c.in-Err.cause (reading_refl old) c.in-Err.ensures.same c.in-Err.ensures.begun (omega arith) (omega arith) (none_before files old) c.in-Err.ensures.stop

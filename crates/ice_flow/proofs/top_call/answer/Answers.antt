@@ -1,19 +1,19 @@
-use Rattle.std.proofs.Common.{Option, subst, sym}
-use Rattle.ice_flow.specs.declared.cause.Cause.{Cause}
-use Rattle.ice_flow.specs.Command.{Build}
-use Rattle.ice_flow.specs.Requests.{request_view}
+use Rattle.std.proofs.Common.{Option, Some, subst, sym}
+use Rattle.ice_answer.specs.declared.cause.Cause.{Cause}
+use Rattle.ice_flow.specs.Command.{Request, ForBuild}
+use Rattle.ice_flow.specs.Requests.{build_view}
 use Rattle.ice_flow.specs.Answers.{IsTrueOf}
 use Rattle.ice_flow.specs.Rows.{Caused}
 use Rattle.ice_flow.proofs.Builds.{true_while_said}
 use Rattle.ice_flow.proofs.top_call.answer.Goals as goal
 
-pub returns-clause-caused : goal.returns-clause-caused
-returns-clause-caused g c =
+pub returns-in-Some-Build-clause-caused : goal.returns-in-Some-Build-clause-caused
+returns-in-Some-Build-clause-caused g c =
     let D = g.D.Desk in
     let old = D.seen c.args.desk.now in
     let mid = D.seen c.build-cause.new.desk in
-    let new = D.seen c.finish-2.new.desk in
-    let b = request_view c.in-Some.request in
-    let said = true_while_said b old mid new c.build-cause.result c.finish-2.ensures.same c.build-cause.ensures.cause in
-    subst (λ (r : Option Build). Caused r old new c.finish-2.result.cause) c.in-Some.ensures
-    (subst (λ (x : Cause). IsTrueOf b old new x) (sym c.finish-2.ensures.cause) said)
+    let new = D.seen c.finish-in-Some-Build.new.desk in
+    let b = build_view c.in-Some-Build.request in
+    let said = true_while_said b old mid new c.build-cause.result c.finish-in-Some-Build.ensures.same c.build-cause.ensures.cause in
+    let whole : Caused (Some (ForBuild b)) old new c.finish-in-Some-Build.result.cause = subst (λ (x : Cause). IsTrueOf b old new x) (sym c.finish-in-Some-Build.ensures.cause) said in
+    subst (λ (r : Option Request). Caused r old new c.finish-in-Some-Build.result.cause) (rw c.in-Some-Build.field-0-is at c.in-Some-Build.ensures) whole

@@ -1,0 +1,138 @@
+-- The statuses of the program's answers, and the line that each refusal says.
+use Rattle.std.specs.Prelude.{ℕ, List, [], ◌∷◌, ◌++◌, map, codes, decimal}
+use Rattle.ice_answer.specs.declared.cause.Placement.{Placement}
+use Rattle.ice_answer.specs.declared.cause.Cause.{Cause}
+use Rattle.ice_answer.specs.declared.cause.Cause.TheVariants.{Good, Usage, BadBlif, BadPcf, BadChip, BadNet, BadPin, Unreachable, ReadFault, WriteFault, NoMemory, TooLong, BadLevels, NotBuilt}
+use Rattle.ice_answer.specs.declared.cause.FileRole.{FileRole}
+use Rattle.ice_answer.specs.declared.cause.FileRole.TheVariants.{Chip, Pcf, Blif, Asc, Levels, Pins, Report, Standard}
+use Rattle.ice_answer.specs.declared.cause.PinFault.{PinFault}
+use Rattle.ice_answer.specs.declared.cause.PinFault.TheVariants as pin_fault
+use Rattle.ice_blif.specs.declared.fault.BlifFault.{BlifFault}
+use Rattle.ice_blif.specs.declared.fault.BlifFault.TheVariants as blif_fault
+use Rattle.ice_chip.specs.declared.fault.ChipFault.{ChipFault}
+use Rattle.ice_chip.specs.declared.fault.ChipFault.TheVariants as chip_fault
+use Rattle.ice_check.specs.declared.fault.NetFault.{NetFault}
+use Rattle.ice_check.specs.declared.fault.NetFault.TheVariants as net_fault
+use Rattle.ice_pcf.specs.declared.fault.PcfFault.{PcfFault}
+use Rattle.ice_pcf.specs.declared.fault.PcfFault.TheVariants as pcf_fault
+
+-- the line of a pin's fault
+abbrev pub pin_fault_line : PinFault → ℕ
+pin_fault_line (pin_fault.UnknownPin line) = line
+
+abbrev pub no_places : Placement
+no_places = record { at = [] }
+
+abbrev pub status_of : Cause → ℕ
+status_of (Good placement) = 0
+status_of Usage = 2
+status_of (BadBlif fault) = 3
+status_of (BadPcf fault) = 4
+status_of (BadChip fault) = 5
+status_of (BadNet fault) = 6
+status_of (BadPin fault) = 7
+status_of (Unreachable placement net sink) = 9
+status_of (ReadFault role) = 11
+status_of (WriteFault role put) = 12
+status_of NoMemory = 13
+status_of (TooLong role limit) = 16
+status_of (BadLevels line) = 17
+status_of (NotBuilt role) = 18
+
+abbrev pub role_name : FileRole → List ℕ
+role_name Chip = codes "chip"
+role_name Pcf = codes "pcf"
+role_name Blif = codes "blif"
+role_name Asc = codes "asc"
+role_name Levels = codes "levels"
+role_name Pins = codes "pins"
+role_name Report = codes "report"
+role_name Standard = codes "standard"
+
+-- pieces, one after another
+abbrev pub joined : List (List ℕ) → List ℕ
+joined [] = []
+joined (piece ∷ pieces) = piece ++ joined pieces
+
+-- the line of a text at which a fault stands, and the fault's name
+abbrev pub faulty_line : List ℕ → ℕ → List ℕ → List ℕ
+faulty_line head line cause = joined (head ∷ decimal line ∷ cause ∷ [])
+
+abbrev pub blif_line : BlifFault → List ℕ
+blif_line (blif_fault.NoModel line) = faulty_line (codes "error 3 blif line ") line (codes " nomodel\n")
+blif_line (blif_fault.SecondModel line) = faulty_line (codes "error 3 blif line ") line (codes " secondmodel\n")
+blif_line (blif_fault.UnknownDirective line) = faulty_line (codes "error 3 blif line ") line (codes " unknowndirective\n")
+blif_line (blif_fault.UnknownCell line) = faulty_line (codes "error 3 blif line ") line (codes " unknowncell\n")
+blif_line (blif_fault.UnknownPort line) = faulty_line (codes "error 3 blif line ") line (codes " unknownport\n")
+blif_line (blif_fault.PortTwice line) = faulty_line (codes "error 3 blif line ") line (codes " porttwice\n")
+blif_line (blif_fault.BadParam line) = faulty_line (codes "error 3 blif line ") line (codes " badparam\n")
+blif_line (blif_fault.BadCover line) = faulty_line (codes "error 3 blif line ") line (codes " badcover\n")
+blif_line (blif_fault.TooWide line) = faulty_line (codes "error 3 blif line ") line (codes " toowide\n")
+blif_line (blif_fault.NoEnd line) = faulty_line (codes "error 3 blif line ") line (codes " noend\n")
+blif_line (blif_fault.TooMany line limit) = faulty_line (codes "error 3 blif line ") line (codes " toomany\n")
+blif_line blif_fault.NoMemory = faulty_line (codes "error 3 blif line ") 0 (codes " nomemory\n")
+
+abbrev pub pcf_line : PcfFault → List ℕ
+pcf_line (pcf_fault.UnknownWord line) = faulty_line (codes "error 4 pcf line ") line (codes " unknownword\n")
+pcf_line (pcf_fault.Missing line) = faulty_line (codes "error 4 pcf line ") line (codes " missing\n")
+pcf_line (pcf_fault.Extra line) = faulty_line (codes "error 4 pcf line ") line (codes " extra\n")
+pcf_line pcf_fault.NoMemory = faulty_line (codes "error 4 pcf line ") 0 (codes " nomemory\n")
+
+abbrev pub chip_line : ChipFault → List ℕ
+chip_line (chip_fault.NoDevice line) = faulty_line (codes "error 5 chip line ") line (codes " nodevice\n")
+chip_line (chip_fault.BadNumber line) = faulty_line (codes "error 5 chip line ") line (codes " badnumber\n")
+chip_line (chip_fault.BadName line) = faulty_line (codes "error 5 chip line ") line (codes " badname\n")
+chip_line (chip_fault.OutOfRange line) = faulty_line (codes "error 5 chip line ") line (codes " outofrange\n")
+chip_line (chip_fault.Twice line other) = faulty_line (codes "error 5 chip line ") line (codes " twice\n")
+chip_line (chip_fault.BadBit line) = faulty_line (codes "error 5 chip line ") line (codes " badbit\n")
+chip_line (chip_fault.BadValues line) = faulty_line (codes "error 5 chip line ") line (codes " badvalues\n")
+chip_line (chip_fault.SharedFunction line other) = faulty_line (codes "error 5 chip line ") line (codes " sharedfunction\n")
+chip_line (chip_fault.LacksFunction line) = faulty_line (codes "error 5 chip line ") line (codes " lacksfunction\n")
+chip_line (chip_fault.SharedPin line other) = faulty_line (codes "error 5 chip line ") line (codes " sharedpin\n")
+chip_line (chip_fault.TooMany limit) = faulty_line (codes "error 5 chip line ") 0 (codes " toomany\n")
+chip_line chip_fault.NoMemory = faulty_line (codes "error 5 chip line ") 0 (codes " nomemory\n")
+
+-- a line that ends with a name
+abbrev pub named_line : List ℕ → List ℕ → List ℕ
+named_line head name = joined (head ∷ name ∷ codes "\n" ∷ [])
+
+abbrev pub after_blank : List ℕ → List ℕ
+after_blank name = joined (codes " " ∷ name ∷ [])
+
+-- names, each after a blank
+abbrev pub spaced : List (List ℕ) → List ℕ
+spaced names = joined (map after_blank names)
+
+-- a line that ends with names
+abbrev pub names_line : List ℕ → List (List ℕ) → List ℕ
+names_line head names = joined (head ∷ spaced names ∷ codes "\n" ∷ [])
+
+abbrev pub net_line : NetFault → List ℕ
+net_line (net_fault.Undriven signal) = named_line (codes "error 6 net undriven ") signal
+net_line (net_fault.DrivenTwice signal) = named_line (codes "error 6 net twice ") signal
+net_line (net_fault.Loop signals) = names_line (codes "error 6 net loop") signals
+net_line (net_fault.PadShared port) = named_line (codes "error 6 net padshared ") port
+net_line (net_fault.PinTypeOut line value) = joined (codes "error 6 net pintype line " ∷ decimal line ∷ codes " value " ∷ decimal value ∷ codes "\n" ∷ [])
+net_line (net_fault.PinNotPort line) = joined (codes "error 6 net pinnotport line " ∷ decimal line ∷ codes "\n" ∷ [])
+net_line (net_fault.InoutBare port) = named_line (codes "error 6 net inoutbare ") port
+net_line net_fault.NoMemory = joined (codes "error 6 net nomemory\n" ∷ [])
+
+abbrev pub pin_line : PinFault → List ℕ
+pin_line (pin_fault.UnknownPin line) = joined (codes "error 7 pin unknownpin line " ∷ decimal line ∷ codes "\n" ∷ [])
+
+-- the line that an answer says: nothing where the work is done
+abbrev pub line_of : Cause → List ℕ
+line_of (Good placement) = []
+line_of Usage = joined (codes "error 2 usage\n" ∷ [])
+line_of (BadBlif fault) = blif_line fault
+line_of (BadPcf fault) = pcf_line fault
+line_of (BadChip fault) = chip_line fault
+line_of (BadNet fault) = net_line fault
+line_of (BadPin fault) = pin_line fault
+line_of (Unreachable placement net sink) = joined (codes "error 9 unreachable net " ∷ decimal net.0 ∷ codes " sink " ∷ decimal sink.0 ∷ codes "\n" ∷ [])
+line_of (ReadFault role) = joined (codes "error 11 read " ∷ role_name role ∷ codes "\n" ∷ [])
+line_of (WriteFault role put) = joined (codes "error 12 write " ∷ role_name role ∷ codes " put " ∷ decimal put ∷ codes "\n" ∷ [])
+line_of NoMemory = joined (codes "error 13 memory\n" ∷ [])
+line_of (TooLong role limit) = joined (codes "error 16 long " ∷ role_name role ∷ codes " limit " ∷ decimal limit ∷ codes "\n" ∷ [])
+line_of (BadLevels line) = joined (codes "error 17 levels line " ∷ decimal line ∷ codes "\n" ∷ [])
+line_of (NotBuilt role) = joined (codes "error 18 notbuilt " ∷ role_name role ∷ codes "\n" ∷ [])

@@ -1,0 +1,131 @@
+//! The answers of the program, each with its cause.
+
+ghost use Rattle.std.specs.Prelude.{◌≡◌, []};
+ghost use Rattle.ice_answer.specs.Causes.{no_places};
+
+use ice_base::{NetNo, TileAt, WireNo};
+use ice_blif::BlifFault;
+use ice_check::NetFault;
+use ice_chip::ChipFault;
+use ice_pcf::PcfFault;
+use std::alloc::Global;
+use std::marker::Model;
+
+/// What a file is to the command.
+#[derive(Clone, Copy, Debug, PartialEq, Eq)]
+pub enum FileRole {
+    Chip,
+    Pcf,
+    Blif,
+    Asc,
+    Levels,
+    Pins,
+    Report,
+    Standard,
+}
+
+/// Why no pads were given to the ports, with the line of the constraint.
+#[derive(Clone, Copy, Debug, PartialEq, Eq)]
+pub enum PinFault {
+    /// The package has no pin of this name.
+    UnknownPin { line: u32 },
+}
+
+/// The places of the clusters of logic cells, in their order: one tile for each.
+#[derive(Debug, Drop)]
+pub struct Places {
+    tiles: Vec<TileAt>,
+}
+
+impl Model for Places {
+    ghost use Rattle.std.specs.Prelude.{List};
+    ghost use Rattle.ice_base.specs.declared.number.TileAt.{TileAt};
+
+    ghost Value = { List TileAt };
+
+    ghost view = { λ p. p.tiles.items };
+}
+
+impl Places {
+    /// No places. Takes no memory.
+    pub fn new(alloc: Global) -> Places
+        ensures { result ≡ [] }
+    {
+        Places {
+            tiles: Vec::new(alloc),
+        }
+    }
+}
+
+/// Where the clusters of a design stand.
+#[derive(Debug, Drop)]
+pub struct Placement {
+    pub at: Places,
+}
+
+/// The answer of a command with what it is about. The number of each is its status.
+#[derive(Debug, Drop)]
+pub enum Cause {
+    /// 0: the work is done and every file is written.
+    Good {
+        placement: Placement,
+    },
+    /// 2: the words are no command.
+    Usage,
+    /// 3: the netlist text is refused.
+    BadBlif(BlifFault),
+    /// 4: the text of the pins is refused.
+    BadPcf(PcfFault),
+    /// 5: the text of the chip database is refused.
+    BadChip(ChipFault),
+    /// 6: the netlist has no meaning.
+    BadNet(NetFault),
+    /// 7: the pins are refused.
+    BadPin(PinFault),
+    /// 9: no walk leads from the net's root to this sink.
+    Unreachable {
+        placement: Placement,
+        net: NetNo,
+        sink: WireNo,
+    },
+    /// 11: the desk counted a fault of reading.
+    ReadFault {
+        role: FileRole,
+    },
+    /// 12: the desk counted a fault of writing, at the put of this number from 1, or at the make, which is 0.
+    WriteFault {
+        role: FileRole,
+        put: u64,
+    },
+    /// 13: there was no memory.
+    NoMemory,
+    /// 16: a text has more bytes than the limit.
+    TooLong {
+        role: FileRole,
+        limit: usize,
+    },
+    /// 17: a line of the level text is refused.
+    BadLevels {
+        line: u32,
+    },
+    /// 18: a text is of a form that is not built yet.
+    NotBuilt {
+        role: FileRole,
+    },
+}
+
+/// The end of a command: its status and its cause.
+#[derive(Debug, Drop)]
+pub struct Done {
+    pub status: u8,
+    pub cause: Cause,
+}
+
+/// The placement of no cluster. It takes no memory.
+pub fn no_placement(alloc: Global) -> Placement
+    ensures { result ≡ no_places }
+{
+    Placement {
+        at: Places::new(alloc),
+    }
+}

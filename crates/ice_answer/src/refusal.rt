@@ -1,0 +1,37 @@
+//! From the faults of readers to causes.
+ghost use Rattle.ice_answer.specs.Refusals.{IsBlifRefusal, IsPcfRefusal, IsChipRefusal};
+
+use crate::cause::Cause;
+use ice_blif::BlifFault;
+use ice_chip::ChipFault;
+use ice_pcf::PcfFault;
+
+/// Why there is no netlist: the fault of its text, or want of memory.
+pub fn blif_refusal(fault: BlifFault) -> Cause
+    ensures { IsBlifRefusal fault result }
+{
+    match fault {
+        BlifFault::NoMemory => Cause::NoMemory,
+        fault => Cause::BadBlif(fault),
+    }
+}
+
+/// Why there are no pin constraints: the fault of their text, or want of memory.
+pub fn pcf_refusal(fault: PcfFault) -> Cause
+    ensures { IsPcfRefusal fault result }
+{
+    match fault {
+        PcfFault::NoMemory => Cause::NoMemory,
+        fault => Cause::BadPcf(fault),
+    }
+}
+
+/// Why there is no chip: the fault of its text, or want of memory.
+pub fn chip_refusal(fault: ChipFault) -> Cause
+    ensures { IsChipRefusal fault result }
+{
+    match fault {
+        ChipFault::NoMemory => Cause::NoMemory,
+        fault => Cause::BadChip(fault),
+    }
+}

@@ -1,0 +1,5 @@
+pub mod Played
+pub mod Requests
+pub mod Playing
+pub mod Refusals
+pub mod PlayRows
