@@ -1,8 +1,8 @@
 //! Chip texts, with what the reader expects of them.
 
 use crate::read_chip;
-use ice_base::RowNo;
-use ice_chip::{Chip, ChipFault};
+use ice_base::{Name, RowNo, TileAt, WireNo};
+use ice_chip::{Chip, ChipFault, Pad, TileKind};
 use std::alloc::{AllocError, Global};
 use std::process::Abort;
 use std::test::Fail;
@@ -60,6 +60,137 @@ const WIRES_A: &[u8] = b".net 0
 1 3
 ";
 
+// Two ways from tile to tile, one of them longer.
+const TILES_C: &[u8] = b".device 1k 2 1 7
+.pins tiny
+1 0 0 0
+2 0 0 1
+3 1 0 0
+4 1 0 1
+.io_tile 0 0
+.io_tile 1 0
+";
+
+const WIRES_C: &[u8] = b".net 0
+0 0 io_0/D_IN_0
+.net 1
+0 0 io_1/D_IN_0
+.net 2
+0 0 short
+1 0 short
+.net 3
+0 0 long
+1 0 long
+.net 4
+1 0 hop
+.net 5
+1 0 io_0/D_OUT_0
+.net 6
+1 0 io_1/D_OUT_0
+.buffer 0 0 2 B0[0] B1[0]
+10 0
+01 1
+.buffer 0 0 3 B2[0] B3[0]
+10 0
+01 1
+.routing 1 0 4 B0[0]
+1 3
+.buffer 1 0 5 B1[0] B2[0]
+10 2
+01 4
+.buffer 1 0 6 B3[0] B4[0]
+10 2
+01 4
+";
+
+// One way from tile to tile.
+const TILES_D: &[u8] = b".device 1k 2 1 5
+.pins tiny
+1 0 0 0
+2 0 0 1
+3 1 0 0
+4 1 0 1
+.io_tile 0 0
+.io_tile 1 0
+";
+
+const NAMES_D: &[u8] = b".net 0
+0 0 io_0/D_IN_0
+.net 1
+0 0 io_1/D_IN_0
+.net 2
+0 0 short
+1 0 short
+.net 3
+1 0 io_0/D_OUT_0
+.net 4
+1 0 io_1/D_OUT_0
+";
+
+const SWITCHES_D: &[u8] = b".buffer 0 0 2 B0[0] B1[0]
+10 0
+01 1
+.buffer 1 0 3 B1[0]
+1 2
+.buffer 1 0 4 B3[0]
+1 2
+";
+
+// Sections that aren't read, with rows of any form.
+const READ_OVER: &[u8] = b".extra_cell 0 0 PLL
+PLLOUT 9 9 9 x
+.routing_of_none B99[99]
+.io_tile_bitsets
+1 2 3
+";
+
+// A package twice, and in the first a pin twice.
+const REPEATED_PINS: &[u8] = b".device 1k 2 1 1
+.pins tiny
+1 0 0 0
+1 0 0 1
+2 1 0 0
+.pins tiny
+1 1 0 1
+3 1 0 0
+.io_tile 0 0
+.io_tile 1 0
+";
+
+// Rows that say one thing twice, and names and rows at the empty place (2, 0).
+const REPEATED_TILES: &[u8] = b".device 1k 3 1 2
+.gbufin
+2 0 3
+1 0 3
+.ieren
+0 0 0 2 0 1
+0 0 0 1 0 1
+0 0 0 0 0 0
+.colbuf
+2 0 0 0
+1 0 0 0
+0 0 0 0
+.io_tile 0 0
+.io_tile 1 0
+";
+
+const REPEATED_NAMES: &[u8] = b"ColBufCtrl.glb_netwk_0 B0[0]
+ColBufCtrl.glb_netwk_1 B1[0]
+ColBufCtrl.glb_netwk_2 B2[0]
+ColBufCtrl.glb_netwk_3 B3[0]
+ColBufCtrl.glb_netwk_4 B4[0]
+ColBufCtrl.glb_netwk_5 B5[0]
+ColBufCtrl.glb_netwk_6 B6[0]
+ColBufCtrl.glb_netwk_7 B7[0]
+.net 0
+2 0 fabout
+0 0 glb_netwk_1
+1 0 glb_netwk_1
+0 0 glb_netwk_1
+.net 1
+2 0 fabout
+";
+
 // The text of these parts.
 fn text_of(alloc: Global, parts: &[&[u8]]) -> Result<Vec<u8>, AllocError> {
     let mut text = Vec::new(alloc);
@@ -80,6 +211,17 @@ fn chip_of(alloc: Global, before: &[u8], after: &[u8]) -> Result<Chip, ChipFault
     read_chip(alloc, &text)
 }
 
+fn tile(x: u16, y: u16) -> TileAt {
+    TileAt { x, y }
+}
+
+fn pad(x: u16, y: u16, pio: u8) -> Pad {
+    Pad {
+        tile: tile(x, y),
+        pio,
+    }
+}
+
 // Fails unless the chip has this many wires, and rows into these wires from these sources.
 fn expect_rows(rt: &impl Abort, chip: &Chip, wires: u32, rows: &[(u32, u32)]) {
     assert_eq!(rt; chip.wires(), wires);
@@ -97,10 +239,220 @@ fn expect_rows(rt: &impl Abort, chip: &Chip, wires: u32, rows: &[(u32, u32)]) {
     }
 }
 
+// Fails unless the name at the place is the wire's, or no wire's.
+fn expect_wire(rt: &impl Abort, chip: &Chip, at: TileAt, name: &[u8], wire: Option<WireNo>) {
+    assert_eq!(rt; chip.wire_named(at, name), wire, "of {name:?}");
+}
+
+// Fails unless the wire has its names at these places.
+fn expect_names(rt: &impl Abort, chip: &Chip, wire: WireNo, names: &[(TileAt, &[u8])]) {
+    if wire.0 >= chip.wires() {
+        assert!(rt; false, "no wire {wire:?}");
+        return;
+    }
+    let found = chip.names(wire);
+    assert_eq!(rt; found.len(), names.len());
+    for (known, (at, name)) in found.iter().zip(names) {
+        assert_eq!(rt; known.tile, *at);
+        assert_eq!(rt; known.name.as_bytes(), *name);
+    }
+}
+
+// Fails unless the chip has this many tiles, groups and functions.
+fn expect_parts(rt: &impl Abort, chip: &Chip, tiles: usize, groups: usize, functions: usize) {
+    assert_eq!(rt; chip.tiles().len(), tiles);
+    assert_eq!(rt; chip.groups().len(), groups);
+    assert_eq!(rt; chip.functions().len(), functions);
+}
+
+// Fails unless the tile of that number stands at this place.
+fn expect_tile(rt: &impl Abort, chip: &Chip, number: usize, at: TileAt) {
+    let tile = chip.tiles().get(number).expect(rt, "a tile");
+    assert_eq!(rt; tile.at, at);
+}
+
+// Fails unless the rows of the group of that number begin with this one.
+fn expect_group(rt: &impl Abort, chip: &Chip, number: usize, first: RowNo) {
+    let group = chip.groups().get(number).expect(rt, "a group");
+    assert_eq!(rt; group.first, first);
+}
+
+// Fails unless the tile at the place is of this kind, or there is none.
+fn expect_kind(rt: &impl Abort, chip: &Chip, at: TileAt, kind: Option<TileKind>) {
+    assert!(rt; chip.kind_at(at) == kind, "at {at:?}");
+}
+
+// Fails unless the function stands in this line, or there is none.
+fn expect_function(rt: &impl Abort, chip: &Chip, kind: TileKind, name: &[u8], line: Option<u32>) {
+    match chip.function(kind, name) {
+        Some(function) => assert!(rt; Some(function.line) == line, "{name:?}"),
+        None => assert!(rt; line.is_none(), "no {name:?}"),
+    }
+}
+
+// Fails unless the package has this many pins and pads, or there is none.
+fn expect_package(rt: &impl Abort, chip: &Chip, name: &[u8], sizes: Option<(usize, usize)>) {
+    match chip.package(name) {
+        Some(package) => {
+            let found = (package.pins.len(), package.pads.len());
+            assert!(rt; Some(found) == sizes, "{found:?} in {name:?}");
+        }
+        None => assert!(rt; sizes.is_none(), "no {name:?}"),
+    }
+}
+
+// Fails unless the pin of the package is this pad.
+fn expect_pin(rt: &impl Abort, chip: &Chip, name: &[u8], pin: &Name, pad: Pad) {
+    let package = chip.package(name).expect(rt, "a package");
+    assert!(rt; package.pins.get(pin).copied() == Some(pad), "{pin:?}");
+}
+
+// Fails unless this pad serves that one, or none does.
+fn expect_enable(rt: &impl Abort, chip: &Chip, served: Pad, enable: Option<Pad>) {
+    assert!(rt; chip.ieren_of(served) == enable, "of {served:?}");
+}
+
+// Fails unless this tile feeds the global, or none does.
+fn expect_global(rt: &impl Abort, chip: &Chip, global: u8, at: Option<TileAt>) {
+    assert!(rt; chip.global_of(global) == at, "of {global}");
+}
+
+// Fails unless this tile holds the column buffers of that one, or none does.
+fn expect_buffers(rt: &impl Abort, chip: &Chip, served: TileAt, at: Option<TileAt>) {
+    assert!(rt; chip.colbuf_of(served) == at, "of {served:?}");
+}
+
 #[test]
 fn chip_a_has_its_rows(rt: HostRuntime) -> Result<(), Fail> {
     let chip = chip_of(rt.alloc(), TILES_A, WIRES_A)?;
     expect_rows(&rt, &chip, 4, &[(1, 0), (2, 1), (1, 3)]);
+    Ok(())
+}
+
+#[test]
+fn chip_c_has_its_rows(rt: HostRuntime) -> Result<(), Fail> {
+    let chip = chip_of(rt.alloc(), TILES_C, WIRES_C)?;
+    expect_rows(
+        &rt,
+        &chip,
+        7,
+        &[
+            (2, 0),
+            (2, 1),
+            (3, 0),
+            (3, 1),
+            (4, 3),
+            (5, 2),
+            (5, 4),
+            (6, 2),
+            (6, 4),
+        ],
+    );
+    expect_parts(&rt, &chip, 2, 5, 16);
+    expect_wire(&rt, &chip, tile(1, 0), b"hop", Some(WireNo(4)));
+    expect_wire(&rt, &chip, tile(0, 0), b"hop", None);
+    Ok(())
+}
+
+#[test]
+fn chip_d_has_its_rows(rt: HostRuntime) -> Result<(), Fail> {
+    let text = text_of(rt.alloc(), &[NAMES_D, SWITCHES_D])?;
+    let chip = chip_of(rt.alloc(), TILES_D, &text)?;
+    expect_rows(&rt, &chip, 5, &[(2, 0), (2, 1), (3, 2), (4, 2)]);
+    expect_parts(&rt, &chip, 2, 3, 16);
+    expect_wire(&rt, &chip, tile(1, 0), b"short", Some(WireNo(2)));
+    Ok(())
+}
+
+#[test]
+fn other_sections_are_read_over(rt: HostRuntime) -> Result<(), Fail> {
+    let before = text_of(rt.alloc(), &[TILES_D, READ_OVER])?;
+    let after = text_of(
+        rt.alloc(),
+        &[READ_OVER, NAMES_D, READ_OVER, SWITCHES_D, READ_OVER],
+    )?;
+    let chip = chip_of(rt.alloc(), &before, &after)?;
+    expect_rows(&rt, &chip, 5, &[(2, 0), (2, 1), (3, 2), (4, 2)]);
+    expect_parts(&rt, &chip, 2, 3, 16);
+    Ok(())
+}
+
+#[test]
+fn a_chip_has_its_parts(rt: HostRuntime) -> Result<(), Fail> {
+    let chip = chip_of(rt.alloc(), TILES_A, WIRES_A)?;
+    expect_parts(&rt, &chip, 2, 3, 16);
+    expect_tile(&rt, &chip, 1, tile(1, 0));
+    expect_group(&rt, &chip, 2, RowNo(2));
+    expect_kind(&rt, &chip, tile(0, 0), Some(TileKind::Io));
+    expect_kind(&rt, &chip, tile(2, 0), None);
+    Ok(())
+}
+
+#[test]
+fn functions_and_pads_are_looked_up(rt: HostRuntime) -> Result<(), Fail> {
+    let chip = chip_of(rt.alloc(), TILES_A, WIRES_A)?;
+    expect_function(&rt, &chip, TileKind::Io, b"IoCtrl.IE_0", Some(23));
+    expect_function(&rt, &chip, TileKind::Logic, b"IoCtrl.IE_0", None);
+    expect_package(&rt, &chip, b"tiny", Some((2, 2)));
+    expect_package(&rt, &chip, b"big", None);
+    expect_enable(&rt, &chip, pad(1, 0, 0), Some(pad(1, 0, 0)));
+    expect_enable(&rt, &chip, pad(1, 0, 1), None);
+    expect_global(&rt, &chip, 0, None);
+    expect_buffers(&rt, &chip, tile(0, 0), None);
+    Ok(())
+}
+
+#[test]
+fn wires_are_looked_up(rt: HostRuntime) -> Result<(), Fail> {
+    let chip = chip_of(rt.alloc(), TILES_A, WIRES_A)?;
+    expect_wire(&rt, &chip, tile(0, 0), b"span", Some(WireNo(1)));
+    expect_wire(&rt, &chip, tile(1, 0), b"span", Some(WireNo(1)));
+    expect_wire(&rt, &chip, tile(1, 0), b"io_1/D_IN_0", Some(WireNo(3)));
+    expect_wire(&rt, &chip, tile(0, 0), b"io_1/D_IN_0", None);
+    expect_wire(&rt, &chip, tile(0, 0), b"none", None);
+    let names = [(tile(0, 0), b"span".as_slice()), (tile(1, 0), b"span")];
+    expect_names(&rt, &chip, WireNo(1), &names);
+    Ok(())
+}
+
+#[test]
+fn the_first_pin_and_package_are_taken(rt: HostRuntime) -> Result<(), Fail> {
+    let chip = chip_of(rt.alloc(), REPEATED_PINS, b"")?;
+    expect_package(&rt, &chip, b"tiny", Some((2, 2)));
+    let pin = Name::from_bytes(Vec::from_slice(rt.alloc(), b"1")?);
+    expect_pin(&rt, &chip, b"tiny", &pin, pad(0, 0, 0));
+    Ok(())
+}
+
+#[test]
+fn the_first_row_that_counts_is_taken(rt: HostRuntime) -> Result<(), Fail> {
+    let chip = chip_of(rt.alloc(), REPEATED_TILES, REPEATED_NAMES)?;
+    expect_global(&rt, &chip, 3, Some(tile(2, 0)));
+    expect_enable(&rt, &chip, pad(0, 0, 0), Some(pad(1, 0, 1)));
+    expect_buffers(&rt, &chip, tile(0, 0), Some(tile(1, 0)));
+    Ok(())
+}
+
+#[test]
+fn names_count_where_a_tile_is(rt: HostRuntime) -> Result<(), Fail> {
+    let chip = chip_of(rt.alloc(), REPEATED_TILES, REPEATED_NAMES)?;
+    expect_wire(&rt, &chip, tile(2, 0), b"fabout", None);
+    expect_rows(&rt, &chip, 2, &[]);
+    let name = b"glb_netwk_1".as_slice();
+    let names = [(tile(0, 0), name), (tile(1, 0), name), (tile(0, 0), name)];
+    expect_names(&rt, &chip, WireNo(0), &names);
+    expect_names(&rt, &chip, WireNo(1), &[]);
+    Ok(())
+}
+
+#[test]
+fn a_column_buffer_needs_eight_functions(rt: HostRuntime) -> Result<(), Fail> {
+    let chip = chip_of(
+        rt.alloc(),
+        b".device 1k 1 1 1\n.colbuf\n0 0 0 0\n.io_tile 0 0\n",
+        b"ColBufCtrl.glb_netwk_0 B0[0]\n",
+    )?;
+    expect_buffers(&rt, &chip, tile(0, 0), None);
     Ok(())
 }
 
