@@ -1,0 +1,6 @@
+mod OneOn
+mod Listing
+mod Values
+mod Shares
+mod Taken
+mod Rising

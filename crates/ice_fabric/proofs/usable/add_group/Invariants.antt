@@ -1,0 +1,8 @@
+use Rattle.std.proofs.Common.{◌≡◌, ◌+◌, ◌++◌, drop, map}
+use Rattle.ice_chip.specs.Views.{row_view, group_view}
+use Rattle.ice_fabric.specs.Usable.{edges_of}
+use Rattle.ice_fabric.proofs.usable.add_group.Given as goal
+
+abbrev pub invariant-loop-k : goal.invariant-loop-k
+invariant-loop-k l = l.edges.items ++ edges_of l.chip (group_view l.group) (l.group.first.0 + l.k) (map row_view (drop l.k l.group.rows.items))
+    ≡ l.fn.edges.items ++ edges_of l.chip (group_view l.group) l.group.first.0 (map row_view l.group.rows.items)

@@ -1,0 +1,7 @@
+pub mod RowsOn
+pub mod Bundles
+pub mod Usable
+pub mod Lists
+pub mod Owners
+pub mod Index
+pub mod Alone

@@ -1,0 +1,30 @@
+-- Which rows of switches are on.
+use Rattle.std.specs.Prelude.{ℕ, ◌+◌, Bool, Option, None, Some, List, [], ◌∷◌, map, filter_map, if◌then◌else◌}
+use Rattle.std.specs.Bool.{beq}
+use Rattle.std.specs.List.{list_any}
+use Rattle.std.specs.Cmp.Lexicographic.{pointwise}
+use Rattle.ice_base.specs.declared.number.TileAt.{TileAt}
+use Rattle.ice_base.specs.declared.number.BitAt.{BitAt}
+use Rattle.ice_chip.specs.Database.{SwitchRow, SwitchGroup}
+
+-- a bit for each tile and place
+abbrev pub Bits : Type 0
+Bits = TileAt → BitAt → Bool
+
+-- the values of the group's bits
+abbrev pub values_of : Bits → SwitchGroup → List Bool
+values_of bits g = map (bits g.tile) g.bits
+
+-- the number of the first of these rows that has the values, where the first of all has the number n
+abbrev pub number_with : List Bool → ℕ → List SwitchRow → Option ℕ
+number_with values n [] = None
+number_with values n (r ∷ rows) = if pointwise beq r.values values then Some n else number_with values (n + 1) rows
+
+-- The number of the group's row that is on. A row is on where the group's bits have its values, these are not all 0,
+-- and no earlier row of the group has the same values.
+abbrev pub row_on : Bits → SwitchGroup → Option ℕ
+row_on bits g = if list_any (λ v. v) (values_of bits g) then number_with (values_of bits g) g.first g.rows else None
+
+-- the numbers of the rows of these groups that are on
+abbrev pub rows_on : Bits → List SwitchGroup → List ℕ
+rows_on bits groups = filter_map (row_on bits) groups
