@@ -7,7 +7,7 @@ use Rattle.std.specs.List.{list_any}
 use Rattle.ice_base.specs.declared.number.WireNo.{WireNo}
 use Rattle.ice_base.specs.declared.number.NetNo.{NetNo}
 use Rattle.ice_graph.specs.declared.tree.Tree.{Tree}
-use Rattle.ice_core.specs.Moves.{stands_in, holds, occupancy, place, leaves, moves, movers_from, IsOccupancy, leaves_at, HaveCounted, AreCounted}
+use Rattle.ice_core.specs.Moves.{stands_in, holds, occupancy, place, leaves, moves, movers_from, IsOccupancy, AreWithin, leaves_at, HaveCounted, AreCounted}
 
 pub any_more : (p : WireNo → Bool) (wires : List WireNo) (i : ℕ) (d : WireNo) → i < length wires → p (get_or wires i d) ≡ false → list_any p (drop i wires) ≡ list_any p wires → list_any p (drop (i + 1) wires) ≡ list_any p wires
 any_more p wires i d lt is h =
@@ -49,10 +49,10 @@ or_true : (a b : Bool) → b ≡ true → (a || b) ≡ true
 or_true true b e = refl
 or_true false b e = e
 
-stands_other : (wires : List WireNo) (k : ℕ) (v : WireNo) (w : ℕ) → slice_get wires k ≡ Some v → w ≢ v.0 → stands_in (take (k + 1) wires) w ≡ stands_in (take k wires) w
+pub stands_other : (wires : List WireNo) (k : ℕ) (v : WireNo) (w : ℕ) → slice_get wires k ≡ Some v → w ≢ v.0 → stands_in (take (k + 1) wires) w ≡ stands_in (take k wires) w
 stands_other wires k v w at other = ap (λ n. stands_in (take n wires) w) (add-one k) ∙ stands_more wires k v w at ∙ or_false (stands_in (take k wires) w) (eqb v.0 w) (ne_eqb v.0 w (λ e. other (sym e)))
 
-stands_same : (wires : List WireNo) (k : ℕ) (v : WireNo) (w : ℕ) → slice_get wires k ≡ Some v → w ≡ v.0 → stands_in (take (k + 1) wires) w ≡ true
+pub stands_same : (wires : List WireNo) (k : ℕ) (v : WireNo) (w : ℕ) → slice_get wires k ≡ Some v → w ≡ v.0 → stands_in (take (k + 1) wires) w ≡ true
 stands_same wires k v w at same = ap (λ n. stands_in (take n wires) w) (add-one k) ∙ stands_more wires k v w at ∙ or_true (stands_in (take k wires) w) (eqb v.0 w) (eq-eqb v.0 w (sym same))
 
 pub counted_again : (places : List ℕ) (net : ℕ) (wires : List WireNo) (k : ℕ) (seen marks : List ℕ) (v : WireNo) (wire : ℕ) → slice_get wires k ≡ Some v → v.0 ≡ wire → wire < length seen → slice_index marks wire ≡ net + 1
@@ -186,3 +186,10 @@ pub tree_there : (trees : List Tree) (n : ℕ) (d : Tree) → n < length trees �
 tree_there [] n d lt = absurd (omega arith)
 tree_there (t ∷ trees) zero d lt = refl
 tree_there (t ∷ trees) (suc n) d lt = tree_there trees n d (omega arith)
+
+-- all trees are counted
+pub counted_all : (trees : List Tree) (n : ℕ) (seen marks : List ℕ) → length trees ≤ n → AreWithin (length seen) trees → AreCounted trees n seen marks → IsOccupancy seen trees
+counted_all trees n seen marks le within h = record {
+  each = λ w lt. h.each w lt ∙ ap (λ ts. occupancy ts w) (take_all n trees le);
+  within = within;
+}

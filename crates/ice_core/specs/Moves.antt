@@ -42,10 +42,14 @@ movers_of round trees = movers_from round trees 0 trees
 abbrev pub AreBelow : ℕ → List WireNo → Type 0
 AreBelow n wires = (k : ℕ) (v : WireNo) → slice_get wires k ≡ Some v → v.0 < n
 
+-- the wires of each tree are below n
+abbrev pub AreWithin : ℕ → List Tree → Type 0
+AreWithin n trees = (k : ℕ) (tree : Tree) → slice_get trees k ≡ Some tree → AreBelow n tree.wires.items
+
 -- the counts are those of the trees, whose wires all have one
 pub record IsOccupancy (counts : List ℕ) (trees : List Tree) : Type 0 where
   pub each : (w : ℕ) → w < length counts → slice_index counts w ≡ occupancy trees w
-  pub within : (n : ℕ) (tree : Tree) → slice_get trees n ≡ Some tree → AreBelow (length counts) tree.wires.items
+  pub within : AreWithin (length counts) trees
 
 -- a net has to leave the wire, by counts and places
 abbrev pub leaves_at : ℕ → List ℕ → List ℕ → WireNo → Bool

@@ -3,12 +3,16 @@
 #![tactic(auto)]
 
 mod history;
+mod log;
+mod net;
 mod prices;
 mod rounds;
 
 pub use history::raise;
+pub use log::RoundLog;
+pub use net::Net;
 pub use prices::Prices;
-pub use rounds::movers;
+pub use rounds::{holders, movers};
 
 #[cfg(test)]
 mod tests;

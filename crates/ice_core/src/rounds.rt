@@ -2,7 +2,7 @@
 ghost use Rattle.std.specs.Prelude.{◌≡◌, ◌+◌, ◌<◌, ◌≤◌, ◌%◌, ◌++◌, ℕ, [], ◌∷◌, List, Some, length, slice_get, slice_index, take, drop, IfOk, OnOk, if◌then◌else◌};
 ghost use Rattle.std.specs.List.{list_any};
 ghost use Rattle.ice_base.specs.declared.number.WireNo.{WireNo as Wire};
-ghost use Rattle.ice_core.specs.Moves.{IsOccupancy, AreBelow, leaves, leaves_at, movers_of, HaveCounted, AreCounted};
+ghost use Rattle.ice_core.specs.Moves.{IsOccupancy, AreBelow, AreWithin, leaves, leaves_at, movers_of, HaveCounted, AreCounted};
 
 use ice_base::{NetNo, NoMemory, WireNo};
 use ice_graph::Tree;
@@ -71,6 +71,36 @@ fn add(nets: &mut Vec<NetNo>, net: NetNo, moves: bool) -> Result<(), NoMemory>
         nets.push(net)?;
     }
     Ok(())
+}
+
+/// How many of the trees hold each wire, for the wires below `wires`. There are at most 65,536 trees, and
+/// their wires are below that number. It answers `NoMemory` where it finds no memory for its lists.
+pub fn holders(alloc: Global, wires: usize, trees: &[Tree]) -> Result<Vec<u32>, NoMemory>
+    requires trees { length trees.now ≤ 65536 }
+    requires within { AreWithin wires trees.now }
+    ensures long { IfOk result (λ counts. length counts.items ≡ wires) }
+    ensures counts { IfOk result (λ counts. IsOccupancy counts.items trees.now) }
+{
+    let mut seen = vec![in alloc; 0u32; wires]?;
+    let mut marks = vec![in alloc; 0u32; wires]?;
+    count_all(trees, &mut seen, &mut marks);
+    Ok(seen)
+}
+
+// Counts all nets on their wires, from counts of no net.
+#[tactic(auto, using(crate::proofs::Moving::counted_first, crate::proofs::Moving::counted_low))]
+fn count_all(trees: &[Tree], seen: &mut [u32], marks: &mut [u32])
+    requires trees { length trees.now ≤ 65536 }
+    requires within { AreWithin (length seen.old) trees.now }
+    requires lengths { length marks.old ≡ length seen.old }
+    requires seen { (w : ℕ) → slice_index seen.old w ≡ 0 }
+    requires marks { (w : ℕ) → slice_index marks.old w ≡ 0 }
+    ensures counts { IsOccupancy seen.new trees.now }
+    ensures long { length seen.new ≡ length seen.old }
+{
+    for net in 0..trees.len() {
+        count(seen, marks, net as u32, &trees[net].wires);
+    }
 }
 
 /// The nets that move in the round after `round`, by rising number. A net moves where it holds a wire that

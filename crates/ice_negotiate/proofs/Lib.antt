@@ -1,1 +1,7 @@
 pub mod Joining
+pub mod Leaving
+pub mod Advancing
+pub mod Listing
+pub mod Beginning
+pub mod Rounding
+pub mod Stating

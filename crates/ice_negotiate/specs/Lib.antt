@@ -1,2 +1,4 @@
 pub mod Trees
 pub mod Rounds
+pub mod Logs
+pub mod Progress

@@ -1,0 +1,64 @@
+//! What routing answers.
+ghost use Rattle.std.specs.Prelude.{◌≡◌};
+ghost use Rattle.ice_negotiate.specs.declared.fault.RouteFault.TheVariants.{NoMemory};
+
+use ice_base::{NetNo, WireNo};
+use ice_core::RoundLog;
+use ice_graph::Tree;
+use std::alloc::{AllocError, AllocFailed};
+use thiserror::Error;
+
+/// The routes of nets that share no wire, and what happened in the rounds that led to them.
+#[derive(Debug, Drop)]
+pub struct Routed {
+    /// The routes of the nets by number.
+    pub trees: Vec<Tree>,
+    /// The logs of the rounds in order.
+    pub logs: Vec<RoundLog>,
+}
+
+/// Why nets are not routed.
+#[derive(Debug, Drop, Error)]
+pub enum RouteFault {
+    /// No walk leads from the root of this net to this sink.
+    #[error("no walk of net {} to wire {}", .net.0, .sink.0)]
+    Unreachable {
+        /// The net.
+        net: NetNo,
+        /// The sink.
+        sink: WireNo,
+    },
+    /// Each permitted round ended with an overused wire.
+    #[error("no routes without a shared wire")]
+    GaveUp {
+        /// The logs of the rounds in order.
+        logs: Vec<RoundLog>,
+    },
+    /// Want of memory.
+    #[error("want of memory")]
+    NoMemory,
+}
+
+impl From<AllocError> for RouteFault {
+    ghost from_gives = { λ _ e. e ≡ NoMemory };
+
+    fn from(_: AllocError) -> Self {
+        RouteFault::NoMemory
+    }
+}
+
+impl<T: Drop> From<AllocFailed<T>> for RouteFault {
+    ghost from_gives = { λ _ e. e ≡ NoMemory };
+
+    fn from(_: AllocFailed<T>) -> Self {
+        RouteFault::NoMemory
+    }
+}
+
+impl From<ice_base::NoMemory> for RouteFault {
+    ghost from_gives = { λ _ e. e ≡ NoMemory };
+
+    fn from(_: ice_base::NoMemory) -> Self {
+        RouteFault::NoMemory
+    }
+}
