@@ -5,6 +5,7 @@ use Rattle.std.specs.Str.{bytes_eq}
 use Rattle.ice_base.specs.declared.number.TileAt.{TileAt}
 use Rattle.ice_base.specs.declared.number.BitAt.{BitAt}
 use Rattle.ice_net.specs.NetlistData.{NetlistData}
+use Rattle.ice_net.specs.Formed.{IsFormed}
 use Rattle.ice_pcf.specs.Grammar.{text_says}
 use Rattle.ice_pcf.specs.declared.constraint.Constraint.{Constraint}
 use Rattle.ice_pcf.specs.declared.fault.PcfFault.{PcfFault}
@@ -27,7 +28,7 @@ use Rattle.ice_flow.specs.Configuration.{bits_in}
 use Rattle.ice_flow.specs.Behaviour.{IsFaultless}
 use Rattle.ice_flow.specs.FirstForm.{database_with, left_tile, right_tile, left_pad, right_pad, tiny}
 use Rattle.ice_flow.specs.ChipText.{groups_in, database_in, IsOfForm}
-use Rattle.ice_flow.specs.Buffers.{buffer_in, buffer_netlist}
+use Rattle.ice_flow.specs.Buffers.{buffer_in}
 use Rattle.ice_flow.specs.PinPads as pin_pads
 use Rattle.ice_flow.specs.PinPads.{pads_in}
 use Rattle.ice_flow.specs.BufferForm.{buffer_plan}
@@ -75,16 +76,16 @@ stands_other_chip name chip pins netlist constraints circuit p n c = stands_by_c
 
 -- all texts are good and the chip is of the form, and the netlist's form decides
 pub stands_by_buffer : (name chip pins netlist : List ℕ) (constraints : List Constraint) (circuit : NetlistData) (groups : List SwitchGroup) (standing : Standing) → text_says pins ≡ Ok constraints
-    → netlist_of netlist ≡ Ok circuit → groups_in chip ≡ Some groups → with_buffer name constraints (database_with groups) (buffer_in circuit) ≡ standing → form_of name chip pins netlist ≡ standing
+    → netlist_of netlist ≡ Ok circuit → groups_in chip ≡ Some groups → with_buffer name constraints circuit (database_with groups) (buffer_in circuit) ≡ standing → form_of name chip pins netlist ≡ standing
 stands_by_buffer name chip pins netlist constraints circuit groups standing p n c e =
     stands_by_chip name chip pins netlist constraints circuit standing p n (ap (λ d. with_chip name constraints circuit d) (database_is chip groups c) ∙ e)
 
 -- all but the pads is good, and they decide
 pub stands_by_pads : (name chip pins netlist a y : List ℕ) (constraints : List Constraint) (circuit : NetlistData) (groups : List SwitchGroup) (standing : Standing) → text_says pins ≡ Ok constraints
     → netlist_of netlist ≡ Ok circuit → groups_in chip ≡ Some groups → buffer_in circuit ≡ Some (a, y)
-    → with_pads (database_with groups) (buffer_netlist a y) (pads_in (database_with groups) name a y constraints) ≡ standing → form_of name chip pins netlist ≡ standing
+    → with_pads (database_with groups) circuit (pads_in (database_with groups) name a y constraints) ≡ standing → form_of name chip pins netlist ≡ standing
 stands_by_pads name chip pins netlist a y constraints circuit groups standing p n c f e =
-    stands_by_buffer name chip pins netlist constraints circuit groups standing p n c (ap (λ o. with_buffer name constraints (database_with groups) o) f ∙ e)
+    stands_by_buffer name chip pins netlist constraints circuit groups standing p n c (ap (λ o. with_buffer name constraints circuit (database_with groups) o) f ∙ e)
 
 pub ends_of_form : (groups : List SwitchGroup) → AreEnds (database_with groups) (left_pad ∷ right_pad ∷ []) 0 2
 ends_of_form groups = record { input = left_pad; output = right_pad; are_pads = refl; is_root = refl; is_sink = refl }
@@ -137,16 +138,17 @@ chosen_is_tiny groups name a y constraints pads e = by (bytes_eq tiny.name name)
 pub record HasRead (name chip pins netlist a y : List ℕ) (constraints : List Constraint) (circuit : NetlistData) (groups : List SwitchGroup) : Type 0 where
   pub pcf : text_says pins ≡ Ok constraints
   pub blif : netlist_of netlist ≡ Ok circuit
+  pub formed : IsFormed circuit
   pub groups_are : groups_in chip ≡ Some groups
   pub form : IsOfForm groups
   pub buffer : buffer_in circuit ≡ Some (a, y)
   pub pads : pads_in (database_with groups) name a y constraints ≡ Ok (left_pad ∷ right_pad ∷ [])
 
 ready : (name chip pins netlist a y : List ℕ) (constraints : List Constraint) (circuit : NetlistData) (groups : List SwitchGroup) → HasRead name chip pins netlist a y constraints circuit groups
-    → form_of name chip pins netlist ≡ Ready (database_with groups) (buffer_netlist a y) (left_pad ∷ right_pad ∷ [])
+    → form_of name chip pins netlist ≡ Ready (database_with groups) circuit (left_pad ∷ right_pad ∷ [])
 ready name chip pins netlist a y constraints circuit groups has =
-    stands_by_pads name chip pins netlist a y constraints circuit groups (Ready (database_with groups) (buffer_netlist a y) (left_pad ∷ right_pad ∷ [])) has.pcf has.blif has.groups_are has.buffer
-    (ap (λ r. with_pads (database_with groups) (buffer_netlist a y) r) has.pads)
+    stands_by_pads name chip pins netlist a y constraints circuit groups (Ready (database_with groups) circuit (left_pad ∷ right_pad ∷ [])) has.pcf has.blif has.groups_are has.buffer
+    (ap (λ r. with_pads (database_with groups) circuit r) has.pads)
 
 pub laid_out_built : (name chip pins netlist a y text : List ℕ) (constraints : List Constraint) (circuit : NetlistData) (groups : List SwitchGroup) → HasRead name chip pins netlist a y constraints circuit groups
     → IsLaidOut groups text → IsBuilt (form_of name chip pins netlist) name chip pins netlist text
@@ -155,7 +157,7 @@ laid_out_built name chip pins netlist a y text constraints circuit groups has (r
     let pads : List Pad = left_pad ∷ right_pad ∷ [] in (
       record {
         chip = db;
-        netlist = buffer_netlist a y;
+        circuit = circuit;
         pads = pads;
         root = 0;
         sink = 2;
@@ -181,7 +183,7 @@ laid_out_built name chip pins netlist a y text constraints circuit groups has (r
         are_pads = has.pads;
         decodes = holds.decodes;
         faultless = subst (λ es. IsFaultless db (bits_in holds.configuration) es) (sym holds.extras) (bits_are_faultless groups rows has.form walk simple (bits_in holds.configuration) holds.bits);
-        shows_same = bits_show_same groups rows has.form walk simple (bits_in holds.configuration) holds.bits a y tiny.pads;
+        shows_same = bits_show_same groups rows has.form walk simple (bits_in holds.configuration) holds.bits circuit (a, y) has.formed has.buffer tiny.pads;
       },
     )
 
@@ -194,7 +196,7 @@ layout_refused name chip pins netlist a y constraints circuit groups cause has (
       refl,
       record {
         chip = database_with groups;
-        netlist = buffer_netlist a y;
+        circuit = circuit;
         pads = left_pad ∷ right_pad ∷ [];
         root = 0;
         is_ready = ready name chip pins netlist a y constraints circuit groups has;
@@ -226,17 +228,17 @@ pub buffer_refused : (name chip pins netlist : List ℕ) (constraints : List Con
     → groups_in chip ≡ Some groups → buffer_in circuit ≡ None → cause ≡ NotBuilt Blif → IsRefusal (form_of name chip pins netlist) cause
 buffer_refused name chip pins netlist constraints circuit groups cause p n c f is =
     subst (λ (x : Cause). IsRefusal (form_of name chip pins netlist) x) (sym is)
-    (stands_by_buffer name chip pins netlist constraints circuit groups OtherNetlist p n c (ap (λ o. with_buffer name constraints (database_with groups) o) f))
+    (stands_by_buffer name chip pins netlist constraints circuit groups OtherNetlist p n c (ap (λ o. with_buffer name constraints circuit (database_with groups) o) f))
 
 pub pads_refused : (name chip pins netlist a y : List ℕ) (constraints : List Constraint) (circuit : NetlistData) (groups : List SwitchGroup) (stop : PinsStop) (cause : Cause) → text_says pins ≡ Ok constraints
     → netlist_of netlist ≡ Ok circuit → groups_in chip ≡ Some groups → buffer_in circuit ≡ Some (a, y) → pads_in (database_with groups) name a y constraints ≡ Err (stop_view stop) → IsPinsRefusal stop cause
     → IsRefusal (form_of name chip pins netlist) cause
 pads_refused name chip pins netlist a y constraints circuit groups pins_stop.OtherForm cause p n c f e is =
     subst (λ (x : Cause). IsRefusal (form_of name chip pins netlist) x) (sym is)
-    (stands_by_pads name chip pins netlist a y constraints circuit groups OtherPins p n c f (ap (λ r. with_pads (database_with groups) (buffer_netlist a y) r) e))
+    (stands_by_pads name chip pins netlist a y constraints circuit groups OtherPins p n c f (ap (λ r. with_pads (database_with groups) circuit r) e))
 pads_refused name chip pins netlist a y constraints circuit groups (pins_stop.UnknownPin line) cause p n c f e is =
     subst (λ (x : Cause). IsRefusal (form_of name chip pins netlist) x) (sym is)
-    (stands_by_pads name chip pins netlist a y constraints circuit groups (UnknownPin line) p n c f (ap (λ r. with_pads (database_with groups) (buffer_netlist a y) r) e))
+    (stands_by_pads name chip pins netlist a y constraints circuit groups (UnknownPin line) p n c f (ap (λ r. with_pads (database_with groups) circuit r) e))
 
 -- ---- the chip text
 

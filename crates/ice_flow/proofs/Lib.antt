@@ -4,6 +4,8 @@ pub mod FunctionBits
 pub mod DrivenWires
 pub mod WalkFacts
 pub mod WrittenMeaning
+pub mod BufferMeaning
+pub mod SameExamples
 pub mod WrittenFaultless
 pub mod Compiling
 pub mod ChipCuts

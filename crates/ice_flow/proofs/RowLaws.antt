@@ -16,7 +16,7 @@ use Rattle.ice_play.specs.Played.{PlayNet}
 use Rattle.ice_play.specs.Played as play
 use Rattle.ice_flow.specs.Database.{Pad, Database, wire_named}
 use Rattle.ice_flow.specs.Names.{pad_input_name, pad_output_name}
-use Rattle.ice_flow.specs.Netlist.{Netlist}
+use Rattle.ice_net.specs.NetlistData.{NetlistData}
 use Rattle.ice_flow.specs.Routes.{IsWalk}
 use Rattle.ice_flow.specs.Command.{Build, Request, ForBuild, ForPlayNet}
 use Rattle.ice_flow.specs.Standing.{Standing, FaultyChip, FaultyPins, FaultyNetlist, OtherChip, OtherNetlist, OtherPins, UnknownPin, Ready, standing_of, AreEnds, IsApart, IsRoutable}
@@ -322,19 +322,19 @@ ready_pads OtherPins = None
 ready_pads (UnknownPin line) = None
 ready_pads (Ready chip netlist pads) = Some pads
 
-same_chip : (s : Standing) (c d : Database) (n m : Netlist) (p q : List Pad) → s ≡ Ready c n p → s ≡ Ready d m q → c ≡ d
+same_chip : (s : Standing) (c d : Database) (n m : NetlistData) (p q : List Pad) → s ≡ Ready c n p → s ≡ Ready d m q → c ≡ d
 unfolding ready_chip
 same_chip s c d n m p q e f = let both : Some c ≡ Some d = ap ready_chip (sym e ∙ f) in cc both
 
-same_pads : (s : Standing) (c d : Database) (n m : Netlist) (p q : List Pad) → s ≡ Ready c n p → s ≡ Ready d m q → p ≡ q
+same_pads : (s : Standing) (c d : Database) (n m : NetlistData) (p q : List Pad) → s ≡ Ready c n p → s ≡ Ready d m q → p ≡ q
 unfolding ready_pads
 same_pads s c d n m p q e f = let both : Some p ≡ Some q = ap ready_pads (sym e ∙ f) in cc both
 
 -- texts are not both routable and apart
 not_both : (s : Standing) (sink : ℕ) → IsRoutable s → IsApart s sink → ⊥
 not_both s sink r a =
-    let chips : r.chip ≡ a.chip = same_chip s r.chip a.chip r.netlist a.netlist r.pads a.pads r.is_ready a.is_ready in
-    let pads : r.pads ≡ a.pads = same_pads s r.chip a.chip r.netlist a.netlist r.pads a.pads r.is_ready a.is_ready in
+    let chips : r.chip ≡ a.chip = same_chip s r.chip a.chip r.circuit a.circuit r.pads a.pads r.is_ready a.is_ready in
+    let pads : r.pads ≡ a.pads = same_pads s r.chip a.chip r.circuit a.circuit r.pads a.pads r.is_ready a.is_ready in
     let ends : AreEnds a.chip a.pads r.root r.sink = subst (λ (c : Database). AreEnds c a.pads r.root r.sink) chips (subst (λ (p : List Pad). AreEnds r.chip p r.root r.sink) pads r.are_ends) in
     let alike = ends_alike a.chip a.pads r.root r.sink a.root sink ends a.are_ends in
     let walk : IsWalk a.chip a.root r.walk sink = subst (λ (c : Database). IsWalk c a.root r.walk sink) chips (subst (λ x. IsWalk r.chip x r.walk sink) alike.0 (subst (λ y. IsWalk r.chip r.root r.walk y) alike.1 r.is_walk)) in
@@ -343,8 +343,8 @@ not_both s sink r a =
 -- texts are apart at one sink
 one_sink : (s : Standing) (sink other : ℕ) → IsApart s sink → IsApart s other → sink ≡ other
 one_sink s sink other r a =
-    let chips : r.chip ≡ a.chip = same_chip s r.chip a.chip r.netlist a.netlist r.pads a.pads r.is_ready a.is_ready in
-    let pads : r.pads ≡ a.pads = same_pads s r.chip a.chip r.netlist a.netlist r.pads a.pads r.is_ready a.is_ready in
+    let chips : r.chip ≡ a.chip = same_chip s r.chip a.chip r.circuit a.circuit r.pads a.pads r.is_ready a.is_ready in
+    let pads : r.pads ≡ a.pads = same_pads s r.chip a.chip r.circuit a.circuit r.pads a.pads r.is_ready a.is_ready in
     let ends : AreEnds a.chip a.pads r.root sink = subst (λ (c : Database). AreEnds c a.pads r.root sink) chips (subst (λ (p : List Pad). AreEnds r.chip p r.root sink) pads r.are_ends) in
     (ends_alike a.chip a.pads r.root sink a.root other ends a.are_ends).1
 

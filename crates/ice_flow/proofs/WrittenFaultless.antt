@@ -1,25 +1,30 @@
 -- The bits written for a buffer have no fault, and the circuit in them is the buffer.
-use Rattle.std.proofs.Common.{◌≡◌, ◌⊎◌, ℕ, zero, suc, ◌<◌, Bool, true, false, eqb, Option, None, Some, List, [], ◌∷◌, map, inl, inr, refl, ap, sym, ◌∙◌, subst, arith}
-use Rattle.std.specs.Prelude.{◌&&◌, not, ◌==◌, option_map}
+use Rattle.std.proofs.Common.{◌≡◌, ◌⊎◌, ℕ, zero, suc, ◌<◌, Bool, true, false, eqb, Option, None, Some, List, [], ◌∷◌, length, map, inl, inr, refl, ap, sym, ◌∙◌, subst, arith}
+use Rattle.std.specs.Prelude.{◌&&◌, not, ◌==◌, slice_index_or}
 use Rattle.std.specs.List.{list_any, list_all}
 use Rattle.std.proofs.lemmas.Bool.{and_parts, eqb-true}
 use Rattle.std.proofs.Math.Path.{fun_ext}
 use Rattle.ice_base.specs.declared.number.TileAt.{TileAt}
 use Rattle.ice_base.specs.declared.number.BitAt.{BitAt}
+use Rattle.ice_net.specs.NetlistData.{NetlistData}
+use Rattle.ice_net.specs.Formed.{IsFormed}
+use Rattle.ice_net.specs.declared.drive.Drive.{Drive}
+use Rattle.ice_net.specs.declared.drive.Drive.TheVariants.{Off}
+use Rattle.ice_net.specs.Drives.{level_drive}
+use Rattle.ice_net.specs.Meaning.{shows}
 use Rattle.ice_flow.specs.Lists.{At, Has, all_some}
 use Rattle.ice_flow.specs.Database.{Pad, NamedBit, SwitchGroup, Row, Database, rows_of, all_pads}
 use Rattle.ice_flow.specs.Switches.{Bits, Driver, Nothing, By, Several, is_on, driver}
-use Rattle.ice_flow.specs.Drives.{Drive, Off, driven}
 use Rattle.ice_flow.specs.Behaviour.{level_of, driven_reads, reads, NeverDriven, AlwaysDriven, OfAnotherKind, output_part, pad_drives, chip_shows, is_wire, is_pad_read, is_plain_input, is_foreign_function, is_memory_output_name, IsFaultless}
-use Rattle.ice_flow.specs.Netlist.{Port, Input, Output, port_levels, port_drives, netlist_shows, table_bit, number_of_digits}
 use Rattle.ice_flow.specs.Routes.{IsWalk, IsSimple}
 use Rattle.ice_flow.specs.Written.{written}
 use Rattle.ice_flow.specs.FirstForm as form
 use Rattle.ice_flow.specs.FirstForm.{database_with, left_tile, right_tile, left_pad, right_pad, wire_names}
 use Rattle.ice_flow.specs.ChipText.{IsOfForm}
-use Rattle.ice_flow.specs.Buffers.{buffer_netlist}
+use Rattle.ice_flow.specs.Buffers.{buffer_in}
 use Rattle.ice_flow.specs.BufferForm.{buffer_plan}
-use Rattle.ice_flow.specs.Same.{ShowsSame}
+use Rattle.ice_flow.specs.Same.{port_levels, port_shows, ShowsSame}
+use Rattle.ice_flow.proofs.BufferMeaning.{buffer_drives, buffer_shows, buffer_ports}
 use Rattle.ice_flow.proofs.ListFacts.{any_has}
 use Rattle.ice_flow.proofs.FunctionBits.{all_has}
 use Rattle.ice_flow.proofs.DrivenWires.{wanted_on, driver_wanted, driver_unwanted, driven_cases}
@@ -144,46 +149,36 @@ module _ (groups : List SwitchGroup) (rows : List Row) (form_holds : IsOfForm gr
   abbrev pads : List Pad
   pads = left_pad ∷ right_pad ∷ []
 
-  netlist_input : (a y : List ℕ) (bonded : List Pad) (levels : List Bool) → port_drives (buffer_netlist a y) (port_levels bonded pads levels) (record { signal = 0; way = Input }) ≡ Some Off
-  netlist_input a y bonded levels = refl
+  -- what the pad of each port of a buffer shows
+  input_shows : (bonded : List Pad) (steps : List (List Bool)) → chip_shows chip bits bonded left_pad steps ≡ all_some (map (λ levels. Off) steps)
+  input_shows bonded steps = shows_all (λ levels. pad_drives chip bits bonded levels left_pad) (λ levels. Off) (λ levels. off_at groups rows form_holds walk simple bonded levels left_pad (left_00 groups rows form_holds walk simple)) steps
 
-  netlist_output : (a y : List ℕ) (bonded : List Pad) (levels : List Bool) → port_drives (buffer_netlist a y) (port_levels bonded pads levels) (record { signal = 1; way = Output }) ≡ Some (driven (level_of bonded levels left_pad))
-  netlist_output a y bonded levels = by (level_of bonded levels left_pad)
-    where
-      by : (x : Bool) → option_map driven (Some (table_bit 2 (number_of_digits (x ∷ [])))) ≡ Some (driven x)
-      by true = refl
-      by false = refl
+  output_shows : (bonded : List Pad) (steps : List (List Bool)) → chip_shows chip bits bonded right_pad steps ≡ all_some (map (λ levels. level_drive (level_of bonded levels left_pad)) steps)
+  output_shows bonded steps =
+      shows_all (λ levels. pad_drives chip bits bonded levels right_pad) (λ levels. level_drive (level_of bonded levels left_pad)) (λ levels. drives_at_output groups rows form_holds walk simple bonded levels) steps
 
-  abbrev Agrees : (a y : List ℕ) (bonded : List Pad) → List (List Bool) → Port → Pad → Type 0
-  Agrees a y bonded steps port pad = (drives : List Drive) × (chip_shows chip bits bonded pad steps ≡ all_some drives) × (netlist_shows (buffer_netlist a y) bonded pads port steps ≡ all_some drives)
-
-  pub written_shows : (a y : List ℕ) (bonded : List Pad) → ShowsSame (buffer_netlist a y) pads chip bits bonded
-  written_shows a y bonded = record {
-    at_ports = λ steps k port pad at_port at_pad. at_port_of steps k port pad at_port at_pad;
+  pub written_shows : (circuit : NetlistData) (bonded : List Pad) → length circuit.ports ≡ 2 → ((steps : List (List Bool)) → shows circuit steps ≡ map buffer_drives steps) → ShowsSame circuit pads chip bits bonded
+  written_shows circuit bonded two is_buffer = record {
+    pad_each = sym two;
+    at_ports = λ steps k pad at_pad. at_port steps k pad at_pad;
     elsewhere = λ steps pad has other. shows_one (λ levels. pad_drives chip bits bonded levels pad) (Some Off) (λ levels. off_elsewhere levels pad has other) steps;
   }
     where
-      agree : (steps : List (List Bool)) (port : Port) (pad : Pad) (shown : List Bool → Drive)
-          → ((levels : List Bool) → pad_drives chip bits bonded levels pad ≡ Some (shown levels))
-          → ((levels : List Bool) → port_drives (buffer_netlist a y) (port_levels bonded pads levels) port ≡ Some (shown levels)) → Agrees a y bonded steps port pad
-      agree steps port pad shown on_chip in_netlist = (
-        map shown steps,
-        shows_all (λ levels. pad_drives chip bits bonded levels pad) shown on_chip steps,
-        shows_all (λ levels. port_drives (buffer_netlist a y) (port_levels bonded pads levels) port) shown in_netlist steps,
-      )
+      Agrees : List (List Bool) → ℕ → Pad → Type 0
+      Agrees steps k pad = chip_shows chip bits bonded pad steps ≡ all_some (port_shows circuit bonded pads k steps)
 
-      at_port_of : (steps : List (List Bool)) (k : ℕ) (port : Port) (pad : Pad) → At (buffer_netlist a y).ports k port → At pads k pad → Agrees a y bonded steps port pad
-      at_port_of steps zero port pad at_port at_pad =
-          let p : record { signal = 0; way = Input } ≡ port = cc at_port in
-          let q : left_pad ≡ pad = cc at_pad in
-          subst (λ (x : Port). Agrees a y bonded steps x pad) p (subst (λ (x : Pad). Agrees a y bonded steps (record { signal = 0; way = Input }) x) q
-          (agree steps (record { signal = 0; way = Input }) left_pad (λ levels. Off) (λ levels. off_at groups rows form_holds walk simple bonded levels left_pad (left_00 groups rows form_holds walk simple)) (λ levels. netlist_input a y bonded levels)))
-      at_port_of steps (suc zero) port pad at_port at_pad =
-          let p : record { signal = 1; way = Output } ≡ port = cc at_port in
-          let q : right_pad ≡ pad = cc at_pad in
-          subst (λ (x : Port). Agrees a y bonded steps x pad) p (subst (λ (x : Pad). Agrees a y bonded steps (record { signal = 1; way = Output }) x) q
-          (agree steps (record { signal = 1; way = Output }) right_pad (λ levels. driven (level_of bonded levels left_pad)) (λ levels. drives_at_output groups rows form_holds walk simple bonded levels) (λ levels. netlist_output a y bonded levels)))
-      at_port_of steps (suc (suc k)) port pad at_port at_pad = cc at_port
+      -- what the port at a place drives
+      port_drives : (k : ℕ) (steps : List (List Bool)) → port_shows circuit bonded pads k steps ≡ map (λ levels. slice_index_or (buffer_drives (port_levels bonded pads levels)) k Off) steps
+      port_drives k steps = ap (λ (drives : List (List Drive)). map (λ ds. slice_index_or ds k Off) drives) (is_buffer (map (λ levels. port_levels bonded pads levels) steps)) ∙ each steps
+        where
+          each : (xs : List (List Bool)) → map (λ ds. slice_index_or ds k Off) (map buffer_drives (map (λ levels. port_levels bonded pads levels) xs)) ≡ map (λ levels. slice_index_or (buffer_drives (port_levels bonded pads levels)) k Off) xs
+          each [] = refl
+          each (x ∷ xs) = ap (λ later. slice_index_or (buffer_drives (port_levels bonded pads x)) k Off ∷ later) (each xs)
+
+      at_port : (steps : List (List Bool)) (k : ℕ) (pad : Pad) → At pads k pad → Agrees steps k pad
+      at_port steps zero pad at_pad = let p : left_pad ≡ pad = cc at_pad in subst (λ (x : Pad). Agrees steps 0 x) p (input_shows bonded steps ∙ ap all_some (sym (port_drives 0 steps)))
+      at_port steps (suc zero) pad at_pad = let p : right_pad ≡ pad = cc at_pad in subst (λ (x : Pad). Agrees steps 1 x) p (output_shows bonded steps ∙ ap all_some (sym (port_drives 1 steps)))
+      at_port steps (suc (suc k)) pad at_pad = cc at_pad
 
       off_elsewhere : (levels : List Bool) (pad : Pad) → Has (all_pads chip) pad → (Has pads pad → ⊥) → pad_drives chip bits bonded levels pad ≡ Some Off
       off_elsewhere levels pad has other = elim (pad_cases groups rows form_holds walk simple pad has) [
@@ -202,7 +197,9 @@ bits_are_faultless groups rows form_holds walk simple bits agree =
 
 pub bits_show_same : (groups : List SwitchGroup) (rows : List Row) (form_holds : IsOfForm groups) (walk : IsWalk (database_with groups) 0 rows 2) (simple : IsSimple 0 rows) (bits : Bits)
     → ((t : TileAt) (b : BitAt) → bits t b ≡ written (database_with groups) (buffer_plan left_pad right_pad rows) t b)
-    → (a y : List ℕ) (bonded : List Pad) → ShowsSame (buffer_netlist a y) (left_pad ∷ right_pad ∷ []) (database_with groups) bits bonded
-bits_show_same groups rows form_holds walk simple bits agree a y bonded =
+    → (circuit : NetlistData) (ends : List ℕ × List ℕ) → IsFormed circuit → buffer_in circuit ≡ Some ends
+    → (bonded : List Pad) → ShowsSame circuit (left_pad ∷ right_pad ∷ []) (database_with groups) bits bonded
+bits_show_same groups rows form_holds walk simple bits agree circuit ends formed is_buffer bonded =
     let same : written (database_with groups) (buffer_plan left_pad right_pad rows) ≡ bits = fun_ext (λ t. fun_ext (λ b. sym (agree t b))) in
-    subst (λ (x : Bits). ShowsSame (buffer_netlist a y) (left_pad ∷ right_pad ∷ []) (database_with groups) x bonded) same (written_shows groups rows form_holds walk simple a y bonded)
+    subst (λ (x : Bits). ShowsSame circuit (left_pad ∷ right_pad ∷ []) (database_with groups) x bonded) same
+    (written_shows groups rows form_holds walk simple circuit bonded (buffer_ports circuit ends formed is_buffer) (buffer_shows circuit ends formed is_buffer))

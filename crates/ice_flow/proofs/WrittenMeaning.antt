@@ -6,11 +6,12 @@ use Rattle.std.specs.List.{list_any, list_all}
 use Rattle.std.proofs.lemmas.Bool.{and_parts}
 use Rattle.ice_base.specs.declared.number.TileAt.{TileAt}
 use Rattle.ice_base.specs.declared.number.BitAt.{BitAt}
+use Rattle.ice_net.specs.declared.drive.Drive.TheVariants.{Off}
+use Rattle.ice_net.specs.Drives.{level_drive}
 use Rattle.ice_flow.specs.Lists.{At, Has, all_known, all_some}
 use Rattle.ice_flow.specs.Database.{Pad, WireName, SwitchGroup, Row, Database, same_tile, has_tile, all_pads, function_bit}
 use Rattle.ice_flow.specs.Names.{has_name_where, has_output_name}
 use Rattle.ice_flow.specs.Switches.{Bits, Driver}
-use Rattle.ice_flow.specs.Drives.{Off, driven}
 use Rattle.ice_flow.specs.Behaviour.{level_of, driven_reads, driven_makes, is_contended, val, now, NeverDriven, AlwaysDriven, output_part, part_drives, pad_drives}
 use Rattle.ice_flow.specs.Routes.{value_at, sets, IsWalk, IsSimple}
 use Rattle.ice_flow.specs.Written.{Plan, wants, io_functions, is_this_bit, written}
@@ -185,9 +186,9 @@ module _ (groups : List SwitchGroup) (rows : List Row) (form : IsOfForm groups) 
       by true = ap (λ o. part_drives chip bits bonded levels p o) e
       by false = refl
 
-  pub drives_at_output : (bonded : List Pad) (levels : List Bool) → pad_drives chip bits bonded levels right_pad ≡ Some (driven (level_of bonded levels left_pad))
+  pub drives_at_output : (bonded : List Pad) (levels : List Bool) → pad_drives chip bits bonded levels right_pad ≡ Some (level_drive (level_of bonded levels left_pad))
   drives_at_output bonded levels =
-      ap (λ o. part_drives chip bits bonded levels right_pad o) right_10 ∙ ap (λ v. option_map driven v) (val_end bonded levels)
+      ap (λ o. part_drives chip bits bonded levels right_pad o) right_10 ∙ ap (λ v. option_map level_drive v) (val_end bonded levels)
 
   -- the four pads
   pub pad_cases : (p : Pad) → Has (all_pads chip) p → (p ≡ left_pad) ⊎ ((p ≡ record { tile = left_tile; pio = 1 }) ⊎ ((p ≡ right_pad) ⊎ (p ≡ record { tile = right_tile; pio = 1 })))

@@ -5,11 +5,13 @@ use Rattle.std.specs.Str.{bytes_eq}
 use Rattle.std.specs.List.{starts_with, list_any}
 use Rattle.std.proofs.Common.{zero, suc}
 use Rattle.ice_base.specs.declared.number.TileAt.{TileAt}
+use Rattle.ice_net.specs.declared.drive.Drive.{Drive}
+use Rattle.ice_net.specs.declared.drive.Drive.TheVariants.{Off}
+use Rattle.ice_net.specs.Drives.{level_drive}
 use Rattle.ice_flow.specs.Lists.{Has, IsCycle, all_known}
 use Rattle.ice_flow.specs.Database.{Pad, IoFunction, PinType, InputEnable, NamedBit, Row, Database, function_bit, input_enable_of, wire_named, has_tile, all_pads, same_pad, rows_of}
 use Rattle.ice_flow.specs.Names.{pad_of_wire, pad_input_name, pad_output_name, output_enable_name, has_name_where}
 use Rattle.ice_flow.specs.Switches.{Bits, Driver, Nothing, By, Several, driver, is_on}
-use Rattle.ice_flow.specs.Drives.{Drive, Off, driven}
 
 -- the bit of a function in a tile: 0 where the tile has no such function
 abbrev pub set_at : Database → Bits → TileAt → IoFunction → Bool
@@ -89,9 +91,9 @@ output_part c bits p =
 -- what a pad drives in a step, by its output part
 abbrev pub part_drives : Database → Bits → List Pad → List Bool → Pad → OutputPart → Option Drive
 part_drives c bits bonded levels p NeverDriven = Some Off
-part_drives c bits bonded levels p AlwaysDriven = option_map driven (at_name c bits bonded levels p.tile (pad_output_name p.pio))
+part_drives c bits bonded levels p AlwaysDriven = option_map level_drive (at_name c bits bonded levels p.tile (pad_output_name p.pio))
 part_drives c bits bonded levels p DrivenWhereEnabled =
-    option_and_then (λ on. if on then option_map driven (at_name c bits bonded levels p.tile (pad_output_name p.pio)) else Some Off)
+    option_and_then (λ on. if on then option_map level_drive (at_name c bits bonded levels p.tile (pad_output_name p.pio)) else Some Off)
     (at_name c bits bonded levels p.tile (output_enable_name p.pio))
 part_drives c bits bonded levels p OfAnotherKind = None
 

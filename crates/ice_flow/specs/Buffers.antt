@@ -8,15 +8,6 @@ use Rattle.ice_net.specs.declared.kind.CellKind.TheVariants as kind
 use Rattle.ice_net.specs.declared.port.Port.{Port}
 use Rattle.ice_net.specs.declared.port.Way.{Way}
 use Rattle.ice_net.specs.declared.port.Way.TheVariants as way
-use Rattle.ice_flow.specs.Netlist.{Netlist, Input, Output}
-
--- the netlist of a buffer from port `a` to port `y`: a table over one input that passes it on
-abbrev pub buffer_netlist : List ℕ → List ℕ → Netlist
-buffer_netlist a y = record {
-  names = a ∷ y ∷ [];
-  ports = record { signal = 0; way = Input } ∷ record { signal = 1; way = Output } ∷ [];
-  covers = record { table = 2; ins = 0 ∷ []; out = 1 } ∷ [];
-}
 
 abbrev pub is_input : Way → Bool
 is_input way.Input = true

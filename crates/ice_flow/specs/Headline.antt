@@ -10,7 +10,7 @@ use Rattle.ice_net.specs.NetlistData.{NetlistData}
 use Rattle.ice_blif.specs.Grammar.{netlist_of}
 use Rattle.ice_pcf.specs.Grammar.{text_says}
 use Rattle.ice_pcf.specs.declared.constraint.Constraint.{Constraint}
-use Rattle.ice_flow.specs.Buffers.{buffer_in, buffer_netlist}
+use Rattle.ice_flow.specs.Buffers.{buffer_in}
 use Rattle.ice_flow.specs.PinPads.{pads_in}
 
 -- The text of bits, decoded by the database of the chip text, is a circuit without a fault. For every list of levels
@@ -33,4 +33,4 @@ pub record IsCircuitOf (name chip_text pins_text netlist_text bits_text : List �
   pub are_pads : pads_in chip name input output constraints ≡ Ok pads
   pub decodes : asc_in chip bits_text ≡ Ok configuration
   pub faultless : IsFaultless chip (bits_in configuration) configuration.extras
-  pub shows_same : ShowsSame (buffer_netlist input output) pads chip (bits_in configuration) chosen.pads
+  pub shows_same : ShowsSame circuit pads chip (bits_in configuration) chosen.pads

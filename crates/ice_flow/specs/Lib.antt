@@ -1,10 +1,8 @@
 pub mod Lists
-pub mod Drives
 pub mod Database
 pub mod Names
 pub mod Switches
 pub mod Behaviour
-pub mod Netlist
 pub mod Routes
 pub mod Configuration
 pub mod FirstForm

@@ -2,10 +2,11 @@
 use Rattle.std.specs.Prelude.{ℕ, Bool, ◌&&◌, ◌||◌, not, Option, None, Some, List, [], ◌∷◌, if◌then◌else◌, Result, Ok, Err, is_some, is_none}
 use Rattle.std.specs.Str.{bytes_eq}
 use Rattle.std.specs.List.{list_all}
+use Rattle.ice_net.specs.declared.port.Way.{Way}
+use Rattle.ice_net.specs.declared.port.Way.TheVariants.{Input, Output, Both}
 use Rattle.ice_pcf.specs.declared.constraint.Constraint.{Constraint}
 use Rattle.ice_flow.specs.Database.{Pad, Package, Database, package_named, pad_of_pin, wire_named}
 use Rattle.ice_flow.specs.Names.{pad_input_name, pad_output_name}
-use Rattle.ice_flow.specs.Netlist.{Way, Input, Output, Both}
 use Rattle.ice_flow.specs.Written.{is_among_pads}
 
 -- why pin constraints give no pads

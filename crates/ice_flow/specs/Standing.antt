@@ -11,10 +11,9 @@ use Rattle.ice_blif.specs.Grammar.{netlist_of}
 use Rattle.ice_blif.specs.declared.fault.BlifFault.{BlifFault}
 use Rattle.ice_flow.specs.Database.{Pad, Row, Database, wire_named}
 use Rattle.ice_flow.specs.Names.{pad_input_name, pad_output_name}
-use Rattle.ice_flow.specs.Netlist.{Netlist}
 use Rattle.ice_flow.specs.Routes.{IsWalk, IsUnreachable}
 use Rattle.ice_flow.specs.ChipText.{database_in}
-use Rattle.ice_flow.specs.Buffers.{buffer_in, buffer_netlist}
+use Rattle.ice_flow.specs.Buffers.{buffer_in}
 use Rattle.ice_flow.specs.PinPads as pin_pads
 use Rattle.ice_flow.specs.PinPads.{PinsFault, pads_in}
 
@@ -28,20 +27,20 @@ pub data Standing : Type 0 where
   OtherNetlist : Standing
   OtherPins : Standing
   UnknownPin : ℕ → Standing
-  Ready : Database → Netlist → List Pad → Standing
+  Ready : Database → NetlistData → List Pad → Standing
 
-abbrev pub with_pads : Database → Netlist → Result (List Pad) PinsFault → Standing
-with_pads chip netlist (Ok pads) = Ready chip netlist pads
-with_pads chip netlist (Err pin_pads.OtherForm) = OtherPins
-with_pads chip netlist (Err (pin_pads.UnknownPin line)) = UnknownPin line
+abbrev pub with_pads : Database → NetlistData → Result (List Pad) PinsFault → Standing
+with_pads chip circuit (Ok pads) = Ready chip circuit pads
+with_pads chip circuit (Err pin_pads.OtherForm) = OtherPins
+with_pads chip circuit (Err (pin_pads.UnknownPin line)) = UnknownPin line
 
-abbrev pub with_buffer : List ℕ → List Constraint → Database → Option (List ℕ × List ℕ) → Standing
-with_buffer name constraints chip None = OtherNetlist
-with_buffer name constraints chip (Some ports) = with_pads chip (buffer_netlist ports.0 ports.1) (pads_in chip name ports.0 ports.1 constraints)
+abbrev pub with_buffer : List ℕ → List Constraint → NetlistData → Database → Option (List ℕ × List ℕ) → Standing
+with_buffer name constraints circuit chip None = OtherNetlist
+with_buffer name constraints circuit chip (Some ports) = with_pads chip circuit (pads_in chip name ports.0 ports.1 constraints)
 
 abbrev pub with_chip : List ℕ → List Constraint → NetlistData → Option Database → Standing
 with_chip name constraints circuit None = OtherChip
-with_chip name constraints circuit (Some chip) = with_buffer name constraints chip (buffer_in circuit)
+with_chip name constraints circuit (Some chip) = with_buffer name constraints circuit chip (buffer_in circuit)
 
 abbrev pub with_netlist : List ℕ → List ℕ → List Constraint → Result NetlistData BlifFault → Standing
 with_netlist name chip constraints (Err fault) = FaultyNetlist fault
@@ -75,21 +74,21 @@ pub record AreEnds (chip : Database) (pads : List Pad) (root sink : ℕ) : Type 
 -- all texts are good, and no walk leads to this sink
 pub record IsApart (standing : Standing) (sink : ℕ) : Type 0 where
   pub chip : Database
-  pub netlist : Netlist
+  pub circuit : NetlistData
   pub pads : List Pad
   pub root : ℕ
-  pub is_ready : standing ≡ Ready chip netlist pads
+  pub is_ready : standing ≡ Ready chip circuit pads
   pub are_ends : AreEnds chip pads root sink
   pub unreachable : IsUnreachable chip root sink
 
 -- all texts are good, and a walk leads to the sink
 pub record IsRoutable (standing : Standing) : Type 0 where
   pub chip : Database
-  pub netlist : Netlist
+  pub circuit : NetlistData
   pub pads : List Pad
   pub root : ℕ
   pub sink : ℕ
-  pub is_ready : standing ≡ Ready chip netlist pads
+  pub is_ready : standing ≡ Ready chip circuit pads
   pub are_ends : AreEnds chip pads root sink
   pub walk : List Row
   pub is_walk : IsWalk chip root walk sink

@@ -3,8 +3,8 @@ use Rattle.std.specs.Prelude.{ℕ, Bool, false, ◌&&◌, ◌||◌, not, Option,
 use Rattle.std.specs.List.{list_any, list_all}
 use Rattle.ice_base.specs.declared.number.TileAt.{TileAt}
 use Rattle.ice_base.specs.declared.number.BitAt.{BitAt}
+use Rattle.ice_net.specs.Meaning.{table_bit}
 use Rattle.ice_flow.specs.Database.{Pad, IoFunction, PinType, InputEnable, PullUpEnable, Row, Database, same_bit, same_pad, function_bit, has_tile}
-use Rattle.ice_flow.specs.Netlist.{table_bit}
 use Rattle.ice_flow.specs.Switches.{Bits}
 use Rattle.ice_flow.specs.Routes.{sets}
 

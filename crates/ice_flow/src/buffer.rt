@@ -1,5 +1,6 @@
 //! Netlists of the form that is built so far: a buffer from an input port to an output port.
 ghost use Rattle.std.specs.Prelude.{◌≡◌, option_map};
+ghost use Rattle.ice_net.specs.Formed.{IsFormed};
 ghost use Rattle.ice_flow.specs.Buffers.{is_input, is_output, passes_one, is_only, leads_on, buffer_in};
 ghost use Rattle.ice_flow.specs.Readers.{buffer_view};
 
@@ -62,7 +63,8 @@ fn leads_on(input: SignalNo, output: SignalNo, cell: &Cell) -> bool
 
 /// The names of a netlist's ports, where it is a buffer. It takes no memory.
 pub fn buffer_of(netlist: &Netlist) -> Option<Buffer<'_>>
-    ensures { option_map buffer_view result ≡ buffer_in netlist.now }
+    ensures buffer { option_map buffer_view result ≡ buffer_in netlist.now }
+    ensures formed { IsFormed netlist.now }
 {
     let ([input, output], [cell]) = (netlist.ports(), netlist.cells()) else {
         return None;

@@ -5,7 +5,7 @@ ghost use Rattle.ice_base.specs.declared.number.TileAt.{TileAt};
 ghost use Rattle.ice_base.specs.declared.number.BitAt.{BitAt};
 ghost use Rattle.ice_flow.specs.Database.{same_pad, same_tile};
 ghost use Rattle.ice_flow.specs.FirstForm.{left_pad, right_pad};
-ghost use Rattle.ice_flow.specs.Netlist.{table_bit};
+ghost use Rattle.ice_net.specs.Meaning.{table_bit};
 ghost use Rattle.ice_flow.specs.Views.{pad_view};
 ghost use Rattle.ice_flow.specs.Writing.{AreGrids, bits_of, is_io_tile, HasDigit, is_wanted, functions_set, pads_set};
 

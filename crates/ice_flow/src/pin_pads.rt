@@ -3,7 +3,7 @@ ghost use Rattle.std.specs.Prelude.{◌≡◌, ◌∷◌, [], List, IfOk, option
 ghost use Rattle.std.specs.Str.{bytes_eq};
 ghost use Rattle.ice_flow.specs.Database.{SwitchGroup, pad_of_pin};
 ghost use Rattle.ice_flow.specs.FirstForm.{database_with, tiny, left_pad, right_pad};
-ghost use Rattle.ice_flow.specs.Netlist.{Input, Output};
+ghost use Rattle.ice_net.specs.declared.port.Way.TheVariants.{Input, Output};
 ghost use Rattle.ice_flow.specs.PinPads.{is_plain_constraint, matched, pad_for, pads_of_matched, pads_in};
 ghost use Rattle.ice_flow.specs.Views.{pad_view};
 ghost use Rattle.ice_flow.specs.Readers.{matched_view, pad_answer, pads_answer};

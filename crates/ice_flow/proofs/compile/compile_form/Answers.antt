@@ -17,7 +17,7 @@ returns-in-Err-port_pads-clause-refused c =
     let groups = groups_view c.in-Ok-read_form.groups.items in
     let buffer = c.in-Some.buffer in
     pads_refused c.args.package.now c.args.chip_text.now c.args.pins_text.now c.args.netlist_text.now buffer.input.now buffer.output.now c.in-Ok.pcf c.in-Ok-read_blif.netlist groups c.in-Err-port_pads.stop c.pins_refusal.result
-    c.in-Ok.ensures c.in-Ok-read_blif.ensures.netlist c.in-Ok-read_form.ensures.groups (sym c.in-Some.ensures)
+    c.in-Ok.ensures c.in-Ok-read_blif.ensures.netlist c.in-Ok-read_form.ensures.groups (sym c.in-Some.ensures.buffer)
     (subst (λ (cs : List Constraint). pads_in (database_with groups) c.args.package.now buffer.input.now buffer.output.now cs ≡ pads_answer (Err c.in-Err-port_pads.stop)) c.constraints.ensures (c.in-Err-port_pads.ensures.pads groups))
     c.pins_refusal.ensures
 
@@ -30,9 +30,10 @@ returns-clause-built c =
     let read : HasRead c.args.package.now c.args.chip_text.now c.args.pins_text.now c.args.netlist_text.now buffer.input.now buffer.output.now c.in-Ok.pcf c.in-Ok-read_blif.netlist groups = record {
       pcf = c.in-Ok.ensures;
       blif = c.in-Ok-read_blif.ensures.netlist;
+      formed = c.in-Some.ensures.formed;
       groups_are = c.in-Ok-read_form.ensures.groups;
       form = c.in-Ok-read_form.ensures.form;
-      buffer = sym c.in-Some.ensures;
+      buffer = sym c.in-Some.ensures.buffer;
       pads = pads_given groups c.args.package.now buffer.input.now buffer.output.now c.in-Ok.pcf (pad_view pads.input) (pad_view pads.output) given c.in-Ok-port_pads.ensures.form.0 c.in-Ok-port_pads.ensures.form.1;
     } in
     IfOk-weaker c.lay_out.result (λ text. IsLaidOut groups text.items) (λ text. IsBuilt (form_of c.args.package.now c.args.chip_text.now c.args.pins_text.now c.args.netlist_text.now) c.args.package.now c.args.chip_text.now c.args.pins_text.now c.args.netlist_text.now text.items)
@@ -48,9 +49,10 @@ returns-clause-refused c =
     let read : HasRead c.args.package.now c.args.chip_text.now c.args.pins_text.now c.args.netlist_text.now buffer.input.now buffer.output.now c.in-Ok.pcf c.in-Ok-read_blif.netlist groups = record {
       pcf = c.in-Ok.ensures;
       blif = c.in-Ok-read_blif.ensures.netlist;
+      formed = c.in-Some.ensures.formed;
       groups_are = c.in-Ok-read_form.ensures.groups;
       form = c.in-Ok-read_form.ensures.form;
-      buffer = sym c.in-Some.ensures;
+      buffer = sym c.in-Some.ensures.buffer;
       pads = pads_given groups c.args.package.now buffer.input.now buffer.output.now c.in-Ok.pcf (pad_view pads.input) (pad_view pads.output) given c.in-Ok-port_pads.ensures.form.0 c.in-Ok-port_pads.ensures.form.1;
     } in
     IfErr-weaker c.lay_out.result (λ cause. IsLayoutRefusal groups cause) (λ cause. IsRefusal (form_of c.args.package.now c.args.chip_text.now c.args.pins_text.now c.args.netlist_text.now) cause)

@@ -1,7 +1,7 @@
 use Rattle.std.proofs.Common.{sym, ◌∙◌}
 use Rattle.std.specs.Prelude.{◌&&◌}
+use Rattle.ice_net.specs.Meaning.{table_bit}
 use Rattle.ice_flow.specs.Database.{Pad, same_pad}
-use Rattle.ice_flow.specs.Netlist.{table_bit}
 use Rattle.ice_flow.specs.Views.{port_pad_view}
 use Rattle.ice_flow.specs.Written.{PortPad, pad_at}
 use Rattle.ice_flow.proofs.PadSteps.{any_map}
