@@ -1,0 +1,20 @@
+use Rattle.std.proofs.Common.{[], List, ℕ, ◌∙◌, arith}
+use Rattle.ice_sample.specs.Groups.{tile_group_lines}
+use Rattle.ice_sample.proofs.Counting.{tile_within}
+use Rattle.ice_sample.proofs.Numbering.{lines_more, further, nothing_more}
+use Rattle.ice_sample.proofs.chip.put_groups.Goals as goal
+
+pub loop-tile-init : goal.loop-tile-init
+loop-tile-init c = nothing_more c.args.text.now.items
+
+pub put_tile_groups-requires : goal.put_tile_groups-requires
+put_tile_groups-requires c =
+    let g = c.args.grid.now in
+    tile_within g.width g.height c.deref-tile-items.result.now c.loop-tile.tile-index _ (c.deref-tile-items.ensures.value ∙ g.tiled) (omega arith)
+
+pub loop-tile-preserved : goal.loop-tile-preserved
+loop-tile-preserved c =
+    let g = c.args.grid.now in
+    let none : List (List ℕ) = [] in
+    further _ _ _ _ _ _ c.loop-tile.invariant c.in_ok-put_tile_groups.ensures
+    (lines_more none (tile_group_lines g.width g.height) c.deref-tile-items.result.now c.loop-tile.tile-index _ (omega arith))

@@ -1,0 +1,9 @@
+pub mod Kinds
+pub mod Tiles
+pub mod Lines
+pub mod Sections
+pub mod Bits
+pub mod Nets
+pub mod Groups
+pub mod Chip
+pub mod Laws

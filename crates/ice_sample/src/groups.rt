@@ -1,0 +1,73 @@
+//! The sections of groups of switches.
+ghost use Rattle.std.specs.Prelude.{◌≡◌, ◌++◌, ◌+◌, ◌*◌, ◌<◌, ◌≤◌, ◌∷◌, [], codes, decimal, length, OnOk};
+ghost use Rattle.ice_sample.specs.Lines.{text_of_lines, binary};
+ghost use Rattle.ice_sample.specs.Groups.{group_heading, source_rows, group_lines};
+
+use crate::bits::put_bits;
+use crate::grid::Tile;
+use crate::text::{put_binary, put_number, put_placed};
+use ice_base::NoMemory;
+
+// Writes the heading of a group: the net that it drives, and its bits.
+#[tactic(auto, unfolding(crate::specs::Lines::text_of_lines))]
+fn put_group_heading(
+    text: &mut Vec<u8>,
+    tile: Tile,
+    bit: u16,
+    size: u16,
+    target: u32,
+) -> Result<(), NoMemory>
+    requires { bit + size ≤ 1000 }
+    ensures { OnOk result (text.new.items ≡ text.old.items ++ text_of_lines (group_heading tile.kind tile.at bit (record { target = target; size = size; sources = [] }) ∷ [])) }
+{
+    text.extend_from_slice(b".buffer ")?;
+    put_placed(text, tile.at, u64::from(target))?;
+    put_bits(text, tile.kind, bit, size)?;
+    text.push(b'\n')?;
+    Ok(())
+}
+
+// Writes the row of a source of a group.
+#[tactic(auto, unfolding(crate::specs::Lines::text_of_lines))]
+fn put_source(text: &mut Vec<u8>, size: u16, value: u64, source: u32) -> Result<(), NoMemory>
+    requires { size ≤ 32 }
+    ensures { OnOk result (text.new.items ≡ text.old.items ++ text_of_lines ((binary size value ++ codes " " ++ decimal source) ∷ [])) }
+{
+    put_binary(text, size, value)?;
+    text.push(b' ')?;
+    put_number(text, u64::from(source))?;
+    text.push(b'\n')?;
+    Ok(())
+}
+
+// Writes the rows of a group of a size.
+fn put_sources(text: &mut Vec<u8>, size: u16, sources: &[u32]) -> Result<(), NoMemory>
+    requires { size ≤ 32 }
+    ensures { OnOk result (text.new.items ≡ text.old.items ++ text_of_lines (source_rows size 1 sources.now)) }
+{
+    let mut value = 1;
+    for source in sources {
+        put_source(text, size, value, *source)?;
+        value += 1;
+    }
+    Ok(())
+}
+
+/// Writes a group of a tile: its bits begin with this one and are so many, it drives the target, and it takes the
+/// sources, in order.
+pub fn put_group(
+    text: &mut Vec<u8>,
+    tile: Tile,
+    bit: u16,
+    size: u16,
+    target: u32,
+    sources: &[u32],
+) -> Result<(), NoMemory>
+    requires size { size ≤ 32 }
+    requires bits { bit + size ≤ 1000 }
+    ensures { OnOk result (text.new.items ≡ text.old.items ++ text_of_lines (group_lines tile.kind tile.at bit (record { target = target; size = size; sources = sources.now }))) }
+{
+    put_group_heading(text, tile, bit, size, target)?;
+    put_sources(text, size, sources)?;
+    Ok(())
+}

@@ -1,0 +1,148 @@
+//! The sections before the bits: the device, pins, globals, input enables, column buffers and tiles.
+ghost use Rattle.std.specs.Prelude.{◌≡◌, ◌++◌, ◌+◌, ◌∷◌, [], ◌<◌, ◌≤◌, ◌^◌, take, length, codes, decimal, OnOk};
+ghost use Rattle.ice_sample.specs.Lines.{text_of_lines, number_words, placed_words};
+ghost use Rattle.ice_sample.specs.Sections.{device_lines, pad_words, pin_lines, global_lines, input_enable_lines, column_buffer_lines, tile_heading, tile_lines};
+
+use crate::grid::{Grid, Tile, TileKind};
+use crate::pads::Pad;
+use crate::text::{put_line, put_number, put_numbers, put_place, put_placed};
+use ice_base::{NoMemory, TileAt};
+
+// Writes the line of a device of a size and so many nets.
+#[tactic(auto, unfolding(crate::specs::Lines::text_of_lines))]
+fn put_size(text: &mut Vec<u8>, width: u16, height: u16, nets: u32) -> Result<(), NoMemory>
+    ensures { OnOk result (text.new.items ≡ text.old.items ++ text_of_lines ((codes ".device 1k " ++ number_words width height ++ codes " " ++ decimal nets) ∷ [])) }
+{
+    text.extend_from_slice(b".device 1k ")?;
+    put_numbers(text, u64::from(width), u64::from(height))?;
+    text.push(b' ')?;
+    put_number(text, u64::from(nets))?;
+    text.push(b'\n')?;
+    Ok(())
+}
+
+/// Writes the section of the device.
+pub fn put_device(text: &mut Vec<u8>, grid: &Grid) -> Result<(), NoMemory>
+    ensures { OnOk result (text.new.items ≡ text.old.items ++ text_of_lines (device_lines grid.now.width grid.now.height)) }
+{
+    put_size(text, grid.width, grid.height, grid.nets)
+}
+
+// Writes a pad's place and its number there.
+fn put_pad(text: &mut Vec<u8>, pad: Pad) -> Result<(), NoMemory>
+    ensures { OnOk result (text.new.items ≡ text.old.items ++ pad_words pad) }
+{
+    put_placed(text, pad.at, u64::from(pad.pio))
+}
+
+// Writes the row of a pin.
+#[tactic(auto, unfolding(crate::specs::Lines::text_of_lines))]
+fn put_pin(text: &mut Vec<u8>, pin: u64, pad: Pad) -> Result<(), NoMemory>
+    ensures { OnOk result (text.new.items ≡ text.old.items ++ text_of_lines ((decimal pin ++ codes " " ++ pad_words pad) ∷ [])) }
+{
+    put_number(text, pin)?;
+    text.push(b' ')?;
+    put_pad(text, pad)?;
+    text.push(b'\n')?;
+    Ok(())
+}
+
+/// Writes the section of the pins.
+pub fn put_pins(text: &mut Vec<u8>, pads: &[Pad]) -> Result<(), NoMemory>
+    ensures { OnOk result (text.new.items ≡ text.old.items ++ text_of_lines (pin_lines pads.now)) }
+{
+    put_line(text, b".pins sample")?;
+    let mut pin = 1;
+    for pad in pads {
+        put_pin(text, pin, *pad)?;
+        pin += 1;
+    }
+    Ok(())
+}
+
+// The first eight of a list.
+fn first_eight(places: &[TileAt]) -> &[TileAt]
+    ensures { result.now ≡ take 8 places.now }
+{
+    if places.len() < 8 {
+        places
+    } else {
+        &places[..8]
+    }
+}
+
+// Writes the row of a global.
+#[tactic(auto, unfolding(crate::specs::Lines::text_of_lines))]
+fn put_global(text: &mut Vec<u8>, global: u64, at: TileAt) -> Result<(), NoMemory>
+    ensures { OnOk result (text.new.items ≡ text.old.items ++ text_of_lines (placed_words at global ∷ [])) }
+{
+    put_placed(text, at, global)?;
+    text.push(b'\n')?;
+    Ok(())
+}
+
+/// Writes the section of the inputs of globals, of the places of the IO tiles.
+pub fn put_globals(text: &mut Vec<u8>, places: &[TileAt]) -> Result<(), NoMemory>
+    ensures { OnOk result (text.new.items ≡ text.old.items ++ text_of_lines (global_lines places.now)) }
+{
+    put_line(text, b".gbufin")?;
+    let mut global = 0;
+    for at in first_eight(places) {
+        put_global(text, global, *at)?;
+        global += 1;
+    }
+    Ok(())
+}
+
+/// Writes the section of the input enables.
+#[tactic(auto, unfolding(crate::specs::Lines::text_of_lines))]
+pub fn put_input_enables(text: &mut Vec<u8>, pads: &[Pad]) -> Result<(), NoMemory>
+    ensures { OnOk result (text.new.items ≡ text.old.items ++ text_of_lines (input_enable_lines pads.now)) }
+{
+    put_line(text, b".ieren")?;
+    for pad in pads {
+        put_pad(text, *pad)?;
+        text.push(b' ')?;
+        put_pad(text, *pad)?;
+        text.push(b'\n')?;
+    }
+    Ok(())
+}
+
+/// Writes the section of the column buffers, of the places of the logic tiles.
+#[tactic(auto, unfolding(crate::specs::Lines::text_of_lines))]
+pub fn put_column_buffers(text: &mut Vec<u8>, places: &[TileAt]) -> Result<(), NoMemory>
+    ensures { OnOk result (text.new.items ≡ text.old.items ++ text_of_lines (column_buffer_lines places.now)) }
+{
+    put_line(text, b".colbuf")?;
+    for at in places {
+        put_place(text, *at)?;
+        text.push(b' ')?;
+        put_place(text, *at)?;
+        text.push(b'\n')?;
+    }
+    Ok(())
+}
+
+// The heading of a tile of a kind, up to its place.
+fn tile_heading(kind: TileKind) -> &'static [u8]
+    ensures { result.now ≡ tile_heading kind }
+{
+    match kind {
+        TileKind::Io => b".io_tile ",
+        TileKind::Logic => b".logic_tile ",
+    }
+}
+
+/// Writes the sections of the tiles.
+#[tactic(auto, unfolding(crate::specs::Lines::text_of_lines))]
+pub fn put_tiles(text: &mut Vec<u8>, tiles: &[Tile]) -> Result<(), NoMemory>
+    ensures { OnOk result (text.new.items ≡ text.old.items ++ text_of_lines (tile_lines tiles.now)) }
+{
+    for tile in tiles {
+        text.extend_from_slice(tile_heading(tile.kind))?;
+        put_place(text, tile.at)?;
+        text.push(b'\n')?;
+    }
+    Ok(())
+}
