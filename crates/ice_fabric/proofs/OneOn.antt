@@ -3,7 +3,8 @@ use Rattle.std.proofs.Common.{◌≡◌, ℕ, Bool, true, false, cond, Option, N
 use Rattle.ice_base.specs.declared.number.TileAt.{TileAt}
 use Rattle.ice_chip.specs.Database.{SwitchGroup}
 use Rattle.ice_chip.specs.Places.{same_tile}
-use Rattle.ice_fabric.specs.RowsOn.{Bits, row_on, rows_on}
+use Rattle.ice_bits.specs.Configuration.{Bits}
+use Rattle.ice_bits.specs.RowsOn.{row_on, rows_on}
 use Rattle.ice_fabric.specs.Usable.{is_one}
 use Rattle.ice_fabric.specs.Alone.{in_tile, on_there, are_two, either, listed_one}
 

@@ -5,7 +5,7 @@ use Rattle.std.proofs.lemmas.Bool.{and_parts, eqb-true, eq-eqb}
 use Rattle.ice_base.specs.declared.number.TileAt.{TileAt}
 use Rattle.ice_base.specs.declared.number.BitAt.{BitAt}
 use Rattle.ice_chip.specs.Places.{same_tile}
-use Rattle.ice_fabric.specs.Bundles.{same_place}
+use Rattle.ice_bits.specs.Configuration.{same_place}
 use Rattle.ice_fabric.specs.Owners.{same_key, owner_with, is_other}
 use Rattle.ice_fabric.specs.declared.owners.Owner.{Owner}
 

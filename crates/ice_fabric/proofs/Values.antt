@@ -2,7 +2,7 @@
 use Rattle.std.proofs.Common.{◌≡◌, ℕ, zero, suc, ◌+◌, ◌<◌, ◌≤◌, Bool, false, List, [], ◌∷◌, length, drop, get_or, refl, arith}
 use Rattle.std.specs.Prelude.{◌&&◌, ◌||◌, min}
 use Rattle.ice_base.specs.declared.number.BitAt.{BitAt}
-use Rattle.ice_fabric.specs.Bundles.{same_place}
+use Rattle.ice_bits.specs.Configuration.{same_place}
 use Rattle.ice_fabric.specs.Usable.{value_at}
 
 after : (bits : List BitAt) (values : List Bool) (b : BitAt) (k : ℕ) (d : BitAt) (e : Bool) → k < length bits → k < length values

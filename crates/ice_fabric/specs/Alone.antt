@@ -3,7 +3,8 @@ use Rattle.std.specs.Prelude.{ℕ, Bool, true, false, not, ◌&&◌, Option, Non
 use Rattle.ice_base.specs.declared.number.TileAt.{TileAt}
 use Rattle.ice_chip.specs.Database.{Parts, SwitchRow, SwitchGroup}
 use Rattle.ice_chip.specs.Places.{same_tile}
-use Rattle.ice_fabric.specs.RowsOn.{Bits, row_on}
+use Rattle.ice_bits.specs.Configuration.{Bits}
+use Rattle.ice_bits.specs.RowsOn.{row_on}
 use Rattle.ice_fabric.specs.Usable.{has_memory_name, is_alone, may_leave}
 
 -- the groups of a tile among these

@@ -4,6 +4,7 @@ use Rattle.std.specs.List.{list_any}
 use Rattle.ice_base.specs.declared.number.TileAt.{TileAt}
 use Rattle.ice_base.specs.declared.number.BitAt.{BitAt}
 use Rattle.ice_chip.specs.Database.{Parts, FunctionRow, SwitchGroup}
+use Rattle.ice_bits.specs.Configuration.{same_place}
 use Rattle.ice_chip.specs.Places.{same_tile}
 use Rattle.ice_chip.specs.Lookups.{kind_at}
 use Rattle.ice_chip.specs.Functions.{same_kind, is_foreign}
@@ -18,9 +19,6 @@ abbrev pub bundle : List SwitchGroup → TileAt → ℕ → List SwitchGroup
 bundle groups tile wire = filter (λ g. same_tile g.tile tile) (groups_into groups wire)
 
 -- ---- bits that a bundle shares
-abbrev pub same_place : BitAt → BitAt → Bool
-same_place a b = (a.row == b.row) && (a.col == b.col)
-
 abbrev pub has_bit : List BitAt → BitAt → Bool
 has_bit bits b = list_any (λ p. same_place p b) bits
 

@@ -1,4 +1,3 @@
-pub mod RowsOn
 pub mod Bundles
 pub mod Usable
 pub mod Lists

@@ -5,7 +5,8 @@ use Rattle.ice_base.specs.declared.number.TileAt.{TileAt}
 use Rattle.ice_base.specs.declared.number.BitAt.{BitAt}
 use Rattle.ice_chip.specs.Database.{SwitchGroup}
 use Rattle.ice_chip.specs.Places.{same_tile}
-use Rattle.ice_fabric.specs.Bundles.{same_place, has_bit, is_of_other}
+use Rattle.ice_bits.specs.Configuration.{same_place}
+use Rattle.ice_fabric.specs.Bundles.{has_bit, is_of_other}
 use Rattle.ice_fabric.specs.declared.owners.Owner.{Owner}
 
 abbrev pub same_key : TileAt → BitAt → TileAt → BitAt → Bool

@@ -8,8 +8,9 @@ use Rattle.ice_chip.specs.Places.{same_tile}
 use Rattle.ice_chip.specs.Lookups.{kind_at, names_of}
 use Rattle.ice_chip.specs.PinNames.{cell_pin, is_input_name, is_output_name}
 use Rattle.ice_chip.specs.declared.rows.TileKind.{TileKind}
-use Rattle.ice_fabric.specs.RowsOn.{Bits, rows_on}
-use Rattle.ice_fabric.specs.Bundles.{same_place, bundle, is_private}
+use Rattle.ice_bits.specs.Configuration.{Bits, same_place}
+use Rattle.ice_bits.specs.RowsOn.{rows_on}
+use Rattle.ice_fabric.specs.Bundles.{bundle, is_private}
 
 -- ---- names of wires
 -- a name of a memory's wire

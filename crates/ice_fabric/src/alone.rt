@@ -1,7 +1,7 @@
 //! Rows that are the only ones of their bundle that are on.
 ghost use Rattle.std.specs.Prelude.{◌≡◌, IfOk};
 ghost use Rattle.ice_chip.specs.Views.{row_view, group_view};
-ghost use Rattle.ice_fabric.specs.RowsOn.{rows_on};
+ghost use Rattle.ice_bits.specs.RowsOn.{rows_on};
 ghost use Rattle.ice_fabric.specs.Usable.{sets, is_one};
 ghost use Rattle.ice_fabric.specs.Lists.{views};
 ghost use Rattle.ice_fabric.specs.Alone.{in_tile, on_there, are_two, either, listed_one};

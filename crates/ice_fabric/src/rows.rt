@@ -2,8 +2,8 @@
 ghost use Rattle.std.specs.Prelude.{◌≡◌, ◌&&◌, IfOk};
 ghost use Rattle.std.specs.List.{list_any};
 ghost use Rattle.ice_chip.specs.Views.{row_view, group_view};
-ghost use Rattle.ice_fabric.specs.RowsOn.{values_of, number_with, row_on, rows_on};
-ghost use Rattle.ice_fabric.specs.Bundles.{same_place};
+ghost use Rattle.ice_bits.specs.RowsOn.{values_of, number_with, row_on, rows_on};
+ghost use Rattle.ice_bits.specs.Configuration.{same_place};
 ghost use Rattle.ice_fabric.specs.Usable.{value_at, sets};
 
 use ice_base::{BitAt, NoMemory, TileAt};

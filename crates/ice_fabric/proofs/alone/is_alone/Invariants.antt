@@ -1,6 +1,6 @@
 use Rattle.std.proofs.Common.{◌≡◌, ◌++◌, drop}
 use Rattle.ice_chip.specs.Views.{row_view, group_view}
-use Rattle.ice_fabric.specs.RowsOn.{rows_on}
+use Rattle.ice_bits.specs.RowsOn.{rows_on}
 use Rattle.ice_fabric.specs.Usable.{sets}
 use Rattle.ice_fabric.specs.Lists.{views}
 use Rattle.ice_fabric.specs.Alone.{in_tile, listed_one}

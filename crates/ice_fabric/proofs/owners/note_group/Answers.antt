@@ -3,7 +3,8 @@ use Rattle.std.specs.Prelude.{◌==◌, ◌&&◌, ◌||◌, not}
 use Rattle.std.proofs.lemmas.List.{at_drop_more}
 use Rattle.ice_base.specs.declared.number.BitAt.{BitAt}
 use Rattle.ice_chip.specs.Places.{same_tile}
-use Rattle.ice_fabric.specs.Bundles.{same_place, has_bit}
+use Rattle.ice_bits.specs.Configuration.{same_place}
+use Rattle.ice_fabric.specs.Bundles.{has_bit}
 use Rattle.ice_fabric.specs.Owners.{owner_at, is_other}
 use Rattle.ice_fabric.proofs.Shares.{one_more}
 use Rattle.ice_fabric.proofs.owners.note_group.Goals as goal

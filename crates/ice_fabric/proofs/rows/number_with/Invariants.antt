@@ -1,6 +1,6 @@
 use Rattle.std.proofs.Common.{◌≡◌, ◌+◌, drop, map}
 use Rattle.ice_chip.specs.Views.{row_view}
-use Rattle.ice_fabric.specs.RowsOn.{number_with}
+use Rattle.ice_bits.specs.RowsOn.{number_with}
 use Rattle.ice_fabric.proofs.rows.number_with.Given as goal
 
 abbrev pub invariant-loop-k : goal.invariant-loop-k

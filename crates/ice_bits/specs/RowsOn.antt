@@ -3,13 +3,8 @@ use Rattle.std.specs.Prelude.{ℕ, ◌+◌, Bool, Option, None, Some, List, [], 
 use Rattle.std.specs.Bool.{beq}
 use Rattle.std.specs.List.{list_any}
 use Rattle.std.specs.Cmp.Lexicographic.{pointwise}
-use Rattle.ice_base.specs.declared.number.TileAt.{TileAt}
-use Rattle.ice_base.specs.declared.number.BitAt.{BitAt}
 use Rattle.ice_chip.specs.Database.{SwitchRow, SwitchGroup}
-
--- a bit for each tile and place
-abbrev pub Bits : Type 0
-Bits = TileAt → BitAt → Bool
+use Rattle.ice_bits.specs.Configuration.{Bits}
 
 -- the values of the group's bits
 abbrev pub values_of : Bits → SwitchGroup → List Bool

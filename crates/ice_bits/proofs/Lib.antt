@@ -1,0 +1,4 @@
+mod Keys
+mod RowWrites
+mod TileWrites
+pub mod Forms

@@ -1,0 +1,30 @@
+use Rattle.std.proofs.Common.{rules, ◌<◌, length, ◌≡◌, set, ap, sym, refl, ◌∙◌, Some}
+use Rattle.ice_bits.specs.Configuration.{Configuration}
+use Rattle.ice_bits.specs.Rewriting.{tiles_with}
+use Rattle.ice_bits.specs.TilePlaces.{place_in}
+use Rattle.ice_bits.proofs.TileWrites.{place_within, place_after, written_at, seen_written, nothing_changes}
+use Rattle.ice_bits.proofs.bits.Bits.set_tile.Goals as goal
+
+pub index_mut-requires : goal.index_mut-requires
+index_mut-requires c =
+    let lt : c.in-Some.place < length c.self.inside.tiles.items =
+    place_within c.args.tile c.self.inside.tiles.items c.in-Some.place (ap (λ (k : Configuration). place_in c.args.tile k.tiles) c.self.view_is ∙ sym c.in-Some.ensures) in
+    search rules
+
+pub invariant_of-self : goal.invariant_of-self
+invariant_of-self c =
+    let at : place_in c.args.tile c.self.inside.tiles.items ≡ Some c.in-Some.place = ap (λ (k : Configuration). place_in c.args.tile k.tiles) c.self.view_is ∙ sym c.in-Some.ensures in
+    let wrote : set c.self.inside.tiles.items c.in-Some.place (c.index_mut.result.now.0, c.args.rows) ≡ tiles_with c.args.tile (λ _. c.args.rows) c.self.inside.tiles.items =
+    written_at c.args.tile (λ _. c.args.rows) c.self.inside.tiles.items c.in-Some.place c.index_mut.result.now c.args.rows at c.index_mut.ensures.value refl in
+    record { each = λ t. c.self.invariant.each t ∙ sym (ap (place_in t) wrote ∙ place_after c.args.tile t (λ _. c.args.rows) c.self.inside.tiles.items) }
+
+pub returns-in-Some : goal.returns-in-Some
+returns-in-Some c =
+    let at : place_in c.args.tile c.self.inside.tiles.items ≡ Some c.in-Some.place = ap (λ (k : Configuration). place_in c.args.tile k.tiles) c.self.view_is ∙ sym c.in-Some.ensures in
+    seen_written c.args.tile (λ _. c.args.rows) c.self.inside.tiles.items (set c.self.inside.tiles.items c.in-Some.place (c.index_mut.result.now.0, c.args.rows)) c.self.inside.extras.items c.args.self.now
+    c.self.view_is (written_at c.args.tile (λ _. c.args.rows) c.self.inside.tiles.items c.in-Some.place c.index_mut.result.now c.args.rows at c.index_mut.ensures.value refl)
+
+pub returns-in_default : goal.returns-in_default
+returns-in_default c =
+    let k : Configuration = c.args.self.now in
+    ap (λ ts. record { tiles = ts; extras = k.extras }) (sym (nothing_changes c.args.tile (λ _. c.args.rows) k.tiles (sym c.in_default.ensures)))

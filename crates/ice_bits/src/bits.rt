@@ -1,0 +1,240 @@
+//! The configuration bits of all tiles of a chip.
+ghost use Rattle.std.specs.Prelude.{◌≡◌, ◌<◌, ℕ, true, false, Some, [], ◌∷◌, ◌++◌, length, map, slice_get, option_map, IfOk, OnOk, OnErr, if◌then◌else◌};
+ghost use Rattle.std.specs.Map.{lookup};
+ghost use Rattle.std.specs.Option.{option_map_or, option_or};
+ghost use Rattle.ice_base.specs.declared.number.TileAt.{TileAt};
+ghost use Rattle.ice_base.specs.declared.number.BitAt.{BitAt};
+ghost use Rattle.ice_chip.specs.Lookups.{rows_of};
+ghost use Rattle.ice_chip.specs.Places.{same_tile};
+ghost use Rattle.ice_bits.specs.Configuration.{Configuration, bits_of, rows_at, is_there, blank, IsOf};
+ghost use Rattle.ice_bits.specs.Written.{with_bit};
+ghost use Rattle.ice_bits.specs.Rewriting.{where_there, Rewrites, with_row, with_rows, with_place, with_places, with_extra};
+ghost use Rattle.ice_bits.specs.TilePlaces.{place_in};
+
+use crate::TileBits;
+use ice_base::{BitAt, NoMemory, RowNo, TileAt};
+use ice_chip::{Chip, Function};
+use indexmap::IndexMap;
+use std::alloc::Global;
+use std::marker::Model;
+
+/// The configuration bits of a chip, tile by tile, and the extra bits. Contracts see them as a configuration.
+#[derive(Drop)]
+pub struct Bits {
+    // The bits of each tile, in the order of the chip's tiles.
+    tiles: Vec<(TileAt, TileBits)>,
+    // Where the bits of each tile stand.
+    places: IndexMap<TileAt, usize>,
+    // The extra bits in order.
+    extras: Vec<(u32, u32, u32)>,
+}
+
+impl Model for Bits {
+    ghost use Rattle.ice_bits.specs.Configuration.{Configuration};
+
+    ghost Value = { Configuration };
+
+    ghost use Rattle.ice_bits.specs.Views.{bits_view, IsIndexed};
+
+    ghost view = { bits_view };
+
+    ghost invariant = { IsIndexed };
+}
+
+// Notes the place of a tile that has none yet.
+fn note_place(
+    places: &mut IndexMap<TileAt, usize>,
+    tile: TileAt,
+    place: usize,
+) -> Result<(), NoMemory>
+    ensures { OnOk result ((t : TileAt) → lookup (same_tile t) places.new.entries ≡ option_or (lookup (same_tile t) places.old.entries) (lookup (same_tile t) ((tile, place) ∷ []))) }
+{
+    if places.get(&tile).is_none() {
+        places.insert(tile, place)?;
+    }
+    Ok(())
+}
+
+// Adds the bits of a tile.
+fn add_tile(
+    tiles: &mut Vec<(TileAt, TileBits)>,
+    places: &mut IndexMap<TileAt, usize>,
+    tile: TileAt,
+    rows: TileBits,
+) -> Result<(), NoMemory>
+    requires { (t : TileAt) → lookup (same_tile t) places.old.entries ≡ place_in t tiles.old.items }
+    ensures tiles { OnOk result (tiles.new.items ≡ tiles.old.items ++ (tile, rows) ∷ []) }
+    ensures places { OnOk result ((t : TileAt) → lookup (same_tile t) places.new.entries ≡ place_in t tiles.new.items) }
+{
+    note_place(places, tile, tiles.len())?;
+    tiles.push((tile, rows))?;
+    Ok(())
+}
+
+/// The bits of a chip, all 0, and no extra bits. It fails for want of memory alone.
+pub fn blank(alloc: Global, chip: &Chip) -> Result<Bits, NoMemory>
+    ensures blank { IfOk result (λ bits. bits ≡ blank chip.now) }
+    ensures form { IfOk result (IsOf chip.now) }
+{
+    let mut tiles = Vec::with_capacity(alloc, chip.tiles().len())?;
+    let mut places = IndexMap::with_capacity(alloc, chip.tiles().len())?;
+    for tile in chip.tiles() {
+        let rows = TileBits::blank(alloc, tile.kind.columns())?;
+        add_tile(&mut tiles, &mut places, tile.at, rows)?;
+    }
+    Ok(Bits {
+        tiles,
+        places,
+        extras: Vec::new(alloc),
+    })
+}
+
+impl Bits {
+    /// An equal copy. It fails for want of memory alone.
+    pub fn copy(&self, alloc: Global) -> Result<Bits, NoMemory>
+        ensures { IfOk result (λ copy. copy ≡ self.now) }
+    {
+        let mut tiles = Vec::with_capacity(alloc, self.tiles.len())?;
+        let mut places = IndexMap::with_capacity(alloc, self.tiles.len())?;
+        for held in &self.tiles {
+            let (tile, rows) = held;
+            add_tile(&mut tiles, &mut places, *tile, rows.copy(alloc)?)?;
+        }
+        Ok(Bits {
+            tiles,
+            places,
+            extras: self.extras.clone()?,
+        })
+    }
+
+    // Where the bits of a tile stand.
+    fn place(&self, tile: TileAt) -> Option<usize>
+        ensures { result ≡ place_in tile self.now.tiles }
+    {
+        self.places.get(&tile).copied()
+    }
+
+    /// The bits of a tile, or None exactly where no tile stands there. It takes no memory.
+    pub fn tile(&self, tile: TileAt) -> Option<&TileBits>
+        ensures { option_map (λ rows. rows.now) result ≡ rows_at self.now tile }
+    {
+        match self.place(tile) {
+            None => None,
+            Some(place) => Some(&self.tiles[place].1),
+        }
+    }
+
+    /// Whether there is a bit at this place of a tile. It takes no memory.
+    pub fn has(&self, tile: TileAt, bit: BitAt) -> bool
+        ensures { result ≡ is_there self.now tile bit }
+    {
+        match self.tile(tile) {
+            None => false,
+            Some(rows) => rows.has(bit),
+        }
+    }
+
+    /// The bit at a place of a tile; 0 where there is no such place. It takes no memory.
+    pub fn get(&self, tile: TileAt, bit: BitAt) -> bool
+        ensures { result ≡ bits_of self.now tile bit }
+    {
+        match self.tile(tile) {
+            None => false,
+            Some(rows) => rows.get(bit),
+        }
+    }
+
+    // Writes a bit of the tile at a place in the list, where the tile has such a bit.
+    fn write_at(&mut self, tile: TileAt, place: usize, bit: BitAt, value: bool)
+        requires { place_in tile self.old.tiles ≡ Some place }
+        ensures written { self.new ≡ with_place tile bit value self.old }
+        ensures place { place_in tile self.new.tiles ≡ Some place }
+    {
+        let held = &mut self.tiles[place];
+        held.1.write(bit, value);
+    }
+
+    /// Writes the bit at a place of a tile, which has such a place. It takes no memory.
+    pub fn set(&mut self, tile: TileAt, bit: BitAt, value: bool)
+        requires { is_there self.old tile bit ≡ true }
+        ensures { Rewrites self.old self.new (with_bit tile bit value (bits_of self.old)) }
+    {
+        if let Some(place) = self.place(tile) {
+            self.write_at(tile, place, bit, value);
+        }
+    }
+
+    /// The bit of a function in a tile, where `at` is below the number of the function's bits. It takes no memory.
+    pub fn get_function(&self, tile: TileAt, function: &Function, at: usize) -> bool
+        requires { at < length function.now.bits.items }
+        ensures { (bit : BitAt) → slice_get function.now.bits.items at ≡ Some bit → result ≡ bits_of self.now tile bit }
+    {
+        self.get(tile, function.bits[at])
+    }
+
+    /// Writes the bit of a function in a tile, which has such a place. It takes no memory.
+    pub fn set_function(&mut self, tile: TileAt, function: &Function, at: usize, value: bool)
+        requires { option_map_or (is_there self.old tile) (slice_get function.now.bits.items at) false ≡ true }
+        ensures { (bit : BitAt) → slice_get function.now.bits.items at ≡ Some bit → Rewrites self.old self.new (with_bit tile bit value (bits_of self.old)) }
+    {
+        self.set(tile, function.bits[at], value);
+    }
+
+    // Writes several bits of the tile at a place in the list, where the tile has such bits.
+    #[tactic(auto, using(crate::proofs::TileWrites::next_place, crate::proofs::TileWrites::values_end, crate::proofs::TileWrites::places_end))]
+    fn write_all_at(&mut self, tile: TileAt, place: usize, bits: &[BitAt], values: &[bool])
+        requires { place_in tile self.old.tiles ≡ Some place }
+        ensures { self.new ≡ with_places tile bits.now values.now self.old }
+    {
+        for (i, bit) in bits.iter().enumerate() {
+            let Some(value) = values.get(i) else {
+                return;
+            };
+            self.write_at(tile, place, *bit, *value);
+        }
+    }
+
+    // Writes several bits of a tile, where the tile has such bits.
+    fn write_all(&mut self, tile: TileAt, bits: &[BitAt], values: &[bool])
+        ensures { self.new ≡ with_places tile bits.now values.now self.old }
+    {
+        if let Some(place) = self.place(tile) {
+            self.write_all_at(tile, place, bits, values);
+        }
+    }
+
+    /// Writes the values of a switch row into its group's bits, so far as the group's tile has such places. The row is
+    /// one of the chip's. It takes no memory.
+    pub fn set_row(&mut self, chip: &Chip, row: RowNo)
+        requires { row.0 < length (rows_of chip.now.groups) }
+        ensures { Rewrites self.old self.new (where_there self.old (with_row chip.now row.0 (bits_of self.old))) }
+    {
+        let (group, row) = chip.row(row);
+        self.write_all(group.tile, &group.bits, &row.values);
+    }
+
+    /// Puts other rows in place of those of a tile. Where no tile stands there, nothing changes. It takes no memory.
+    pub fn set_tile(&mut self, tile: TileAt, rows: TileBits)
+        ensures { self.new ≡ with_rows tile rows self.old }
+    {
+        if let Some(place) = self.place(tile) {
+            self.tiles[place].1 = rows;
+        }
+    }
+
+    /// The extra bits in order.
+    pub fn extras(&self) -> &[(u32, u32, u32)]
+        ensures { result.now ≡ self.now.extras }
+    {
+        &self.extras
+    }
+
+    /// Adds an extra bit behind the others. After want of memory there is no such extra bit.
+    pub fn add_extra(&mut self, extra: (u32, u32, u32)) -> Result<(), NoMemory>
+        ensures added { OnOk result (self.new ≡ with_extra extra self.old) }
+        ensures refused { OnErr result (self.new ≡ self.old) }
+    {
+        self.extras.push(extra)?;
+        Ok(())
+    }
+}

@@ -1,0 +1,11 @@
+//! Laws of configuration bits. The functions do nothing: their contracts are the laws.
+ghost use Rattle.std.specs.Prelude.{◌≡◌};
+ghost use Rattle.ice_base.specs.declared.number.TileAt.{TileAt};
+ghost use Rattle.ice_base.specs.declared.number.BitAt.{BitAt};
+ghost use Rattle.ice_chip.specs.Database.{Parts};
+ghost use Rattle.ice_bits.specs.Configuration.{Configuration, IsOf, is_there, is_bit_of};
+
+/// Bits of a chip have exactly the places that the kinds of its tiles have.
+pub fn chip_has_its_bits()
+    ensures { (parts : Parts) (k : Configuration) → IsOf parts k → (t : TileAt) (b : BitAt) → is_there k t b ≡ is_bit_of parts t b }
+{}

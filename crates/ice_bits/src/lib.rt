@@ -1,0 +1,10 @@
+//! Configuration bits of a chip: a bit for each tile, row and column, and the extra bits in order.
+#![tactic(auto)]
+
+mod bits;
+mod laws;
+mod tile;
+
+pub use bits::{Bits, blank};
+pub use laws::chip_has_its_bits;
+pub use tile::TileBits;
