@@ -1,0 +1,79 @@
+-- Parts of a text that are written one after another.
+use Rattle.std.proofs.Common.{arith, Bool, ◌≡◌, ℕ, ◌+◌, ◌<◌, List, [], ◌∷◌, ◌++◌, length, get_or, take, map, sym, ap, ◌∙◌, append-nil, append_assoc, Option, codes}
+use Rattle.std.proofs.lemmas.Grind.{flat_map-append}
+use Rattle.std.specs.List.{flat_map, range_with_len}
+use Rattle.std.proofs.lemmas.List.{take_more}
+use Rattle.std.proofs.lemmas.List.FromFn.{map-range_with_len_more}
+use Rattle.ice_base.specs.declared.number.BitAt.{BitAt}
+use Rattle.ice_chip.specs.declared.tile.Tile.{Tile}
+use Rattle.ice_chip.specs.Database.{Parts}
+use Rattle.ice_chip.specs.Lookups.{tile_of}
+use Rattle.ice_chip.specs.Places.{columns}
+use Rattle.ice_bits.specs.Configuration.{Configuration, bit_at, rows_at}
+use Rattle.ice_asc.specs.Text.{digit_of_bit, bit_at_place, row_line, tile_heading, tile_lines, extra_line, text_of_lines, asc_text}
+
+-- lines behind other lines
+pub joined : (out : List ℕ) (ls ms : List (List ℕ)) → (out ++ text_of_lines ls) ++ text_of_lines ms ≡ out ++ text_of_lines (ls ++ ms)
+joined out ls ms = append_assoc out (text_of_lines ls) (text_of_lines ms) ∙ ap (λ text. out ++ text) (sym (flat_map-append (λ (line : List ℕ). line ++ 10 ∷ []) ls ms))
+
+-- the three lines in front, and two lists of lines behind them
+pub all_joined : (out comment remark device : List ℕ) (tiles extras : List (List ℕ))
+    → ((((out ++ text_of_lines (comment ∷ [])) ++ text_of_lines (remark ∷ [])) ++ text_of_lines (device ∷ [])) ++ text_of_lines tiles) ++ text_of_lines extras
+    ≡ out ++ text_of_lines (comment ∷ remark ∷ device ∷ (tiles ++ extras))
+all_joined out comment remark device tiles extras =
+    ap (λ text. ((text ++ text_of_lines (device ∷ [])) ++ text_of_lines tiles) ++ text_of_lines extras) (joined out (comment ∷ []) (remark ∷ []))
+    ∙ ap (λ text. (text ++ text_of_lines tiles) ++ text_of_lines extras) (joined out (comment ∷ remark ∷ []) (device ∷ []))
+    ∙ ap (λ text. text ++ text_of_lines extras) (joined out (comment ∷ remark ∷ device ∷ []) tiles)
+    ∙ joined out (comment ∷ remark ∷ device ∷ tiles) extras
+
+-- a tile more
+pub tile_more : (k : Configuration) (tiles : List Tile) (i : ℕ) (d : Tile) (out done : List ℕ) → i < length tiles → done ≡ out ++ text_of_lines (flat_map (tile_lines k) (take i tiles))
+    → done ++ text_of_lines (tile_lines k (get_or tiles i d)) ≡ out ++ text_of_lines (flat_map (tile_lines k) (take (i + 1) tiles))
+tile_more k tiles i d out done lt so_far =
+    ap (λ text. text ++ text_of_lines (tile_lines k (get_or tiles i d))) so_far
+    ∙ joined out (flat_map (tile_lines k) (take i tiles)) (tile_lines k (get_or tiles i d))
+    ∙ ap (λ ls. out ++ text_of_lines ls)
+    (ap (λ ls. flat_map (tile_lines k) (take i tiles) ++ ls) (sym (append-nil (tile_lines k (get_or tiles i d))))
+    ∙ sym (flat_map-append (tile_lines k) (take i tiles) (get_or tiles i d ∷ [])) ∙ ap (flat_map (tile_lines k)) (sym (take_more tiles i d lt)))
+
+-- a row more
+pub row_more : (bits : BitAt → Bool) (columns row : ℕ) (out done : List ℕ) → done ≡ out ++ text_of_lines (map (row_line bits columns) (range_with_len 0 row))
+    → done ++ text_of_lines (row_line bits columns row ∷ []) ≡ out ++ text_of_lines (map (row_line bits columns) (range_with_len 0 (row + 1)))
+row_more bits columns row out done so_far =
+    ap (λ text. text ++ text_of_lines (row_line bits columns row ∷ [])) so_far
+    ∙ joined out (map (row_line bits columns) (range_with_len 0 row)) (row_line bits columns row ∷ [])
+    ∙ ap (λ ls. out ++ text_of_lines ls) (sym (map-range_with_len_more (row_line bits columns) 0 row row (omega arith)))
+
+-- a digit more
+pub digit_more : (bits : BitAt → Bool) (col row digit : ℕ) (out done : List ℕ) → done ≡ out ++ row_line bits col row → digit ≡ digit_of_bit (bits (bit_at_place row col))
+    → done ++ digit ∷ [] ≡ out ++ row_line bits (col + 1) row
+digit_more bits col row digit out done so_far is =
+    ap (λ text. text ++ digit ∷ []) so_far ∙ append_assoc out (row_line bits col row) (digit ∷ []) ∙ ap (λ d. out ++ (row_line bits col row ++ d ∷ [])) is
+    ∙ ap (λ line. out ++ line) (sym (map-range_with_len_more (λ c. digit_of_bit (bits (bit_at_place row c))) 0 col col (omega arith)))
+
+-- the heading of a tile, and so many rows
+headed : (heading : List ℕ) (o p : Option (List (List Bool))) (width wide rows : ℕ) (out mid new : List ℕ) → mid ≡ out ++ text_of_lines (heading ∷ []) → o ≡ p → width ≡ wide
+    → new ≡ mid ++ text_of_lines (map (row_line (bit_at o) width) (range_with_len 0 rows))
+    → new ≡ out ++ text_of_lines (heading ∷ map (row_line (bit_at p) wide) (range_with_len 0 rows))
+headed heading o p width wide rows out mid new begun found same wrote =
+    wrote ∙ ap (λ text. text ++ text_of_lines (map (row_line (bit_at o) width) (range_with_len 0 rows))) begun
+    ∙ joined out (heading ∷ []) (map (row_line (bit_at o) width) (range_with_len 0 rows))
+    ∙ ap (λ q. out ++ text_of_lines (heading ∷ map (row_line (bit_at q) width) (range_with_len 0 rows))) found
+    ∙ ap (λ w. out ++ text_of_lines (heading ∷ map (row_line (bit_at p) w) (range_with_len 0 rows))) same
+
+pub tile_joined : (k : Configuration) (tile : Tile) (o : Option (List (List Bool))) (width : ℕ) (out mid new : List ℕ) → mid ≡ out ++ text_of_lines (tile_heading tile ∷ []) → o ≡ rows_at k tile.at → width ≡ columns tile.kind
+    → new ≡ mid ++ text_of_lines (map (row_line (bit_at o) width) (range_with_len 0 16)) → new ≡ out ++ text_of_lines (tile_lines k tile)
+tile_joined k tile o width out mid new begun found same wrote = headed (tile_heading tile) o (rows_at k tile.at) width (columns tile.kind) 16 out mid new begun found same wrote
+
+-- the whole text
+pub text_joined : (parts : Parts) (k : Configuration) (tiles : List Tile) (extras : List (ℕ × ℕ × ℕ)) (out a b c d new : List ℕ)
+    → a ≡ out ++ text_of_lines (codes ".comment" ∷ []) → b ≡ a ++ text_of_lines (codes "placed and routed" ∷ []) → c ≡ b ++ text_of_lines (codes ".device 1k" ∷ [])
+    → tiles ≡ map tile_of parts.tiles → d ≡ c ++ text_of_lines (flat_map (tile_lines k) tiles) → extras ≡ k.extras → new ≡ d ++ text_of_lines (map extra_line extras) → new ≡ out ++ asc_text parts k
+text_joined parts k tiles extras out a b c d new one two three are four same five =
+    let ends : List ℕ = text_of_lines (map extra_line extras) in
+    let body : List ℕ = text_of_lines (flat_map (tile_lines k) tiles) in
+    five ∙ ap (λ text. text ++ ends) four ∙ ap (λ text. (text ++ body) ++ ends) three ∙ ap (λ text. ((text ++ text_of_lines (codes ".device 1k" ∷ [])) ++ body) ++ ends) two
+    ∙ ap (λ text. (((text ++ text_of_lines (codes "placed and routed" ∷ [])) ++ text_of_lines (codes ".device 1k" ∷ [])) ++ body) ++ ends) one
+    ∙ all_joined out (codes ".comment") (codes "placed and routed") (codes ".device 1k") (flat_map (tile_lines k) tiles) (map extra_line extras)
+    ∙ ap (λ ts. out ++ text_of_lines (codes ".comment" ∷ codes "placed and routed" ∷ codes ".device 1k" ∷ (flat_map (tile_lines k) ts ++ map extra_line extras))) are
+    ∙ ap (λ es. out ++ text_of_lines (codes ".comment" ∷ codes "placed and routed" ∷ codes ".device 1k" ∷ (flat_map (tile_lines k) (map tile_of parts.tiles) ++ map extra_line es))) same

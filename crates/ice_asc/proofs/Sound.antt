@@ -1,0 +1,212 @@
+-- The bits that a text says are bits of the chip.
+use Rattle.std.proofs.Common.{◌≡◌, ℕ, Bool, true, false, cond, if◌then◌else◌, Option, None, Some, option_map, Result, Ok, Err, IfOk, List, [], ◌∷◌, ◌++◌, length, map, refl, sym, ap, ◌∙◌, subst, arith, rules, tests}
+use Rattle.std.specs.Prelude.{All, codes, bytes_eq, nat_eq}
+use Rattle.std.specs.List.{list_any}
+use Rattle.std.proofs.lemmas.List.{length-map}
+use Rattle.std.proofs.lemmas.List.Elements.{All-nil, All-push}
+use Rattle.ice_base.specs.Text.{lines, numbered, words}
+use Rattle.ice_base.specs.Comments.{begins_with}
+use Rattle.ice_base.specs.declared.number.TileAt.{TileAt}
+use Rattle.ice_chip.specs.Database.{Parts}
+use Rattle.ice_chip.specs.Functions.{same_kind}
+use Rattle.ice_chip.specs.Places.{same_tile, columns, tile_known}
+use Rattle.ice_chip.specs.declared.rows.TileKind.{TileKind}
+use Rattle.ice_chip.specs.declared.rows.TileKind.TheVariants.{Io, Logic, RamBottom, RamTop}
+use Rattle.ice_chip.specs.declared.parts.TileLine.{TileLine}
+use Rattle.ice_bits.specs.Configuration.{Configuration, IsGrid, IsOf}
+use Rattle.ice_bits.specs.Rewriting.{with_rows}
+use Rattle.ice_bits.proofs.Forms.{blank_is_of, with_rows_is_of}
+use Rattle.ice_asc.specs.Faults.{◌>>=◌}
+use Rattle.ice_asc.specs.Headings.{heading_of}
+use Rattle.ice_asc.specs.Words.{all_known, bit_of_digit, row_of_words, tile_of_words, extra_of_words}
+use Rattle.ice_asc.specs.Grammar.{Reading, start, with_row, known_row, row_says, device_says, is_of_kind, opened, tile_says, extra_says, heading_says, words_say, line_says, at_line, lines_say, end_says, asc_in}
+use Rattle.ice_asc.specs.Answers.{Answers}
+use Rattle.ice_asc.specs.declared.fault.AscFault.{AscFault}
+use Rattle.ice_asc.specs.declared.fault.AscFault.TheVariants as fault
+use Rattle.ice_asc.specs.declared.section.Section.{Section}
+use Rattle.ice_asc.specs.declared.section.Section.TheVariants.{Nowhere, ReadOver, Rows}
+use Rattle.ice_asc.specs.declared.section.Heading.{Heading}
+use Rattle.ice_asc.specs.declared.section.Heading.TheVariants.{Device, Tile, ExtraBit, Symbol, Other}
+
+-- ---- what every line keeps
+-- the tile that is open is one of the chip's, and its rows so far have its columns
+record IsOpenTile (parts : Parts) (at : TileAt) (kind : TileKind) (rows : List (List Bool)) : Type 0 where
+  tile : TileLine
+  known : tile_known parts.tiles at ≡ Some tile
+  of_kind : tile.kind ≡ kind
+  wide : All (λ (row : List Bool). length row ≡ columns kind) rows
+
+abbrev IsOpen : Parts → Section → List (List Bool) → Type 0
+IsOpen parts Nowhere rows = Unit {0}
+IsOpen parts ReadOver rows = Unit {0}
+IsOpen parts (Rows heading at kind) rows = IsOpenTile parts at kind rows
+
+record IsSound (parts : Parts) (r : Reading) : Type 0 where
+  bits : IsOf parts r.bits
+  open_tile : IsOpen parts r.section r.rows
+
+then_holds : {A B : Type 0} (P : A → Type 0) (Q : B → Type 0) (r : Result A AscFault) (f : A → Result B AscFault) → IfOk r P → ((x : A) → P x → IfOk (f x) Q) → IfOk (r >>= f) Q
+then_holds P Q (Ok x) f here later = later x here
+then_holds P Q (Err e) f here later = tt
+
+-- ---- rows
+known_length : {A : Type 0} (os : List (Option A)) (xs : List A) → all_known os ≡ Some xs → length xs ≡ length os
+known_length [] xs e = let s : [] ≡ xs = cc in ap length (sym s)
+known_length (None ∷ os) xs e = absurd (cc)
+known_length {A} (Some x ∷ os) xs e = by (all_known os) e (λ ys is. known_length os ys is) refl
+  where
+    by : (o : Option (List A)) → option_map (λ ys. x ∷ ys) o ≡ Some xs → ((ys : List A) → all_known os ≡ Some ys → length ys ≡ length os) → all_known os ≡ o
+        → length xs ≡ length (Some x ∷ os)
+    by None said rest is = absurd (cc)
+    by (Some ys) said rest is =
+        let s : x ∷ ys ≡ xs = cc in
+        let long : length ys ≡ length os = rest ys is in
+        ap length (sym s) ∙ omega arith
+
+row_length : (width : ℕ) (w : List ℕ) (ws : List (List ℕ)) (row : List Bool) → row_of_words width w ws ≡ Some row → length row ≡ width
+row_length width w (v ∷ ws) row e = absurd (cc)
+row_length width w [] row e = by (nat_eq (length w) width) refl e
+  where
+    same : nat_eq (length w) width ≡ true → length w ≡ width
+    same test = search (rules, tests)
+
+    by : (x : Bool) → nat_eq (length w) width ≡ x → cond x (all_known (map bit_of_digit w)) None ≡ Some row → length row ≡ width
+    by false test said = absurd (cc)
+    by true test said = known_length (map bit_of_digit w) row said ∙ (length-map w bit_of_digit ∙ same test)
+
+row_sound : (parts : Parts) (r : Reading) (heading : ℕ) (at : TileAt) (kind : TileKind) (row : List Bool) → IsSound parts r → IsOpenTile parts at kind r.rows → length row ≡ columns kind
+    → IsSound parts (with_row r heading at kind (r.rows ++ row ∷ []))
+row_sound parts r heading at kind row sound is long = by (nat_eq (length (r.rows ++ row ∷ [])) 16) refl
+  where
+    wide : All (λ (line : List Bool). length line ≡ columns kind) (r.rows ++ row ∷ [])
+    wide = All-push (λ (line : List Bool). length line ≡ columns kind) r.rows row is.wide long
+
+    tall : nat_eq (length (r.rows ++ row ∷ [])) 16 ≡ true → length (r.rows ++ row ∷ []) ≡ 16
+    tall test = search (rules, tests)
+
+    by : (x : Bool) → nat_eq (length (r.rows ++ row ∷ [])) 16 ≡ x
+        → IsSound parts (cond x (record r { section = Nowhere; rows = []; bits = with_rows at (r.rows ++ row ∷ []) r.bits }) (record r { section = Rows heading at kind; rows = r.rows ++ row ∷ [] }))
+    by true test = record {
+      bits = with_rows_is_of parts r.bits at (r.rows ++ row ∷ []) is.tile sound.bits is.known
+          (subst (λ (k : TileKind). IsGrid (columns k) (r.rows ++ row ∷ [])) (sym is.of_kind) (record { tall = tall test; wide = wide }));
+      open_tile = tt;
+    }
+    by false test = record { bits = sound.bits; open_tile = record { tile = is.tile; known = is.known; of_kind = is.of_kind; wide = wide } }
+
+row_line_sound : (parts : Parts) (r : Reading) (heading : ℕ) (at : TileAt) (kind : TileKind) (w : List ℕ) (ws : List (List ℕ)) → IsSound parts r → IsOpenTile parts at kind r.rows
+    → IfOk (row_says r heading at kind w ws) (IsSound parts)
+row_line_sound parts r heading at kind w ws sound is = by (row_of_words (columns kind) w ws) refl
+  where
+    by : (o : Option (List Bool)) → row_of_words (columns kind) w ws ≡ o → IfOk (known_row r.line o >>= (λ row. Ok (with_row r heading at kind (r.rows ++ row ∷ [])))) (IsSound parts)
+    by None e = tt
+    by (Some row) e = row_sound parts r heading at kind row sound is (row_length (columns kind) w ws row e)
+
+-- ---- headings
+kinds_same : (a b : TileKind) → same_kind a b ≡ true → a ≡ b
+kinds_same Io Io e = refl
+kinds_same Io Logic e = absurd (cc)
+kinds_same Io RamBottom e = absurd (cc)
+kinds_same Io RamTop e = absurd (cc)
+kinds_same Logic Io e = absurd (cc)
+kinds_same Logic Logic e = refl
+kinds_same Logic RamBottom e = absurd (cc)
+kinds_same Logic RamTop e = absurd (cc)
+kinds_same RamBottom Io e = absurd (cc)
+kinds_same RamBottom Logic e = absurd (cc)
+kinds_same RamBottom RamBottom e = refl
+kinds_same RamBottom RamTop e = absurd (cc)
+kinds_same RamTop Io e = absurd (cc)
+kinds_same RamTop Logic e = absurd (cc)
+kinds_same RamTop RamBottom e = absurd (cc)
+kinds_same RamTop RamTop e = refl
+
+device_sound : (parts : Parts) (r : Reading) (ws : List (List ℕ)) → IsSound parts r → IfOk (device_says r ws) (IsSound parts)
+device_sound parts r [] sound = tt
+device_sound parts r (name ∷ w ∷ ws) sound = tt
+device_sound parts r (name ∷ []) sound = by (bytes_eq name (codes "1k"))
+  where
+    by : (x : Bool) → IfOk (cond x (Ok (record r { has_device = true; section = Nowhere })) (Err (fault.OtherDevice r.line))) (IsSound parts)
+    by true = record { bits = sound.bits; open_tile = tt }
+    by false = tt
+
+tile_sound : (parts : Parts) (r : Reading) (kind : TileKind) (tile : Option TileAt) → IsSound parts r → IfOk (tile_says parts r kind tile) (IsSound parts)
+tile_sound parts r kind None sound = tt
+tile_sound parts r kind (Some at) sound = by (tile_known parts.tiles at) refl
+  where
+    opens : (tile : TileLine) → tile_known parts.tiles at ≡ Some tile → tile.kind ≡ kind → IfOk (opened r kind at) (IsSound parts)
+    opens tile e same = by (list_any (same_tile at) r.seen)
+      where
+        by : (x : Bool) → IfOk (cond x (Err (fault.TileTwice r.line)) (Ok (record r { section = Rows r.line at kind; rows = []; seen = r.seen ++ at ∷ [] }))) (IsSound parts)
+        by true = tt
+        by false = record { bits = sound.bits; open_tile = record { tile = tile; known = e; of_kind = same; wide = All-nil (λ (row : List Bool). length row ≡ columns kind) } }
+
+    by : (o : Option TileLine) → tile_known parts.tiles at ≡ o
+        → IfOk (if is_of_kind kind (option_map (λ (known : TileLine). known.kind) o) then opened r kind at else Err (fault.UnknownTile r.line)) (IsSound parts)
+    by None e = tt
+    by (Some tile) e = of_test (same_kind tile.kind kind) refl
+      where
+        of_test : (x : Bool) → same_kind tile.kind kind ≡ x → IfOk (if x then opened r kind at else Err (fault.UnknownTile r.line)) (IsSound parts)
+        of_test true same = opens tile e (kinds_same tile.kind kind same)
+        of_test false other = tt
+
+extra_sound : (parts : Parts) (r : Reading) (extra : Option (ℕ × ℕ × ℕ)) → IsSound parts r → IfOk (extra_says r extra) (IsSound parts)
+extra_sound parts r None sound = tt
+extra_sound parts r (Some extra) sound = record { bits = record { grids = sound.bits.grids }; open_tile = tt }
+
+heading_sound : (parts : Parts) (r : Reading) (heading : Heading) (ws : List (List ℕ)) → IsSound parts r → IfOk (heading_says parts r heading ws) (IsSound parts)
+heading_sound parts r Device ws sound = device_sound parts r ws sound
+heading_sound parts r (Tile kind) ws sound = by r.has_device
+  where
+    by : (x : Bool) → IfOk (if x then tile_says parts r kind (tile_of_words ws) else Err (fault.NoDevice r.line)) (IsSound parts)
+    by true = tile_sound parts r kind (tile_of_words ws) sound
+    by false = tt
+heading_sound parts r ExtraBit ws sound = extra_sound parts r (extra_of_words ws) sound
+heading_sound parts r Symbol ws sound = record { bits = sound.bits; open_tile = tt }
+heading_sound parts r Other ws sound = record { bits = sound.bits; open_tile = tt }
+
+-- ---- lines
+words_sound : (parts : Parts) (r : Reading) (section : Section) (w : List ℕ) (ws : List (List ℕ)) → IsSound parts r → IsOpen parts section r.rows → IfOk (words_say parts r section w ws) (IsSound parts)
+words_sound parts r (Rows heading at kind) w ws sound is = row_line_sound parts r heading at kind w ws sound is
+words_sound parts r ReadOver w ws sound is = by (begins_with 46 w)
+  where
+    by : (x : Bool) → IfOk (if x then heading_says parts r (heading_of w) ws else Ok r) (IsSound parts)
+    by true = heading_sound parts r (heading_of w) ws sound
+    by false = sound
+words_sound parts r Nowhere w ws sound is = by (begins_with 46 w)
+  where
+    by : (x : Bool) → IfOk (if x then heading_says parts r (heading_of w) ws else Err (fault.UnknownWord r.line)) (IsSound parts)
+    by true = heading_sound parts r (heading_of w) ws sound
+    by false = tt
+
+line_sound : (parts : Parts) (r : Reading) (ws : List (List ℕ)) → IsSound parts r → IfOk (line_says parts r ws) (IsSound parts)
+line_sound parts r [] sound = sound
+line_sound parts r (w ∷ ws) sound = words_sound parts r r.section w ws sound sound.open_tile
+
+lines_sound : (parts : Parts) (r : Reading) (ls : List (ℕ × List ℕ)) → IsSound parts r → IfOk (lines_say parts r ls) (IsSound parts)
+lines_sound parts r [] sound = sound
+lines_sound parts r (l ∷ ls) sound =
+    then_holds (IsSound parts) (IsSound parts) (line_says parts (at_line r l.0) (words l.1)) (λ (s : Reading). lines_say parts s ls)
+    (line_sound parts (at_line r l.0) (words l.1) (record { bits = sound.bits; open_tile = sound.open_tile })) (λ s now. lines_sound parts s ls now)
+
+end_sound : (parts : Parts) (r : Reading) (section : Section) → IsSound parts r → IfOk (end_says r section) (IsOf parts)
+end_sound parts r (Rows heading at kind) sound = tt
+end_sound parts r ReadOver sound = by r.has_device
+  where
+    by : (x : Bool) → IfOk (if x then Ok r.bits else Err (fault.NoDevice r.line)) (IsOf parts)
+    by true = sound.bits
+    by false = tt
+end_sound parts r Nowhere sound = by r.has_device
+  where
+    by : (x : Bool) → IfOk (if x then Ok r.bits else Err (fault.NoDevice r.line)) (IsOf parts)
+    by true = sound.bits
+    by false = tt
+
+pub text_sound : (parts : Parts) (text : List ℕ) → IfOk (asc_in parts text) (IsOf parts)
+text_sound parts text =
+    then_holds (IsSound parts) (IsOf parts) (lines_say parts (start parts) (numbered 1 (lines text))) (λ (r : Reading). end_says r r.section)
+    (lines_sound parts (start parts) (numbered 1 (lines text)) (record { bits = blank_is_of parts; open_tile = tt })) (λ r sound. end_sound parts r r.section sound)
+
+-- what is answered is what is said
+pub answered : (P : Configuration → Type 0) (result said : Result Configuration AscFault) → Answers result said → IfOk said P → IfOk result P
+answered P (Ok bits) said is h = subst (λ (s : Result Configuration AscFault). IfOk s P) is h
+answered P (Err e) said is h = tt

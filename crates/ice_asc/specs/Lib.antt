@@ -1,0 +1,9 @@
+pub mod Faults
+pub mod Words
+pub mod Headings
+pub mod Grammar
+pub mod Text
+pub mod RoundTrip
+pub mod Stops
+pub mod Answers
+pub mod Views

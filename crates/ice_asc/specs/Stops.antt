@@ -1,0 +1,9 @@
+-- The fault that a stop is told as.
+use Rattle.ice_asc.specs.declared.fault.AscFault.{AscFault}
+use Rattle.ice_asc.specs.declared.fault.AscFault.TheVariants as fault
+use Rattle.ice_asc.specs.declared.fault.ReadStop.{ReadStop}
+use Rattle.ice_asc.specs.declared.fault.ReadStop.TheVariants.{NoMemory, Fault}
+
+abbrev pub fault_of : ReadStop → AscFault
+fault_of NoMemory = fault.NoMemory
+fault_of (Fault known) = known

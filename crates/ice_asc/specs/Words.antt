@@ -1,0 +1,47 @@
+-- What the words of a line write: digits of bits, places of tiles, extra bits.
+use Rattle.std.specs.Prelude.{ℕ, ◌==◌, ◌&&◌, Bool, true, false, Option, None, Some, List, [], ◌∷◌, length, map, nat_lt, option_map, if◌then◌else◌}
+use Rattle.std.specs.Option.{option_and_then}
+use Rattle.ice_base.specs.Numbers.{number_in}
+use Rattle.ice_base.specs.declared.number.TileAt.{TileAt}
+
+-- all the values of a list, where each is known
+abbrev pub all_known : {A : Type 0} → List (Option A) → Option (List A)
+all_known [] = Some []
+all_known (None ∷ others) = None
+all_known (Some x ∷ others) = option_map (λ xs. x ∷ xs) (all_known others)
+
+-- the bit of a digit: 48 is `0`, 49 is `1`
+abbrev pub bit_of_digit : ℕ → Option Bool
+bit_of_digit b = if b == 48 then Some false else (if b == 49 then Some true else None)
+
+-- the bits of as many digits as there are columns
+abbrev pub bits_of_digits : ℕ → List ℕ → Option (List Bool)
+bits_of_digits columns digits = if length digits == columns then all_known (map bit_of_digit digits) else None
+
+-- the row that the words of a line write: one word of digits
+abbrev pub row_of_words : ℕ → List ℕ → List (List ℕ) → Option (List Bool)
+row_of_words columns w [] = bits_of_digits columns w
+row_of_words columns w (v ∷ ws) = None
+
+-- the place of a tile: both numbers are below 65,536
+abbrev pub place_of : ℕ → ℕ → Option TileAt
+place_of x y = if nat_lt x 65536 && nat_lt y 65536 then Some (record { x = x; y = y }) else None
+
+-- the place that two words write
+abbrev pub tile_of_words : List (List ℕ) → Option TileAt
+tile_of_words [] = None
+tile_of_words (x ∷ []) = None
+tile_of_words (x ∷ y ∷ []) = option_and_then (λ a. option_and_then (place_of a) (number_in y)) (number_in x)
+tile_of_words (x ∷ y ∷ z ∷ ws) = None
+
+abbrev pub extra_bit : ℕ → ℕ → ℕ → ℕ × ℕ × ℕ
+extra_bit bank column row = (bank, column, row)
+
+-- the extra bit that three words write: its bank, column and row
+abbrev pub extra_of_words : List (List ℕ) → Option (ℕ × ℕ × ℕ)
+extra_of_words [] = None
+extra_of_words (b ∷ []) = None
+extra_of_words (b ∷ x ∷ []) = None
+extra_of_words (b ∷ x ∷ y ∷ []) =
+    option_and_then (λ bank. option_and_then (λ column. option_map (extra_bit bank column) (number_in y)) (number_in x)) (number_in b)
+extra_of_words (b ∷ x ∷ y ∷ z ∷ ws) = None

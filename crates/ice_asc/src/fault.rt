@@ -1,0 +1,111 @@
+//! Why a text says no configuration bits.
+ghost use Rattle.std.specs.Prelude.{◌≡◌};
+ghost use Rattle.ice_asc.specs.Stops.{fault_of};
+ghost use Rattle.ice_asc.specs.declared.fault.ReadStop.TheVariants.{NoMemory, Fault};
+
+use std::alloc::{AllocError, AllocFailed};
+use thiserror::Error;
+
+/// A fault of a text of bits. Lines are numbered from 1.
+#[derive(Clone, Copy, Debug, PartialEq, Eq, Error)]
+pub enum AscFault {
+    /// A tile stands before the device, or no line names a device: then the line is the last one of the text, or 0.
+    #[error("line {line}: no device is named before")]
+    NoDevice {
+        /// The line.
+        line: u32,
+    },
+    /// The words behind `.device` aren't the name of the chip's device.
+    #[error("line {line}: another device than 1k")]
+    OtherDevice {
+        /// The line.
+        line: u32,
+    },
+    /// The chip has no tile of the kind there.
+    #[error("line {line}: the chip has no such tile")]
+    UnknownTile {
+        /// The line.
+        line: u32,
+    },
+    /// A tile's second heading.
+    #[error("line {line}: a tile for the second time")]
+    TileTwice {
+        /// The line.
+        line: u32,
+    },
+    /// A line among a tile's sixteen isn't of the form, or an extra bit lacks its three numbers.
+    #[error("line {line}: bad row of bits")]
+    BadRow {
+        /// The line.
+        line: u32,
+    },
+    /// A line that is no heading, where no section takes it.
+    #[error("line {line}: unknown word")]
+    UnknownWord {
+        /// The line.
+        line: u32,
+    },
+    /// The text ends before a tile's sixteen lines.
+    #[error("line {line}: the tile lacks rows")]
+    Truncated {
+        /// The line of the tile's heading.
+        line: u32,
+    },
+    /// Want of memory.
+    #[error("want of memory")]
+    NoMemory,
+}
+
+/// Why reading stops.
+#[derive(Clone, Copy, Debug, PartialEq, Eq, Error)]
+pub enum ReadStop {
+    /// Want of memory.
+    #[error("want of memory")]
+    NoMemory,
+    /// The first fault of the text.
+    #[error("{0}")]
+    Fault(AscFault),
+}
+
+impl From<AllocError> for ReadStop {
+    ghost from_gives = { λ _ e. e ≡ NoMemory };
+
+    fn from(_: AllocError) -> Self {
+        ReadStop::NoMemory
+    }
+}
+
+impl<T: Drop> From<AllocFailed<T>> for ReadStop {
+    ghost from_gives = { λ _ e. e ≡ NoMemory };
+
+    fn from(_: AllocFailed<T>) -> Self {
+        ReadStop::NoMemory
+    }
+}
+
+impl From<ice_base::NoMemory> for ReadStop {
+    ghost from_gives = { λ _ e. e ≡ NoMemory };
+
+    fn from(_: ice_base::NoMemory) -> Self {
+        ReadStop::NoMemory
+    }
+}
+
+impl From<AscFault> for ReadStop {
+    ghost from_gives = { λ fault e. e ≡ Fault fault };
+
+    fn from(fault: AscFault) -> Self {
+        ReadStop::Fault(fault)
+    }
+}
+
+impl From<ReadStop> for AscFault {
+    ghost from_gives = { λ stop fault. fault ≡ fault_of stop };
+
+    fn from(stop: ReadStop) -> Self {
+        match stop {
+            ReadStop::NoMemory => AscFault::NoMemory,
+            ReadStop::Fault(fault) => fault,
+        }
+    }
+}

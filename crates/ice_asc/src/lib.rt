@@ -1,0 +1,18 @@
+//! Reading and writing the text of configuration bits (ASC).
+#![tactic(auto)]
+
+mod fault;
+mod headings;
+mod laws;
+mod lines;
+mod read;
+mod reading;
+mod rows;
+mod section;
+mod words;
+mod write;
+
+pub use fault::AscFault;
+pub use laws::written_is_read;
+pub use read::read_asc;
+pub use write::write_asc;

@@ -1,0 +1,78 @@
+//! Words that write places of tiles, extra bits and rows of bits.
+ghost use Rattle.std.specs.Prelude.{◌≡◌, map};
+ghost use Rattle.ice_asc.specs.Words.{bit_of_digit, bits_of_digits, row_of_words, tile_of_words, extra_of_words, all_known};
+ghost use Rattle.ice_asc.specs.Grammar.{known_row};
+ghost use Rattle.ice_asc.specs.Views.{Gives};
+
+use crate::fault::{AscFault, ReadStop};
+use ice_base::{TileAt, WordIter, number_of};
+use std::alloc::Global;
+
+/// The place of a tile that these words write: two numbers below 65,536.
+pub fn tile_of(mut words: WordIter<'_>) -> Option<TileAt>
+    ensures { result ≡ tile_of_words words.entry }
+{
+    let x = words.next()?;
+    let y = words.next()?;
+    if words.next().is_some() {
+        return None;
+    }
+    let x = u16::try_from(number_of(x)?).ok()?;
+    let y = u16::try_from(number_of(y)?).ok()?;
+    Some(TileAt { x, y })
+}
+
+/// The extra bit that these words write: three numbers.
+pub fn extra_of(mut words: WordIter<'_>) -> Option<(u32, u32, u32)>
+    ensures { result ≡ extra_of_words words.entry }
+{
+    let bank = words.next()?;
+    let column = words.next()?;
+    let row = words.next()?;
+    if words.next().is_some() {
+        return None;
+    }
+    Some((number_of(bank)?, number_of(column)?, number_of(row)?))
+}
+
+// The bit of a digit.
+fn bit_of_digit(digit: u8) -> Option<bool>
+    ensures { result ≡ bit_of_digit digit }
+{
+    match digit {
+        b'0' => Some(false),
+        b'1' => Some(true),
+        _ => None,
+    }
+}
+
+// The bits that these digits write.
+#[tactic(auto, using(crate::proofs::KnownLists::all_begin, crate::proofs::KnownLists::bit_joins, crate::proofs::KnownLists::bit_stops, crate::proofs::KnownLists::bits_end))]
+fn known_bits(alloc: Global, line: u32, digits: &[u8]) -> Result<Vec<bool>, ReadStop>
+    ensures { Gives (λ row. row.items) result (known_row line (all_known (map bit_of_digit digits.now))) }
+{
+    let mut row = Vec::with_capacity(alloc, digits.len())?;
+    for digit in digits {
+        let Some(bit) = bit_of_digit(*digit) else {
+            return Err(ReadStop::Fault(AscFault::BadRow { line }));
+        };
+        row.push(bit)?;
+    }
+    Ok(row)
+}
+
+/// The row of so many columns that the words of a line write.
+pub fn row_of(
+    alloc: Global,
+    line: u32,
+    columns: u8,
+    word: &[u8],
+    mut others: WordIter<'_>,
+) -> Result<Vec<bool>, ReadStop>
+    ensures { Gives (λ row. row.items) result (known_row line (row_of_words columns word.now others.entry)) }
+{
+    if others.next().is_some() || word.len() != usize::from(columns) {
+        return Err(ReadStop::Fault(AscFault::BadRow { line }));
+    }
+    known_bits(alloc, line, word)
+}

@@ -1,0 +1,155 @@
+//! Writing the text of bits.
+ghost use Rattle.std.specs.Prelude.{◌≡◌, ◌≤◌, ◌∷◌, [], ◌++◌, map, decimal, option_map, OnOk};
+ghost use Rattle.std.specs.List.{flat_map, range_with_len};
+ghost use Rattle.ice_bits.specs.Configuration.{bit_at, bits_of};
+ghost use Rattle.ice_chip.specs.Lookups.{tile_of};
+ghost use Rattle.ice_asc.specs.Headings.{heading_of_kind};
+ghost use Rattle.ice_asc.specs.Text.{digit_of_bit, row_line, tile_heading, tile_lines, extra_line, text_of_lines, asc_text};
+
+use ice_base::{BitAt, NoMemory};
+use ice_bits::{Bits, TileBits};
+use ice_chip::{Chip, Tile, TileKind};
+use itoa::Buffer;
+
+/// How many rows a tile has.
+const ROWS: u8 = 16;
+
+// Writes a line.
+fn put_line(out: &mut Vec<u8>, line: &[u8]) -> Result<(), NoMemory>
+    ensures { OnOk result (out.new.items ≡ out.old.items ++ text_of_lines (line.now ∷ [])) }
+{
+    out.extend_from_slice(line)?;
+    out.push(b'\n')?;
+    Ok(())
+}
+
+// Writes a number in decimal digits.
+fn put_number(out: &mut Vec<u8>, number: u32) -> Result<(), NoMemory>
+    ensures { OnOk result (out.new.items ≡ out.old.items ++ decimal number) }
+{
+    let mut buffer = Buffer::new();
+    out.extend_from_slice(buffer.format(number).as_bytes())?;
+    Ok(())
+}
+
+// Writes a space and a number.
+fn put_field(out: &mut Vec<u8>, number: u32) -> Result<(), NoMemory>
+    ensures { OnOk result (out.new.items ≡ out.old.items ++ 32 ∷ decimal number) }
+{
+    out.push(b' ')?;
+    put_number(out, number)
+}
+
+// The heading of the tiles of a kind.
+fn heading_of_kind(kind: TileKind) -> &'static [u8]
+    ensures { result.now ≡ heading_of_kind kind }
+{
+    match kind {
+        TileKind::Io => b".io_tile",
+        TileKind::Logic => b".logic_tile",
+        TileKind::RamBottom => b".ramb_tile",
+        TileKind::RamTop => b".ramt_tile",
+    }
+}
+
+// Writes the heading of a tile.
+fn put_heading(out: &mut Vec<u8>, tile: &Tile) -> Result<(), NoMemory>
+    ensures { OnOk result (out.new.items ≡ out.old.items ++ text_of_lines (tile_heading tile.now ∷ [])) }
+{
+    out.extend_from_slice(heading_of_kind(tile.kind))?;
+    put_field(out, u32::from(tile.at.x))?;
+    put_field(out, u32::from(tile.at.y))?;
+    out.push(b'\n')?;
+    Ok(())
+}
+
+fn digit_of_bit(bit: bool) -> u8
+    ensures { result ≡ digit_of_bit bit }
+{
+    if bit { b'1' } else { b'0' }
+}
+
+// The bit at a place of a tile; 0 where there is no such tile.
+fn bit_at(rows: Option<&TileBits>, bit: BitAt) -> bool
+    ensures { result ≡ bit_at (option_map (λ rows. rows.now) rows.entry) bit }
+{
+    match rows {
+        None => false,
+        Some(rows) => rows.get(bit),
+    }
+}
+
+// Writes a row of a tile, with so many columns.
+fn put_row(out: &mut Vec<u8>, rows: Option<&TileBits>, columns: u8, row: u8) -> Result<(), NoMemory>
+    ensures { OnOk result (out.new.items ≡ out.old.items ++ text_of_lines (row_line (bit_at (option_map (λ rows. rows.now) rows.entry)) columns row ∷ [])) }
+{
+    for col in 0..columns {
+        out.push(digit_of_bit(bit_at(rows, BitAt { row, col })))?;
+    }
+    out.push(b'\n')?;
+    Ok(())
+}
+
+// Writes the sixteen rows of a tile, with so many columns.
+fn put_rows(out: &mut Vec<u8>, rows: Option<&TileBits>, columns: u8) -> Result<(), NoMemory>
+    ensures { OnOk result (out.new.items ≡ out.old.items ++ text_of_lines (map (row_line (bit_at (option_map (λ rows. rows.now) rows.entry)) columns) (range_with_len 0 16))) }
+{
+    for row in 0..ROWS {
+        put_row(out, rows, columns, row)?;
+    }
+    Ok(())
+}
+
+// Writes the heading of a tile and its rows.
+fn put_tile(out: &mut Vec<u8>, bits: &Bits, tile: &Tile) -> Result<(), NoMemory>
+    ensures { OnOk result (out.new.items ≡ out.old.items ++ text_of_lines (tile_lines bits.now tile.now)) }
+{
+    put_heading(out, tile)?;
+    put_rows(out, bits.tile(tile.at), tile.kind.columns())?;
+    Ok(())
+}
+
+// Writes the tiles in order.
+fn put_tiles(out: &mut Vec<u8>, bits: &Bits, tiles: &[Tile]) -> Result<(), NoMemory>
+    ensures { OnOk result (out.new.items ≡ out.old.items ++ text_of_lines (flat_map (tile_lines bits.now) tiles.now)) }
+{
+    for tile in tiles {
+        put_tile(out, bits, tile)?;
+    }
+    Ok(())
+}
+
+// Writes an extra bit.
+fn put_extra(out: &mut Vec<u8>, extra: &(u32, u32, u32)) -> Result<(), NoMemory>
+    ensures { OnOk result (out.new.items ≡ out.old.items ++ text_of_lines (extra_line extra.now ∷ [])) }
+{
+    out.extend_from_slice(b".extra_bit")?;
+    put_field(out, extra.0)?;
+    put_field(out, extra.1)?;
+    put_field(out, extra.2)?;
+    out.push(b'\n')?;
+    Ok(())
+}
+
+// Writes the extra bits in order.
+fn put_extras(out: &mut Vec<u8>, extras: &[(u32, u32, u32)]) -> Result<(), NoMemory>
+    ensures { OnOk result (out.new.items ≡ out.old.items ++ text_of_lines (map extra_line extras.now)) }
+{
+    for extra in extras {
+        put_extra(out, extra)?;
+    }
+    Ok(())
+}
+
+/// Appends the text of the bits: a comment and the device, each tile of the chip in order with its heading and sixteen
+/// rows, and the extra bits in order. It fails for want of memory alone, and may then have written a part of the text.
+pub fn write_asc(bits: &Bits, chip: &Chip, out: &mut Vec<u8>) -> Result<(), NoMemory>
+    ensures { OnOk result (out.new.items ≡ out.old.items ++ asc_text chip.now bits.now) }
+{
+    put_line(out, b".comment")?;
+    put_line(out, b"placed and routed")?;
+    put_line(out, b".device 1k")?;
+    put_tiles(out, bits, chip.tiles())?;
+    put_extras(out, bits.extras())?;
+    Ok(())
+}
