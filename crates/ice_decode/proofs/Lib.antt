@@ -1,0 +1,17 @@
+pub mod Members
+pub mod Graphs
+pub mod DifferentTiles
+pub mod PointPlaces
+pub mod Switches
+pub mod RolePlaces
+pub mod ReadPoints
+pub mod Loopless
+pub mod TileLists
+pub mod DriverTables
+pub mod Groups
+pub mod RowValues
+pub mod FirstOf
+pub mod RowsOn
+pub mod Numbered
+pub mod Evaluated
+pub mod Valued

@@ -1,0 +1,68 @@
+-- Lists by tiles with their kinds, and by the rows of the tiles.
+use Rattle.std.proofs.Common.{◌≡◌, Bool, true, false, cond, List, [], ◌∷◌, ◌++◌, Option, None, Some, refl, ap, sym, ◌∙◌, map, filter}
+use Rattle.std.specs.Prelude.{find, option_map}
+use Rattle.std.specs.List.{flat_map}
+use Rattle.ice_base.specs.declared.number.TileAt.{TileAt}
+use Rattle.ice_chip.specs.Database.{Parts, FunctionRow}
+use Rattle.ice_chip.specs.Lookups.{tile_of, is_io_kind}
+use Rattle.ice_chip.specs.declared.parts.TileLine.{TileLine}
+use Rattle.ice_chip.specs.declared.tile.Tile.{Tile}
+use Rattle.ice_decode.specs.Cells.{is_logic, is_logic_tile, logic_tiles}
+use Rattle.ice_bits.specs.Configuration.{Bits}
+use Rattle.ice_decode.specs.Tiles.{logic_among}
+use Rattle.ice_decode.specs.Pads.{pads_in, is_io_tile}
+use Rattle.ice_decode.specs.Faults.{or_else, is_set_in, foreign_in, first_foreign, foreign_function, has_wrong_type, wrong_pad}
+use Rattle.ice_decode.specs.ForeignTiles.{foreign_among}
+use Rattle.ice_decode.specs.PadTiles.{wrong_in, wrong_among}
+
+pub mapped_twice : {A B C : Type 0} (f : A → B) (g : B → C) (o : Option A) → option_map g (option_map f o) ≡ option_map (λ x. g (f x)) o
+mapped_twice f g None = refl
+mapped_twice f g (Some x) = refl
+
+logic_in : (tiles : List (TileAt × TileLine)) → logic_among (map tile_of tiles) ≡ map (λ (tile : TileAt × TileLine). tile.0) (filter is_logic_tile tiles)
+logic_in [] = refl
+logic_in (t ∷ tiles) = by (is_logic t.1.kind) (logic_in tiles)
+  where
+    by : (b : Bool) → logic_among (map tile_of tiles) ≡ map (λ (tile : TileAt × TileLine). tile.0) (filter is_logic_tile tiles)
+        → map (λ (tile : Tile). tile.at) (cond b (tile_of t ∷ filter (λ (tile : Tile). is_logic tile.kind) (map tile_of tiles)) (filter (λ (tile : Tile). is_logic tile.kind) (map tile_of tiles)))
+        ≡ map (λ (tile : TileAt × TileLine). tile.0) (cond b (t ∷ filter is_logic_tile tiles) (filter is_logic_tile tiles))
+    by true e = ap (λ xs. t.0 ∷ xs) e
+    by false e = e
+
+pub logic_same : (parts : Parts) → logic_among (map tile_of parts.tiles) ≡ logic_tiles parts
+logic_same parts = logic_in parts.tiles
+
+-- ---- foreign functions
+foreign_in_tiles : (functions : List FunctionRow) (bits : Bits) (tiles : List (TileAt × TileLine)) → foreign_among functions bits (map tile_of tiles) ≡ first_foreign functions bits tiles
+foreign_in_tiles functions bits [] = refl
+foreign_in_tiles functions bits (t ∷ tiles) =
+    ap (λ o. or_else o (foreign_among functions bits (map tile_of tiles))) (mapped_twice (λ (f : FunctionRow). f.line) (λ line. (t.0, line)) (find (is_set_in bits t) functions))
+    ∙ ap (or_else (foreign_in functions bits t)) (foreign_in_tiles functions bits tiles)
+
+pub foreign_same : (parts : Parts) (bits : Bits) → foreign_among parts.functions bits (map tile_of parts.tiles) ≡ foreign_function parts bits
+foreign_same parts bits = foreign_in_tiles parts.functions bits parts.tiles
+
+-- ---- pads
+find_append : {X : Type 0} (test : X → Bool) (xs ys : List X) → find test (xs ++ ys) ≡ or_else (find test xs) (find test ys)
+find_append test [] ys = refl
+find_append {X} test (x ∷ xs) ys = by (test x) (find_append test xs ys)
+  where
+    by : (b : Bool) → find test (xs ++ ys) ≡ or_else (find test xs) (find test ys) → cond b (Some x) (find test (xs ++ ys)) ≡ or_else (cond b (Some x) (find test xs)) (find test ys)
+    by true e = refl
+    by false e = e
+
+wrong_in_tiles : (parts : Parts) (bits : Bits) (tiles : List (TileAt × TileLine))
+    → wrong_among parts bits (map tile_of tiles) ≡ find (has_wrong_type parts bits) (flat_map (λ (tile : TileAt × TileLine). pads_in tile.0) (filter is_io_tile tiles))
+wrong_in_tiles parts bits [] = refl
+wrong_in_tiles parts bits (t ∷ tiles) = by (is_io_kind t.1.kind) (wrong_in_tiles parts bits tiles)
+  where
+    by : (b : Bool) → wrong_among parts bits (map tile_of tiles) ≡ find (has_wrong_type parts bits) (flat_map (λ (tile : TileAt × TileLine). pads_in tile.0) (filter is_io_tile tiles))
+        → or_else (cond b (wrong_in parts bits t.0) None) (wrong_among parts bits (map tile_of tiles))
+        ≡ find (has_wrong_type parts bits) (flat_map (λ (tile : TileAt × TileLine). pads_in tile.0) (cond b (t ∷ filter is_io_tile tiles) (filter is_io_tile tiles)))
+    by true e =
+        ap (or_else (wrong_in parts bits t.0)) e
+        ∙ sym (find_append (has_wrong_type parts bits) (pads_in t.0) (flat_map (λ (tile : TileAt × TileLine). pads_in tile.0) (filter is_io_tile tiles)))
+    by false e = e
+
+pub wrong_same : (parts : Parts) (bits : Bits) → wrong_among parts bits (map tile_of parts.tiles) ≡ wrong_pad parts bits
+wrong_same parts bits = wrong_in_tiles parts bits parts.tiles

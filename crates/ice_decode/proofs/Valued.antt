@@ -1,0 +1,63 @@
+-- The points of a circuit have values, and faulty bits have no circuit.
+use Rattle.std.proofs.Common.{◌≡◌, ◌≢◌, ℕ, ◌+◌, ◌*◌, ◌<◌, Bool, false, Some, List, refl, ap, sym, ◌∙◌, length, map, arith}
+use Rattle.std.specs.Prelude.{unwrap_or}
+use Rattle.std.proofs.lemmas.Option.{slice_get_within}
+use Rattle.ice_value.specs.System.{value}
+use Rattle.ice_value.specs.Inputs.{reading}
+use Rattle.ice_value.specs.Order.{At, Has}
+use Rattle.ice_value.proofs.Values.{value_there, value_ranked}
+use Rattle.ice_value.proofs.Gaps.{local_gapped}
+use Rattle.ice_chip.specs.Database.{Parts}
+use Rattle.ice_chip.specs.declared.rows.Pad.{Pad}
+use Rattle.ice_bits.specs.Configuration.{Bits, Configuration, bits_of}
+use Rattle.ice_decode.specs.declared.point.Point.{Point}
+use Rattle.ice_decode.specs.declared.fault.DecodeFault.{DecodeFault}
+use Rattle.ice_decode.specs.declared.fault.DecodeFault.TheVariants.{Contention, ForeignSource, ForeignFunction, ForeignExtra, ChipLoop, PinType, NoMemory}
+use Rattle.ice_decode.specs.Cells.{logic_tiles}
+use Rattle.ice_decode.specs.Reads.{points, count_points, reads}
+use Rattle.ice_decode.specs.Meaning.{makes, system_of, point_level}
+use Rattle.ice_decode.specs.Faults.{IsOrderOf, first_extra}
+use Rattle.ice_decode.specs.Refusals.{CircuitData, IsCircuitOf, IsFaultless, IsFaultOf}
+use Rattle.ice_decode.proofs.PointPlaces.{cells_long, points_long}
+
+pub counted : (parts : Parts) → count_points parts ≡ parts.wires + 8 * length (logic_tiles parts)
+counted parts = ap (λ n. parts.wires + n) (cells_long (logic_tiles parts))
+
+-- the place of a point in an order is below the number of the points and one
+place_below : (parts : Parts) (bits : Bits) (order : List Point) → IsOrderOf parts bits order → (i : ℕ) (p : Point) → At order i p → i < count_points parts + 1
+place_below parts bits order o i p at =
+    let lt = slice_get_within order i p at in
+    let few = o.few in
+    let long = points_long parts.wires (logic_tiles parts) in
+    let count = counted parts in
+    omega arith
+
+pub valued : (parts : Parts) (bits : Bits) (order : List Point) → IsOrderOf parts bits order → (bonded : List Pad) (levels kept : List Bool) (p : Point) → Has (points parts) p
+    → value (system_of parts bits bonded levels kept) (count_points parts + 1) p ≡ Some (point_level parts bits bonded levels kept p)
+valued parts bits order o bonded levels kept p has =
+    let there = o.each p has in
+    let found = value_there (system_of parts bits bonded levels kept) (At order) o.after (count_points parts + 1) there.0 p there.1 (place_below parts bits order o there.0 p there.1) in
+    found.1 ∙ ap (λ (x : Bool). Some x) (sym (ap (λ x. unwrap_or x false) found.1))
+
+pub unique : (parts : Parts) (bits : Bits) (order : List Point) → IsOrderOf parts bits order → (bonded : List Pad) (levels kept : List Bool) (v : Point → Bool)
+    → ((p : Point) → Has (points parts) p → v p ≡ makes parts bits bonded levels kept p (map (reading false v) (reads parts bits p)))
+    → (p : Point) → Has (points parts) p → point_level parts bits bonded levels kept p ≡ v p
+unique parts bits order o bonded levels kept v meets p has =
+    let there = o.each p has in
+    ap (λ x. unwrap_or x false)
+    (value_ranked (system_of parts bits bonded levels kept) (At order) v o.after
+    (λ i q at. meets q (o.within q (i, at)) ∙ sym (local_gapped (reads parts bits) false (makes parts bits bonded levels kept) v q))
+    (count_points parts + 1) there.0 p there.1 (place_below parts bits order o there.0 p there.1))
+
+-- ---- faults
+faultless_has_none : (parts : Parts) (bits : Bits) (extras : List (ℕ × ℕ × ℕ)) (fault : DecodeFault) → fault ≢ NoMemory → IsFaultOf parts bits extras fault → IsFaultless parts bits extras → ⊥
+faultless_has_none parts bits extras (Contention wire rows) ne is none = let no = none.of_chip.uncontended in cc (is, no)
+faultless_has_none parts bits extras (ForeignSource wire) ne is none = let yes = is.first in let no = none.of_chip.sources in cc (yes, no)
+faultless_has_none parts bits extras (ForeignFunction tile line) ne is none = let yes = is.first in let no = none.of_chip.functions in cc (yes, no)
+faultless_has_none parts bits extras (ForeignExtra extra) ne is none = let yes = is.first in let no = ap first_extra none.of_chip.no_extras in cc (yes, no)
+faultless_has_none parts bits extras (ChipLoop wires) ne is none = none.loopless.none is.is_loop.cycle is.is_loop.closes
+faultless_has_none parts bits extras (PinType pad value) ne is none = let yes = is.first in let no = none.types in cc (yes, no)
+faultless_has_none parts bits extras NoMemory ne is none = ne refl
+
+pub no_circuit : (parts : Parts) (k : Configuration) (fault : DecodeFault) → fault ≢ NoMemory → IsFaultOf parts (bits_of k) k.extras fault → (circuit : CircuitData) → IsCircuitOf parts k circuit → ⊥
+no_circuit parts k fault ne is circuit of = faultless_has_none parts (bits_of k) k.extras fault ne is of.faultless

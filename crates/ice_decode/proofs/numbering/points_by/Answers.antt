@@ -1,0 +1,10 @@
+use Rattle.std.proofs.Common.{[], ◌∷◌, ◌++◌, ap, sym, ◌∙◌, arith}
+use Rattle.std.proofs.lemmas.List.FromFn.{map-range_with_len_more}
+use Rattle.ice_decode.specs.Reads.{wire_point}
+use Rattle.ice_decode.proofs.numbering.points_by.Goals as goal
+
+pub loop-wire-preserved : goal.loop-wire-preserved
+loop-wire-preserved c =
+    c.in_ok-push.ensures.items
+    ∙ ap (λ points. points ++ wire_point c.loop-wire.wire ∷ []) c.loop-wire.invariant
+    ∙ sym (map-range_with_len_more wire_point 0 c.loop-wire.wire c.loop-wire.wire (omega arith))

@@ -1,0 +1,38 @@
+-- The laws of the meaning of bits, each as one sentence.
+use Rattle.std.specs.Prelude.{◌≡◌, ◌≢◌, ◌+◌, ◌*◌, Bool, false, Some, List, length, map}
+use Rattle.ice_value.specs.System.{value}
+use Rattle.ice_value.specs.Inputs.{reading}
+use Rattle.ice_value.specs.Order.{Has}
+use Rattle.ice_chip.specs.Database.{Parts}
+use Rattle.ice_chip.specs.declared.rows.Pad.{Pad}
+use Rattle.ice_bits.specs.Configuration.{Bits, Configuration, bits_of}
+use Rattle.ice_decode.specs.declared.point.Point.{Point}
+use Rattle.ice_decode.specs.declared.fault.DecodeFault.{DecodeFault}
+use Rattle.ice_decode.specs.declared.fault.DecodeFault.TheVariants.{NoMemory}
+use Rattle.ice_decode.specs.Cells.{logic_tiles}
+use Rattle.ice_decode.specs.Reads.{points, count_points, reads}
+use Rattle.ice_decode.specs.Meaning.{makes, system_of, point_level}
+use Rattle.ice_decode.specs.Faults.{IsOrderOf}
+use Rattle.ice_decode.specs.Refusals.{CircuitData, IsCircuitOf, IsFaultOf}
+
+-- there are as many points as wires, and eight for each logic tile
+abbrev pub PointsAreCounted : Type 0
+PointsAreCounted = (parts : Parts) → count_points parts ≡ parts.wires + 8 * length (logic_tiles parts)
+
+-- with an order of evaluation each point has a value at each moment
+abbrev pub PointsHaveValues : Type 0
+PointsHaveValues = (parts : Parts) (bits : Bits) (order : List Point) → IsOrderOf parts bits order
+    → (bonded : List Pad) (levels kept : List Bool) (p : Point) → Has (points parts) p
+    → value (system_of parts bits bonded levels kept) (count_points parts + 1) p ≡ Some (point_level parts bits bonded levels kept p)
+
+-- then levels of which each is what the point makes of those that it reads are the values
+abbrev pub PointLevelsAreUnique : Type 0
+PointLevelsAreUnique = (parts : Parts) (bits : Bits) (order : List Point) → IsOrderOf parts bits order
+    → (bonded : List Pad) (levels kept : List Bool) (v : Point → Bool)
+    → ((p : Point) → Has (points parts) p → v p ≡ makes parts bits bonded levels kept p (map (reading false v) (reads parts bits p)))
+    → (p : Point) → Has (points parts) p → point_level parts bits bonded levels kept p ≡ v p
+
+-- bits with a fault have no circuit, so a decoding that answers the fault has refused no bits with a meaning
+abbrev pub FaultsHaveNoCircuit : Type 0
+FaultsHaveNoCircuit = (parts : Parts) (k : Configuration) (fault : DecodeFault) → fault ≢ NoMemory → IsFaultOf parts (bits_of k) k.extras fault
+    → (circuit : CircuitData) → IsCircuitOf parts k circuit → ⊥

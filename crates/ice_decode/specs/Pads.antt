@@ -1,0 +1,74 @@
+-- The pads of a chip: their levels, what they give to the chip, and how they are driven.
+use Rattle.std.specs.Prelude.{ℕ, ◌/◌, ◌==◌, ◌&&◌, not, Bool, true, false, Option, None, Some, List, [], ◌∷◌, map, filter, if◌then◌else◌}
+use Rattle.std.specs.List.{flat_map}
+use Rattle.ice_base.specs.declared.number.TileAt.{TileAt}
+use Rattle.ice_chip.specs.Database.{Parts}
+use Rattle.ice_chip.specs.Lookups.{ieren_of, is_io_kind}
+use Rattle.ice_chip.specs.Places.{same_pad}
+use Rattle.ice_chip.specs.declared.rows.Pad.{Pad}
+use Rattle.ice_chip.specs.declared.parts.TileLine.{TileLine}
+use Rattle.ice_bits.specs.Configuration.{Bits}
+use Rattle.ice_bits.specs.Settings.{set_at}
+use Rattle.ice_value.specs.Inputs.{reading}
+use Rattle.ice_net.specs.declared.drive.Drive.{Drive}
+use Rattle.ice_net.specs.declared.drive.Drive.TheVariants.{Off}
+use Rattle.ice_net.specs.Drives.{level_drive}
+use Rattle.ice_net.specs.Meaning.{number_of}
+use Rattle.ice_decode.specs.declared.point.Point.{Point}
+use Rattle.ice_decode.specs.Names.{pin_type_function, input_enable_function, pad_output_name, output_enable_name}
+use Rattle.ice_decode.specs.Reads.{at_pin}
+
+-- ---- the pads of a chip
+abbrev pub pads_in : TileAt → List Pad
+pads_in t = (record { tile = t; pio = 0 }) ∷ (record { tile = t; pio = 1 }) ∷ []
+
+abbrev pub is_io_tile : TileAt × TileLine → Bool
+is_io_tile tile = is_io_kind tile.1.kind
+
+-- the two pads of each IO tile, in the order of the database
+abbrev pub pads : Parts → List Pad
+pads parts = flat_map (λ (tile : TileAt × TileLine). pads_in tile.0) (filter is_io_tile parts.tiles)
+
+-- ---- levels
+-- The level of a pad in a step, whose levels are those of the package's pads in order. A pad outside the package has the level 0.
+abbrev pub level_of : List Pad → List Bool → Pad → Bool
+level_of [] levels pad = false
+level_of (p ∷ bonded) [] pad = false
+level_of (p ∷ bonded) (x ∷ levels) pad = if same_pad p pad then x else level_of bonded levels pad
+
+-- the input buffer of a pad is enabled: by a bit that is 0, in the tile that the database names, or always where it names none
+abbrev pub is_enabled_by : Parts → Bits → Option Pad → Bool
+is_enabled_by parts bits None = true
+is_enabled_by parts bits (Some enable) = not (set_at parts bits enable.tile (input_enable_function enable.pio) 0)
+
+abbrev pub is_enabled : Parts → Bits → Pad → Bool
+is_enabled parts bits pad = is_enabled_by parts bits (ieren_of parts pad)
+
+-- what a pad gives to its wire in the chip
+abbrev pub pad_gives : Parts → Bits → List Pad → List Bool → Pad → Bool
+pad_gives parts bits bonded levels pad = is_enabled parts bits pad && level_of bonded levels pad
+
+-- ---- drives
+-- the digit of a pad's pin type, of which there are six
+abbrev pub pin_type_digit : Parts → Bits → Pad → ℕ → Bool
+pin_type_digit parts bits pad k = set_at parts bits pad.tile (pin_type_function pad.pio k) 0
+
+-- The pin type of a pad, as for an SB_IO: its upper four digits are the output part, and its lower two the input part. A pad at a
+-- place that has no IO tile has the type 0.
+abbrev pub pin_type : Parts → Bits → Pad → ℕ
+pin_type parts bits pad = number_of (map (pin_type_digit parts bits pad) (0 ∷ 1 ∷ 2 ∷ 3 ∷ 4 ∷ 5 ∷ []))
+
+-- the level at a pin of a tile, by the levels of points; one that has no wire reads `bare`
+abbrev pub pin_level : Bool → Parts → (Point → Bool) → TileAt → List ℕ → Bool
+pin_level bare parts v t name = reading bare v (at_pin parts t name)
+
+-- what the chip drives with these levels at D_OUT_0 and OUT_ENB, by the output part: 0110 drives the level, 1010 drives it where
+-- enabled, and every other part is off
+abbrev pub part_drive : ℕ → Bool → Bool → Drive
+part_drive part level enable =
+    if part == 6 then level_drive level else (if part == 10 then (if enable then level_drive level else Off) else Off)
+
+-- what the chip drives a pad with, by the levels of points
+abbrev pub drive_at : Parts → Bits → (Point → Bool) → Pad → Drive
+drive_at parts bits v pad =
+    part_drive (pin_type parts bits pad / 4) (pin_level false parts v pad.tile (pad_output_name pad.pio)) (pin_level false parts v pad.tile (output_enable_name pad.pio))

@@ -1,0 +1,88 @@
+-- What the points of a chip read. It depends on no level, whatever a table or a column buffer makes of what is read.
+use Rattle.std.specs.Prelude.{ℕ, ◌+◌, Option, None, Some, List, [], ◌∷◌, ◌++◌, map, length, option_map, if◌then◌else◌, codes}
+use Rattle.std.specs.List.{range_with_len}
+use Rattle.std.proofs.Common.{zero, suc}
+use Rattle.ice_base.specs.declared.number.TileAt.{TileAt}
+use Rattle.ice_chip.specs.Database.{Parts}
+use Rattle.ice_chip.specs.Lookups.{wire_named, global_of}
+use Rattle.ice_bits.specs.Configuration.{Bits}
+use Rattle.ice_value.specs.Inputs.{present}
+use Rattle.ice_decode.specs.declared.point.Point.{Point}
+use Rattle.ice_decode.specs.declared.point.Point.TheVariants.{Wire, Carry}
+use Rattle.ice_decode.specs.declared.driver.Driver.{Driver}
+use Rattle.ice_decode.specs.declared.driver.Driver.TheVariants.{Nothing, By, Several}
+use Rattle.ice_decode.specs.declared.role.Role.{Role}
+use Rattle.ice_decode.specs.declared.role.Role.TheVariants.{Plain, Output, LookUp, CarryOut, PadInput, Global, CarryIn, ClockEnable}
+use Rattle.ice_decode.specs.Names.{input_name}
+use Rattle.ice_decode.specs.Roles.{role_of}
+use Rattle.ice_decode.specs.Drivers.{driver}
+use Rattle.ice_decode.specs.Cells.{cells, has_carry, has_flop}
+
+-- ---- points
+abbrev pub wire_point : ℕ → Point
+wire_point w = Wire (record { 0 = w })
+
+abbrev pub carry_point : TileAt × ℕ → Point
+carry_point c = Carry c.0 c.1
+
+-- the points of a chip: its wires, and the carry of each logic cell
+abbrev pub points : Parts → List Point
+points parts = map wire_point (range_with_len 0 parts.wires) ++ map carry_point (cells parts)
+
+-- how many there are: as many as wires, and eight for each logic tile
+abbrev pub count_points : Parts → ℕ
+count_points parts = parts.wires + length (cells parts)
+
+-- ---- what is read
+-- the wire of a name in a tile, where there is one
+abbrev pub at_pin : Parts → TileAt → List ℕ → Option Point
+at_pin parts t name = option_map wire_point (wire_named parts t name)
+
+-- the wire of a name in a tile that may be missing
+abbrev pub at_pin_of : Parts → Option TileAt → List ℕ → Option Point
+at_pin_of parts None name = None
+at_pin_of parts (Some t) name = at_pin parts t name
+
+-- the four inputs of a cell
+abbrev pub cell_inputs : Parts → TileAt → ℕ → List (Option Point)
+cell_inputs parts t i =
+    at_pin parts t (input_name i 0) ∷ at_pin parts t (input_name i 1) ∷ at_pin parts t (input_name i 2) ∷ at_pin parts t (input_name i 3) ∷ []
+
+-- the carry into a cell: the wire below the first one, and the carry of the cell before for the others
+abbrev pub carry_into : Parts → TileAt → ℕ → Option Point
+carry_into parts t zero = at_pin parts t (codes "carry_in_mux")
+carry_into parts t (suc i) = Some (Carry t i)
+
+-- the second and the third input of a cell, and the carry into it
+abbrev pub carry_inputs : Parts → TileAt → ℕ → List (Option Point)
+carry_inputs parts t i = at_pin parts t (input_name i 1) ∷ at_pin parts t (input_name i 2) ∷ carry_into parts t i ∷ []
+
+-- what feeds a global: `fabout` in its tile
+abbrev pub global_feed : Parts → ℕ → Option Point
+global_feed parts n = at_pin_of parts (global_of parts n) (codes "fabout")
+
+-- what a wire without a row that is on reads, by its role
+abbrev pub role_reads : Parts → Bits → Role → List (Option Point)
+role_reads parts bits Plain = []
+role_reads parts bits (Output t i) = if has_flop parts bits t i then [] else cell_inputs parts t i
+role_reads parts bits (LookUp t i) = cell_inputs parts t i
+role_reads parts bits (CarryOut t i) = Some (Carry t i) ∷ []
+role_reads parts bits (PadInput pad) = []
+role_reads parts bits (Global n) = global_feed parts n ∷ []
+role_reads parts bits (CarryIn t) = []
+role_reads parts bits ClockEnable = []
+
+-- what a wire reads, by what drives it
+abbrev pub driven_reads : Parts → Bits → Role → Driver → List (Option Point)
+driven_reads parts bits role Nothing = role_reads parts bits role
+driven_reads parts bits role (By s) = Some (Wire s.source) ∷ []
+driven_reads parts bits role (Several first second) = []
+
+-- What a point reads. A carry that isn't enabled reads nothing.
+abbrev pub reads : Parts → Bits → Point → List (Option Point)
+reads parts bits (Wire w) = driven_reads parts bits (role_of parts w.0) (driver parts bits w.0)
+reads parts bits (Carry t i) = if has_carry parts bits t i then carry_inputs parts t i else []
+
+-- the points that a point depends on
+abbrev pub depends_on : Parts → Bits → Point → List Point
+depends_on parts bits p = present (reads parts bits p)

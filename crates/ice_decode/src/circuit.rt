@@ -1,0 +1,71 @@
+//! Circuits: bits without a fault.
+ghost use Rattle.std.specs.Prelude.{◌≡◌, ◌<◌, Some, length, map, slice_get};
+ghost use Rattle.ice_decode.specs.Drivers.{row_of};
+ghost use Rattle.ice_decode.specs.Refusals.{CircuitData};
+
+use crate::{Driver, Point};
+use ice_base::{RowNo, WireNo};
+use ice_bits::Bits;
+use std::marker::Model;
+
+/// The circuit in bits without a fault. Contracts see the bits, what drives each wire, and an order of evaluation.
+#[derive(Drop)]
+pub struct Circuit {
+    bits: Bits,
+    drivers: Vec<Driver>,
+    order: Vec<Point>,
+}
+
+impl Model for Circuit {
+    ghost use Rattle.ice_decode.specs.Refusals.{CircuitData};
+
+    ghost Value = { CircuitData };
+
+    ghost view = { λ c. record { configuration = c.bits; drivers = c.drivers.items; order = c.order.items } };
+}
+
+impl Circuit {
+    /// The row of switches that drives a wire, or None exactly where no row into the wire is on. The wire is one of the chip. Takes no
+    /// memory, as the other readers.
+    pub fn driver(&self, wire: WireNo) -> Option<RowNo>
+        requires { wire.0 < length self.now.drivers }
+        ensures { slice_get (map row_of self.now.drivers) wire.0 ≡ Some result }
+    {
+        match self.drivers[wire.0 as usize] {
+            Driver::Nothing | Driver::Several(_, _) => None,
+            Driver::By(switch) => Some(switch.row),
+        }
+    }
+
+    /// What drives each wire, by its number.
+    pub fn drivers(&self) -> &[Driver]
+        ensures { result.now ≡ self.now.drivers }
+    {
+        self.drivers.as_slice()
+    }
+
+    /// Each wire and each logic cell's carry once, after all that it depends on.
+    pub fn order(&self) -> &[Point]
+        ensures { result.now ≡ self.now.order }
+    {
+        self.order.as_slice()
+    }
+
+    /// The bits that were decoded.
+    pub fn bits(&self) -> &Bits
+        ensures { result.now ≡ self.now.configuration }
+    {
+        &self.bits
+    }
+
+    // The circuit of these bits.
+    pub(crate) fn of(bits: Bits, drivers: Vec<Driver>, order: Vec<Point>) -> Circuit
+        ensures { result ≡ record { configuration = bits; drivers = drivers.items; order = order.items } }
+    {
+        Circuit {
+            bits,
+            drivers,
+            order,
+        }
+    }
+}

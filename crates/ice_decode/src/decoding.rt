@@ -1,0 +1,112 @@
+//! The decoding of bits: the circuit in them, or the first fault.
+ghost use Rattle.std.specs.Prelude.{◌≡◌, None, All, IfOk, IfErr, OnOk};
+ghost use Rattle.ice_bits.specs.Configuration.{bits_of};
+ghost use Rattle.ice_decode.specs.Drivers.{switches_on};
+ghost use Rattle.ice_decode.specs.Faults.{contention, wrong_pad, HasNoLoop, IsOrderOf};
+ghost use Rattle.ice_decode.specs.Tables.{IsBetween, AreSources};
+ghost use Rattle.ice_decode.specs.Refusals.{AreDrivers, IsOfChip, IsFaultOf, IsCircuitOf};
+
+use crate::contended::contention;
+use crate::evaluation::{Found, search};
+use crate::foreign::{foreign_function, foreign_source};
+use crate::pads::pin_type;
+use crate::pin_types::wrong_pad;
+use crate::rows::switches_on;
+use crate::tables::{drivers_of, sources_of};
+use crate::{Circuit, DecodeFault, Driver, Point, Switch};
+use ice_base::WireNo;
+use ice_bits::Bits;
+use ice_chip::Chip;
+use std::alloc::Global;
+
+// Looks for a contended wire.
+fn check_contention(chip: &Chip, bits: &Bits, drivers: &[Driver]) -> Result<(), DecodeFault>
+    requires { AreDrivers chip.now (bits_of bits.now) drivers.now }
+    ensures none { OnOk result (contention chip.now (bits_of bits.now) ≡ None) }
+    ensures fault { IfErr result (IsFaultOf chip.now (bits_of bits.now) bits.now.extras) }
+{
+    let (_wires, _extras) = (chip.wires(), bits.extras());
+    match contention(drivers) {
+        None => Ok(()),
+        Some((wire, first, second)) => Err(DecodeFault::Contention {
+            wire: WireNo(wire as u32),
+            rows: (first, second),
+        }),
+    }
+}
+
+// Looks for what no circuit holds: outputs of memories, functions of PLLs and of pairs of pads, and extra bits.
+fn check_foreign(chip: &Chip, bits: &Bits, switches: &[Switch]) -> Result<(), DecodeFault>
+    requires rows { switches.now ≡ switches_on (bits_of bits.now) chip.now.groups }
+    requires wires { All (IsBetween chip.now.wires) switches.now }
+    requires uncontended { contention chip.now (bits_of bits.now) ≡ None }
+    ensures none { OnOk result (IsOfChip chip.now (bits_of bits.now) bits.now.extras) }
+    ensures fault { IfErr result (IsFaultOf chip.now (bits_of bits.now) bits.now.extras) }
+{
+    if let Some(wire) = foreign_source(chip, switches) {
+        return Err(DecodeFault::ForeignSource { wire });
+    }
+    if let Some((tile, line)) = foreign_function(chip, bits) {
+        return Err(DecodeFault::ForeignFunction { tile, line });
+    }
+    if let Some(extra) = bits.extras().first() {
+        return Err(DecodeFault::ForeignExtra { extra: *extra });
+    }
+    Ok(())
+}
+
+// Looks for a loop, and gives an order of evaluation.
+fn check_loops(
+    alloc: Global,
+    chip: &Chip,
+    bits: &Bits,
+    drivers: &[Driver],
+) -> Result<Vec<Point>, DecodeFault>
+    requires drivers { AreDrivers chip.now (bits_of bits.now) drivers.now }
+    requires of_chip { IsOfChip chip.now (bits_of bits.now) bits.now.extras }
+    ensures order { IfOk result (λ order. IsOrderOf chip.now (bits_of bits.now) order.items) }
+    ensures loopless { OnOk result (HasNoLoop chip.now (bits_of bits.now)) }
+    ensures fault { IfErr result (IsFaultOf chip.now (bits_of bits.now) bits.now.extras) }
+{
+    let _wires = chip.wires();
+    match search(alloc, chip, bits, drivers)? {
+        Found::Order(order) => Ok(order),
+        Found::Loop(wires) => Err(DecodeFault::ChipLoop { wires }),
+    }
+}
+
+// Looks for a pad of a wrong type.
+fn check_pin_types(chip: &Chip, bits: &Bits, sources: &[bool]) -> Result<(), DecodeFault>
+    requires sources { AreSources (switches_on (bits_of bits.now) chip.now.groups) sources.now }
+    requires of_chip { IsOfChip chip.now (bits_of bits.now) bits.now.extras }
+    requires loopless { HasNoLoop chip.now (bits_of bits.now) }
+    ensures none { OnOk result (wrong_pad chip.now (bits_of bits.now) ≡ None) }
+    ensures fault { IfErr result (IsFaultOf chip.now (bits_of bits.now) bits.now.extras) }
+{
+    if let Some(pad) = wrong_pad(chip, bits, sources) {
+        let value = pin_type(chip, bits, pad);
+        return Err(DecodeFault::PinType { pad, value });
+    }
+    Ok(())
+}
+
+/// The circuit in the bits of a chip, where they have no fault.
+///
+/// # Errors
+/// The fault of the first kind of which the bits have one, in the order of `DecodeFault`, at the first place of that kind; any loop
+/// may be told. Want of memory may come at any time.
+pub fn decode(alloc: Global, chip: &Chip, bits: &Bits) -> Result<Circuit, DecodeFault>
+    ensures circuit { IfOk result (λ circuit. IsCircuitOf chip.now bits.now circuit) }
+    ensures fault { IfErr result (IsFaultOf chip.now (bits_of bits.now) bits.now.extras) }
+{
+    let wires = chip.wires();
+    let switches = switches_on(alloc, chip, bits)?;
+    let drivers = drivers_of(alloc, wires, &switches)?;
+    check_contention(chip, bits, &drivers)?;
+    check_foreign(chip, bits, &switches)?;
+    let order = check_loops(alloc, chip, bits, &drivers)?;
+    let sources = sources_of(alloc, wires, &switches)?;
+    check_pin_types(chip, bits, &sources)?;
+    let bits = bits.copy(alloc)?;
+    Ok(Circuit::of(bits, drivers, order))
+}

@@ -1,0 +1,94 @@
+//! An order in which the points of a chip can be evaluated, or a loop of them.
+ghost use Rattle.std.specs.Prelude.{◌≡◌, ◌++◌, map, IfOk};
+ghost use Rattle.ice_bits.specs.Configuration.{bits_of};
+ghost use Rattle.ice_decode.specs.Reads.{depends_on};
+ghost use Rattle.ice_decode.specs.Faults.{wires_among};
+ghost use Rattle.ice_decode.specs.Refusals.{AreDrivers};
+ghost use Rattle.ice_decode.specs.Points.{AreAllPoints, IsGraphOf};
+ghost use Rattle.ice_decode.specs.Searched.{IsSearched};
+
+use crate::numbering::Numbering;
+use crate::reads::add_reads;
+use crate::{Driver, Point, Wires};
+use ice_base::NoMemory;
+use ice_bits::Bits;
+use ice_chip::Chip;
+use ice_value::{Graph, Outcome, from_least, order};
+use std::alloc::Global;
+
+/// What the search for an order of all points finds.
+#[derive(Debug, Drop)]
+pub(crate) enum Found {
+    /// Each point once, after all that it depends on.
+    Order(Vec<Point>),
+    /// The wires of points that depend on one another in a circle.
+    Loop(Wires),
+}
+
+// The points with what each depends on.
+fn graph_of_points(
+    alloc: Global,
+    chip: &Chip,
+    bits: &Bits,
+    drivers: &[Driver],
+    numbering: &Numbering,
+) -> Result<Graph, NoMemory>
+    requires drivers { AreDrivers chip.now (bits_of bits.now) drivers.now }
+    requires points { AreAllPoints chip.now numbering.now }
+    ensures { IfOk result (IsGraphOf numbering.now (depends_on chip.now (bits_of bits.now))) }
+{
+    let _wires = chip.wires();
+    let mut graph = Graph::new(alloc);
+    let mut reads = Vec::new(alloc);
+    let mut row = Vec::new(alloc);
+    for point in numbering.points() {
+        reads.clear();
+        add_reads(chip, bits, drivers, *point, &mut reads)?;
+        numbering.number_all(&reads, &mut row)?;
+        graph.push(&row)?;
+    }
+    Ok(graph)
+}
+
+// The wires among some points.
+fn wires_among(alloc: Global, points: &[Point]) -> Result<Wires, NoMemory>
+    ensures { IfOk result (λ wires. wires ≡ wires_among points.now) }
+{
+    let mut wires = Vec::new(alloc);
+    for point in points {
+        if let Point::Wire(wire) = point {
+            wires.push(*wire)?;
+        }
+    }
+    Ok(Wires::from_vec(wires))
+}
+
+/// An order of evaluation of all points of a chip, or else a loop, begun at its point of the least number. The table has what drives
+/// each wire.
+///
+/// # Errors
+/// Want of memory alone.
+pub(crate) fn search(
+    alloc: Global,
+    chip: &Chip,
+    bits: &Bits,
+    drivers: &[Driver],
+) -> Result<Found, NoMemory>
+    requires { AreDrivers chip.now (bits_of bits.now) drivers.now }
+    ensures { IfOk result (IsSearched chip.now (bits_of bits.now)) }
+{
+    let numbering = Numbering::new(alloc, chip)?;
+    let graph = graph_of_points(alloc, chip, bits, drivers, &numbering)?;
+    match order(alloc, &graph)? {
+        Outcome::Order(order) => {
+            let order = numbering.points_at(alloc, &order)?;
+            Ok(Found::Order(order))
+        }
+        Outcome::Cycle(cycle) => {
+            let cycle = from_least(alloc, &cycle)?;
+            let points = numbering.points_at(alloc, &cycle)?;
+            let wires = wires_among(alloc, &points)?;
+            Ok(Found::Loop(wires))
+        }
+    }
+}

@@ -1,0 +1,61 @@
+//! Why bits have no circuit.
+ghost use Rattle.std.specs.Prelude.{◌≡◌};
+ghost use Rattle.ice_decode.specs.declared.fault.DecodeFault.TheVariants.{NoMemory as out_of_memory};
+
+use crate::Wires;
+use ice_base::{NoMemory, RowNo, TileAt, WireNo};
+use ice_chip::Pad;
+use std::alloc::{AllocError, AllocFailed};
+use thiserror::Error;
+
+/// Why bits have no circuit. The kinds are looked for in this order, each over the whole chip.
+#[derive(Debug, Drop, Error)]
+pub enum DecodeFault {
+    /// Two rows of switches into the wire are on, of which these are the first two; the least such wire.
+    #[error("two rows of switches drive one wire")]
+    Contention { wire: WireNo, rows: (RowNo, RowNo) },
+    /// A row is on whose source is this wire, an output of a memory; the least such row.
+    #[error("a memory drives a wire")]
+    ForeignSource { wire: WireNo },
+    /// A bit of a function of a PLL or of a pair of pads is set in this tile, the function of this line; the first in the order of
+    /// tiles and then of lines.
+    #[error("line {line}: a function of a PLL or of a pair of pads is set")]
+    ForeignFunction { tile: TileAt, line: u32 },
+    /// There is an extra bit; the first in their order.
+    #[error("an extra bit")]
+    ForeignExtra { extra: (u32, u32, u32) },
+    /// The wires of a closed list of wires and carries, each of which depends on the next, and the last on the first.
+    #[error("a loop of wires")]
+    ChipLoop { wires: Wires },
+    /// The pad's type has an output part that is unknown, or another input part than 01 while its input is read; the first in
+    /// the order of tiles and pads. The value is from 0 to 63.
+    #[error("{value} is no type of a pad that is known")]
+    PinType { pad: Pad, value: u8 },
+    /// Want of memory.
+    #[error("want of memory")]
+    NoMemory,
+}
+
+impl From<NoMemory> for DecodeFault {
+    ghost from_gives = { λ _ e. e ≡ out_of_memory };
+
+    fn from(_: NoMemory) -> DecodeFault {
+        DecodeFault::NoMemory
+    }
+}
+
+impl From<AllocError> for DecodeFault {
+    ghost from_gives = { λ _ e. e ≡ out_of_memory };
+
+    fn from(_: AllocError) -> DecodeFault {
+        DecodeFault::NoMemory
+    }
+}
+
+impl<T: Drop> From<AllocFailed<T>> for DecodeFault {
+    ghost from_gives = { λ _ e. e ≡ out_of_memory };
+
+    fn from(_: AllocFailed<T>) -> DecodeFault {
+        DecodeFault::NoMemory
+    }
+}

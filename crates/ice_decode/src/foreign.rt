@@ -1,0 +1,108 @@
+//! What no circuit holds: outputs of memories, functions of PLLs and of pairs of pads.
+ghost use Rattle.std.specs.Prelude.{◌≡◌, ◌<◌, All, map, find, option_map};
+ghost use Rattle.std.specs.List.{list_any};
+ghost use Rattle.ice_chip.specs.Functions.{same_kind};
+ghost use Rattle.ice_chip.specs.Views.{function_view};
+ghost use Rattle.ice_bits.specs.Configuration.{bits_of};
+ghost use Rattle.ice_decode.specs.Faults.{is_memory_output, is_foreign_wire, foreign_function};
+ghost use Rattle.ice_decode.specs.Tables.{IsBetween, foreign_source_of};
+ghost use Rattle.ice_decode.specs.ForeignTiles.{is_set_at, foreign_at};
+
+use crate::Switch;
+use ice_base::{BitAt, TileAt, WireNo};
+use ice_bits::Bits;
+use ice_chip::{Chip, Function, Tile, TileKind, is_foreign};
+
+// Whether this is a name of what a memory reads out.
+fn is_memory_output(name: &[u8]) -> bool
+    ensures { result ≡ is_memory_output name.now }
+{
+    name.starts_with(b"ram/RDATA_".as_slice())
+}
+
+// Whether a wire is an output of a memory.
+fn is_foreign_wire(chip: &Chip, wire: WireNo) -> bool
+    requires { wire.0 < chip.now.wires }
+    ensures { result ≡ is_foreign_wire chip.now wire.0 }
+{
+    for placed in chip.names(wire) {
+        if is_memory_output(placed.name.as_bytes()) {
+            return true;
+        }
+    }
+    false
+}
+
+/// The source of the first of these rows whose source is an output of a memory. It takes no memory.
+#[tactic(auto, using(crate::proofs::DriverTables::source_below))]
+pub(crate) fn foreign_source(chip: &Chip, switches: &[Switch]) -> Option<WireNo>
+    requires { All (IsBetween chip.now.wires) switches.now }
+    ensures { option_map (λ wire. wire.0) result ≡ foreign_source_of chip.now switches.now }
+{
+    for switch in switches {
+        if is_foreign_wire(chip, switch.source) {
+            return Some(switch.source);
+        }
+    }
+    None
+}
+
+// Whether two kinds are the same.
+fn same_kind(a: TileKind, b: TileKind) -> bool
+    ensures { result ≡ same_kind a b }
+{
+    match (a, b) {
+        (TileKind::Io, TileKind::Io) => true,
+        (TileKind::Logic, TileKind::Logic) => true,
+        (TileKind::RamBottom, TileKind::RamBottom) => true,
+        (TileKind::RamTop, TileKind::RamTop) => true,
+        _ => false,
+    }
+}
+
+// Whether one of these bits of a tile is 1.
+fn has_one(bits: &Bits, tile: TileAt, places: &[BitAt]) -> bool
+    ensures { result ≡ list_any (bits_of bits.now tile) places.now }
+{
+    for place in places {
+        if bits.get(tile, *place) {
+            return true;
+        }
+    }
+    false
+}
+
+// Whether a bit of a foreign function of the tile's kind is set in the tile.
+fn is_set_at(bits: &Bits, tile: Tile, function: &Function) -> bool
+    ensures { result ≡ is_set_at (bits_of bits.now) tile (function_view function.now) }
+{
+    same_kind(function.kind, tile.kind)
+        && is_foreign(function.kind, function.name.as_bytes())
+        && has_one(bits, tile.at, &function.bits)
+}
+
+// The line of the first foreign function with a bit that is set in the tile.
+fn foreign_at(functions: &[Function], bits: &Bits, tile: Tile) -> Option<u32>
+    ensures { result ≡ foreign_at (map function_view functions.now) (bits_of bits.now) tile }
+{
+    for function in functions {
+        if is_set_at(bits, tile, function) {
+            return Some(function.line);
+        }
+    }
+    None
+}
+
+/// The first tile in which a bit of a foreign function is set, and the line of the first function with one there. It takes no memory.
+#[tactic(auto, using(crate::proofs::TileLists::foreign_same))]
+pub(crate) fn foreign_function(chip: &Chip, bits: &Bits) -> Option<(TileAt, u32)>
+    ensures { result ≡ foreign_function chip.now (bits_of bits.now) }
+{
+    let functions = chip.functions();
+    for tile in chip.tiles() {
+        if let Some(line) = foreign_at(functions, bits, *tile) {
+            return Some((tile.at, line));
+        }
+    }
+    None
+}

@@ -1,0 +1,42 @@
+//! What configuration bits make of a chip: which rows of switches are on, what drives each wire, what each wire and each carry reads
+//! and makes of it, what the pads show step by step; and the circuit in the bits, or the first fault for which they have none.
+#![tactic(auto)]
+
+mod buffers;
+mod circuit;
+mod contended;
+mod decoding;
+mod driver;
+mod evaluation;
+mod fault;
+mod foreign;
+pub mod laws;
+mod names;
+mod numbering;
+mod pads;
+mod pin_types;
+mod point;
+mod reads;
+mod role;
+mod rows;
+mod settings;
+mod tables;
+mod tiles;
+mod wires;
+
+pub use buffers::passes;
+pub use circuit::Circuit;
+pub use decoding::decode;
+pub use driver::{Driver, Switch};
+pub use fault::DecodeFault;
+pub use names::{
+    cell_function, column_buffer_function, input_enable_function, input_name, output_enable_name,
+    pad_input_name, pad_output_name, pin_type_function,
+};
+pub use pads::{is_enabled, pin_type};
+pub use point::Point;
+pub use reads::{add_reads, at_pin};
+pub use role::{Role, role_of};
+pub use settings::{cell_bit, has_carry, has_flop, setting};
+pub use tiles::logic_tiles;
+pub use wires::Wires;

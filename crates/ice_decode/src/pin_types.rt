@@ -1,0 +1,73 @@
+//! Pads of a wrong type.
+ghost use Rattle.std.specs.Prelude.{◌≡◌};
+ghost use Rattle.ice_bits.specs.Configuration.{bits_of};
+ghost use Rattle.ice_decode.specs.Drivers.{switches_on};
+ghost use Rattle.ice_decode.specs.Tables.{AreSources};
+ghost use Rattle.ice_decode.specs.Faults.{is_output_part, has_wrong_type, wrong_pad};
+ghost use Rattle.ice_decode.specs.PadTiles.{is_read_in, wrong_in};
+
+use crate::names::pad_input_name;
+use crate::pads::pin_type;
+use ice_base::{TileAt, WireNo};
+use ice_bits::Bits;
+use ice_chip::{Chip, Pad, TileKind};
+
+// Whether an output part is off, driving, or driving where enabled.
+fn is_output_part(part: u8) -> bool
+    ensures { result ≡ is_output_part part }
+{
+    part == 0b0000 || part == 0b0110 || part == 0b1010
+}
+
+// Whether a row that is on reads a wire, by the table of those that are read.
+fn is_read(sources: &[bool], wire: Option<WireNo>) -> bool
+    ensures { result ≡ is_read_in sources.now wire }
+{
+    match wire {
+        None => false,
+        Some(wire) => sources.get(wire.0 as usize).copied().unwrap_or(false),
+    }
+}
+
+// Whether a pad has a wrong type.
+fn has_wrong_type(chip: &Chip, bits: &Bits, sources: &[bool], pad: Pad) -> bool
+    requires { AreSources (switches_on (bits_of bits.now) chip.now.groups) sources.now }
+    ensures { result ≡ has_wrong_type chip.now (bits_of bits.now) pad }
+{
+    let value = pin_type(chip, bits, pad);
+    let input = chip.wire_named(pad.tile, &pad_input_name(pad.pio));
+    !is_output_part(value / 4) || is_read(sources, input) && value % 4 != 1
+}
+
+// The first of the two pads of an IO tile that has a wrong type.
+fn wrong_in(chip: &Chip, bits: &Bits, sources: &[bool], tile: TileAt) -> Option<Pad>
+    requires { AreSources (switches_on (bits_of bits.now) chip.now.groups) sources.now }
+    ensures { result ≡ wrong_in chip.now (bits_of bits.now) tile }
+{
+    let first = Pad { tile, pio: 0 };
+    if has_wrong_type(chip, bits, sources, first) {
+        return Some(first);
+    }
+    let second = Pad { tile, pio: 1 };
+    if has_wrong_type(chip, bits, sources, second) {
+        return Some(second);
+    }
+    None
+}
+
+/// The first pad of a wrong type, in the order of the tiles. The table has whether a row that is on reads each wire. It takes no memory.
+#[tactic(auto, using(crate::proofs::TileLists::wrong_same))]
+pub(crate) fn wrong_pad(chip: &Chip, bits: &Bits, sources: &[bool]) -> Option<Pad>
+    requires { AreSources (switches_on (bits_of bits.now) chip.now.groups) sources.now }
+    ensures { result ≡ wrong_pad chip.now (bits_of bits.now) }
+{
+    for tile in chip.tiles() {
+        if let TileKind::Io = tile.kind {
+            let found = wrong_in(chip, bits, sources, tile.at);
+            if found.is_some() {
+                return found;
+            }
+        }
+    }
+    None
+}

@@ -1,0 +1,17 @@
+//! Points of a chip.
+
+use ice_base::{TileAt, WireNo};
+
+/// A point of a chip: what has a level at one moment and may depend on other points.
+#[derive(Clone, Copy, Debug, PartialEq, Eq)]
+pub enum Point {
+    /// A wire.
+    Wire(WireNo),
+    /// The carry out of a logic cell.
+    Carry {
+        /// The cell's tile.
+        tile: TileAt,
+        /// The cell's number in its tile, from 0 to 7.
+        cell: u8,
+    },
+}
