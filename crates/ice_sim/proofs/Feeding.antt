@@ -23,18 +23,11 @@ use Rattle.ice_net.specs.Kinds.{ins_count}
 use Rattle.ice_net.specs.Drivers.{number, numbers, is_signal, place_of, is_there, pin_by, pin_of, has_buffer, pad_by, pad_of, pads, outputs, driver_from, driver_of}
 use Rattle.ice_net.specs.Meaning.{number_of, table_bit, majority, level_by, pad_level, reads_by, makes_by, cell_reads, reads, makes}
 use Rattle.ice_sim.specs.declared.parts.Gate.{Gate}
-use Rattle.ice_sim.specs.declared.parts.Feed.{Feed}
-use Rattle.ice_sim.specs.declared.parts.Feed.TheVariants.{Nothing, Port as FromPort, Kept, Made}
+use Rattle.ice_sim.specs.declared.parts.Feed.TheVariants.{Made}
 use Rattle.ice_sim.specs.Slots.{slot_of, slot_at, level_at, gate_of}
 use Rattle.ice_sim.specs.Feeds.{majority_table, first_table, pad_feed, pin_feed, kind_feed, cell_feed, driver_feed, feed_of}
 use Rattle.ice_sim.specs.Sweeps.{gate_level}
-
--- the level that a signal is to have
-abbrev pub feed_level : List Bool → List Bool → List Bool → Feed → Bool
-feed_level levels kept values Nothing = false
-feed_level levels kept values (FromPort k) = slice_index_or levels k false
-feed_level levels kept values (Kept i) = slice_index_or kept i false
-feed_level levels kept values (Made gate) = gate_level values gate
+use Rattle.ice_sim.specs.Arrays.{feed_level}
 
 -- ---- tables
 -- what missing inputs read doesn't count
@@ -46,7 +39,7 @@ four (a ∷ b ∷ c ∷ []) le = refl
 four (a ∷ b ∷ c ∷ d ∷ []) le = refl
 four (a ∷ b ∷ c ∷ d ∷ e ∷ xs) le = absurd (omega arith)
 
-majority_bits : (x y z : Bool) → majority x y z ≡ table_bit 232 (number_of (x ∷ y ∷ z ∷ false ∷ []))
+pub majority_bits : (x y z : Bool) → majority x y z ≡ table_bit 232 (number_of (x ∷ y ∷ z ∷ false ∷ []))
 majority_bits true true true = refl
 majority_bits true true false = refl
 majority_bits true false true = refl
@@ -116,7 +109,7 @@ shifted k l = elim (leb_tells (suc k) l) [
   | inr miss ↦ elim (leb_tells (suc (1 + k)) (suc l)) [ inl never ↦ absurd (omega (arith, miss.1, never.1)) | inr also ↦ rw (miss.0, also.0) refl ]
 ]
 
-position_cons : {X : Type 0} (p : X → Bool) (x : X) (xs : List X) → position p (x ∷ xs) ≡ cond (p x) (Some 0) (option_map suc (position p xs))
+pub position_cons : {X : Type 0} (p : X → Bool) (x : X) (xs : List X) → position p (x ∷ xs) ≡ cond (p x) (Some 0) (option_map suc (position p xs))
 position_cons p x xs = of (p x) refl
   where
     of : (b : Bool) → p x ≡ b → position p (x ∷ xs) ≡ cond b (Some 0) (option_map suc (position p xs))

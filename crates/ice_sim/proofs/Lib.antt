@@ -7,3 +7,17 @@ pub mod Showing
 pub mod Remembering
 pub mod Within
 pub mod Running
+pub mod Arrays
+pub mod TableBits
+pub mod PointLevels
+pub mod PointNumbers
+pub mod RoleCells
+pub mod Laying
+pub mod ChipLevels
+pub mod ChipStates
+pub mod ChipBounds
+pub mod ChipRunning
+pub mod TilePlaces
+pub mod FlopSteps
+pub mod Compiling
+pub mod ChipPlaying

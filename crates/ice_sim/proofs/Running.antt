@@ -19,7 +19,7 @@ use Rattle.ice_sim.specs.Slots.{level_at}
 use Rattle.ice_sim.specs.Feeds.{feed_of, port_in, kept_in, linked, gate_in, tap_of}
 use Rattle.ice_sim.specs.Sweeps.{blank, kept_levels, copied, made, tap_drive, remembered}
 use Rattle.ice_sim.specs.Plans.{IsPlan, IsBetweenSteps, IsRun, state_of, swept}
-use Rattle.ice_sim.proofs.Feeding.{feed_level}
+use Rattle.ice_sim.specs.Arrays.{feed_level}
 use Rattle.ice_sim.proofs.Copying.{copy_long, copy_behind, copy_other, copy_done}
 use Rattle.ice_sim.proofs.Settling.{AreSettled, all_made, values_are}
 use Rattle.ice_sim.proofs.Showing.{all_drive}

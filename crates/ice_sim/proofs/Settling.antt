@@ -20,7 +20,8 @@ use Rattle.ice_sim.specs.declared.parts.Feed.TheVariants.{Nothing, Port as FromP
 use Rattle.ice_sim.specs.Slots.{level_at}
 use Rattle.ice_sim.specs.Feeds.{gate_in, feed_of}
 use Rattle.ice_sim.specs.Sweeps.{gate_level, made}
-use Rattle.ice_sim.proofs.Feeding.{feed_level, feed_makes, gate_out}
+use Rattle.ice_sim.specs.Arrays.{feed_level}
+use Rattle.ice_sim.proofs.Feeding.{feed_makes, gate_out}
 
 -- one more point of an order is filled, in an array that may go on behind the points
 pub filled_one : {A : Type 0} (s : System ℕ A) (d : A) (n : ℕ) (order : List ℕ) (values : List A) (i p : ℕ) (x : A)

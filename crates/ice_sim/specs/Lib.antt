@@ -5,3 +5,9 @@ pub mod Slots
 pub mod Feeds
 pub mod Sweeps
 pub mod Plans
+pub mod Arrays
+pub mod ChipSlots
+pub mod Layouts
+pub mod ChipRuns
+pub mod Sites
+pub mod ChipViews

@@ -1,18 +1,31 @@
-//! Level texts, texts of drives, and the simulator of netlists.
+//! Level texts, texts of drives, and the simulators of netlists and of configured chips.
 #![tactic(auto)]
 
+mod chip_flops;
+mod chip_plan;
+mod chip_playing;
+mod chip_run;
+mod chip_taps;
 mod drives;
 mod fault;
 mod feeds;
 mod flops;
+mod gates;
+mod layout;
 mod levels;
 mod parts;
 mod plan;
 mod playing;
+mod point_slots;
+mod points;
 mod reading;
 mod run;
+mod site;
 mod sweep;
+mod wiring;
 
+pub use chip_playing::play_chip;
+pub use chip_run::ChipRun;
 pub use drives::put_drives;
 pub use fault::LevelFault;
 pub use levels::{LevelSteps, Levels};

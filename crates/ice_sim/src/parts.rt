@@ -1,5 +1,7 @@
-//! The parts that a netlist is compiled to. They name places of one array, the slots: each signal has the slot of its number, and
-//! behind them stand one that is always 0 and one that is always 1.
+//! The parts that a netlist or a configured chip is compiled to. They name places of one array, the slots. Each signal of a netlist
+//! has the slot of its number, and behind them stand one that is always 0 and one that is always 1. Of a chip, slot 0 is always 0 and
+//! slot 1 always 1, and each table, carry, flip-flop and pad in use has one of those behind. A port is a pad of the package there, a
+//! cell a logic cell, and a signal a slot.
 use ice_net::Reset;
 
 /// A look-up table of four inputs.

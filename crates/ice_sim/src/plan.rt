@@ -28,8 +28,8 @@ pub struct Plan {
     pub keepers: Vec<Keeper>,
 }
 
-// Adds a signal to the part that it belongs to.
-fn add(
+/// Adds a signal to the part that it belongs to.
+pub(crate) fn add(
     pads: &mut Vec<Link>,
     keeps: &mut Vec<Link>,
     gates: &mut Vec<Gate>,

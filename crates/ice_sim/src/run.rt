@@ -35,8 +35,8 @@ impl<'a> Model for NetRun<'a> {
     ghost invariant = { λ r. IsRun r.sound.now r.plan r.memories.items r.values.items };
 }
 
-// What so many cells keep at the start: nothing, and flip-flops 0.
-fn blanks(alloc: Global, cells: usize) -> Result<Vec<Memory>, NoMemory>
+/// What so many cells keep at the start: nothing, and flip-flops 0.
+pub(crate) fn blanks(alloc: Global, cells: usize) -> Result<Vec<Memory>, NoMemory>
     ensures { IfOk result (λ memories. memories.items ≡ replicate cells blank) }
 {
     let blank = Memory {

@@ -1,4 +1,4 @@
-//! One step of a compiled netlist.
+//! One step of a compiled netlist or chip.
 ghost use Rattle.std.specs.Prelude.{◌≡◌, ◌<◌, length, map, All};
 ghost use Rattle.ice_net.specs.Meaning.{table_bit};
 ghost use Rattle.ice_sim.specs.Sweeps.{copied, kept_levels, gate_level, made, tap_drive, next_memory, remembered};

@@ -1,0 +1,158 @@
+-- The levels of the points of a chip are those in their slots.
+use Rattle.std.proofs.Common.{◌≡◌, ℕ, ◌+◌, ◌<◌, ◌≤◌, Bool, true, false, cond, List, [], ◌∷◌, length, map, Option, Some, None, All, refl, ap, sym, ◌∙◌, subst, arith, length-append}
+use Rattle.std.specs.Prelude.{◌==◌, ◌/◌, option_map, unwrap_or}
+use Rattle.std.specs.List.{range_with_len}
+use Rattle.std.specs.Map.{lookup}
+use Rattle.std.proofs.lemmas.List.{length-map}
+use Rattle.std.proofs.lemmas.List.FromFn.{length-range_with_len}
+use Rattle.std.proofs.lemmas.List.Elements.{All-head, All-tail, All-map, All-filter}
+use Rattle.std.proofs.lemmas.Option.{same_Some, slice_get_within}
+use Rattle.ice_base.specs.declared.number.TileAt.{TileAt}
+use Rattle.ice_value.specs.System.{System, MeetsEquation}
+use Rattle.ice_value.specs.Inputs.{reading}
+use Rattle.ice_value.specs.Order.{At, Has}
+use Rattle.ice_value.proofs.Values.{value_ranked}
+use Rattle.ice_value.proofs.Gaps.{local_gapped}
+use Rattle.ice_chip.specs.Database.{Parts, WireName}
+use Rattle.ice_chip.specs.IsRead.{IsRead}
+use Rattle.ice_chip.specs.Lookups.{wire_named, placed_at, placed_wire, placed_names, is_placed}
+use Rattle.ice_chip.specs.WholeFaults.{same_placed}
+use Rattle.ice_chip.specs.declared.rows.Pad.{Pad}
+use Rattle.ice_chip.specs.declared.whole.PlacedName.{PlacedName}
+use Rattle.ice_bits.specs.Configuration.{Bits}
+use Rattle.ice_net.specs.declared.drive.Drive.TheVariants.{Off}
+use Rattle.ice_net.specs.Drives.{level_drive}
+use Rattle.ice_decode.specs.declared.point.Point.{Point}
+use Rattle.ice_decode.specs.Names.{input_name, pad_output_name, output_enable_name}
+use Rattle.ice_decode.specs.Cells.{cells, logic_tiles, looked_up}
+use Rattle.ice_decode.specs.Reads.{wire_point, carry_point, points, count_points, at_pin, reads}
+use Rattle.ice_decode.specs.Pads.{pin_type, pin_level, part_drive, drive_at}
+use Rattle.ice_decode.specs.Faults.{IsOrderOf}
+use Rattle.ice_decode.specs.Meaning.{makes, system_of, point_level, table_level}
+use Rattle.ice_decode.proofs.PointPlaces.{wire_at}
+use Rattle.ice_sim.specs.Slots.{level_at}
+use Rattle.ice_sim.specs.Sweeps.{gate_level, tap_drive}
+use Rattle.ice_sim.specs.Arrays.{Obeys}
+use Rattle.ice_sim.specs.ChipSlots.{slot_in, pin_slot, cell_gate}
+use Rattle.ice_sim.specs.Layouts.{Layout, part_tap, pad_tap}
+use Rattle.ice_sim.proofs.PointLevels.{cell_makes}
+use Rattle.ice_sim.proofs.Laying.{IsLaid, zero_level, one_level}
+
+-- ---- points of the chip
+pub points_long : (parts : Parts) → length (points parts) ≡ count_points parts
+points_long parts =
+    length-append (map wire_point (range_with_len 0 parts.wires)) (map carry_point (cells parts))
+    ∙ ap (λ n. n + length (map carry_point (cells parts))) (length-map (range_with_len 0 parts.wires) wire_point ∙ length-range_with_len 0 parts.wires)
+    ∙ ap (λ n. parts.wires + n) (length-map (cells parts) carry_point)
+
+lookup_all : {K V : Type 0} (P : V → Type 0) (test : K → Bool) (entries : List (K × V)) → All (λ (e : K × V). P e.1) entries → (v : V) → lookup test entries ≡ Some v → P v
+lookup_all P test [] all v e = cc e
+lookup_all {K} {V} P test (x ∷ entries) all v e = by (test x.0) (λ f. lookup_all P test entries (All-tail (λ (y : K × V). P y.1) x entries all) v f) e
+  where
+    by : (b : Bool) → (lookup test entries ≡ Some v → P v) → cond b (Some x.1) (lookup test entries) ≡ Some v → P v
+    by true later f = subst P (same_Some x.1 v f) (All-head (λ (y : K × V). P y.1) x entries all)
+    by false later f = later f
+
+named_below : (parts : Parts) → IsRead parts → (t : TileAt) (name : List ℕ) (w : ℕ) → wire_named parts t name ≡ Some w → w < parts.wires
+named_below parts read t name w e =
+    lookup_all (λ (k : ℕ). k < parts.wires) (same_placed (placed_at t name)) (map placed_wire (placed_names parts))
+    (All-map (λ (x : PlacedName × ℕ). x.1 < parts.wires) placed_wire (placed_names parts)
+    (All-filter (is_placed parts.tiles) (λ (n : WireName). n.wire < parts.wires) parts.names read.named_wires)) w e
+
+pub pin_there : (parts : Parts) → IsRead parts → (t : TileAt) (name : List ℕ) (q : Point) → at_pin parts t name ≡ Some q → Has (points parts) q
+pin_there parts read t name q e = of (wire_named parts t name) refl e
+  where
+    of : (o : Option ℕ) → wire_named parts t name ≡ o → option_map wire_point o ≡ Some q → Has (points parts) q
+    of None f g = cc g
+    of (Some w) f g = subst (Has (points parts)) (same_Some (wire_point w) q g) (w, wire_at parts.wires (logic_tiles parts) w (named_below parts read t name w f))
+
+four_list : (parts : Parts) (bits : Bits) (t : TileAt) (i : ℕ) (a b c d w x y z : Bool) → a ≡ w → b ≡ x → c ≡ y → d ≡ z
+    → looked_up parts bits t i (a ∷ b ∷ c ∷ d ∷ []) ≡ looked_up parts bits t i (w ∷ x ∷ y ∷ z ∷ [])
+four_list parts bits t i a b c d w x y z e f g h = rw (e, f, g, h) refl
+
+module _ (parts : Parts) (bits : Bits) (bonded : List Pad) (order : List Point) (o : IsOrderOf parts bits order) (read : IsRead parts) (l : Layout)
+    (laid_ : IsLaid parts bits bonded order (length order) l) (levels kept values : List Bool) (obeys : Obeys l.feeds levels kept values) where
+  abbrev v : Point → Bool
+  v q = level_at values (slot_in parts l.slots q)
+
+  -- the level of a point by its meaning
+  abbrev pub w : Point → Bool
+  w = point_level parts bits bonded levels kept
+
+  zero_is : level_at values 0 ≡ false
+  zero_is = zero_level l.feeds levels kept values laid_.some laid_.first obeys
+
+  one_is : level_at values 1 ≡ true
+  one_is = one_level l.feeds levels kept values laid_.some laid_.first laid_.second obeys
+
+  abbrev system : System Point Bool
+  system = system_of parts bits bonded levels kept
+
+  meets : (j : ℕ) (p : Point) → At order j p → MeetsEquation system v p
+  meets j p at =
+      (laid_.meets j p at (slice_get_within order j p at)).is levels kept values obeys
+      ∙ sym (local_gapped (reads parts bits) false (makes parts bits bonded levels kept) v p)
+
+  -- each point of the chip has its level in its slot
+  pub level_is : (p : Point) → Has (points parts) p → w p ≡ v p
+  level_is p has =
+      let there = o.each p has in
+      let inside : there.0 < length order = slice_get_within order there.0 p there.1 in
+      let few : length order ≤ length (points parts) = o.few in
+      let many : length (points parts) ≡ count_points parts = points_long parts in
+      let enough : there.0 < count_points parts + 1 = omega arith in
+      ap (λ x. unwrap_or x false) (value_ranked system (At order) v o.after meets (count_points parts + 1) there.0 p there.1 enough)
+
+  -- a pin has the level in its slot
+  read_is : (bare : Bool) (slot : ℕ) → level_at values slot ≡ bare → (p : Option Point) → ((q : Point) → p ≡ Some q → Has (points parts) q)
+      → reading bare w p ≡ level_at values (reading slot (slot_in parts l.slots) p)
+  read_is bare slot is None there = sym is
+  read_is bare slot is (Some q) there = level_is q (there q refl)
+
+  pub pin_zero : (t : TileAt) (name : List ℕ) → pin_level false parts w t name ≡ level_at values (pin_slot 0 parts l.slots t name)
+  pin_zero t name = read_is false 0 zero_is (at_pin parts t name) (λ q e. pin_there parts read t name q e)
+
+  pub pin_one : (t : TileAt) (name : List ℕ) → pin_level true parts w t name ≡ level_at values (pin_slot 1 parts l.slots t name)
+  pin_one t name = read_is true 1 one_is (at_pin parts t name) (λ q e. pin_there parts read t name q e)
+
+  -- what is read by the one and by the other
+  read_same : (p : Option Point) → ((q : Point) → p ≡ Some q → Has (points parts) q) → reading false v p ≡ reading false w p
+  read_same None there = refl
+  read_same (Some q) there = sym (level_is q (there q refl))
+
+  input_same : (t : TileAt) (i k : ℕ) → reading false v (at_pin parts t (input_name i k)) ≡ reading false w (at_pin parts t (input_name i k))
+  input_same t i k = read_same (at_pin parts t (input_name i k)) (λ q e. pin_there parts read t (input_name i k) q e)
+
+  -- the table of a cell over slots
+  pub table_is : (t : TileAt) (i out : ℕ) → gate_level values (cell_gate parts bits l.slots out t i) ≡ table_level parts bits w t i
+  table_is t i out =
+      cell_makes parts bits l.slots values zero_is t i out
+      ∙ four_list parts bits t i
+      (reading false v (at_pin parts t (input_name i 0))) (reading false v (at_pin parts t (input_name i 1)))
+      (reading false v (at_pin parts t (input_name i 2))) (reading false v (at_pin parts t (input_name i 3)))
+      (reading false w (at_pin parts t (input_name i 0))) (reading false w (at_pin parts t (input_name i 1)))
+      (reading false w (at_pin parts t (input_name i 2))) (reading false w (at_pin parts t (input_name i 3)))
+      (input_same t i 0) (input_same t i 1) (input_same t i 2) (input_same t i 3)
+
+  -- ---- pads
+  part_is : (part level enable : ℕ) (x y : Bool) → x ≡ level_at values level → y ≡ level_at values enable → tap_drive values (part_tap part level enable) ≡ part_drive part x y
+  part_is part level enable x y e f = by (part == 6) (part == 10)
+    where
+      by : (always enabled : Bool)
+          → tap_drive values (cond always (record { level = level; enable = 1 }) (cond enabled (record { level = level; enable = enable }) (record { level = 0; enable = 0 })))
+          ≡ cond always (level_drive x) (cond enabled (cond y (level_drive x) Off) Off)
+      by true enabled = ap (λ b. cond b (level_drive (level_at values level)) Off) one_is ∙ ap level_drive (sym e)
+      by false true = ap (λ z. cond (level_at values enable) (level_drive z) Off) (sym e) ∙ ap (λ b. cond b (level_drive x) Off) (sym f)
+      by false false = ap (λ b. cond b (level_drive (level_at values 0)) Off) zero_is
+
+  pad_is : (pad : Pad) → tap_drive values (pad_tap parts bits l.slots pad) ≡ drive_at parts bits w pad
+  pad_is pad =
+      part_is (pin_type parts bits pad / 4) (pin_slot 0 parts l.slots pad.tile (pad_output_name pad.pio)) (pin_slot 0 parts l.slots pad.tile (output_enable_name pad.pio))
+      (pin_level false parts w pad.tile (pad_output_name pad.pio)) (pin_level false parts w pad.tile (output_enable_name pad.pio))
+      (pin_zero pad.tile (pad_output_name pad.pio)) (pin_zero pad.tile (output_enable_name pad.pio))
+
+  pub pads_are : (pads : List Pad) → map (tap_drive values) (map (pad_tap parts bits l.slots) pads) ≡ map (drive_at parts bits w) pads
+  pads_are [] = refl
+  pads_are (pad ∷ pads) =
+      ap (λ d. d ∷ map (tap_drive values) (map (pad_tap parts bits l.slots) pads)) (pad_is pad)
+      ∙ ap (λ ds. drive_at parts bits w pad ∷ ds) (pads_are pads)

@@ -1,0 +1,129 @@
+-- What a configured chip finds while it is compiled.
+use Rattle.std.proofs.Common.{◌≡◌, ℕ, suc, ◌+◌, ◌<◌, Bool, true, false, cond, List, [], ◌∷◌, ◌++◌, length, map, get_or, Option, Some, None, refl, ap, sym, ◌∙◌, arith, eq-eqb, eqb-true}
+use Rattle.std.specs.Prelude.{◌==◌, option_map, position}
+use Rattle.std.specs.List.{range_with_len}
+use Rattle.std.specs.Map.{lookup}
+use Rattle.std.proofs.lemmas.List.FromFn.{length-map-range_with_len, get_or-map-range_with_len}
+use Rattle.indexmap.specs.IndexMap.{IndexMap, insert_entry}
+use Rattle.indexmap.proofs.CallerLemmas.{insert_entry-new}
+use Rattle.ice_base.specs.declared.number.TileAt.{TileAt}
+use Rattle.ice_chip.specs.Database.{Parts}
+use Rattle.ice_chip.specs.IsRead.{IsChip}
+use Rattle.ice_chip.specs.Places.{same_tile, same_pad}
+use Rattle.ice_chip.specs.declared.rows.Pad.{Pad}
+use Rattle.ice_bits.specs.Configuration.{Bits}
+use Rattle.ice_decode.specs.declared.driver.Driver.{Driver}
+use Rattle.ice_decode.specs.declared.driver.Driver.TheVariants.{Nothing, By, Several}
+use Rattle.ice_decode.specs.Drivers.{driver}
+use Rattle.ice_decode.specs.Cells.{logic_tiles}
+use Rattle.ice_decode.specs.Faults.{or_else}
+use Rattle.ice_decode.specs.Meaning.{tile_place}
+use Rattle.ice_decode.specs.Refusals.{AreDrivers}
+use Rattle.ice_decode.proofs.DifferentTiles.{tile_same}
+use Rattle.ice_decode.proofs.Switches.{driver_between}
+use Rattle.ice_sim.specs.ChipSlots.{pad_place}
+use Rattle.ice_sim.specs.Sites.{ComesFrom, put_place, with_place, with_places}
+use Rattle.ice_sim.proofs.Feeding.{position_cons}
+
+-- ---- tests are the same both ways
+number_turned : (a b : ℕ) → (a == b) ≡ (b == a)
+number_turned a b = of (a == b) (b == a) refl refl
+  where
+    of : (x y : Bool) → (a == b) ≡ x → (b == a) ≡ y → x ≡ y
+    of true true e f = refl
+    of false false e f = refl
+    of true false e f = let same : a ≡ b = eqb-true a b e in let hit : (b == a) ≡ true = eq-eqb b a (sym same) in cc (hit, f)
+    of false true e f = let same : b ≡ a = eqb-true b a f in let hit : (a == b) ≡ true = eq-eqb a b (sym same) in cc (hit, e)
+
+tile_turned : (a b : TileAt) → same_tile a b ≡ same_tile b a
+tile_turned a b = rw (number_turned a.x b.x, number_turned a.y b.y) refl
+
+pad_turned : (a b : Pad) → same_pad a b ≡ same_pad b a
+pad_turned a b = rw (tile_turned a.tile b.tile, number_turned a.pio b.pio) refl
+
+-- ---- tiles
+-- a key that is new goes last in a map
+pub new_goes_last : {K V S : Type 0} (eq : K → K → Bool) (m n : IndexMap K V S) (k : K) (v : V) → lookup (eq k) m.entries ≡ None → n.entries ≡ insert_entry eq m.entries k v
+    → n.entries ≡ m.entries ++ (k, v) ∷ []
+new_goes_last eq m n k v none put = put ∙ insert_entry-new eq m k v none
+
+lookup_push : (t u : TileAt) (k : ℕ) (entries : List (TileAt × ℕ))
+    → lookup (same_tile t) (entries ++ (u, k) ∷ []) ≡ or_else (lookup (same_tile t) entries) (cond (same_tile t u) (Some k) None)
+lookup_push t u k [] = refl
+lookup_push t u k (e ∷ entries) = of (same_tile t e.0) (lookup_push t u k entries)
+  where
+    of : (b : Bool) → lookup (same_tile t) (entries ++ (u, k) ∷ []) ≡ or_else (lookup (same_tile t) entries) (cond (same_tile t u) (Some k) None)
+        → cond b (Some e.1) (lookup (same_tile t) (entries ++ (u, k) ∷ [])) ≡ or_else (cond b (Some e.1) (lookup (same_tile t) entries)) (cond (same_tile t u) (Some k) None)
+    of true rec = refl
+    of false rec = rec
+
+nothing_more : (o : Option ℕ) → o ≡ or_else o None
+nothing_more None = refl
+nothing_more (Some x) = refl
+
+already : (x : ℕ) (o : Option ℕ) → o ≡ Some x → (other : Option ℕ) → o ≡ or_else o other
+already x None e other = cc e
+already x (Some y) e other = refl
+
+-- one tile more
+lookup_place : (t u : TileAt) (k : ℕ) (entries : List (TileAt × ℕ))
+    → lookup (same_tile t) (with_place u k entries) ≡ or_else (lookup (same_tile t) entries) (cond (same_tile t u) (Some k) None)
+lookup_place t u k entries = of (lookup (same_tile u) entries) refl
+  where
+    there : (b : Bool) → same_tile t u ≡ b → (x : ℕ) → lookup (same_tile u) entries ≡ Some x → lookup (same_tile t) entries ≡ or_else (lookup (same_tile t) entries) (cond b (Some k) None)
+    there false e x f = nothing_more (lookup (same_tile t) entries)
+    there true e x f = already x (lookup (same_tile t) entries) (ap (λ (v : TileAt). lookup (same_tile v) entries) (tile_same t u e) ∙ f) (Some k)
+
+    of : (o : Option ℕ) → lookup (same_tile u) entries ≡ o → lookup (same_tile t) (put_place u k entries o) ≡ or_else (lookup (same_tile t) entries) (cond (same_tile t u) (Some k) None)
+    of None e = lookup_push t u k entries
+    of (Some x) e = there (same_tile t u) refl x e
+
+shifted : (k : ℕ) (o : Option ℕ) → option_map (λ m. suc k + m) o ≡ option_map (λ m. k + m) (option_map suc o)
+shifted k None = refl
+shifted k (Some m) = let e : suc k + m ≡ k + suc m = omega arith in ap (λ n. Some n) e
+
+joined : (k : ℕ) (b : Bool) (o p : Option ℕ) → or_else (or_else o (cond b (Some k) None)) (option_map (λ m. suc k + m) p) ≡ or_else o (option_map (λ m. k + m) (cond b (Some 0) (option_map suc p)))
+joined k b (Some x) p = refl
+joined k true None p = let e : k ≡ k + 0 = omega arith in ap (λ n. Some n) e
+joined k false None p = shifted k p
+
+-- the places of all these tiles
+lookup_places : (t : TileAt) (k : ℕ) (tiles : List TileAt) (entries : List (TileAt × ℕ))
+    → lookup (same_tile t) (with_places k tiles entries) ≡ or_else (lookup (same_tile t) entries) (option_map (λ m. k + m) (tile_place t tiles))
+lookup_places t k [] entries = nothing_more (lookup (same_tile t) entries)
+lookup_places t k (u ∷ tiles) entries =
+    lookup_places t (suc k) tiles (with_place u k entries)
+    ∙ ap (λ o. or_else o (option_map (λ m. suc k + m) (tile_place t tiles))) (lookup_place t u k entries)
+    ∙ joined k (same_tile t u) (lookup (same_tile t) entries) (tile_place t tiles)
+    ∙ ap (λ b. or_else (lookup (same_tile t) entries) (option_map (λ m. k + m) (cond b (Some 0) (option_map suc (tile_place t tiles))))) (tile_turned t u)
+
+from_zero : (o : Option ℕ) → option_map (λ m. 0 + m) o ≡ o
+from_zero None = refl
+from_zero (Some m) = let e : 0 + m ≡ m = omega arith in ap (λ n. Some n) e
+
+pub tile_found : (parts : Parts) (entries : List (TileAt × ℕ)) (t : TileAt) → entries ≡ with_places 0 (logic_tiles parts) [] → lookup (same_tile t) entries ≡ tile_place t (logic_tiles parts)
+tile_found parts entries t e = ap (lookup (same_tile t)) e ∙ lookup_places t 0 (logic_tiles parts) [] ∙ from_zero (tile_place t (logic_tiles parts))
+
+-- ---- pads
+pub pad_found : (bonded : List Pad) (pad : Pad) → position (same_pad pad) bonded ≡ pad_place bonded pad
+pad_found [] pad = refl
+pad_found (p ∷ bonded) pad =
+    position_cons (same_pad pad) p bonded
+    ∙ ap (λ o. cond (same_pad pad p) (Some 0) (option_map suc o)) (pad_found bonded pad)
+    ∙ ap (λ b. cond b (Some 0) (option_map suc (pad_place bonded pad))) (pad_turned pad p)
+
+-- ---- drivers
+pub driver_within : (parts : Parts) (bits : Bits) (drivers : List Driver) (w : ℕ) → AreDrivers parts bits drivers → w < parts.wires → w < length drivers
+driver_within parts bits drivers w are lt =
+    let long : length (map (driver parts bits) (range_with_len 0 parts.wires)) ≡ parts.wires = length-map-range_with_len (driver parts bits) 0 parts.wires in
+    let same : length drivers ≡ length (map (driver parts bits) (range_with_len 0 parts.wires)) = ap length are in
+    omega arith
+
+pub driver_found : (parts : Parts) (bits : Bits) (drivers : List Driver) (w : ℕ) (d : Driver) → AreDrivers parts bits drivers → w < parts.wires → get_or drivers w d ≡ driver parts bits w
+driver_found parts bits drivers w d are lt =
+    ap (λ (list : List Driver). get_or list w d) are ∙ get_or-map-range_with_len (driver parts bits) 0 parts.wires w w d lt (omega arith)
+
+pub comes_from : (parts : Parts) (bits : Bits) (w : ℕ) (d : Driver) → IsChip parts → d ≡ driver parts bits w → ComesFrom parts.wires d
+comes_from parts bits w Nothing chip e = tt
+comes_from parts bits w (By s) chip e = let between = driver_between parts bits w s chip.read (sym e) in between.source
+comes_from parts bits w (Several first second) chip e = tt

@@ -1,0 +1,91 @@
+//! Runs of configured chips, step by step.
+ghost use Rattle.std.specs.Prelude.{◌≡◌, length, IfOk};
+ghost use Rattle.ice_bits.specs.Configuration.{bits_of};
+ghost use Rattle.ice_decode.specs.Meaning.{start, step};
+ghost use Rattle.ice_decode.specs.Refusals.{IsCircuitOf};
+ghost use Rattle.ice_sim.specs.ChipRuns.{with_state};
+
+use crate::chip_flops::cells_of;
+use crate::chip_plan::compile_chip;
+use crate::parts::Memory;
+use crate::plan::Plan;
+use crate::run::blanks;
+use crate::site::Site;
+use crate::sweep::sweep;
+use ice_base::NoMemory;
+use ice_chip::{Chip, Package};
+use ice_decode::{Circuit, logic_tiles};
+use ice_net::Drive;
+use std::alloc::Global;
+use std::marker::Model;
+
+/// A run of a configured chip, seen at the pads of a package. Contracts see the chip, its bits, those pads and the state.
+#[derive(Drop)]
+pub struct ChipRun<'a> {
+    chip: &'a Chip,
+    circuit: &'a Circuit,
+    package: &'a Package,
+    plan: Plan,
+    // What each logic cell keeps.
+    memories: Vec<Memory>,
+    // The level of each slot in the last step.
+    values: Vec<bool>,
+}
+
+impl<'a> Model for ChipRun<'a> {
+    ghost use Rattle.ice_sim.specs.ChipRuns.{ChipRunData};
+    ghost use Rattle.ice_sim.specs.ChipViews.{run_view, IsRunning};
+
+    ghost Value = { ChipRunData };
+
+    ghost view = { run_view };
+
+    ghost invariant = { IsRunning };
+}
+
+impl<'a> ChipRun<'a> {
+    /// A run before its first step: all flip-flops are 0, and no clock has been seen. All memory that its steps need is taken here.
+    ///
+    /// # Errors
+    /// Want of memory alone; more than 2^32 logic cells, or levels to be kept, count as that.
+    pub fn new(
+        alloc: Global,
+        chip: &'a Chip,
+        circuit: &'a Circuit,
+        package: &'a Package,
+    ) -> Result<ChipRun<'a>, NoMemory>
+        requires { IsCircuitOf chip.now circuit.now.configuration circuit.now }
+        ensures { IfOk result (λ run. run ≡ record { parts = chip.now; configuration = circuit.now.configuration; bonded = «package».now.pads.keys; state = start chip.now }) }
+    {
+        let tiles = logic_tiles(alloc, chip)?;
+        let cells = cells_of(alloc, &tiles)?;
+        let site = Site::new(alloc, chip, circuit, package, &tiles)?;
+        let (plan, values) = compile_chip(alloc, &site, &cells, circuit.order())?;
+        let memories = blanks(alloc, cells.len())?;
+        Ok(ChipRun {
+            chip,
+            circuit,
+            package,
+            plan,
+            memories,
+            values,
+        })
+    }
+
+    /// One step: `levels` has the level of each pad of the package, and `out` becomes what the chip drives each of them with. Its time
+    /// is linear in the numbers of these pads and of the flip-flops, tables and carries in use, and it takes no memory.
+    pub fn step(&mut self, levels: &[bool], out: &mut [Drive])
+        requires levels { length levels.now ≡ length self.old.bonded }
+        requires out { length out.old ≡ length self.old.bonded }
+        ensures run { self.new ≡ with_state self.old (step self.old.parts (bits_of self.old.configuration) self.old.bonded self.old.bonded self.old.state levels.now).0 }
+        ensures out { out.new ≡ (step self.old.parts (bits_of self.old.configuration) self.old.bonded self.old.bonded self.old.state levels.now).1 }
+    {
+        sweep(
+            &self.plan,
+            levels,
+            &mut self.memories,
+            &mut self.values,
+            out,
+        );
+    }
+}

@@ -1,0 +1,47 @@
+//! What the pads of a configured chip drive.
+ghost use Rattle.std.specs.Prelude.{◌≡◌, ◌++◌, map, IfOk};
+ghost use Rattle.ice_bits.specs.Configuration.{bits_of};
+ghost use Rattle.ice_sim.specs.Layouts.{part_tap, pad_tap};
+
+use crate::parts::Tap;
+use crate::site::Site;
+use ice_base::NoMemory;
+use ice_chip::Pad;
+use ice_decode::{output_enable_name, pad_output_name, pin_type};
+use std::alloc::Global;
+
+// What drives a pad, by its output part.
+fn part_tap(part: u8, level: u32, enable: u32) -> Tap
+    ensures { result ≡ part_tap part level enable }
+{
+    if part == 6 {
+        return Tap { level, enable: 1 };
+    }
+    if part == 10 {
+        return Tap { level, enable };
+    }
+    Tap {
+        level: 0,
+        enable: 0,
+    }
+}
+
+// What drives a pad.
+fn pad_tap(site: &Site<'_>, slots: &[u32], pad: Pad) -> Tap
+    ensures { result ≡ pad_tap site.now.parts (bits_of site.now.configuration) slots.now pad }
+{
+    let level = site.pin_slot(0, slots, pad.tile, &pad_output_name(pad.pio));
+    let enable = site.pin_slot(0, slots, pad.tile, &output_enable_name(pad.pio));
+    part_tap(pin_type(site.chip(), site.bits(), pad) / 4, level, enable)
+}
+
+/// What drives each pad of the package.
+pub(crate) fn pad_taps(alloc: Global, site: &Site<'_>, slots: &[u32]) -> Result<Vec<Tap>, NoMemory>
+    ensures { IfOk result (λ taps. taps.items ≡ map (pad_tap site.now.parts (bits_of site.now.configuration) slots.now) site.now.bonded) }
+{
+    let mut taps = Vec::new(alloc);
+    for pad in site.pads().iter() {
+        taps.push(pad_tap(site, slots, *pad))?;
+    }
+    Ok(taps)
+}

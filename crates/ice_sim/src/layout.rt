@@ -1,0 +1,87 @@
+//! The slots of the points of a configured chip, and what feeds them.
+ghost use Rattle.std.specs.Prelude.{◌≡◌, ◌<◌, ◌++◌, ◌∷◌, [], length, All, IfOk, OnOk};
+ghost use Rattle.ice_bits.specs.Configuration.{bits_of};
+ghost use Rattle.ice_decode.specs.Points.{HasWire};
+ghost use Rattle.ice_sim.specs.ChipSlots.{number, point_slot};
+ghost use Rattle.ice_sim.specs.Layouts.{layout_of, placed, laid, constant_feeds, IsPointBelow};
+
+use crate::parts::{Feed, Gate};
+use crate::point_slots::point_slot;
+use crate::points::PointSlot;
+use crate::site::{Site, small};
+use ice_base::NoMemory;
+use ice_decode::Point;
+use std::alloc::Global;
+
+// The table of four inputs that is always 1.
+const ONES: u16 = 0xffff;
+
+/// What feeds slot 0, which is always 0, and slot 1, which is always 1.
+pub(crate) fn constant_feeds(alloc: Global) -> Result<Vec<Feed>, NoMemory>
+    ensures { IfOk result (λ feeds. feeds.items ≡ constant_feeds) }
+{
+    let mut feeds = Vec::new(alloc);
+    feeds.push(Feed::Nothing)?;
+    feeds.push(Feed::Made(Gate {
+        table: ONES,
+        first: 0,
+        second: 0,
+        third: 0,
+        fourth: 0,
+        out: 1,
+    }))?;
+    Ok(feeds)
+}
+
+// Gives the point of a number its slot.
+fn place(
+    slot: PointSlot,
+    number: usize,
+    next: u32,
+    slots: &mut [u32],
+    feeds: &mut Vec<Feed>,
+) -> Result<(), NoMemory>
+    requires number { number < length slots.old }
+    requires next { next ≡ length feeds.old.items }
+    ensures { OnOk result (layout_of slots.new feeds.new.items ≡ placed slot number (layout_of slots.old feeds.old.items)) }
+{
+    match slot {
+        PointSlot::Shared(shared) => slots[number] = shared,
+        PointSlot::Own(feed) => {
+            feeds.push(feed)?;
+            slots[number] = next;
+        }
+    }
+    Ok(())
+}
+
+// Gives one more point its slot.
+fn lay_point(
+    site: &Site<'_>,
+    point: Point,
+    slots: &mut [u32],
+    feeds: &mut Vec<Feed>,
+) -> Result<(), NoMemory>
+    requires { IsPointBelow site.now.parts (length slots.old) point }
+    ensures { OnOk result (layout_of slots.new feeds.new.items ≡ placed (point_slot site.now.parts (bits_of site.now.configuration) site.now.bonded slots.old (length feeds.old.items) point) (number site.now.parts point) (layout_of slots.old feeds.old.items)) }
+{
+    let next = small(feeds.len())?;
+    let slot = point_slot(site, slots, next, point);
+    place(slot, site.number(point), next, slots, feeds)
+}
+
+/// Gives these points their slots, one after another. It fails for want of memory alone; more than 2^32 slots count as that.
+pub(crate) fn lay(
+    site: &Site<'_>,
+    order: &[Point],
+    slots: &mut [u32],
+    feeds: &mut Vec<Feed>,
+) -> Result<(), NoMemory>
+    requires { All (IsPointBelow site.now.parts (length slots.old)) order.now }
+    ensures { OnOk result (layout_of slots.new feeds.new.items ≡ laid site.now.parts (bits_of site.now.configuration) site.now.bonded order.now (layout_of slots.old feeds.old.items)) }
+{
+    for point in order {
+        lay_point(site, *point, slots, feeds)?;
+    }
+    Ok(())
+}

@@ -1,0 +1,12 @@
+//! Slots of the points of a configured chip.
+
+use crate::parts::Feed;
+
+/// The slot of a point.
+#[derive(Clone, Copy, Debug)]
+pub enum PointSlot {
+    /// One that is there already: that of another point, or one that is always 0 or always 1.
+    Shared(u32),
+    /// One of its own, with what feeds it.
+    Own(Feed),
+}

@@ -1,0 +1,17 @@
+//! Tests of bits of the sample chip that are set by hand, decoded and played.
+#![tactic(auto)]
+
+#[cfg(test)]
+mod board;
+#[cfg(test)]
+mod carry_tests;
+#[cfg(test)]
+mod chip_tests;
+#[cfg(test)]
+mod flop_tests;
+#[cfg(test)]
+mod global_tests;
+#[cfg(test)]
+mod small;
+#[cfg(test)]
+mod table_tests;
