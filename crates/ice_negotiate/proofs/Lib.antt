@@ -5,3 +5,4 @@ pub mod Listing
 pub mod Beginning
 pub mod Rounding
 pub mod Stating
+pub mod Repeating

@@ -2,3 +2,4 @@ pub mod Trees
 pub mod Rounds
 pub mod Logs
 pub mod Progress
+pub mod Determined

@@ -18,4 +18,6 @@ pub use stop::TreeStop;
 pub use tree::tree_of;
 
 #[cfg(test)]
+mod generated;
+#[cfg(test)]
 mod tests;
