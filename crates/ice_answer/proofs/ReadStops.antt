@@ -4,7 +4,7 @@ use Rattle.std.proofs.lemmas.Bool.{cases_lt}
 use Rattle.std.proofs.Math.Nat.{eq-or-lt_of_le}
 use Rattle.ice_desk.specs.Desk.{Meaning, SameButReading, SameButSaying, Rose, after_one, after_more}
 use Rattle.ice_answer.specs.declared.cause.Cause.{Cause}
-use Rattle.ice_answer.specs.declared.cause.Cause.TheVariants.{Good, Usage, BadBlif, BadPcf, BadChip, BadNet, BadPin, Unreachable, ReadFault, WriteFault, NoMemory, TooLong, BadLevels, NotBuilt}
+use Rattle.ice_answer.specs.declared.cause.Cause.TheVariants.{Good, Usage, BadBlif, BadPcf, BadChip, BadNet, BadPin, Unreachable, ReadFault, WriteFault, NoMemory, BadAsc, BadBits, TooLong, BadLevels, NotBuilt}
 use Rattle.ice_answer.specs.declared.cause.FileRole.{FileRole}
 use Rattle.ice_answer.specs.Reading.{most_bytes, Files, IsTextOf, FitBefore, IsLastRead, IsReadFault, IsTooLong, IsUnread, IsFirstTooLong, IsReadStop}
 
@@ -60,6 +60,8 @@ stopped_at files old mid new place (BadNet fault) p q n some few before stop = a
 stopped_at files old mid new place (BadPin fault) p q n some few before stop = absurd stop
 stopped_at files old mid new place (Unreachable placement net sink) p q n some few before stop = absurd stop
 stopped_at files old mid new place (WriteFault of_role put) p q n some few before stop = absurd stop
+stopped_at files old mid new place (BadAsc fault) p q n some few before stop = absurd stop
+stopped_at files old mid new place (BadBits fault) p q n some few before stop = absurd stop
 stopped_at files old mid new place (BadLevels line) p q n some few before stop = absurd stop
 stopped_at files old mid new place (NotBuilt of_role) p q n some few before stop = absurd stop
 

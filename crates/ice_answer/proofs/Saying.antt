@@ -1,8 +1,10 @@
 -- Says, one after another.
+use Rattle.std.specs.Prelude.{decimal}
 use Rattle.std.proofs.Common.{inl, inr, ◌≡◌, ◌≤◌, ◌<◌, ◌+◌, ◌-◌, ◌++◌, ℕ, zero, suc, map, get_or, Bool, true, false, List, [], ◌∷◌, length, take, drop, refl, sym, ap, subst, ◌∙◌, arith, length-drop, length-append, take-add, append_assoc, append-nil}
 use Rattle.std.proofs.lemmas.List.{take_all, take-append-le}
 use Rattle.ice_desk.specs.Desk.{Meaning, SameButSaying, Rose, after_one, after_more}
-use Rattle.ice_answer.specs.Causes.{joined}
+use Rattle.ice_base.specs.declared.number.WireNo.{WireNo}
+use Rattle.ice_answer.specs.Causes.{joined, spaced, wire_text}
 use Rattle.ice_answer.specs.Says.{IsSaid, SaidRow}
 
 pub saying_trans : (a b c : Meaning) → SameButSaying a b → SameButSaying b c → SameButSaying a c
@@ -124,3 +126,8 @@ whole a b line calm e said = subst (λ x. IsSaid a b line x) e said
 
 pub cut : (a b : Meaning) (line : List ℕ) (calm : Bool) → calm ≡ false → IsSaid a b line calm → IsSaid a b line false
 cut a b line calm e said = subst (λ x. IsSaid a b line x) e said
+
+-- the numbers of wires, each after a blank
+pub wires_spaced : (wires : List WireNo) → joined (map wire_text wires) ≡ spaced (map decimal (map (λ (w : WireNo). w.0) wires))
+wires_spaced [] = refl
+wires_spaced (w ∷ wires) = ap (λ xs. wire_text w ++ xs) (wires_spaced wires)

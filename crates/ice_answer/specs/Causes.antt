@@ -2,23 +2,24 @@
 use Rattle.std.specs.Prelude.{ℕ, List, [], ◌∷◌, ◌++◌, map, codes, decimal}
 use Rattle.ice_answer.specs.declared.cause.Placement.{Placement}
 use Rattle.ice_answer.specs.declared.cause.Cause.{Cause}
-use Rattle.ice_answer.specs.declared.cause.Cause.TheVariants.{Good, Usage, BadBlif, BadPcf, BadChip, BadNet, BadPin, Unreachable, ReadFault, WriteFault, NoMemory, TooLong, BadLevels, NotBuilt}
+use Rattle.ice_answer.specs.declared.cause.Cause.TheVariants.{Good, Usage, BadBlif, BadPcf, BadChip, BadNet, BadPin, Unreachable, ReadFault, WriteFault, NoMemory, BadAsc, BadBits, TooLong, BadLevels, NotBuilt}
 use Rattle.ice_answer.specs.declared.cause.FileRole.{FileRole}
 use Rattle.ice_answer.specs.declared.cause.FileRole.TheVariants.{Chip, Pcf, Blif, Asc, Levels, Pins, Report, Standard}
 use Rattle.ice_answer.specs.declared.cause.PinFault.{PinFault}
 use Rattle.ice_answer.specs.declared.cause.PinFault.TheVariants as pin_fault
+use Rattle.ice_base.specs.declared.number.WireNo.{WireNo}
+use Rattle.ice_asc.specs.declared.fault.AscFault.{AscFault}
+use Rattle.ice_asc.specs.declared.fault.AscFault.TheVariants as asc_fault
 use Rattle.ice_blif.specs.declared.fault.BlifFault.{BlifFault}
 use Rattle.ice_blif.specs.declared.fault.BlifFault.TheVariants as blif_fault
 use Rattle.ice_chip.specs.declared.fault.ChipFault.{ChipFault}
 use Rattle.ice_chip.specs.declared.fault.ChipFault.TheVariants as chip_fault
 use Rattle.ice_check.specs.declared.fault.NetFault.{NetFault}
 use Rattle.ice_check.specs.declared.fault.NetFault.TheVariants as net_fault
+use Rattle.ice_decode.specs.declared.fault.DecodeFault.{DecodeFault}
+use Rattle.ice_decode.specs.declared.fault.DecodeFault.TheVariants as decode_fault
 use Rattle.ice_pcf.specs.declared.fault.PcfFault.{PcfFault}
 use Rattle.ice_pcf.specs.declared.fault.PcfFault.TheVariants as pcf_fault
-
--- the line of a pin's fault
-abbrev pub pin_fault_line : PinFault → ℕ
-pin_fault_line (pin_fault.UnknownPin line) = line
 
 abbrev pub no_places : Placement
 no_places = record { at = [] }
@@ -35,6 +36,8 @@ status_of (Unreachable placement net sink) = 9
 status_of (ReadFault role) = 11
 status_of (WriteFault role put) = 12
 status_of NoMemory = 13
+status_of (BadAsc fault) = 14
+status_of (BadBits fault) = 15
 status_of (TooLong role limit) = 16
 status_of (BadLevels line) = 17
 status_of (NotBuilt role) = 18
@@ -119,6 +122,36 @@ net_line net_fault.NoMemory = joined (codes "error 6 net nomemory\n" ∷ [])
 
 abbrev pub pin_line : PinFault → List ℕ
 pin_line (pin_fault.UnknownPin line) = joined (codes "error 7 pin unknownpin line " ∷ decimal line ∷ codes "\n" ∷ [])
+pin_line pin_fault.NoPackage = joined (codes "error 7 pin nopackage\n" ∷ [])
+
+-- ---- bits
+abbrev pub asc_line : AscFault → List ℕ
+asc_line (asc_fault.NoDevice line) = faulty_line (codes "error 14 asc line ") line (codes " nodevice\n")
+asc_line (asc_fault.OtherDevice line) = faulty_line (codes "error 14 asc line ") line (codes " otherdevice\n")
+asc_line (asc_fault.UnknownTile line) = faulty_line (codes "error 14 asc line ") line (codes " unknowntile\n")
+asc_line (asc_fault.TileTwice line) = faulty_line (codes "error 14 asc line ") line (codes " tiletwice\n")
+asc_line (asc_fault.BadRow line) = faulty_line (codes "error 14 asc line ") line (codes " badrow\n")
+asc_line (asc_fault.UnknownWord line) = faulty_line (codes "error 14 asc line ") line (codes " unknownword\n")
+asc_line (asc_fault.Truncated line) = faulty_line (codes "error 14 asc line ") line (codes " truncated\n")
+asc_line asc_fault.NoMemory = faulty_line (codes "error 14 asc line ") 0 (codes " nomemory\n")
+
+-- a wire's number after a blank
+abbrev pub wire_text : WireNo → List ℕ
+wire_text wire = joined (codes " " ∷ decimal wire.0 ∷ [])
+
+-- a line with three numbers
+abbrev pub numbers_line : List ℕ → ℕ → List ℕ → ℕ → List ℕ → ℕ → List ℕ
+numbers_line head a middle b tail c = joined (head ∷ decimal a ∷ middle ∷ decimal b ∷ tail ∷ decimal c ∷ codes "\n" ∷ [])
+
+abbrev pub bits_line : DecodeFault → List ℕ
+bits_line (decode_fault.Contention wire rows) = numbers_line (codes "error 15 bits contention wire ") wire.0 (codes " rows ") rows.0.0 (codes " ") rows.1.0
+bits_line (decode_fault.ForeignSource wire) = joined (codes "error 15 bits source wire " ∷ decimal wire.0 ∷ codes "\n" ∷ [])
+bits_line (decode_fault.ForeignFunction tile line) = numbers_line (codes "error 15 bits function ") tile.x (codes " ") tile.y (codes " line ") line
+bits_line (decode_fault.ForeignExtra extra) = numbers_line (codes "error 15 bits extra ") extra.0 (codes " ") extra.1 (codes " ") extra.2
+bits_line (decode_fault.ChipLoop wires) = names_line (codes "error 15 bits loop") (map decimal wires)
+bits_line (decode_fault.PinType pad value) =
+    joined (codes "error 15 bits pintype " ∷ decimal pad.tile.x ∷ codes " " ∷ decimal pad.tile.y ∷ codes " " ∷ decimal pad.pio ∷ codes " value " ∷ decimal value ∷ codes "\n" ∷ [])
+bits_line decode_fault.NoMemory = joined (codes "error 15 bits nomemory\n" ∷ [])
 
 -- the line that an answer says: nothing where the work is done
 abbrev pub line_of : Cause → List ℕ
@@ -133,6 +166,8 @@ line_of (Unreachable placement net sink) = joined (codes "error 9 unreachable ne
 line_of (ReadFault role) = joined (codes "error 11 read " ∷ role_name role ∷ codes "\n" ∷ [])
 line_of (WriteFault role put) = joined (codes "error 12 write " ∷ role_name role ∷ codes " put " ∷ decimal put ∷ codes "\n" ∷ [])
 line_of NoMemory = joined (codes "error 13 memory\n" ∷ [])
+line_of (BadAsc fault) = asc_line fault
+line_of (BadBits fault) = bits_line fault
 line_of (TooLong role limit) = joined (codes "error 16 long " ∷ role_name role ∷ codes " limit " ∷ decimal limit ∷ codes "\n" ∷ [])
 line_of (BadLevels line) = joined (codes "error 17 levels line " ∷ decimal line ∷ codes "\n" ∷ [])
 line_of (NotBuilt role) = joined (codes "error 18 notbuilt " ∷ role_name role ∷ codes "\n" ∷ [])

@@ -3,10 +3,12 @@
 ghost use Rattle.std.specs.Prelude.{◌≡◌, []};
 ghost use Rattle.ice_answer.specs.Causes.{no_places};
 
+use ice_asc::AscFault;
 use ice_base::{NetNo, TileAt, WireNo};
 use ice_blif::BlifFault;
 use ice_check::NetFault;
 use ice_chip::ChipFault;
+use ice_decode::DecodeFault;
 use ice_pcf::PcfFault;
 use std::alloc::Global;
 use std::marker::Model;
@@ -24,11 +26,13 @@ pub enum FileRole {
     Standard,
 }
 
-/// Why no pads were given to the ports, with the line of the constraint.
+/// Why no pads were given to the ports.
 #[derive(Clone, Copy, Debug, PartialEq, Eq)]
 pub enum PinFault {
-    /// The package has no pin of this name.
+    /// The package has no pin of the name that the constraint at this line gives.
     UnknownPin { line: u32 },
+    /// The database has no package of the name.
+    NoPackage,
 }
 
 /// The places of the clusters of logic cells, in their order: one tile for each.
@@ -99,6 +103,10 @@ pub enum Cause {
     },
     /// 13: there was no memory.
     NoMemory,
+    /// 14: the text of bits is refused.
+    BadAsc(AscFault),
+    /// 15: the bits have no circuit.
+    BadBits(DecodeFault),
     /// 16: a text has more bytes than the limit.
     TooLong {
         role: FileRole,

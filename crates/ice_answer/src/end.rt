@@ -24,6 +24,8 @@ fn status(cause: &Cause) -> u8
         Cause::ReadFault { .. } => 11,
         Cause::WriteFault { .. } => 12,
         Cause::NoMemory => 13,
+        Cause::BadAsc(_) => 14,
+        Cause::BadBits(_) => 15,
         Cause::TooLong { .. } => 16,
         Cause::BadLevels { .. } => 17,
         Cause::NotBuilt { .. } => 18,

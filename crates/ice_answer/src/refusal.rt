@@ -1,9 +1,11 @@
-//! From the faults of readers to causes.
-ghost use Rattle.ice_answer.specs.Refusals.{IsBlifRefusal, IsPcfRefusal, IsChipRefusal};
+//! From the faults of readers, and of bits, to causes.
+ghost use Rattle.ice_answer.specs.Refusals.{IsBlifRefusal, IsPcfRefusal, IsChipRefusal, IsAscRefusal, IsBitsRefusal};
 
 use crate::cause::Cause;
+use ice_asc::AscFault;
 use ice_blif::BlifFault;
 use ice_chip::ChipFault;
+use ice_decode::DecodeFault;
 use ice_pcf::PcfFault;
 
 /// Why there is no netlist: the fault of its text, or want of memory.
@@ -33,5 +35,25 @@ pub fn chip_refusal(fault: ChipFault) -> Cause
     match fault {
         ChipFault::NoMemory => Cause::NoMemory,
         fault => Cause::BadChip(fault),
+    }
+}
+
+/// Why there are no bits: the fault of their text, or want of memory.
+pub fn asc_refusal(fault: AscFault) -> Cause
+    ensures { IsAscRefusal fault result }
+{
+    match fault {
+        AscFault::NoMemory => Cause::NoMemory,
+        fault => Cause::BadAsc(fault),
+    }
+}
+
+/// Why bits have no circuit: their fault, or want of memory.
+pub fn bits_refusal(fault: DecodeFault) -> Cause
+    ensures { IsBitsRefusal fault result }
+{
+    match fault {
+        DecodeFault::NoMemory => Cause::NoMemory,
+        fault => Cause::BadBits(fault),
     }
 }

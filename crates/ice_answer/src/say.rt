@@ -1,11 +1,13 @@
 //! Saying the line of a refusal, piece by piece. It takes no memory.
 ghost use Rattle.std.specs.Prelude.{◌≡◌, map, decimal, codes, ◌∷◌, []};
 ghost use Rattle.ice_desk.specs.Desk.{SameButSaying, SameTest};
-ghost use Rattle.ice_answer.specs.Causes.{no_places, joined, faulty_line, named_line, names_line, spaced, line_of, role_name, blif_line, pcf_line, chip_line, net_line, pin_line};
+ghost use Rattle.ice_answer.specs.Causes.{no_places, joined, faulty_line, named_line, names_line, spaced, line_of, role_name, blif_line, pcf_line, chip_line, net_line, pin_line, asc_line};
 ghost use Rattle.ice_answer.specs.Says.{IsSaid, IsTextSaid};
 ghost use Rattle.ice_answer.specs.Pieces.{piece_text, IsPlain, IsNameless};
 
+use crate::bits_say::say_bits_fault;
 use crate::cause::{Cause, FileRole, PinFault};
+use ice_asc::AscFault;
 use ice_base::{Name, NetNo, WireNo};
 use ice_blif::BlifFault;
 use ice_check::{Names, NetFault};
@@ -37,7 +39,7 @@ pub fn say_text<D: Desk>(desk: &mut D, text: &[u8]) -> Result<(), u64>
 }
 
 // Says a text. Whether no say failed.
-fn say_all<D: Desk>(desk: &mut D, text: &[u8]) -> bool
+pub(crate) fn say_all<D: Desk>(desk: &mut D, text: &[u8]) -> bool
     ensures same { SameButSaying (D.seen desk.old) (D.seen desk.new) }
     ensures names_read { SameTest (D.may_read desk.old) (D.may_read desk.new) }
     ensures names_written { SameTest (D.may_write desk.old) (D.may_write desk.new) }
@@ -51,7 +53,7 @@ fn say_all<D: Desk>(desk: &mut D, text: &[u8]) -> bool
 
 // A piece of a line.
 #[derive(Clone, Copy)]
-enum Piece {
+pub(crate) enum Piece {
     Text(&'static [u8]),
     Number(u64),
 }
@@ -74,7 +76,7 @@ fn say_piece<D: Desk>(desk: &mut D, piece: Piece) -> bool
 
 // Says pieces, one after another.
 #[tactic(auto, using(crate::proofs::Saying::saying_trans, ice_desk::proofs::Desks::same_test_trans))]
-fn say_pieces<D: Desk>(desk: &mut D, pieces: &[Piece]) -> bool
+pub(crate) fn say_pieces<D: Desk>(desk: &mut D, pieces: &[Piece]) -> bool
     ensures same { SameButSaying (D.seen desk.old) (D.seen desk.new) }
     ensures names_read { SameTest (D.may_read desk.old) (D.may_read desk.new) }
     ensures names_written { SameTest (D.may_write desk.old) (D.may_write desk.new) }
@@ -216,21 +218,54 @@ fn chip_pieces(fault: ChipFault) -> [Piece; 5]
     }
 }
 
-// The line of a refusal that names no signal or port of a netlist, and nothing where the work is done.
+// A fault of the text of bits at a line.
+fn asc_line(line: u32, cause: &'static [u8]) -> [Piece; 5]
+    ensures { joined (map piece_text result) ≡ faulty_line (codes "error 14 asc line ") line cause.now }
+{
+    three(b"error 14 asc line ", Piece::Number(line as u64), cause)
+}
+
+// The line of a fault of the text of bits.
+fn asc_pieces(fault: AscFault) -> [Piece; 5]
+    ensures { joined (map piece_text result) ≡ asc_line fault }
+{
+    match fault {
+        AscFault::NoDevice { line } => asc_line(line, b" nodevice\n"),
+        AscFault::OtherDevice { line } => asc_line(line, b" otherdevice\n"),
+        AscFault::UnknownTile { line } => asc_line(line, b" unknowntile\n"),
+        AscFault::TileTwice { line } => asc_line(line, b" tiletwice\n"),
+        AscFault::BadRow { line } => asc_line(line, b" badrow\n"),
+        AscFault::UnknownWord { line } => asc_line(line, b" unknownword\n"),
+        AscFault::Truncated { line } => asc_line(line, b" truncated\n"),
+        AscFault::NoMemory => asc_line(0, b" nomemory\n"),
+    }
+}
+
+// The line of a fault of the pins.
+fn pin_pieces(fault: PinFault) -> [Piece; 5]
+    ensures { joined (map piece_text result) ≡ pin_line fault }
+{
+    match fault {
+        PinFault::UnknownPin { line } => {
+            let line = Piece::Number(line as u64);
+            three(b"error 7 pin unknownpin line ", line, b"\n")
+        }
+        PinFault::NoPackage => one(b"error 7 pin nopackage\n"),
+    }
+}
+
+// The line of a refusal that names no signal or port of a netlist and no wires, and nothing where the work is done.
 fn line_pieces(cause: &Cause) -> [Piece; 5]
     requires { IsPlain cause.now }
     ensures { joined (map piece_text result) ≡ line_of cause.now }
 {
     match cause {
-        Cause::Good { .. } | Cause::BadNet(_) => one(b""),
+        Cause::Good { .. } | Cause::BadNet(_) | Cause::BadBits(_) => one(b""),
         Cause::Usage => one(b"error 2 usage\n"),
         Cause::BadBlif(fault) => blif_pieces(*fault),
         Cause::BadPcf(fault) => pcf_pieces(*fault),
         Cause::BadChip(fault) => chip_pieces(*fault),
-        Cause::BadPin(PinFault::UnknownPin { line }) => {
-            let line = Piece::Number(*line as u64);
-            three(b"error 7 pin unknownpin line ", line, b"\n")
-        }
+        Cause::BadPin(fault) => pin_pieces(*fault),
         Cause::Unreachable { net, sink, .. } => unreachable_pieces(*net, *sink),
         Cause::ReadFault { role } => three(b"error 11 read ", role_name(*role), b"\n"),
         Cause::WriteFault { role, put } => {
@@ -238,6 +273,7 @@ fn line_pieces(cause: &Cause) -> [Piece; 5]
             five(b"error 12 write ", role_name(*role), b" put ", put)
         }
         Cause::NoMemory => one(b"error 13 memory\n"),
+        Cause::BadAsc(fault) => asc_pieces(*fault),
         Cause::TooLong { role, limit } => {
             let limit = Piece::Number(*limit as u64);
             five(b"error 16 long ", role_name(*role), b" limit ", limit)
@@ -360,6 +396,7 @@ pub fn say_line<D: Desk>(desk: &mut D, cause: &Cause) -> bool
 {
     match cause {
         Cause::BadNet(fault) => say_fault(desk, fault),
+        Cause::BadBits(fault) => say_bits_fault(desk, fault),
         cause => say_pieces(desk, &line_pieces(cause)),
     }
 }

@@ -9,12 +9,13 @@ use Rattle.ice_check.proofs.Faulty.{faulty}
 use Rattle.ice_check.specs.declared.fault.NetFault.{NetFault}
 use Rattle.ice_sim.specs.LevelTexts.{levels_of}
 use Rattle.ice_answer.specs.declared.cause.Cause.{Cause}
-use Rattle.ice_answer.specs.declared.cause.Cause.TheVariants.{Good, Usage, BadBlif, BadPcf, BadChip, BadNet, BadPin, Unreachable, ReadFault, WriteFault, NoMemory, TooLong, BadLevels, NotBuilt}
+use Rattle.ice_answer.specs.declared.cause.Cause.TheVariants.{Good, Usage, BadBlif, BadPcf, BadChip, BadNet, BadPin, Unreachable, ReadFault, WriteFault, NoMemory, BadAsc, BadBits, TooLong, BadLevels, NotBuilt}
 use Rattle.ice_answer.specs.declared.cause.FileRole.{FileRole}
 use Rattle.ice_answer.specs.Causes.{status_of}
 use Rattle.ice_answer.specs.Reading.{most_bytes, IsTextOf, IsTooLong, IsFirstTooLong, IsInterrupted}
+use Rattle.ice_answer.specs.Refusals.{IsKnown}
 use Rattle.ice_answer.proofs.ReadStops.{none_before, one_more, all_fit_not_long, stops_at_first}
-use Rattle.ice_play.specs.Played.{PlayNet, files_of, OfTexts, IsFaulty, HasBadLine, IsPlayed, IsTrueOf}
+use Rattle.ice_play.specs.Played.{PlayNet, files_of, OfTexts, IsMalformed, IsFaulty, HasBadLine, IsPlayed, IsTrueOf}
 use Rattle.ice_play.specs.PlayRows.{HoldsTexts, BlifRow, IsNetFault, IsUnsound, NetRow, LevelsRow, IsDone, ArePlayable, DoneRow, ShownRow, ReadFaultRow, WriteFaultRow, TooLongRow}
 
 -- the texts that were read are those that the files hold
@@ -30,7 +31,7 @@ at_files p desk P netlist levels holds (n, l, texts, is) =
 -- what a cause says of texts that the files hold
 Matches : List ℕ → List ℕ → Cause → Type 0
 Matches netlist levels (Good placement) = ArePlayable netlist levels
-Matches netlist levels (BadBlif fault) = netlist_of netlist ≡ Err fault
+Matches netlist levels (BadBlif fault) = IsMalformed fault netlist
 Matches netlist levels (BadNet fault) = IsFaulty fault netlist
 Matches netlist levels (ReadFault role) = Unit {0}
 Matches netlist levels (WriteFault role put) = ArePlayable netlist levels
@@ -62,8 +63,10 @@ matches : (p : PlayNet) (old new : Meaning) (cause : Cause) (netlist levels : Li
 unfolding Matches
 matches p old new (Good placement) netlist levels holds is = at_files p old ArePlayable netlist levels holds (playable p old is.1.played.0 is.1.played.1)
 matches p old new Usage netlist levels holds is = is
-matches p old new (BadBlif fault) netlist levels holds is = at_files p old (λ n l. netlist_of n ≡ Err fault) netlist levels holds is
+matches p old new (BadBlif fault) netlist levels holds is = at_files p old (λ n l. IsMalformed fault n) netlist levels holds is
 matches p old new (BadPcf fault) netlist levels holds is = is
+matches p old new (BadAsc fault) netlist levels holds is = is
+matches p old new (BadBits fault) netlist levels holds is = is
 matches p old new (BadChip fault) netlist levels holds is = is
 matches p old new (BadNet fault) netlist levels holds is = at_files p old (λ n l. IsFaulty fault n) netlist levels holds is
 matches p old new (BadPin fault) netlist levels holds is = is
@@ -108,8 +111,10 @@ blif_always : (netlist levels : List ℕ) (fault : BlifFault) (cause : Cause) �
 unfolding Matches
 blif_always netlist levels fault (Good placement) m h = no_fault netlist fault m.1.circuit h m.1.is_circuit
 blif_always netlist levels fault Usage m h = absurd m
-blif_always netlist levels fault (BadBlif f) m h = let both : Err f ≡ Err fault = sym m ∙ h in let same : f ≡ fault = cc both in inl (ap BadBlif same)
+blif_always netlist levels fault (BadBlif f) m h = let both : Err f ≡ Err fault = sym m.0 ∙ h in let same : f ≡ fault = cc both in inl (ap BadBlif same)
 blif_always netlist levels fault (BadPcf f) m h = absurd m
+blif_always netlist levels fault (BadAsc f) m h = absurd m
+blif_always netlist levels fault (BadBits f) m h = absurd m
 blif_always netlist levels fault (BadChip f) m h = absurd m
 blif_always netlist levels fault (BadNet f) m h = no_fault netlist fault m.circuit h m.is_circuit
 blif_always netlist levels fault (BadPin f) m h = absurd m
@@ -125,8 +130,10 @@ net_always : (netlist levels : List ℕ) (cause : Cause) → Matches netlist lev
 unfolding Matches
 net_always netlist levels (Good placement) m h = no_sound netlist m.1.circuit h m.1.is_circuit m.1.is_sound
 net_always netlist levels Usage m h = absurd m
-net_always netlist levels (BadBlif f) m h = no_fault netlist f h.0 m h.1
+net_always netlist levels (BadBlif f) m h = no_fault netlist f h.0 m.0 h.1
 net_always netlist levels (BadPcf f) m h = absurd m
+net_always netlist levels (BadAsc f) m h = absurd m
+net_always netlist levels (BadBits f) m h = absurd m
 net_always netlist levels (BadChip f) m h = absurd m
 net_always netlist levels (BadNet f) m h = inl tt
 net_always netlist levels (BadPin f) m h = absurd m
@@ -142,8 +149,10 @@ levels_always : (netlist levels : List ℕ) (line : ℕ) (cause : Cause) → Mat
 unfolding Matches
 levels_always netlist levels line (Good placement) m h = no_bad_line netlist levels m.0 line h m.1
 levels_always netlist levels line Usage m h = absurd m
-levels_always netlist levels line (BadBlif f) m h = no_fault netlist f h.circuit m h.is_circuit
+levels_always netlist levels line (BadBlif f) m h = no_fault netlist f h.circuit m.0 h.is_circuit
 levels_always netlist levels line (BadPcf f) m h = absurd m
+levels_always netlist levels line (BadAsc f) m h = absurd m
+levels_always netlist levels line (BadBits f) m h = absurd m
 levels_always netlist levels line (BadChip f) m h = absurd m
 levels_always netlist levels line (BadNet f) m h = no_sound netlist h.circuit (unsound netlist f m) h.is_circuit h.is_sound
 levels_always netlist levels line (BadPin f) m h = absurd m
@@ -159,8 +168,10 @@ done_always : (netlist levels : List ℕ) (cause : Cause) → Matches netlist le
 unfolding Matches
 done_always netlist levels (Good placement) m h = inl tt
 done_always netlist levels Usage m h = absurd m
-done_always netlist levels (BadBlif f) m h = no_fault netlist f h.1.circuit m h.1.is_circuit
+done_always netlist levels (BadBlif f) m h = no_fault netlist f h.1.circuit m.0 h.1.is_circuit
 done_always netlist levels (BadPcf f) m h = absurd m
+done_always netlist levels (BadAsc f) m h = absurd m
+done_always netlist levels (BadBits f) m h = absurd m
 done_always netlist levels (BadChip f) m h = absurd m
 done_always netlist levels (BadNet f) m h = no_sound netlist h.1.circuit (unsound netlist f m) h.1.is_circuit h.1.is_sound
 done_always netlist levels (BadPin f) m h = absurd m
@@ -176,7 +187,7 @@ done_always netlist levels (NotBuilt role) m h = absurd m
 
 pub blif_row : (p : PlayNet) (old new : Meaning) (cause : Cause) → IsTrueOf p old new cause → BlifRow p old cause
 blif_row p old new cause is fault = record {
-  only = λ e. subst (λ (x : Cause). IsTrueOf p old new x) e is;
+  only = λ e. let of = subst (λ (x : Cause). IsTrueOf p old new x) e is in (of.0, of.1, of.2, of.3.0);
   always = λ netlist levels holds h. blif_always netlist levels fault cause (matches p old new cause netlist levels holds is) h;
 }
 
@@ -191,6 +202,8 @@ net_only p old new (Good placement) is h = absurd h
 net_only p old new Usage is h = absurd h
 net_only p old new (BadBlif fault) is h = absurd h
 net_only p old new (BadPcf fault) is h = absurd h
+net_only p old new (BadAsc fault) is h = absurd h
+net_only p old new (BadBits fault) is h = absurd h
 net_only p old new (BadChip fault) is h = absurd h
 net_only p old new (BadNet fault) is h = (is.0, is.1, is.2, unsound is.0 fault is.3)
 net_only p old new (BadPin fault) is h = absurd h
@@ -216,6 +229,8 @@ done_only p old new (Good placement) is h = playable p old is.1.played.0 is.1.pl
 done_only p old new Usage is h = absurd h
 done_only p old new (BadBlif fault) is h = absurd h
 done_only p old new (BadPcf fault) is h = absurd h
+done_only p old new (BadAsc fault) is h = absurd h
+done_only p old new (BadBits fault) is h = absurd h
 done_only p old new (BadChip fault) is h = absurd h
 done_only p old new (BadNet fault) is h = absurd h
 done_only p old new (BadPin fault) is h = absurd h
@@ -239,6 +254,8 @@ shown p old new (Good placement) is e t = (is.1.played.0, is.1.played.1, is.1.pl
 shown p old new Usage is e t = absurd is
 shown p old new (BadBlif fault) is e t = absurd (omega (arith, e))
 shown p old new (BadPcf fault) is e t = absurd is
+shown p old new (BadAsc fault) is e t = absurd is
+shown p old new (BadBits fault) is e t = absurd is
 shown p old new (BadChip fault) is e t = absurd is
 shown p old new (BadNet fault) is e t = absurd (omega (arith, e))
 shown p old new (BadPin fault) is e t = absurd is
@@ -279,8 +296,10 @@ too_long_always : (p : PlayNet) (old new : Meaning) (cause : Cause) (place : ℕ
     → (cause ≡ TooLong ((files_of p).role place) most_bytes) ⊎ IsInterrupted cause
 too_long_always p old new (Good placement) place is t long = absurd (read_not_long p old place (λ n l. IsPlayed n l is.1.played.0) t long is.1.played.1)
 too_long_always p old new Usage place is t long = absurd is
-too_long_always p old new (BadBlif fault) place is t long = absurd (read_not_long p old place (λ n l. netlist_of n ≡ Err fault) t long is)
+too_long_always p old new (BadBlif fault) place is t long = absurd (read_not_long p old place (λ n l. IsMalformed fault n) t long is)
 too_long_always p old new (BadPcf fault) place is t long = absurd is
+too_long_always p old new (BadAsc fault) place is t long = absurd is
+too_long_always p old new (BadBits fault) place is t long = absurd is
 too_long_always p old new (BadChip fault) place is t long = absurd is
 too_long_always p old new (BadNet fault) place is t long = absurd (read_not_long p old place (λ n l. IsFaulty fault n) t long is)
 too_long_always p old new (BadPin fault) place is t long = absurd is
@@ -297,3 +316,22 @@ too_long_row p old new cause is = record {
   only = λ role limit e. subst (λ (x : Cause). IsTrueOf p old new x) e is;
   always = λ place t long. too_long_always p old new cause place is t long;
 }
+
+-- the fault that a refusal tells isn't want of memory
+pub known_played : (p : PlayNet) (old new : Meaning) (cause : Cause) → IsTrueOf p old new cause → IsKnown cause
+known_played p old new (Good placement) is = tt
+known_played p old new Usage is = tt
+known_played p old new (BadBlif fault) is = is.3.1
+known_played p old new (BadPcf fault) is = absurd is
+known_played p old new (BadAsc fault) is = absurd is
+known_played p old new (BadBits fault) is = absurd is
+known_played p old new (BadChip fault) is = absurd is
+known_played p old new (BadNet fault) is = is.3.is_known
+known_played p old new (BadPin fault) is = tt
+known_played p old new (Unreachable placement net sink) is = tt
+known_played p old new (ReadFault role) is = tt
+known_played p old new (WriteFault role put) is = tt
+known_played p old new NoMemory is = tt
+known_played p old new (TooLong role limit) is = tt
+known_played p old new (BadLevels line) is = tt
+known_played p old new (NotBuilt role) is = tt

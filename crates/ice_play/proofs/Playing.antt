@@ -13,7 +13,7 @@ use Rattle.ice_sim.specs.declared.fault.LevelFault.TheVariants as level_fault
 use Rattle.ice_sim.specs.LevelTexts.{levels_of}
 use Rattle.ice_sim.specs.LevelTexts as level_texts
 use Rattle.ice_answer.specs.declared.cause.Cause.{Cause}
-use Rattle.ice_answer.specs.declared.cause.Cause.TheVariants.{Good, Usage, BadBlif, BadPcf, BadChip, BadNet, BadPin, Unreachable, ReadFault, WriteFault, NoMemory, TooLong, BadLevels, NotBuilt}
+use Rattle.ice_answer.specs.declared.cause.Cause.TheVariants.{Good, Usage, BadBlif, BadPcf, BadChip, BadNet, BadPin, Unreachable, ReadFault, WriteFault, NoMemory, BadAsc, BadBits, TooLong, BadLevels, NotBuilt}
 use Rattle.ice_answer.specs.Causes.{line_of}
 use Rattle.ice_answer.specs.Refusals.{IsBlifRefusal}
 use Rattle.ice_answer.specs.Reading.{IsUnread}
@@ -27,11 +27,11 @@ use Rattle.ice_play.specs.Refusals.{IsNetRefusal, IsLevelsRefusal}
 -- ---- the texts
 
 pub blif_refused : (netlist levels : List ℕ) (fault : BlifFault) (cause : Cause) → (fault ≢ blif_fault.NoMemory → netlist_of netlist ≡ Err fault) → IsBlifRefusal fault cause → IsRefusal netlist levels cause
-blif_refused netlist levels fault cause says (inl e) = subst (λ (x : Cause). IsRefusal netlist levels x) (sym e) tt
-blif_refused netlist levels fault cause says (inr is) = subst (λ (x : Cause). IsRefusal netlist levels x) (sym is.0) (says is.1)
+blif_refused netlist levels fault cause says (inl e) = subst (λ (x : Cause). IsRefusal netlist levels x) (sym e.0) tt
+blif_refused netlist levels fault cause says (inr is) = subst (λ (x : Cause). IsRefusal netlist levels x) (sym is.0) (says is.1, is.1)
 
 pub net_refused : (netlist levels : List ℕ) (circuit : NetlistData) (fault : NetFault) (cause : Cause) → netlist_of netlist ≡ Ok circuit → IsFaultOf circuit fault → IsNetRefusal fault cause → IsRefusal netlist levels cause
-net_refused netlist levels circuit fault cause n is_fault (inl e) = subst (λ (x : Cause). IsRefusal netlist levels x) (sym e) tt
+net_refused netlist levels circuit fault cause n is_fault (inl e) = subst (λ (x : Cause). IsRefusal netlist levels x) (sym e.0) tt
 net_refused netlist levels circuit fault cause n is_fault (inr is) =
     subst (λ (x : Cause). IsRefusal netlist levels x) (sym is.0) (record { circuit = circuit; is_circuit = n; is_fault = is_fault; is_known = is.1 })
 
@@ -49,6 +49,8 @@ unread_is_true p old new (Good placement) is = absurd is
 unread_is_true p old new Usage is = absurd is
 unread_is_true p old new (BadBlif fault) is = absurd is
 unread_is_true p old new (BadPcf fault) is = absurd is
+unread_is_true p old new (BadAsc fault) is = absurd is
+unread_is_true p old new (BadBits fault) is = absurd is
 unread_is_true p old new (BadChip fault) is = absurd is
 unread_is_true p old new (BadNet fault) is = absurd is
 unread_is_true p old new (BadPin fault) is = absurd is
@@ -66,6 +68,8 @@ refused_is_true p old new netlist levels (Good placement) texts made is = absurd
 refused_is_true p old new netlist levels Usage texts made is = absurd is
 refused_is_true p old new netlist levels (BadBlif fault) texts made is = (netlist, levels, texts, is)
 refused_is_true p old new netlist levels (BadPcf fault) texts made is = absurd is
+refused_is_true p old new netlist levels (BadAsc fault) texts made is = absurd is
+refused_is_true p old new netlist levels (BadBits fault) texts made is = absurd is
 refused_is_true p old new netlist levels (BadChip fault) texts made is = absurd is
 refused_is_true p old new netlist levels (BadNet fault) texts made is = (netlist, levels, texts, is)
 refused_is_true p old new netlist levels (BadPin fault) texts made is = absurd is
@@ -98,6 +102,8 @@ put_is_true p old mid new netlist levels text (WriteFault role number) texts rea
 put_is_true p old mid new netlist levels text Usage texts read said played put = absurd put
 put_is_true p old mid new netlist levels text (BadBlif fault) texts read said played put = absurd put
 put_is_true p old mid new netlist levels text (BadPcf fault) texts read said played put = absurd put
+put_is_true p old mid new netlist levels text (BadAsc fault) texts read said played put = absurd put
+put_is_true p old mid new netlist levels text (BadBits fault) texts read said played put = absurd put
 put_is_true p old mid new netlist levels text (BadChip fault) texts read said played put = absurd put
 put_is_true p old mid new netlist levels text (BadNet fault) texts read said played put = absurd put
 put_is_true p old mid new netlist levels text (BadPin fault) texts read said played put = absurd put
@@ -114,6 +120,8 @@ true_while_said p old mid new (Good placement) same refused is = absurd refused
 true_while_said p old mid new Usage same refused is = is
 true_while_said p old mid new (BadBlif fault) same refused is = is
 true_while_said p old mid new (BadPcf fault) same refused is = is
+true_while_said p old mid new (BadAsc fault) same refused is = is
+true_while_said p old mid new (BadBits fault) same refused is = is
 true_while_said p old mid new (BadChip fault) same refused is = is
 true_while_said p old mid new (BadNet fault) same refused is = is
 true_while_said p old mid new (BadPin fault) same refused is = is
@@ -138,6 +146,8 @@ said_after old mid new (Good placement) refused silent said = absurd refused
 said_after old mid new Usage refused silent said = after_silence old mid new (line_of Usage) silent said
 said_after old mid new (BadBlif fault) refused silent said = after_silence old mid new (line_of (BadBlif fault)) silent said
 said_after old mid new (BadPcf fault) refused silent said = after_silence old mid new (line_of (BadPcf fault)) silent said
+said_after old mid new (BadAsc fault) refused silent said = after_silence old mid new (line_of (BadAsc fault)) silent said
+said_after old mid new (BadBits fault) refused silent said = after_silence old mid new (line_of (BadBits fault)) silent said
 said_after old mid new (BadChip fault) refused silent said = after_silence old mid new (line_of (BadChip fault)) silent said
 said_after old mid new (BadNet fault) refused silent said = after_silence old mid new (line_of (BadNet fault)) silent said
 said_after old mid new (BadPin fault) refused silent said = after_silence old mid new (line_of (BadPin fault)) silent said

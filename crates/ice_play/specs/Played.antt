@@ -4,6 +4,8 @@ use Rattle.ice_desk.specs.Desk.{Meaning, Rose, after_more}
 use Rattle.ice_net.specs.NetlistData.{NetlistData}
 use Rattle.ice_net.specs.Meaning.{shows}
 use Rattle.ice_blif.specs.Grammar.{netlist_of}
+use Rattle.ice_blif.specs.declared.fault.BlifFault.{BlifFault}
+use Rattle.ice_blif.specs.declared.fault.BlifFault.TheVariants as blif_fault
 use Rattle.ice_check.specs.Sound.{IsSound}
 use Rattle.ice_check.specs.Refusals.{IsFaultOf}
 use Rattle.ice_check.specs.declared.fault.NetFault.TheVariants as net_fault
@@ -39,6 +41,10 @@ abbrev pub OfTexts : PlayNet → Meaning → (List ℕ → List ℕ → Type 0) 
 OfTexts p desk P = (netlist levels : List ℕ) × AreTexts p desk netlist levels × P netlist levels
 
 -- ---- how the texts stand
+-- the netlist's text has this first fault, which isn't want of memory
+abbrev pub IsMalformed : BlifFault → List ℕ → Type 0
+IsMalformed fault netlist_text = (netlist_of netlist_text ≡ Err fault) × (fault ≢ blif_fault.NoMemory)
+
 -- the netlist has no meaning, by this fault
 pub record IsFaulty (fault : NetFault) (netlist_text : List ℕ) : Type 0 where
   pub circuit : NetlistData
@@ -64,7 +70,7 @@ pub record IsPlayed (netlist_text levels_text text : List ℕ) : Type 0 where
 
 -- why the texts give no text of drives
 abbrev pub IsRefusal : List ℕ → List ℕ → Cause → Type 0
-IsRefusal netlist levels (BadBlif fault) = netlist_of netlist ≡ Err fault
+IsRefusal netlist levels (BadBlif fault) = IsMalformed fault netlist
 IsRefusal netlist levels (BadNet fault) = IsFaulty fault netlist
 IsRefusal netlist levels (BadLevels line) = HasBadLine line netlist levels
 IsRefusal netlist levels NoMemory = Unit {0}
@@ -88,7 +94,7 @@ pub record IsWriteFault (p : PlayNet) (old new : Meaning) (role : FileRole) (put
 -- what each cause says of a netlist that is to be played, and of the desk before and after
 abbrev pub IsTrueOf : PlayNet → Meaning → Meaning → Cause → Type 0
 IsTrueOf p old new (Good placement) = (placement ≡ no_places) × IsGood p old new
-IsTrueOf p old new (BadBlif fault) = OfTexts p old (λ netlist levels. netlist_of netlist ≡ Err fault)
+IsTrueOf p old new (BadBlif fault) = OfTexts p old (λ netlist levels. IsMalformed fault netlist)
 IsTrueOf p old new (BadNet fault) = OfTexts p old (λ netlist levels. IsFaulty fault netlist)
 IsTrueOf p old new (ReadFault role) = IsReadFault (files_of p) old new role
 IsTrueOf p old new (WriteFault role put) = IsWriteFault p old new role put

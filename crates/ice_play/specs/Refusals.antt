@@ -7,9 +7,9 @@ use Rattle.ice_sim.specs.declared.fault.LevelFault.TheVariants as level_fault
 use Rattle.ice_answer.specs.declared.cause.Cause.{Cause}
 use Rattle.ice_answer.specs.declared.cause.Cause.TheVariants.{BadNet, BadLevels, NoMemory}
 
--- the cause of a netlist that isn't sound
+-- the cause of a netlist that isn't sound: want of memory alone where the check had none, and else the fault
 abbrev pub IsNetRefusal : NetFault → Cause → Type 0
-IsNetRefusal fault cause = (cause ≡ NoMemory) ⊎ ((cause ≡ BadNet fault) × (fault ≢ net_fault.NoMemory))
+IsNetRefusal fault cause = ((cause ≡ NoMemory) × (fault ≡ net_fault.NoMemory)) ⊎ ((cause ≡ BadNet fault) × (fault ≢ net_fault.NoMemory))
 
 -- the cause of a text of levels that gives none
 abbrev pub IsLevelsRefusal : LevelFault → Cause → Type 0

@@ -29,8 +29,8 @@ fn net_refusal(fault: NetFault) -> Cause
     }
 }
 
-// Why a text of levels gives none.
-fn levels_refusal(fault: LevelFault) -> Cause
+/// Why a text of levels gives none: the line that is refused, or want of memory.
+pub fn levels_refusal(fault: LevelFault) -> Cause
     ensures { IsLevelsRefusal fault result }
 {
     match fault {
@@ -62,8 +62,8 @@ fn play_texts(alloc: Global, texts: &Texts) -> Result<Vec<u8>, Cause>
     }
 }
 
-// Says the text. Each memory was taken before.
-fn put_text<D: Desk>(alloc: Global, desk: &mut D, text: &[u8]) -> Cause
+/// Says the text of drives, whole or up to a say that failed. Each memory was taken before.
+pub fn put_text<D: Desk>(alloc: Global, desk: &mut D, text: &[u8]) -> Cause
     ensures same { SameButSaying (D.seen desk.old) (D.seen desk.new) }
     ensures names_read { SameTest (D.may_read desk.old) (D.may_read desk.new) }
     ensures names_written { SameTest (D.may_write desk.old) (D.may_write desk.new) }
@@ -101,8 +101,8 @@ fn play_files<D: Desk>(alloc: Global, desk: &mut D, request: &NetRequest<'_>) ->
     put_text(alloc, desk, &text)
 }
 
-// Whether a cause is a refusal: neither the work was done, nor did the saying of drives fail.
-fn is_refused(cause: &Cause) -> bool
+/// Whether a cause is a refusal: neither the work was done, nor did the saying of drives fail.
+pub fn is_refused(cause: &Cause) -> bool
     ensures { IsTrue result ↔ IsRefused cause.now }
 {
     match cause {

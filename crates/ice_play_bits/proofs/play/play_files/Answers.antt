@@ -1,0 +1,9 @@
+use Rattle.ice_play_bits.specs.Requests.{request_view, texts_view}
+use Rattle.ice_play_bits.proofs.Truths.{put_is_true}
+use Rattle.ice_play_bits.proofs.play.play_files.Goals as goal
+
+pub returns-clause-cause : goal.returns-clause-cause
+returns-clause-cause g c =
+    let D = g.D.Desk in
+    put_is_true (request_view c.args.request.now) (D.seen c.args.desk.now) (D.seen c.read_texts.new.desk) (D.seen c.put_text.new.desk) (texts_view c.in-Ok.texts) c.in-Ok-play_texts.text.items c.put_text.result
+    c.in-Ok.ensures.texts c.in-Ok.ensures.same c.put_text.ensures.same c.in-Ok-play_texts.ensures.played (rw (← c.deref.ensures.value) c.put_text.ensures.put)
