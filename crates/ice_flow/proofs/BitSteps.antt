@@ -1,13 +1,13 @@
 -- One bit, and one row, more in the bits that are kept.
-use Rattle.std.proofs.Common.{◌≡◌, ℕ, zero, suc, ◌+◌, ◌<◌, Bool, true, false, not, Some, List, [], ◌∷◌, length, get_or, drop, refl, sym, ap, ◌∙◌, subst, arith}
+use Rattle.std.proofs.Common.{◌≡◌, ℕ, zero, suc, ◌+◌, ◌<◌, Bool, true, false, not, Some, List, [], ◌∷◌, length, get_or, drop, refl, sym, ap, ◌∙◌, arith}
 use Rattle.std.specs.Prelude.{◌&&◌, ◌||◌}
-use Rattle.std.specs.List.{AllByRecursion, list_any, list_all}
+use Rattle.std.specs.List.{list_any, list_all}
 use Rattle.std.proofs.lemmas.Option.{slice_get-get_or}
 use Rattle.ice_base.specs.declared.number.BitAt.{BitAt}
-use Rattle.ice_flow.specs.Lists.{At, Has}
+use Rattle.ice_bits.specs.Configuration.{bit_in}
+use Rattle.ice_flow.specs.Lists.{Has}
 use Rattle.ice_flow.specs.Database.{same_bit}
 use Rattle.ice_flow.specs.Routes.{value_at}
-use Rattle.ice_flow.specs.Configuration.{bit_in_rows}
 
 pub both : (a b : Bool) → (a && b) ≡ true → (a ≡ true) × (b ≡ true)
 both true b h = (refl, h)
@@ -25,21 +25,12 @@ no_bit_at [] row col h = refl
 no_bit_at (r ∷ rows) zero col h = no_bit_in_row r col (both (list_all not r) (list_all (list_all not) rows) h).0
 no_bit_at (r ∷ rows) (suc row) col h = no_bit_at rows row col (both (list_all not r) (list_all (list_all not) rows) h).1
 
-pub no_bit : (rows : List (List Bool)) (b : BitAt) → list_all (list_all not) rows ≡ true → bit_in_rows rows b ≡ false
+pub no_bit : (rows : List (List Bool)) (b : BitAt) → list_all (list_all not) rows ≡ true → bit_in rows b ≡ false
 no_bit rows b h = no_bit_at rows b.row b.col h
 
 -- what is read at a place of a list is in the list
 pub has_read : {X : Type 0} (xs : List X) (k : ℕ) (x : X) → k < length xs → x ≡ get_or xs k x → Has xs x
 has_read xs k x lt at = (k, slice_get-get_or xs k x lt ∙ ap Some (sym at))
-
--- what holds of each of a list holds of what is in the list
-holds_at : {X : Type 0} (P : X → Type 0) (xs : List X) (x : X) (k : ℕ) → AllByRecursion P xs → At xs k x → P x
-holds_at P [] x k each at = absurd (cc)
-holds_at P (y ∷ ys) x zero each at = let same : y ≡ x = cc in subst P same each.0
-holds_at P (y ∷ ys) x (suc k) each at = holds_at P ys x k each.1 at
-
-pub each_has : {X : Type 0} (P : X → Type 0) (xs : List X) → AllByRecursion P xs → (x : X) → Has xs x → P x
-each_has P xs each x has = holds_at P xs x has.0 each has.1
 
 -- ---- one more of a list
 or_assoc : (a b x : Bool) → ((a || b) || x) ≡ (a || (b || x))

@@ -2,7 +2,7 @@
 use Rattle.std.proofs.Common.{◌≡◌, ◌∙◌, ◌≤◌, ℕ, Option, Some, List, sym, ap, subst, arith}
 use Rattle.ice_desk.specs.Desk.{Meaning, SameButReading, SameButSaying, Rose, after_one, HoldsAfter}
 use Rattle.ice_answer.specs.declared.cause.Cause.{Cause}
-use Rattle.ice_answer.specs.declared.cause.Cause.TheVariants.{Good, Usage, BadBlif, BadPcf, BadChip, BadNet, BadPin, Unreachable, ReadFault, WriteFault, NoMemory, TooLong, BadLevels, NotBuilt}
+use Rattle.ice_answer.specs.declared.cause.Cause.TheVariants.{Good, Usage, BadBlif, BadPcf, BadChip, BadNet, BadPin, Unreachable, ReadFault, WriteFault, NoMemory, BadAsc, BadBits, TooLong, BadLevels, NotBuilt}
 use Rattle.ice_answer.specs.declared.cause.FileRole.TheVariants.{Chip, Pcf, Blif, Asc, Levels, Pins, Report, Standard}
 use Rattle.ice_answer.specs.Reading.{IsUnread}
 use Rattle.ice_answer.proofs.ReadStops.{fault_said, long_said}
@@ -20,6 +20,8 @@ unread_is_true b old new (BadBlif fault) is = absurd is
 unread_is_true b old new (BadPcf fault) is = absurd is
 unread_is_true b old new (BadChip fault) is = absurd is
 unread_is_true b old new (BadNet fault) is = absurd is
+unread_is_true b old new (BadAsc fault) is = absurd is
+unread_is_true b old new (BadBits fault) is = absurd is
 unread_is_true b old new (BadPin fault) is = absurd is
 unread_is_true b old new (Unreachable placement net sink) is = absurd is
 unread_is_true b old new (ReadFault role) is = is
@@ -56,6 +58,8 @@ written_is_true b old mid new chip pins netlist text (BadBlif fault) texts same 
 written_is_true b old mid new chip pins netlist text (BadPcf fault) texts same built w = absurd w
 written_is_true b old mid new chip pins netlist text (BadChip fault) texts same built w = absurd w
 written_is_true b old mid new chip pins netlist text (BadNet fault) texts same built w = absurd w
+written_is_true b old mid new chip pins netlist text (BadAsc fault) texts same built w = absurd w
+written_is_true b old mid new chip pins netlist text (BadBits fault) texts same built w = absurd w
 written_is_true b old mid new chip pins netlist text (BadLevels line) texts same built w = absurd w
 written_is_true b old mid new chip pins netlist text (BadPin fault) texts same built w = absurd w
 written_is_true b old mid new chip pins netlist text (Unreachable placement net sink) texts same built w = absurd w
@@ -82,6 +86,8 @@ true_while_said b old mid new (BadBlif fault) same is = is
 true_while_said b old mid new (BadPcf fault) same is = is
 true_while_said b old mid new (BadChip fault) same is = is
 true_while_said b old mid new (BadNet fault) same is = is
+true_while_said b old mid new (BadAsc fault) same is = is
+true_while_said b old mid new (BadBits fault) same is = is
 true_while_said b old mid new (BadLevels line) same is = is
 true_while_said b old mid new (BadPin fault) same is = is
 true_while_said b old mid new (Unreachable placement net sink) same is = is

@@ -9,7 +9,7 @@ use Rattle.ice_flow.specs.Lists.{At, Has}
 use Rattle.ice_flow.specs.Database.{SwitchGroup, NamedBit, same_tile, same_bit}
 use Rattle.ice_flow.specs.FirstForm.{io_functions, database_with}
 use Rattle.ice_flow.specs.ChipText.{IsOfForm}
-use Rattle.ice_flow.specs.Behaviour.{is_foreign_function}
+use Rattle.ice_flow.specs.Names.{is_foreign_function}
 use Rattle.ice_flow.specs.Routes.{IsPrivate}
 use Rattle.ice_flow.specs.Levels.{IsSwitchBit, level_in}
 use Rattle.ice_flow.specs.Bundles.{is_of_bundle, is_among_bits, is_bundle_bit, is_intruder}

@@ -16,24 +16,7 @@ use Rattle.ice_flow.specs.Views.{groups_view}
 use Rattle.ice_flow.specs.Readers.{Gives}
 use Rattle.ice_flow.specs.declared.chip.Group.{Group}
 use Rattle.ice_flow.specs.declared.chip_text.ChipStop.{ChipStop}
-
--- ---- parts that are there
--- where a chain gives something, its first part does
-chained : {A B : Type 0} (f : A → Option B) (o : Option A) (y : B) → option_and_then f o ≡ Some y → (x : A) × (o ≡ Some x) × (f x ≡ Some y)
-chained f None y e = absurd (cc)
-chained f (Some x) y e = (x, refl, e)
-
-mapped : {A B : Type 0} (f : A → B) (o : Option A) (y : B) → option_map f o ≡ Some y → (x : A) × (o ≡ Some x) × (f x ≡ y)
-mapped f None y e = absurd (cc)
-mapped f (Some x) y e = (x, refl, cc)
-
-passes : {A : Type 0} (b : Bool) (o : Option A) (x : A) → (if b then o else None) ≡ Some x → (b ≡ true) × (o ≡ Some x)
-passes true o x e = (refl, e)
-passes false o x e = absurd (cc)
-
-fails : {A : Type 0} (b : Bool) (o : Option A) (x : A) → (if b then None else o) ≡ Some x → (b ≡ false) × (o ≡ Some x)
-fails false o x e = (refl, e)
-fails true o x e = absurd (cc)
+use Rattle.ice_flow.proofs.OptionFacts.{chained, mapped, passes, fails}
 
 below : (limit : ℕ) (word : List ℕ) (n : ℕ) → number_below limit word ≡ Some n → n < limit
 below limit word n e =

@@ -1,7 +1,6 @@
 -- How the texts of a build stand, and what the bits of a route come to.
-use Rattle.std.proofs.Common.{◌≡◌, ◌≢◌, ◌⊎◌, ℕ, zero, suc, ◌<◌, Bool, true, false, None, Some, List, [], ◌∷◌, length, inl, inr, refl, ap, sym, ◌∙◌, subst, arith}
+use Rattle.std.proofs.Common.{◌≡◌, ◌≢◌, ◌⊎◌, ℕ, zero, suc, ◌<◌, Bool, true, None, Some, List, [], ◌∷◌, length, map, inl, inr, refl, ap, sym, ◌∙◌, subst, arith}
 use Rattle.std.specs.Prelude.{Result, Ok, Err}
-use Rattle.std.specs.Str.{bytes_eq}
 use Rattle.ice_base.specs.declared.number.TileAt.{TileAt}
 use Rattle.ice_base.specs.declared.number.BitAt.{BitAt}
 use Rattle.ice_net.specs.NetlistData.{NetlistData}
@@ -22,22 +21,28 @@ use Rattle.ice_flow.specs.declared.chip_text.ChipStop.TheVariants as chip_stop
 use Rattle.ice_flow.specs.declared.pin_pads.PinsStop.{PinsStop}
 use Rattle.ice_flow.specs.declared.pin_pads.PinsStop.TheVariants as pins_stop
 use Rattle.ice_flow.specs.Lists.{At, Has}
-use Rattle.ice_flow.specs.Database.{Pad, SwitchGroup, Row, is_among_tiles, package_named}
-use Rattle.ice_flow.specs.Routes.{IsUsable, IsWalk}
-use Rattle.ice_flow.specs.Configuration.{bits_in}
-use Rattle.ice_flow.specs.Behaviour.{IsFaultless}
-use Rattle.ice_flow.specs.FirstForm.{database_with, left_tile, right_tile, left_pad, right_pad, tiny}
+use Rattle.ice_flow.specs.Database.{Pad, SwitchGroup, Row, is_among_tiles}
+use Rattle.ice_flow.specs.Routes.{IsUsable, IsWalk, IsSimple}
+use Rattle.ice_flow.specs.FirstForm.{database_with, left_tile, right_tile, left_pad, right_pad}
+use Rattle.ice_flow.specs.FormChip.{parts_with, plain_group, chip_pad, form_package, IsFormChip}
 use Rattle.ice_flow.specs.ChipText.{groups_in, database_in, IsOfForm}
 use Rattle.ice_flow.specs.Buffers.{buffer_in}
-use Rattle.ice_flow.specs.PinPads as pin_pads
 use Rattle.ice_flow.specs.PinPads.{pads_in}
 use Rattle.ice_flow.specs.BufferForm.{buffer_plan}
 use Rattle.ice_flow.specs.Views.{IsCopyOf, AreCopies}
+use Rattle.ice_flow.specs.Written.{written}
+use Rattle.ice_flow.specs.Shown.{ShowsSame}
+use Rattle.ice_flow.specs.Headline.{IsCircuitOf}
 use Rattle.ice_flow.specs.Readers.{Stops, stop_view}
-use Rattle.ice_flow.specs.Writing.{IsWritable, AreWritable}
-use Rattle.ice_flow.specs.Standing.{Standing, FaultyPins, FaultyNetlist, OtherChip, OtherNetlist, OtherPins, UnknownPin, Ready, form_of, standing_of, with_database, with_constraints, with_netlist, with_chip, with_buffer, with_pads, AreEnds}
+use Rattle.ice_flow.specs.Writing.{IsWritable, AreWritable, HoldsWritten}
+use Rattle.ice_flow.specs.Standing.{Standing, FaultyPins, FaultyNetlist, OtherChip, OtherNetlist, OtherPins, UnknownPin, Ready, form_of, standing_of, with_database, with_constraints, with_netlist, with_chip, with_buffer, with_pads, AreEnds, IsRoutable}
 use Rattle.ice_answer.specs.Refusals.{IsPcfRefusal, IsBlifRefusal, IsChipRefusal}
 use Rattle.ice_chip.specs.Database.{Parts}
+use Rattle.ice_chip.specs.Database as chip
+use Rattle.ice_chip.specs.IsRead.{AreNumbered}
+use Rattle.ice_chip.specs.Lookups.{package_of}
+use Rattle.ice_bits.specs.Configuration.{Bits, bits_of}
+use Rattle.ice_decode.specs.Refusals.{IsFaultless}
 use Rattle.ice_chip.specs.declared.fault.ChipFault.{ChipFault}
 use Rattle.ice_chip.specs.declared.fault.ChipFault.TheVariants as chip_fault
 use Rattle.ice_chip.specs.Answers.{StopsBy}
@@ -45,7 +50,8 @@ use Rattle.ice_chip_read.specs.Whole.{chip_says}
 use Rattle.ice_flow.specs.Built.{IsBuilt, IsRefusal, IsFormRefusal, IsPinsRefusal, IsLaidOut, IsLayoutRefusal}
 use Rattle.ice_flow.proofs.PlaceFacts.{row_group}
 use Rattle.ice_flow.proofs.WalkFacts.{walk_usable}
-use Rattle.ice_flow.proofs.WrittenFaultless.{bits_are_faultless, bits_show_same}
+use Rattle.ice_flow.proofs.FormFaultless.{bits_have_no_fault, bits_show_the_buffer}
+use Rattle.ice_flow.proofs.PortPadFacts.{package_is, tiny_is_named, form_port_pads}
 
 -- ---- how the texts stand
 
@@ -126,16 +132,15 @@ route_writable groups start end xs rows form copies walk = record {
 
 -- ---- the bits of a route are the circuit
 
--- pads were given, so the package is the one of the form
-pub chosen_is_tiny : (groups : List SwitchGroup) (name a y : List ℕ) (constraints : List Constraint) (pads : List Pad) → pads_in (database_with groups) name a y constraints ≡ Ok pads → package_named (database_with groups) name ≡ Some tiny
-chosen_is_tiny groups name a y constraints pads e = by (bytes_eq tiny.name name) refl
-  where
-    by : (t : Bool) → bytes_eq tiny.name name ≡ t → package_named (database_with groups) name ≡ Some tiny
-    by true is = rw is refl
-    by false is = let none : Err pin_pads.OtherForm ≡ Ok pads = rw is at e in cc none
+-- up to its groups of switches, a chip of the form is one chip
+pub form_parts : (groups : List SwitchGroup) (parts : Parts) → IsFormChip groups parts → parts ≡ parts_with parts.groups
+form_parts groups parts is = is.is ∙ ap (λ (p : Parts). parts_with p.groups) (sym is.is)
 
 -- what `compile` has read when it comes to the route
-pub record HasRead (name chip pins netlist a y : List ℕ) (constraints : List Constraint) (circuit : NetlistData) (groups : List SwitchGroup) : Type 0 where
+pub record HasRead (name chip pins netlist a y : List ℕ) (constraints : List Constraint) (circuit : NetlistData) (parts : Parts) (groups : List SwitchGroup) : Type 0 where
+  pub is_chip : chip_says chip ≡ Ok parts
+  pub numbered : AreNumbered 0 parts.groups
+  pub form_chip : IsFormChip groups parts
   pub pcf : text_says pins ≡ Ok constraints
   pub blif : netlist_of netlist ≡ Ok circuit
   pub formed : IsFormed circuit
@@ -144,53 +149,93 @@ pub record HasRead (name chip pins netlist a y : List ℕ) (constraints : List C
   pub buffer : buffer_in circuit ≡ Some (a, y)
   pub pads : pads_in (database_with groups) name a y constraints ≡ Ok (left_pad ∷ right_pad ∷ [])
 
-ready : (name chip pins netlist a y : List ℕ) (constraints : List Constraint) (circuit : NetlistData) (groups : List SwitchGroup) → HasRead name chip pins netlist a y constraints circuit groups
+ready : (name chip pins netlist a y : List ℕ) (constraints : List Constraint) (circuit : NetlistData) (parts : Parts) (groups : List SwitchGroup) → HasRead name chip pins netlist a y constraints circuit parts groups
     → form_of name chip pins netlist ≡ Ready (database_with groups) circuit (left_pad ∷ right_pad ∷ [])
-ready name chip pins netlist a y constraints circuit groups has =
+ready name chip pins netlist a y constraints circuit parts groups has =
     stands_by_pads name chip pins netlist a y constraints circuit groups (Ready (database_with groups) circuit (left_pad ∷ right_pad ∷ [])) has.pcf has.blif has.groups_are has.buffer
     (ap (λ r. with_pads (database_with groups) circuit r) has.pads)
 
-pub laid_out_built : (name chip pins netlist a y text : List ℕ) (constraints : List Constraint) (circuit : NetlistData) (groups : List SwitchGroup) → HasRead name chip pins netlist a y constraints circuit groups
-    → IsLaidOut groups text → IsBuilt (form_of name chip pins netlist) name chip pins netlist text
-laid_out_built name chip pins netlist a y text constraints circuit groups has (rows, walk, simple, holds) =
-    let db = database_with groups in
-    let pads : List Pad = left_pad ∷ right_pad ∷ [] in (
-      record {
-        chip = db;
-        circuit = circuit;
-        pads = pads;
-        root = 0;
-        sink = 2;
-        is_ready = ready name chip pins netlist a y constraints circuit groups has;
-        are_ends = ends_of_form groups;
-        walk = rows;
-        is_walk = walk;
-      },
-      record {
-        chip = db;
-        chosen = tiny;
-        circuit = circuit;
-        input = a;
-        output = y;
-        constraints = constraints;
-        pads = pads;
-        configuration = holds.configuration;
-        is_chip = database_is chip groups has.groups_are;
-        is_chosen = chosen_is_tiny groups name a y constraints pads has.pads;
-        is_circuit = has.blif;
-        is_buffer = has.buffer;
-        are_constraints = has.pcf;
-        are_pads = has.pads;
-        decodes = holds.decodes;
-        faultless = subst (λ es. IsFaultless db (bits_in holds.configuration) es) (sym holds.extras) (bits_are_faultless groups rows has.form walk simple (bits_in holds.configuration) holds.bits);
-        shows_same = bits_show_same groups rows has.form walk simple (bits_in holds.configuration) holds.bits circuit (a, y) has.formed has.buffer tiny.pads;
-      },
-    )
+-- the bits of a walk, by the groups as the chip has them
+record Walked (gs : List chip.SwitchGroup) (rows : List Row) (bits : Bits) : Type 0 where
+  numbered : AreNumbered 0 gs
+  form : IsOfForm (map plain_group gs)
+  walk : IsWalk (database_with (map plain_group gs)) 0 rows 2
+  simple : IsSimple 0 rows
+  written : (t : TileAt) (b : BitAt) → bits t b ≡ written (database_with (map plain_group gs)) (buffer_plan left_pad right_pad rows) t b
 
-pub layout_refused : (name chip pins netlist a y : List ℕ) (constraints : List Constraint) (circuit : NetlistData) (groups : List SwitchGroup) (cause : Cause) → HasRead name chip pins netlist a y constraints circuit groups
+walked : (gs : List chip.SwitchGroup) (groups : List SwitchGroup) (parts : Parts) (rows : List Row) (bits : Bits) → parts ≡ parts_with gs → map plain_group gs ≡ groups → AreNumbered 0 parts.groups → IsOfForm groups
+    → IsWalk (database_with groups) 0 rows 2 → IsSimple 0 rows → ((t : TileAt) (b : BitAt) → bits t b ≡ written (database_with groups) (buffer_plan left_pad right_pad rows) t b) → Walked gs rows bits
+walked gs groups parts rows bits is seen numbered form walk simple same = record {
+  numbered = subst (λ (p : Parts). AreNumbered 0 p.groups) is numbered;
+  form = subst IsOfForm (sym seen) form;
+  walk = subst (λ (hs : List SwitchGroup). IsWalk (database_with hs) 0 rows 2) (sym seen) walk;
+  simple = simple;
+  written = subst (λ (hs : List SwitchGroup). (t : TileAt) (b : BitAt) → bits t b ≡ written (database_with hs) (buffer_plan left_pad right_pad rows) t b) (sym seen) same;
+}
+
+-- these bits have no fault
+no_fault : (gs : List chip.SwitchGroup) (parts : Parts) (rows : List Row) (bits : Bits) (extras : List (ℕ × ℕ × ℕ)) → parts ≡ parts_with gs → Walked gs rows bits → extras ≡ [] → IsFaultless parts bits extras
+no_fault gs parts rows bits extras is w none =
+    subst (λ (es : List (ℕ × ℕ × ℕ)). IsFaultless parts bits es) (sym none)
+    (subst (λ (p : Parts). IsFaultless p bits []) (sym is) (bits_have_no_fault gs rows w.numbered w.form w.walk w.simple bits w.written))
+
+-- these bits show the buffer at its pads
+shows : (gs : List chip.SwitchGroup) (parts : Parts) (rows : List Row) (bits : Bits) (circuit : NetlistData) (a y : List ℕ) → parts ≡ parts_with gs → Walked gs rows bits → IsFormed circuit → buffer_in circuit ≡ Some (a, y)
+    → ShowsSame circuit (chip_pad left_pad ∷ chip_pad right_pad ∷ []) parts bits form_package.pads
+shows gs parts rows bits circuit a y is w formed buffer =
+    subst (λ (p : Parts). ShowsSame circuit (chip_pad left_pad ∷ chip_pad right_pad ∷ []) p bits form_package.pads) (sym is)
+    (bits_show_the_buffer gs rows w.numbered w.form w.walk w.simple bits w.written circuit (a, y) formed buffer form_package.pads)
+
+-- the text of the bits of a walk is the circuit
+circuit_of : (name chip pins netlist a y text : List ℕ) (constraints : List Constraint) (circuit : NetlistData) (parts : Parts) (groups : List SwitchGroup) (rows : List Row) → HasRead name chip pins netlist a y constraints circuit parts groups
+    → IsWalk (database_with groups) 0 rows 2 → IsSimple 0 rows → HoldsWritten parts (database_with groups) (buffer_plan left_pad right_pad rows) text → IsCircuitOf name chip pins netlist text
+circuit_of name chip pins netlist a y text constraints circuit parts groups rows has walk simple holds =
+    let gs = has.form_chip.rows in
+    let is = has.form_chip.is in
+    let bits = bits_of holds.configuration in
+    let w = walked gs groups parts rows bits is has.form_chip.seen has.numbered has.form walk simple holds.bits in
+    let named = package_is gs name (tiny_is_named groups name a y constraints (left_pad ∷ right_pad ∷ []) has.pads) in
+    record {
+      parts = parts;
+      bonded = form_package;
+      circuit = circuit;
+      ports = chip_pad left_pad ∷ chip_pad right_pad ∷ [];
+      configuration = holds.configuration;
+      is_chip = has.is_chip;
+      is_package = ap (λ (p : Parts). package_of p name) is ∙ named;
+      is_circuit = has.blif;
+      are_pads = form_port_pads groups name a y pins constraints circuit has.pcf has.buffer has.pads;
+      decodes = holds.decodes;
+      faultless = no_fault gs parts rows bits holds.configuration.extras is w holds.extras;
+      shows_same = shows gs parts rows bits circuit a y is w has.formed has.buffer;
+    }
+
+-- a walk between the ends of good texts
+routable : (name chip pins netlist a y : List ℕ) (constraints : List Constraint) (circuit : NetlistData) (parts : Parts) (groups : List SwitchGroup) (rows : List Row) → HasRead name chip pins netlist a y constraints circuit parts groups
+    → IsWalk (database_with groups) 0 rows 2 → IsRoutable (form_of name chip pins netlist)
+routable name chip pins netlist a y constraints circuit parts groups rows has walk = record {
+  chip = database_with groups;
+  circuit = circuit;
+  pads = left_pad ∷ right_pad ∷ [];
+  root = 0;
+  sink = 2;
+  is_ready = ready name chip pins netlist a y constraints circuit parts groups has;
+  are_ends = ends_of_form groups;
+  walk = rows;
+  is_walk = walk;
+}
+
+pub laid_out_built : (name chip pins netlist a y text : List ℕ) (constraints : List Constraint) (circuit : NetlistData) (parts : Parts) (groups : List SwitchGroup) → HasRead name chip pins netlist a y constraints circuit parts groups
+    → IsLaidOut parts groups text → IsBuilt (form_of name chip pins netlist) name chip pins netlist text
+laid_out_built name chip pins netlist a y text constraints circuit parts groups has (rows, walk, simple, holds) = (
+  routable name chip pins netlist a y constraints circuit parts groups rows has walk,
+  circuit_of name chip pins netlist a y text constraints circuit parts groups rows has walk simple holds,
+)
+
+pub layout_refused : (name chip pins netlist a y : List ℕ) (constraints : List Constraint) (circuit : NetlistData) (parts : Parts) (groups : List SwitchGroup) (cause : Cause) → HasRead name chip pins netlist a y constraints circuit parts groups
     → IsLayoutRefusal groups cause → IsRefusal (form_of name chip pins netlist) cause
-layout_refused name chip pins netlist a y constraints circuit groups cause has (inl e) = subst (λ (x : Cause). IsRefusal (form_of name chip pins netlist) x) (sym e) tt
-layout_refused name chip pins netlist a y constraints circuit groups cause has (inr apart) =
+layout_refused name chip pins netlist a y constraints circuit parts groups cause has (inl e) = subst (λ (x : Cause). IsRefusal (form_of name chip pins netlist) x) (sym e) tt
+layout_refused name chip pins netlist a y constraints circuit parts groups cause has (inr apart) =
     subst (λ (x : Cause). IsRefusal (form_of name chip pins netlist) x) (sym apart.0) (
       refl,
       refl,
@@ -199,7 +244,7 @@ layout_refused name chip pins netlist a y constraints circuit groups cause has (
         circuit = circuit;
         pads = left_pad ∷ right_pad ∷ [];
         root = 0;
-        is_ready = ready name chip pins netlist a y constraints circuit groups has;
+        is_ready = ready name chip pins netlist a y constraints circuit parts groups has;
         are_ends = ends_of_form groups;
         unreachable = apart.1;
       },
@@ -208,15 +253,15 @@ layout_refused name chip pins netlist a y constraints circuit groups cause has (
 -- ---- refusals of the texts
 
 pub pcf_refused : (name chip pins netlist : List ℕ) (fault : PcfFault) (cause : Cause) → (fault ≢ pcf_fault.NoMemory → text_says pins ≡ Err fault) → IsPcfRefusal fault cause → IsRefusal (form_of name chip pins netlist) cause
-pcf_refused name chip pins netlist fault cause says (inl e) = subst (λ (x : Cause). IsRefusal (form_of name chip pins netlist) x) (sym e) tt
+pcf_refused name chip pins netlist fault cause says (inl e) = subst (λ (x : Cause). IsRefusal (form_of name chip pins netlist) x) (sym e.0) tt
 pcf_refused name chip pins netlist fault cause says (inr is) =
-    subst (λ (x : Cause). IsRefusal (form_of name chip pins netlist) x) (sym is.0) (stands_by_pcf name chip pins netlist fault (says is.1))
+    subst (λ (x : Cause). IsRefusal (form_of name chip pins netlist) x) (sym is.0) (stands_by_pcf name chip pins netlist fault (says is.1), is.1)
 
 pub blif_refused : (name chip pins netlist : List ℕ) (constraints : List Constraint) (fault : BlifFault) (cause : Cause) → text_says pins ≡ Ok constraints
     → (fault ≢ blif_fault.NoMemory → netlist_of netlist ≡ Err fault) → IsBlifRefusal fault cause → IsRefusal (form_of name chip pins netlist) cause
-blif_refused name chip pins netlist constraints fault cause p says (inl e) = subst (λ (x : Cause). IsRefusal (form_of name chip pins netlist) x) (sym e) tt
+blif_refused name chip pins netlist constraints fault cause p says (inl e) = subst (λ (x : Cause). IsRefusal (form_of name chip pins netlist) x) (sym e.0) tt
 blif_refused name chip pins netlist constraints fault cause p says (inr is) =
-    subst (λ (x : Cause). IsRefusal (form_of name chip pins netlist) x) (sym is.0) (stands_by_blif name chip pins netlist constraints fault p (says is.1))
+    subst (λ (x : Cause). IsRefusal (form_of name chip pins netlist) x) (sym is.0) (stands_by_blif name chip pins netlist constraints fault p (says is.1), is.1)
 
 pub chip_refused : (name chip pins netlist : List ℕ) (constraints : List Constraint) (circuit : NetlistData) (stop : ChipStop) (cause : Cause) → text_says pins ≡ Ok constraints → netlist_of netlist ≡ Ok circuit
     → Stops stop (groups_in chip) → IsFormRefusal stop cause → IsRefusal (form_of name chip pins netlist) cause
@@ -260,9 +305,9 @@ fault_is chip_fault.NoMemory said is known = absurd (known refl)
 -- the chip text has a fault
 pub fault_refused : (name chip pins netlist : List ℕ) (fault : ChipFault) (cause : Cause) → StopsBy fault (chip_says chip) → IsChipRefusal fault cause
     → IsRefusal (standing_of name chip pins netlist) cause
-fault_refused name chip pins netlist fault cause says (inl e) = subst (λ (x : Cause). IsRefusal (standing_of name chip pins netlist) x) (sym e) tt
+fault_refused name chip pins netlist fault cause says (inl e) = subst (λ (x : Cause). IsRefusal (standing_of name chip pins netlist) x) (sym e.0) tt
 fault_refused name chip pins netlist fault cause says (inr is) =
-    subst (λ (x : Cause). IsRefusal (standing_of name chip pins netlist) x) (sym is.0) (ap (λ r. with_database (form_of name chip pins netlist) r) (fault_is fault (chip_says chip) says is.1))
+    subst (λ (x : Cause). IsRefusal (standing_of name chip pins netlist) x) (sym is.0) (ap (λ r. with_database (form_of name chip pins netlist) r) (fault_is fault (chip_says chip) says is.1), is.1)
 
 -- the chip text has a database, and the form decides
 pub stands_by_form : (name chip pins netlist : List ℕ) (parts : Parts) → chip_says chip ≡ Ok parts → form_of name chip pins netlist ≡ standing_of name chip pins netlist

@@ -2,26 +2,31 @@
 use Rattle.std.proofs.Common.{◌≡◌, ◌⊎◌, ◌∙◌, ◌≤◌, ◌<◌, ℕ, zero, suc, Option, None, Some, List, [], ◌∷◌, length, true, inl, inr, refl, sym, ap, subst, arith}
 use Rattle.ice_desk.specs.Desk.{Meaning}
 use Rattle.ice_answer.specs.declared.cause.Cause.{Cause}
-use Rattle.ice_answer.specs.declared.cause.Cause.TheVariants.{Good, Usage, BadBlif, BadPcf, BadChip, BadNet, BadPin, Unreachable, ReadFault, WriteFault, NoMemory, TooLong, BadLevels, NotBuilt}
+use Rattle.ice_answer.specs.declared.cause.Cause.TheVariants.{Good, Usage, BadBlif, BadPcf, BadChip, BadNet, BadPin, Unreachable, ReadFault, WriteFault, NoMemory, BadAsc, BadBits, TooLong, BadLevels, NotBuilt}
 use Rattle.ice_answer.specs.declared.cause.FileRole.{FileRole}
 use Rattle.ice_answer.specs.declared.cause.FileRole.TheVariants.{Chip, Pcf, Blif, Asc, Levels, Pins, Report, Standard}
 use Rattle.ice_answer.specs.declared.cause.PinFault.TheVariants as pin_fault
-use Rattle.ice_answer.specs.Causes.{pin_fault_line, no_places, status_of}
+use Rattle.ice_answer.specs.Causes.{no_places, status_of}
 use Rattle.ice_answer.specs.Reading.{most_bytes, IsTextOf, IsTooLong, IsFirstTooLong, IsInterrupted}
+use Rattle.ice_answer.specs.Refusals.{IsKnown}
 use Rattle.ice_answer.proofs.ReadStops.{none_before, one_more, all_fit_not_long, stops_at_first}
 use Rattle.ice_blif.specs.declared.fault.BlifFault.{BlifFault}
 use Rattle.ice_chip.specs.declared.fault.ChipFault.{ChipFault}
 use Rattle.ice_pcf.specs.declared.fault.PcfFault.{PcfFault}
 use Rattle.ice_play.specs.Played.{PlayNet}
 use Rattle.ice_play.specs.Played as play
+use Rattle.ice_play_bits.specs.Played.{PlayBits}
+use Rattle.ice_play_bits.specs.Played as play_bits
+use Rattle.ice_play.proofs.PlayLaws.{known_played}
+use Rattle.ice_play_bits.proofs.BitsLaws as bits_laws
 use Rattle.ice_flow.specs.Database.{Pad, Database, wire_named}
 use Rattle.ice_flow.specs.Names.{pad_input_name, pad_output_name}
 use Rattle.ice_net.specs.NetlistData.{NetlistData}
 use Rattle.ice_flow.specs.Routes.{IsWalk}
-use Rattle.ice_flow.specs.Command.{Build, Request, ForBuild, ForPlayNet}
+use Rattle.ice_flow.specs.Command.{Build, Request, ForBuild, ForPlayNet, ForPlayBits}
 use Rattle.ice_flow.specs.Standing.{Standing, FaultyChip, FaultyPins, FaultyNetlist, OtherChip, OtherNetlist, OtherPins, UnknownPin, Ready, standing_of, AreEnds, IsApart, IsRoutable}
 use Rattle.ice_flow.specs.Headline.{IsCircuitOf}
-use Rattle.ice_flow.specs.Answers.{AreTexts, OfTexts, Stands, Apart, Routable, files_of, IsTrueOf}
+use Rattle.ice_flow.specs.Answers.{AreTexts, OfTexts, Stands, PinStands, Apart, Routable, files_of, IsTrueOf}
 use Rattle.ice_flow.specs.Rows.{Caused, IsDone, HoldsTexts, ComesExactly, UsageRow, ChipRow, OtherChipRow, BlifRow, PcfRow, OtherNetlistRow, OtherPinsRow, PinRow, UnreachableRow, DoneRow, ReadFaultRow, WriteFaultRow, NoMemoryRow, TooLongRow, HeadlineRow}
 
 -- the texts that were read are those that the files hold
@@ -43,7 +48,9 @@ Matches b chip pins netlist (BadBlif fault) = Stands b (FaultyNetlist fault) chi
 Matches b chip pins netlist (BadPcf fault) = Stands b (FaultyPins fault) chip pins netlist
 Matches b chip pins netlist (BadChip fault) = Stands b (FaultyChip fault) chip pins netlist
 Matches b chip pins netlist (BadNet fault) = ⊥
-Matches b chip pins netlist (BadPin fault) = Stands b (UnknownPin (pin_fault_line fault)) chip pins netlist
+Matches b chip pins netlist (BadAsc fault) = ⊥
+Matches b chip pins netlist (BadBits fault) = ⊥
+Matches b chip pins netlist (BadPin fault) = PinStands b fault chip pins netlist
 Matches b chip pins netlist (Unreachable placement net sink) = (placement ≡ no_places) × (net ≡ record { 0 = 0 }) × Apart b sink.0 chip pins netlist
 Matches b chip pins netlist (ReadFault role) = Unit {0}
 Matches b chip pins netlist (WriteFault role put) = Routable b chip pins netlist
@@ -77,12 +84,14 @@ matches : (b : Build) (old new : Meaning) (cause : Cause) (chip pins netlist : L
 unfolding Matches
 matches b old new (Good placement) chip pins netlist holds is = at_files b old (Routable b) chip pins netlist holds is.1.texts
 matches b old new Usage chip pins netlist holds is = is
-matches b old new (BadBlif fault) chip pins netlist holds is = at_files b old (Stands b (FaultyNetlist fault)) chip pins netlist holds is
-matches b old new (BadPcf fault) chip pins netlist holds is = at_files b old (Stands b (FaultyPins fault)) chip pins netlist holds is
-matches b old new (BadChip fault) chip pins netlist holds is = at_files b old (Stands b (FaultyChip fault)) chip pins netlist holds is
+matches b old new (BadBlif fault) chip pins netlist holds is = at_files b old (Stands b (FaultyNetlist fault)) chip pins netlist holds is.0
+matches b old new (BadPcf fault) chip pins netlist holds is = at_files b old (Stands b (FaultyPins fault)) chip pins netlist holds is.0
+matches b old new (BadChip fault) chip pins netlist holds is = at_files b old (Stands b (FaultyChip fault)) chip pins netlist holds is.0
 matches b old new (BadNet fault) chip pins netlist holds is = is
+matches b old new (BadAsc fault) chip pins netlist holds is = is
+matches b old new (BadBits fault) chip pins netlist holds is = is
 matches b old new (BadLevels line) chip pins netlist holds is = is
-matches b old new (BadPin fault) chip pins netlist holds is = at_files b old (Stands b (UnknownPin (pin_fault_line fault))) chip pins netlist holds is
+matches b old new (BadPin fault) chip pins netlist holds is = at_files b old (PinStands b fault) chip pins netlist holds is
 matches b old new (Unreachable placement net sink) chip pins netlist holds is = (is.0, is.1, at_files b old (Apart b sink.0) chip pins netlist holds is.2)
 matches b old new (ReadFault role) chip pins netlist holds is = tt
 matches b old new (WriteFault role put) chip pins netlist holds is = at_files b old (Routable b) chip pins netlist holds is.texts
@@ -126,8 +135,11 @@ told (BadBlif fault) = Some (OfFaultyNetlist fault)
 told (BadPcf fault) = Some (OfFaultyPins fault)
 told (BadChip fault) = Some (OfFaultyChip fault)
 told (BadNet fault) = None
+told (BadAsc fault) = None
+told (BadBits fault) = None
 told (BadLevels line) = None
-told (BadPin fault) = Some (OfPin (pin_fault_line fault))
+told (BadPin (pin_fault.UnknownPin line)) = Some (OfPin line)
+told (BadPin pin_fault.NoPackage) = None
 told (Unreachable placement net sink) = Some OfReady
 told (ReadFault role) = None
 told (WriteFault role put) = Some OfReady
@@ -147,8 +159,11 @@ tells_right b chip pins netlist (BadBlif fault) m = inr (rw m refl)
 tells_right b chip pins netlist (BadPcf fault) m = inr (rw m refl)
 tells_right b chip pins netlist (BadChip fault) m = inr (rw m refl)
 tells_right b chip pins netlist (BadNet fault) m = absurd m
+tells_right b chip pins netlist (BadAsc fault) m = absurd m
+tells_right b chip pins netlist (BadBits fault) m = absurd m
 tells_right b chip pins netlist (BadLevels line) m = absurd m
-tells_right b chip pins netlist (BadPin fault) m = inr (rw m refl)
+tells_right b chip pins netlist (BadPin (pin_fault.UnknownPin line)) m = inr (rw m refl)
+tells_right b chip pins netlist (BadPin pin_fault.NoPackage) m = absurd m
 tells_right b chip pins netlist (Unreachable placement net sink) m = inr (rw m.2.is_ready refl)
 tells_right b chip pins netlist (ReadFault role) m = inl tt
 tells_right b chip pins netlist (WriteFault role put) m = inr (rw m.is_ready refl)
@@ -182,8 +197,11 @@ is_told (BadBlif fault) k e = let same : OfFaultyNetlist fault ≡ k = cc e in i
 is_told (BadPcf fault) k e = let same : OfFaultyPins fault ≡ k = cc e in inr (ap cause_of same)
 is_told (BadChip fault) k e = let same : OfFaultyChip fault ≡ k = cc e in inr (ap cause_of same)
 is_told (BadNet fault) k e = cc e
+is_told (BadAsc fault) k e = cc e
+is_told (BadBits fault) k e = cc e
 is_told (BadLevels line) k e = cc e
 is_told (BadPin (pin_fault.UnknownPin line)) k e = let same : OfPin line ≡ k = cc e in inr (ap cause_of same)
+is_told (BadPin pin_fault.NoPackage) k e = cc e
 is_told (Unreachable placement net sink) k e = let same : OfReady ≡ k = cc e in inl (sym same)
 is_told (ReadFault role) k e = cc e
 is_told (WriteFault role put) k e = let same : OfReady ≡ k = cc e in inl (sym same)
@@ -208,8 +226,11 @@ is_ready b chip pins netlist (BadBlif fault) m e = cc e
 is_ready b chip pins netlist (BadPcf fault) m e = cc e
 is_ready b chip pins netlist (BadChip fault) m e = cc e
 is_ready b chip pins netlist (BadNet fault) m e = cc e
+is_ready b chip pins netlist (BadAsc fault) m e = cc e
+is_ready b chip pins netlist (BadBits fault) m e = cc e
 is_ready b chip pins netlist (BadLevels line) m e = cc e
-is_ready b chip pins netlist (BadPin fault) m e = cc e
+is_ready b chip pins netlist (BadPin (pin_fault.UnknownPin line)) m e = cc e
+is_ready b chip pins netlist (BadPin pin_fault.NoPackage) m e = cc e
 is_ready b chip pins netlist (Unreachable placement net sink) m e = inr (sink.0, ap (λ p. Unreachable p net sink) m.0 ∙ ap (λ n. Unreachable no_places n sink) m.1, m.2)
 is_ready b chip pins netlist (ReadFault role) m e = cc e
 is_ready b chip pins netlist (WriteFault role put) m e = inl (tt, m)
@@ -234,6 +255,10 @@ built_at request b old new cause caused e = subst (λ (r : Option Request). Caus
 pub played_at : (request : Option Request) (p : PlayNet) (old new : Meaning) (cause : Cause) → Caused request old new cause → request ≡ Some (ForPlayNet p) → play.IsTrueOf p old new cause
 played_at request p old new cause caused e = subst (λ (r : Option Request). Caused r old new cause) e caused
 
+-- the words ask to play these bits
+pub bits_played_at : (request : Option Request) (p : PlayBits) (old new : Meaning) (cause : Cause) → Caused request old new cause → request ≡ Some (ForPlayBits p) → play_bits.IsTrueOf p old new cause
+bits_played_at request p old new cause caused e = subst (λ (r : Option Request). Caused r old new cause) e caused
+
 -- where the texts are of this kind, the cause is of it, or an interruption
 always_of : (b : Build) (old new : Meaning) (cause : Cause) (chip pins netlist : List ℕ) (k : Kind) → IsTrueOf b old new cause → HoldsTexts b old chip pins netlist
     → kind (standing_of b.package_name chip pins netlist) ≡ k → (told cause ≡ Some k) ⊎ IsInterrupted cause
@@ -247,6 +272,7 @@ pub usage_row : (request : Option Request) (old new : Meaning) (cause : Cause) �
 usage_row None old new cause caused = ((λ e. refl), (λ e. caused))
 usage_row (Some (ForBuild b)) old new cause caused = ((λ e. absurd (subst (λ (x : Cause). IsTrueOf b old new x) e caused)), (λ e. cc e))
 usage_row (Some (ForPlayNet p)) old new cause caused = ((λ e. absurd (subst (λ (x : Cause). play.IsTrueOf p old new x) e caused)), (λ e. cc e))
+usage_row (Some (ForPlayBits p)) old new cause caused = ((λ e. absurd (subst (λ (x : Cause). play_bits.IsTrueOf p old new x) e caused)), (λ e. cc e))
 
 -- a refusal of one standing comes exactly where the texts stand so
 standing_row : (b : Build) (old new : Meaning) (cause other : Cause) (s : Standing) → (kind s ≡ OfReady → ⊥) → cause_of (kind s) ≡ other
@@ -264,15 +290,15 @@ standing_row b old new cause other s not_ready is_cause true_of is_true = record
 
 pub chip_row : (b : Build) (old new : Meaning) (cause : Cause) → IsTrueOf b old new cause → ChipRow b old cause
 unfolding kind cause_of
-chip_row b old new cause is_true fault = standing_row b old new cause (BadChip fault) (FaultyChip fault) (λ e. cc e) refl (λ is. is) is_true
+chip_row b old new cause is_true fault = standing_row b old new cause (BadChip fault) (FaultyChip fault) (λ e. cc e) refl (λ is. is.0) is_true
 
 pub pcf_row : (b : Build) (old new : Meaning) (cause : Cause) → IsTrueOf b old new cause → PcfRow b old cause
 unfolding kind cause_of
-pcf_row b old new cause is_true fault = standing_row b old new cause (BadPcf fault) (FaultyPins fault) (λ e. cc e) refl (λ is. is) is_true
+pcf_row b old new cause is_true fault = standing_row b old new cause (BadPcf fault) (FaultyPins fault) (λ e. cc e) refl (λ is. is.0) is_true
 
 pub blif_row : (b : Build) (old new : Meaning) (cause : Cause) → IsTrueOf b old new cause → BlifRow b old cause
 unfolding kind cause_of
-blif_row b old new cause is_true fault = standing_row b old new cause (BadBlif fault) (FaultyNetlist fault) (λ e. cc e) refl (λ is. is) is_true
+blif_row b old new cause is_true fault = standing_row b old new cause (BadBlif fault) (FaultyNetlist fault) (λ e. cc e) refl (λ is. is.0) is_true
 
 pub other_chip_row : (b : Build) (old new : Meaning) (cause : Cause) → IsTrueOf b old new cause → OtherChipRow b old cause
 unfolding kind cause_of
@@ -371,6 +397,8 @@ done_texts b old new (BadBlif fault) is done = absurd done
 done_texts b old new (BadPcf fault) is done = absurd done
 done_texts b old new (BadChip fault) is done = absurd done
 done_texts b old new (BadNet fault) is done = absurd done
+done_texts b old new (BadAsc fault) is done = absurd done
+done_texts b old new (BadBits fault) is done = absurd done
 done_texts b old new (BadPin fault) is done = absurd done
 done_texts b old new (Unreachable placement net sink) is done = absurd done
 done_texts b old new (ReadFault role) is done = absurd done
@@ -403,10 +431,39 @@ read_fault_row b old new cause is_true role e = subst (λ (x : Cause). IsTrueOf 
 pub write_fault_row : (b : Build) (old new : Meaning) (cause : Cause) → IsTrueOf b old new cause → WriteFaultRow b old new cause
 write_fault_row b old new cause is_true role put e = subst (λ (x : Cause). IsTrueOf b old new x) e is_true
 
+unmade : (request : Option Request) (old new : Meaning) (cause : Cause) → Caused request old new cause → cause ≡ NoMemory → new.makes ≡ old.makes
+unmade None old new cause caused e = let both : Usage ≡ NoMemory = sym caused ∙ e in cc both
+unmade (Some (ForBuild b)) old new cause caused e = subst (λ (x : Cause). IsTrueOf b old new x) e caused
+unmade (Some (ForPlayNet p)) old new cause caused e = subst (λ (x : Cause). play.IsTrueOf p old new x) e caused
+unmade (Some (ForPlayBits p)) old new cause caused e = subst (λ (x : Cause). play_bits.IsTrueOf p old new x) e caused
+
+-- the fault that a build tells isn't want of memory
+known_built : (b : Build) (old new : Meaning) (cause : Cause) → IsTrueOf b old new cause → IsKnown cause
+known_built b old new (Good placement) is = tt
+known_built b old new Usage is = tt
+known_built b old new (BadBlif fault) is = is.1
+known_built b old new (BadPcf fault) is = is.1
+known_built b old new (BadChip fault) is = is.1
+known_built b old new (BadNet fault) is = absurd is
+known_built b old new (BadAsc fault) is = absurd is
+known_built b old new (BadBits fault) is = absurd is
+known_built b old new (BadPin fault) is = tt
+known_built b old new (Unreachable placement net sink) is = tt
+known_built b old new (ReadFault role) is = tt
+known_built b old new (WriteFault role put) is = tt
+known_built b old new NoMemory is = tt
+known_built b old new (TooLong role limit) is = tt
+known_built b old new (BadLevels line) is = tt
+known_built b old new (NotBuilt role) is = tt
+
+known : (request : Option Request) (old new : Meaning) (cause : Cause) → Caused request old new cause → IsKnown cause
+known None old new cause caused = subst (λ (x : Cause). IsKnown x) (sym caused) tt
+known (Some (ForBuild b)) old new cause caused = known_built b old new cause caused
+known (Some (ForPlayNet p)) old new cause caused = known_played p old new cause caused
+known (Some (ForPlayBits p)) old new cause caused = bits_laws.known_played p old new cause caused
+
 pub no_memory_row : (request : Option Request) (old new : Meaning) (cause : Cause) → Caused request old new cause → NoMemoryRow old new cause
-no_memory_row None old new cause caused e = let both : Usage ≡ NoMemory = sym caused ∙ e in cc both
-no_memory_row (Some (ForBuild b)) old new cause caused e = subst (λ (x : Cause). IsTrueOf b old new x) e caused
-no_memory_row (Some (ForPlayNet p)) old new cause caused e = subst (λ (x : Cause). play.IsTrueOf p old new x) e caused
+no_memory_row request old new cause caused = record { unmade = unmade request old new cause caused; alone = known request old new cause caused }
 
 -- texts were read, so no file is too long
 read_not_long : (b : Build) (old : Meaning) (place : ℕ) (P : List ℕ → List ℕ → List ℕ → Type 0) → old.tells ≡ true → IsFirstTooLong (files_of b) old place → OfTexts b old P → ⊥
@@ -418,11 +475,13 @@ too_long_always : (b : Build) (old new : Meaning) (cause : Cause) (place : ℕ) 
     → (cause ≡ TooLong ((files_of b).role place) most_bytes) ⊎ IsInterrupted cause
 too_long_always b old new (Good placement) place is t long = absurd (read_not_long b old place (Routable b) t long is.1.texts)
 too_long_always b old new Usage place is t long = absurd is
-too_long_always b old new (BadBlif fault) place is t long = absurd (read_not_long b old place (Stands b (FaultyNetlist fault)) t long is)
-too_long_always b old new (BadPcf fault) place is t long = absurd (read_not_long b old place (Stands b (FaultyPins fault)) t long is)
-too_long_always b old new (BadChip fault) place is t long = absurd (read_not_long b old place (Stands b (FaultyChip fault)) t long is)
+too_long_always b old new (BadBlif fault) place is t long = absurd (read_not_long b old place (Stands b (FaultyNetlist fault)) t long is.0)
+too_long_always b old new (BadPcf fault) place is t long = absurd (read_not_long b old place (Stands b (FaultyPins fault)) t long is.0)
+too_long_always b old new (BadChip fault) place is t long = absurd (read_not_long b old place (Stands b (FaultyChip fault)) t long is.0)
 too_long_always b old new (BadNet fault) place is t long = absurd is
-too_long_always b old new (BadPin fault) place is t long = absurd (read_not_long b old place (Stands b (UnknownPin (pin_fault_line fault))) t long is)
+too_long_always b old new (BadAsc fault) place is t long = absurd is
+too_long_always b old new (BadBits fault) place is t long = absurd is
+too_long_always b old new (BadPin fault) place is t long = absurd (read_not_long b old place (PinStands b fault) t long is)
 too_long_always b old new (Unreachable placement net sink) place is t long = absurd (read_not_long b old place (Apart b sink.0) t long is.2)
 too_long_always b old new (ReadFault of_role) place is t long = inr tt
 too_long_always b old new (WriteFault of_role put) place is t long = absurd (read_not_long b old place (Routable b) t long is.texts)
@@ -455,6 +514,8 @@ good_file b old new (BadBlif fault) is e t = absurd (omega (arith, e))
 good_file b old new (BadPcf fault) is e t = absurd (omega (arith, e))
 good_file b old new (BadChip fault) is e t = absurd (omega (arith, e))
 good_file b old new (BadNet fault) is e t = absurd is
+good_file b old new (BadAsc fault) is e t = absurd is
+good_file b old new (BadBits fault) is e t = absurd is
 good_file b old new (BadPin fault) is e t = absurd (omega (arith, e))
 good_file b old new (Unreachable placement net sink) is e t = absurd (omega (arith, e))
 good_file b old new (ReadFault role) is e t = absurd (omega (arith, e))

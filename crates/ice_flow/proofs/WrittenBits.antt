@@ -1,22 +1,28 @@
 -- The bits that are kept in the end are those that are to be written.
-use Rattle.std.proofs.Common.{◌≡◌, ℕ, Bool, false, List, [], ◌∷◌, map, Result, refl, sym, ap, ◌∙◌, Ok, Err}
-use Rattle.std.specs.Prelude.{◌&&◌, ◌||◌, IfOk}
-use Rattle.std.specs.List.{list_any}
+use Rattle.std.proofs.Common.{◌≡◌, ℕ, ◌^◌, Bool, true, false, ltb, List, [], ◌∷◌, map, Result, refl, sym, ap, ◌∙◌, subst, Ok, Err}
+use Rattle.std.specs.Prelude.{◌&&◌, ◌||◌, IfOk, All}
+use Rattle.std.specs.List.{list_any, IsDistinct}
+use Rattle.std.proofs.lemmas.Bool.{ltb-true}
+use Rattle.std.proofs.lemmas.List.Elements.{All-nil, All-from_recursion}
 use Rattle.ice_base.specs.declared.number.TileAt.{TileAt}
 use Rattle.ice_base.specs.declared.number.BitAt.{BitAt}
+use Rattle.ice_chip.specs.Database.{Parts}
+use Rattle.ice_chip.specs.Database as chip
+use Rattle.ice_chip.specs.Places.{same_tile as same_place}
+use Rattle.ice_bits.specs.Configuration.{Configuration, bits_of, IsOf}
+use Rattle.ice_asc.specs.Grammar.{asc_in}
+use Rattle.ice_asc.specs.RoundTrip.{IsNear, IsSmall, IsWritable, WrittenIsRead}
+use Rattle.ice_asc.specs.Text.{asc_text}
 use Rattle.ice_flow.specs.Database.{Pad, Row, SwitchGroup, same_tile, has_tile, function_bit}
-use Rattle.ice_flow.specs.FirstForm.{database_with}
+use Rattle.ice_flow.specs.FirstForm.{database_with, left_tile, right_tile}
+use Rattle.ice_flow.specs.FormChip.{parts_with}
 use Rattle.ice_flow.specs.Routes.{sets, value_at}
 use Rattle.ice_flow.specs.Views.{IsCopyOf, AreCopies, pad_view, port_pad_view}
 use Rattle.ice_flow.specs.Written.{PortPad, Plan, written, wants, is_this_bit, io_functions}
-use Rattle.ice_flow.specs.Asc.{asc_in, HoldsWritten, text_of_lines}
-use Rattle.ice_flow.specs.Writing.{AreGrids, bare, bits_of, configuration_of, row_sets, pads_set, lines_of_bits}
-use Rattle.ice_flow.specs.declared.bits.IoBits.{IoBits}
+use Rattle.ice_flow.specs.Writing.{AreFormBits, bare, row_sets, pads_set, HoldsWritten}
 use Rattle.ice_flow.specs.declared.pad.Pad as rust_pad
 use Rattle.ice_flow.specs.declared.pad.PortPad as rust_port_pad
 use Rattle.ice_flow.specs.declared.route.RouteRow.{RouteRow}
-use Rattle.ice_flow.proofs.AscLines.{lines_are}
-use Rattle.ice_flow.proofs.AscReading.{text_says}
 
 copy_sets : (x : RouteRow) (r : Row) (t : TileAt) (b : BitAt) → IsCopyOf x r → row_sets x t b ≡ sets r t b
 copy_sets x r t b is =
@@ -54,25 +60,51 @@ bits_are groups plan rows roots ports t b blank middle last copies same_roots sa
     (pads_set_is roots ports t b ∙ ap (λ (ps : List Pad). pads_write ps (map port_pad_view ports) t b) (sym same_roots) ∙ ap (λ (us : List PortPad). pads_write plan.roots us t b) (sym same_ports))
     ∙ sym (written_is groups plan t b)
 
+-- ---- the text
+near_tile : (t : TileAt) → ltb t.x (2 ^ 16) ≡ true → ltb t.y (2 ^ 16) ≡ true → IsNear t
+near_tile t x y = record { x = ltb-true t.x (2 ^ 16) x; y = ltb-true t.y (2 ^ 16) y }
+
+tiles_apart : IsDistinct same_place (left_tile ∷ right_tile ∷ [])
+unfolding IsDistinct
+tiles_apart = ((refl, tt), (tt, tt))
+
+-- the tiles of the form stand at different places, and their numbers can be written
+writable : (groups : List chip.SwitchGroup) (k : Configuration) → IsOf (parts_with []) k → k.extras ≡ [] → IsWritable (parts_with groups) k
+writable groups k form extras = record {
+  form = record { grids = form.grids };
+  apart = tiles_apart;
+  near = All-from_recursion IsNear (left_tile ∷ right_tile ∷ []) (near_tile left_tile refl refl, (near_tile right_tile refl refl, tt));
+  small = subst (λ (es : List (ℕ × ℕ × ℕ)). All IsSmall es) (sym extras) (All-nil IsSmall);
+}
+
+-- the text of bits of the form says these bits
+text_says : (parts : Parts) (k : Configuration) → WrittenIsRead → parts ≡ parts_with parts.groups → AreFormBits k → asc_in parts (asc_text parts k) ≡ Ok k
+text_says parts k law is are =
+    subst (λ (p : Parts). asc_in p (asc_text p k) ≡ Ok k) (sym is) (law (parts_with parts.groups) k (writable parts.groups k are.form are.extras))
+
+form_of_chip : (parts : Parts) (k : Configuration) → parts ≡ parts_with parts.groups → AreFormBits k → IsOf parts k
+form_of_chip parts k is are = subst (λ (p : Parts). IsOf p k) (sym is) (record { grids = are.form.grids })
+
 -- what is written holds the bits
-pub text_holds : (groups : List SwitchGroup) (plan : Plan) (bits : IoBits) (text : List ℕ) → AreGrids bits → text ≡ text_of_lines (lines_of_bits bits)
-    → ((t : TileAt) (b : BitAt) → bits_of bits t b ≡ written (database_with groups) plan t b) → HoldsWritten (database_with groups) plan text
-text_holds groups plan bits text grids printed same = record {
-  configuration = configuration_of bits;
-  is_text = printed ∙ ap text_of_lines (lines_are groups bits grids);
-  decodes = ap (asc_in (database_with groups)) printed ∙ text_says groups bits grids;
-  extras = refl;
+pub text_holds : (parts : Parts) (groups : List SwitchGroup) (plan : Plan) (k : Configuration) (text : List ℕ) → WrittenIsRead → parts ≡ parts_with parts.groups → AreFormBits k → text ≡ asc_text parts k
+    → ((t : TileAt) (b : BitAt) → bits_of k t b ≡ written (database_with groups) plan t b) → HoldsWritten parts (database_with groups) plan text
+text_holds parts groups plan k text law is are printed same = record {
+  configuration = k;
+  form = form_of_chip parts k is are;
+  is_text = printed;
+  decodes = ap (asc_in parts) printed ∙ text_says parts k law is are;
+  extras = are.extras;
   bits = same;
 }
 
-pub all_texts_hold : (rows : List RouteRow) (roots : List rust_pad.Pad) (ports : List rust_port_pad.PortPad) (blank middle last : IoBits) (text : List ℕ)
-    → AreGrids last → text ≡ text_of_lines (lines_of_bits last)
+pub all_texts_hold : (parts : Parts) (rows : List RouteRow) (roots : List rust_pad.Pad) (ports : List rust_port_pad.PortPad) (blank middle last : Configuration) (text : List ℕ)
+    → WrittenIsRead → parts ≡ parts_with parts.groups → AreFormBits last → text ≡ asc_text parts last
     → ((t : TileAt) (b : BitAt) → bits_of blank t b ≡ false)
     → ((t : TileAt) (b : BitAt) → bits_of middle t b ≡ (bits_of blank t b || list_any (λ x. row_sets x t b) rows))
     → ((t : TileAt) (b : BitAt) → bits_of last t b ≡ (bits_of middle t b || pads_set roots ports t b))
-    → (groups : List SwitchGroup) (plan : Plan) → AreCopies rows plan.rows → plan.roots ≡ map pad_view roots → plan.ports ≡ map port_pad_view ports → HoldsWritten (database_with groups) plan text
-all_texts_hold rows roots ports blank middle last text grids printed at_first with_rows with_pads groups plan copies same_roots same_ports =
-    text_holds groups plan last text grids printed
+    → (groups : List SwitchGroup) (plan : Plan) → AreCopies rows plan.rows → plan.roots ≡ map pad_view roots → plan.ports ≡ map port_pad_view ports → HoldsWritten parts (database_with groups) plan text
+all_texts_hold parts rows roots ports blank middle last text law is are printed at_first with_rows with_pads groups plan copies same_roots same_ports =
+    text_holds parts groups plan last text law is are printed
     (λ t b. bits_are groups plan rows roots ports t b (bits_of blank t b) (bits_of middle t b) (bits_of last t b) copies same_roots same_ports (at_first t b) (with_rows t b) (with_pads t b))
 
 pub ok_maps : {T E : Type 0} (P Q : T → Type 0) (r : Result T E) → ((x : T) → P x → Q x) → IfOk r P → IfOk r Q

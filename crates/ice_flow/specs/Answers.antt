@@ -1,14 +1,18 @@
 -- What each answer of a build says of the words, the texts and the desk.
-use Rattle.std.specs.Prelude.{◌≡◌, ℕ, ◌≤◌, true, ◌==◌, if◌then◌else◌, Some, List, length}
+use Rattle.std.specs.Prelude.{◌≡◌, ◌≢◌, ℕ, ◌≤◌, true, ◌==◌, if◌then◌else◌, Some, List, length}
 use Rattle.ice_desk.specs.Desk.{Meaning, Rose, after_one, HoldsAfter}
 use Rattle.ice_answer.specs.declared.cause.Cause.{Cause}
-use Rattle.ice_answer.specs.declared.cause.Cause.TheVariants.{Good, Usage, BadBlif, BadPcf, BadChip, BadNet, BadPin, Unreachable, ReadFault, WriteFault, NoMemory, TooLong, BadLevels, NotBuilt}
+use Rattle.ice_answer.specs.declared.cause.Cause.TheVariants.{Good, Usage, BadBlif, BadPcf, BadChip, BadNet, BadPin, Unreachable, ReadFault, WriteFault, NoMemory, BadAsc, BadBits, TooLong, BadLevels, NotBuilt}
 use Rattle.ice_answer.specs.declared.cause.FileRole.{FileRole}
 use Rattle.ice_answer.specs.declared.cause.FileRole.TheVariants.{Chip, Pcf, Blif, Asc}
-use Rattle.ice_answer.specs.Causes.{pin_fault_line, no_places}
+use Rattle.ice_answer.specs.declared.cause.PinFault.{PinFault}
+use Rattle.ice_answer.specs.Causes.{no_places}
 use Rattle.ice_answer.specs.Reading.{most_bytes, Files, IsTextOf, IsReadFault, IsTooLong}
+use Rattle.ice_blif.specs.declared.fault.BlifFault.TheVariants as blif_fault
+use Rattle.ice_chip.specs.declared.fault.ChipFault.TheVariants as chip_fault
+use Rattle.ice_pcf.specs.declared.fault.PcfFault.TheVariants as pcf_fault
 use Rattle.ice_flow.specs.Command.{Build}
-use Rattle.ice_flow.specs.Standing.{Standing, FaultyChip, FaultyPins, FaultyNetlist, OtherChip, OtherNetlist, OtherPins, UnknownPin, standing_of, IsApart, IsRoutable}
+use Rattle.ice_flow.specs.Standing.{Standing, FaultyChip, FaultyPins, FaultyNetlist, OtherChip, OtherNetlist, OtherPins, standing_of, IsPinStanding, IsApart, IsRoutable}
 use Rattle.ice_flow.specs.Headline.{IsCircuitOf}
 
 -- the three texts of a build, each of which is not too long
@@ -27,6 +31,9 @@ OfTexts b desk P = (chip pins netlist : List ℕ) × AreTexts b desk chip pins n
 -- the texts stand so
 abbrev pub Stands : Build → Standing → List ℕ → List ℕ → List ℕ → Type 0
 Stands b standing chip pins netlist = standing_of b.package_name chip pins netlist ≡ standing
+
+abbrev pub PinStands : Build → PinFault → List ℕ → List ℕ → List ℕ → Type 0
+PinStands b fault chip pins netlist = IsPinStanding fault (standing_of b.package_name chip pins netlist)
 
 abbrev pub Apart : Build → ℕ → List ℕ → List ℕ → List ℕ → Type 0
 Apart b sink chip pins netlist = IsApart (standing_of b.package_name chip pins netlist) sink
@@ -61,10 +68,10 @@ pub record IsGood (b : Build) (old new : Meaning) : Type 0 where
 abbrev pub IsTrueOf : Build → Meaning → Meaning → Cause → Type 0
 IsTrueOf b old new (Good placement) = (placement ≡ no_places) × IsGood b old new
 IsTrueOf b old new Usage = ⊥
-IsTrueOf b old new (BadBlif fault) = OfTexts b old (Stands b (FaultyNetlist fault))
-IsTrueOf b old new (BadChip fault) = OfTexts b old (Stands b (FaultyChip fault))
-IsTrueOf b old new (BadPcf fault) = OfTexts b old (Stands b (FaultyPins fault))
-IsTrueOf b old new (BadPin fault) = OfTexts b old (Stands b (UnknownPin (pin_fault_line fault)))
+IsTrueOf b old new (BadBlif fault) = OfTexts b old (Stands b (FaultyNetlist fault)) × (fault ≢ blif_fault.NoMemory)
+IsTrueOf b old new (BadChip fault) = OfTexts b old (Stands b (FaultyChip fault)) × (fault ≢ chip_fault.NoMemory)
+IsTrueOf b old new (BadPcf fault) = OfTexts b old (Stands b (FaultyPins fault)) × (fault ≢ pcf_fault.NoMemory)
+IsTrueOf b old new (BadPin fault) = OfTexts b old (PinStands b fault)
 IsTrueOf b old new (Unreachable placement net sink) = (placement ≡ no_places) × (net ≡ record { 0 = 0 }) × OfTexts b old (Apart b sink.0)
 IsTrueOf b old new (ReadFault role) = IsReadFault (files_of b) old new role
 IsTrueOf b old new (WriteFault role put) = IsWriteFault b old new role put
@@ -75,4 +82,6 @@ IsTrueOf b old new (NotBuilt Blif) = OfTexts b old (Stands b OtherNetlist)
 IsTrueOf b old new (NotBuilt Pcf) = OfTexts b old (Stands b OtherPins)
 IsTrueOf b old new (NotBuilt role) = ⊥
 IsTrueOf b old new (BadNet fault) = ⊥
+IsTrueOf b old new (BadAsc fault) = ⊥
+IsTrueOf b old new (BadBits fault) = ⊥
 IsTrueOf b old new (BadLevels line) = ⊥

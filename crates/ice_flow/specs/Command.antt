@@ -3,6 +3,7 @@ use Rattle.std.specs.Prelude.{ℕ, Bool, ◌&&◌, not, Option, Some, None, List
 use Rattle.std.specs.Str.{bytes_eq}
 use Rattle.ice_base.specs.Comments.{begins_with}
 use Rattle.ice_play.specs.Played.{PlayNet}
+use Rattle.ice_play_bits.specs.Played.{PlayBits}
 
 -- the words of `build CHIP PACKAGE PCF BLIF ASC`: names of files, and the name of a package
 pub record Build : Type 0 where
@@ -16,6 +17,7 @@ pub record Build : Type 0 where
 pub data Request : Type 0 where
   ForBuild : Build → Request
   ForPlayNet : PlayNet → Request
+  ForPlayBits : PlayBits → Request
 
 -- a word that stands for itself does not begin with `-`, which is 45
 abbrev pub is_plain : List ℕ → Bool
@@ -31,9 +33,16 @@ build_with command b = if bytes_eq command (codes "build") && are_plain b then S
 abbrev pub play_with : List ℕ → PlayNet → Option Request
 play_with command p = if bytes_eq command (codes "play-net") && is_plain p.blif && is_plain p.levels then Some (ForPlayNet p) else None
 
+abbrev pub are_plain_words : PlayBits → Bool
+are_plain_words p = is_plain p.chip && is_plain p.package_name && is_plain p.asc && is_plain p.levels
+
+abbrev pub play_bits_with : List ℕ → PlayBits → Option Request
+play_bits_with command p = if bytes_eq command (codes "play-bits") && are_plain_words p then Some (ForPlayBits p) else None
+
 -- what the words ask for, where they ask for anything
 abbrev pub request_of : List (List ℕ) → Option Request
 request_of (command ∷ blif ∷ levels ∷ []) = play_with command (record { blif = blif; levels = levels })
+request_of (command ∷ chip ∷ name ∷ asc ∷ levels ∷ []) = play_bits_with command (record { chip = chip; package_name = name; asc = asc; levels = levels })
 request_of (command ∷ chip ∷ name ∷ pcf ∷ blif ∷ asc ∷ []) =
     build_with command (record { chip = chip; package_name = name; pcf = pcf; blif = blif; asc = asc })
 request_of words = None

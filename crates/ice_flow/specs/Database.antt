@@ -131,14 +131,6 @@ bit_among (f ∷ fs) name = if bytes_eq f.name name then Some f.bit else bit_amo
 abbrev pub function_bit : Database → IoFunction → Option BitAt
 function_bit c f = bit_among c.functions (function_name f)
 
--- the pad whose functions enable a pad's input and its pull-up
-abbrev pub enable_among : List InputEnableRow → Pad → Option Pad
-enable_among [] p = None
-enable_among (e ∷ es) p = if same_pad e.pad p then Some e.place else enable_among es p
-
-abbrev pub input_enable_of : Database → Pad → Option Pad
-input_enable_of c p = enable_among c.input_enables p
-
 abbrev pub package_among : List Package → List ℕ → Option Package
 package_among [] name = None
 package_among (p ∷ ps) name = if bytes_eq p.name name then Some p else package_among ps name
@@ -162,11 +154,3 @@ is_among_tiles (u ∷ us) t = same_tile u t || is_among_tiles us t
 
 abbrev pub has_tile : Database → TileAt → Bool
 has_tile c t = is_among_tiles c.tiles t
-
--- the pads of the IO tiles, in order
-abbrev pub pads_of_tiles : List TileAt → List Pad
-pads_of_tiles [] = []
-pads_of_tiles (t ∷ ts) = record { tile = t; pio = 0 } ∷ record { tile = t; pio = 1 } ∷ pads_of_tiles ts
-
-abbrev pub all_pads : Database → List Pad
-all_pads c = pads_of_tiles c.tiles

@@ -2,11 +2,8 @@ pub mod Lists
 pub mod Database
 pub mod Names
 pub mod Switches
-pub mod Behaviour
 pub mod Routes
-pub mod Configuration
 pub mod FirstForm
-pub mod Same
 pub mod Written
 pub mod Views
 pub mod BufferForm
@@ -15,8 +12,6 @@ pub mod ChipText
 pub mod Buffers
 pub mod PinPads
 pub mod Readers
-pub mod Asc
-pub mod Writing
 pub mod Places
 pub mod Found
 pub mod Levels
@@ -33,3 +28,7 @@ pub mod Built
 pub mod Requests
 pub mod Rows
 pub mod Building
+pub mod FormChip
+pub mod Writing
+pub mod Shown
+pub mod PortPads

@@ -1,5 +1,5 @@
 -- Places in lists, closed lists, and values that are all known.
-use Rattle.std.specs.Prelude.{◌≡◌, ℕ, ◌+◌, ◌-◌, ◌<◌, Option, None, Some, List, [], ◌∷◌, length, map, slice_get, option_map}
+use Rattle.std.specs.Prelude.{◌≡◌, ℕ, ◌+◌, ◌-◌, ◌<◌, Option, None, Some, List, [], ◌∷◌, length, slice_get, option_map}
 
 -- the item stands at this place of the list
 abbrev pub At : {P : Type 0} → List P → ℕ → P → Type 0
@@ -20,7 +20,3 @@ abbrev pub all_known : {A : Type 0} → List (Option A) → Option (List A)
 all_known [] = Some []
 all_known (None ∷ others) = None
 all_known (Some x ∷ others) = option_map (λ xs. x ∷ xs) (all_known others)
-
--- the values as known ones
-abbrev pub all_some : {A : Type 0} → List A → List (Option A)
-all_some xs = map Some xs

@@ -1,9 +1,8 @@
 -- What the names of wires say: which wires a pad reads and drives, and which wires no route may enter or leave.
-use Rattle.std.specs.Prelude.{ℕ, Bool, false, ◌||◌, ◌&&◌, Option, None, Some, List, [], ◌∷◌, ◌++◌, if◌then◌else◌, codes, ◌==◌, nat_eq}
+use Rattle.std.specs.Prelude.{ℕ, Bool, false, ◌||◌, ◌&&◌, List, [], ◌∷◌, ◌++◌, codes, ◌==◌, nat_eq}
 use Rattle.std.specs.Str.{bytes_eq}
 use Rattle.std.specs.List.{starts_with, list_any}
-use Rattle.ice_base.specs.declared.number.TileAt.{TileAt}
-use Rattle.ice_flow.specs.Database.{Pad, WireName, Database, digit, has_tile}
+use Rattle.ice_flow.specs.Database.{WireName, Database, digit, has_tile}
 
 -- the wire that has the level of a pad, the wire that a pad drives out, and the wire that enables its output
 abbrev pub pad_input_name : ℕ → List ℕ
@@ -21,13 +20,6 @@ is_input_name name =
     bytes_eq name (pad_output_name 0) || bytes_eq name (output_enable_name 0)
     || bytes_eq name (pad_output_name 1) || bytes_eq name (output_enable_name 1)
     || bytes_eq name (codes "fabout")
-
--- the pad of a tile whose level this name carries
-abbrev pub pad_of_name : TileAt → List ℕ → Option Pad
-pad_of_name t name =
-    if bytes_eq name (pad_input_name 0) then Some (record { tile = t; pio = 0 })
-    else (if bytes_eq name (pad_input_name 1) then Some (record { tile = t; pio = 1 })
-    else None)
 
 -- a name by which a tile drives a wire
 abbrev pub is_output_name : List ℕ → Bool
@@ -64,16 +56,6 @@ has_closed_name c w = has_name_where is_closed_name c c.names w
 abbrev pub has_memory_name : Database → ℕ → Bool
 has_memory_name c w = has_name_where is_memory_name c c.names w
 
--- the pad whose level a wire carries by its name
-abbrev pub pad_among_names : Database → List WireName → ℕ → Option Pad
-pad_among_names c [] w = None
-pad_among_names c (n ∷ ns) w =
-    if (n.wire == w) && has_tile c n.tile then pad_or_later (pad_of_name n.tile n.name) (pad_among_names c ns w)
-    else pad_among_names c ns w
-  where
-    pad_or_later : Option Pad → Option Pad → Option Pad
-    pad_or_later None later = later
-    pad_or_later (Some p) later = Some p
-
-abbrev pub pad_of_wire : Database → ℕ → Option Pad
-pad_of_wire c w = pad_among_names c c.names w
+-- functions of IO tiles that this flow gives no meaning
+abbrev pub is_foreign_function : List ℕ → Bool
+is_foreign_function name = starts_with nat_eq name (codes "PLL.") || bytes_eq name (codes "IoCtrl.LVDS")

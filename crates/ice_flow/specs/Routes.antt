@@ -4,9 +4,8 @@ use Rattle.ice_base.specs.declared.number.TileAt.{TileAt}
 use Rattle.ice_base.specs.declared.number.BitAt.{BitAt}
 use Rattle.ice_flow.specs.Lists.{At, Has}
 use Rattle.ice_flow.specs.Database.{Database, NamedBit, SwitchGroup, Row, rows_of, same_tile, same_bit}
-use Rattle.ice_flow.specs.Names.{has_input_name, has_output_name, has_closed_name, has_memory_name}
+use Rattle.ice_flow.specs.Names.{has_input_name, has_output_name, has_closed_name, has_memory_name, is_foreign_function}
 use Rattle.ice_flow.specs.Switches.{Bits, is_on}
-use Rattle.ice_flow.specs.Behaviour.{is_foreign_function}
 
 -- the bits of a list that have the value 1
 abbrev pub value_at : List BitAt → List Bool → BitAt → Bool

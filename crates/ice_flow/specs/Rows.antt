@@ -8,14 +8,17 @@ use Rattle.ice_answer.specs.declared.cause.FileRole.TheVariants.{Chip, Pcf, Blif
 use Rattle.ice_answer.specs.declared.cause.PinFault.TheVariants as pin_fault
 use Rattle.ice_answer.specs.Causes.{no_places, line_of}
 use Rattle.ice_answer.specs.Reading.{most_bytes, IsReadFault, IsTooLong, IsFirstTooLong, IsInterrupted}
+use Rattle.ice_answer.specs.Refusals.{IsKnown}
 use Rattle.ice_answer.specs.Says.{SaidRow}
 use Rattle.ice_blif.specs.declared.fault.BlifFault.{BlifFault}
 use Rattle.ice_chip.specs.declared.fault.ChipFault.{ChipFault}
 use Rattle.ice_pcf.specs.declared.fault.PcfFault.{PcfFault}
 use Rattle.ice_play.specs.Played.{PlayNet}
 use Rattle.ice_play.specs.Played as play
+use Rattle.ice_play_bits.specs.Played.{PlayBits}
+use Rattle.ice_play_bits.specs.Played as play_bits
 use Rattle.ice_play.specs.PlayRows.{SaidOf}
-use Rattle.ice_flow.specs.Command.{Build, Request, ForBuild, ForPlayNet}
+use Rattle.ice_flow.specs.Command.{Build, Request, ForBuild, ForPlayNet, ForPlayBits}
 use Rattle.ice_flow.specs.Standing.{FaultyChip, FaultyPins, FaultyNetlist, OtherChip, OtherNetlist, OtherPins, UnknownPin}
 use Rattle.ice_flow.specs.Headline.{IsCircuitOf}
 use Rattle.ice_flow.specs.Answers.{OfTexts, Stands, Apart, Routable, IsWriteFault, files_of, IsTrueOf}
@@ -25,6 +28,7 @@ abbrev pub Caused : Option Request → Meaning → Meaning → Cause → Type 0
 Caused None old new cause = cause ≡ Usage
 Caused (Some (ForBuild b)) old new cause = IsTrueOf b old new cause
 Caused (Some (ForPlayNet p)) old new cause = play.IsTrueOf p old new cause
+Caused (Some (ForPlayBits p)) old new cause = play_bits.IsTrueOf p old new cause
 
 -- where the words ask for a build, this is true of it
 abbrev pub Builds : Option Request → (Build → Type 0) → Type 0
@@ -33,6 +37,10 @@ Builds request P = (b : Build) → request ≡ Some (ForBuild b) → P b
 -- where the words ask to play a netlist, this is true of it
 abbrev pub Plays : Option Request → (PlayNet → Type 0) → Type 0
 Plays request P = (p : PlayNet) → request ≡ Some (ForPlayNet p) → P p
+
+-- where the words ask to play bits, this is true of it
+abbrev pub PlaysBits : Option Request → (PlayBits → Type 0) → Type 0
+PlaysBits request P = (p : PlayBits) → request ≡ Some (ForPlayBits p) → P p
 
 -- the work is done, or a fault of writing came in between
 abbrev pub IsDone : Cause → Type 0
@@ -105,9 +113,10 @@ ReadFaultRow b old new cause = (role : FileRole) → cause ≡ ReadFault role �
 abbrev pub WriteFaultRow : Build → Meaning → Meaning → Cause → Type 0
 WriteFaultRow b old new cause = (role : FileRole) (put : ℕ) → cause ≡ WriteFault role put → IsWriteFault b old new role put
 
--- status 13 is free: no file was made
-abbrev pub NoMemoryRow : Meaning → Meaning → Cause → Type 0
-NoMemoryRow old new cause = cause ≡ NoMemory → new.makes ≡ old.makes
+-- status 13 is free, and no file was made; want of memory has this status alone
+pub record NoMemoryRow (old new : Meaning) (cause : Cause) : Type 0 where
+  pub unmade : cause ≡ NoMemory → new.makes ≡ old.makes
+  pub alone : IsKnown cause
 
 -- status 16: exactly where a file has more bytes than the limit
 pub record TooLongRow (b : Build) (old new : Meaning) (cause : Cause) : Type 0 where
@@ -120,11 +129,12 @@ HeadlineRow b old new status =
     status ≡ 0 → old.tells ≡ true
     → (chip pins netlist asc : List ℕ) × HoldsTexts b old chip pins netlist × (new.files b.asc ≡ Some asc) × IsCircuitOf b.package_name chip pins netlist asc
 
--- what was said, beside what a netlist's ports drive: the whole line of a refusal, or a front of it where a say failed
+-- what was said, beside what ports and pads are driven with: the whole line of a refusal, or a front of it where a say failed
 abbrev pub SaidBy : Option Request → Meaning → Meaning → Cause → Type 0
 SaidBy None old new cause = SaidRow old new (line_of cause)
 SaidBy (Some (ForBuild b)) old new cause = SaidRow old new (line_of cause)
 SaidBy (Some (ForPlayNet p)) old new cause = SaidOf old new cause
+SaidBy (Some (ForPlayBits p)) old new cause = SaidOf old new cause
 
 -- which files may change: that of a build's bits, and no file where the work was refused before its writing
 abbrev pub KeptRow : Option Request → Meaning → Meaning → Cause → Type 0
@@ -132,9 +142,11 @@ KeptRow None old new cause = (name : List ℕ) → new.files name ≡ old.files 
 KeptRow (Some (ForBuild b)) old new cause =
     ((name : List ℕ) → name ≢ b.asc → new.files name ≡ old.files name) × (IsDone cause ⊎ ((new.makes ≡ old.makes) × ((name : List ℕ) → new.files name ≡ old.files name)))
 KeptRow (Some (ForPlayNet p)) old new cause = (new.makes ≡ old.makes) × ((name : List ℕ) → new.files name ≡ old.files name)
+KeptRow (Some (ForPlayBits p)) old new cause = (new.makes ≡ old.makes) × ((name : List ℕ) → new.files name ≡ old.files name)
 
 -- the names of the files pass the desk's tests
 abbrev pub MayUse : (List ℕ → Type 0) → (List ℕ → Type 0) → Option Request → Type 0
 MayUse may_read may_write None = Unit {0}
 MayUse may_read may_write (Some (ForBuild b)) = may_read b.chip × may_read b.pcf × may_read b.blif × may_write b.asc
 MayUse may_read may_write (Some (ForPlayNet p)) = may_read p.blif × may_read p.levels
+MayUse may_read may_write (Some (ForPlayBits p)) = may_read p.chip × may_read p.asc × may_read p.levels

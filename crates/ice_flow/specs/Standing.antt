@@ -9,6 +9,8 @@ use Rattle.ice_pcf.specs.declared.constraint.Constraint.{Constraint}
 use Rattle.ice_pcf.specs.declared.fault.PcfFault.{PcfFault}
 use Rattle.ice_blif.specs.Grammar.{netlist_of}
 use Rattle.ice_blif.specs.declared.fault.BlifFault.{BlifFault}
+use Rattle.ice_answer.specs.declared.cause.PinFault.{PinFault}
+use Rattle.ice_answer.specs.declared.cause.PinFault.TheVariants as pin_fault
 use Rattle.ice_flow.specs.Database.{Pad, Row, Database, wire_named}
 use Rattle.ice_flow.specs.Names.{pad_input_name, pad_output_name}
 use Rattle.ice_flow.specs.Routes.{IsWalk, IsUnreachable}
@@ -62,6 +64,11 @@ with_database standing (Ok parts) = standing
 -- first the faults of the chip text
 abbrev pub standing_of : List ℕ → List ℕ → List ℕ → List ℕ → Standing
 standing_of name chip pins netlist = with_database (form_of name chip pins netlist) (chip_says chip)
+
+-- the texts stand by this fault of the pins; a package that isn't there is of another form, so far
+abbrev pub IsPinStanding : PinFault → Standing → Type 0
+IsPinStanding (pin_fault.UnknownPin line) standing = standing ≡ UnknownPin line
+IsPinStanding pin_fault.NoPackage standing = ⊥
 
 -- the wires between which a buffer's net leads: from the wire of the input's pad to the wire that the output's pad drives out
 pub record AreEnds (chip : Database) (pads : List Pad) (root sink : ℕ) : Type 0 where

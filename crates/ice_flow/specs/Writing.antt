@@ -1,39 +1,31 @@
--- The bits of the IO tiles as the program keeps them, and what the writer sets in them.
-use Rattle.std.specs.Prelude.{◌≡◌, ℕ, ◌+◌, ◌<◌, Bool, true, false, ◌&&◌, ◌||◌, List, [], ◌∷◌, length, map, codes, ◌++◌, slice_index_or}
+-- What the writer sets in the bits of a chip of the form, and the text of them.
+use Rattle.std.specs.Prelude.{◌≡◌, ℕ, ◌<◌, Bool, ◌&&◌, true, Ok, List, [], ◌∷◌, length, map}
+use Rattle.std.specs.List.{list_any}
 use Rattle.ice_base.specs.declared.number.TileAt.{TileAt}
 use Rattle.ice_base.specs.declared.number.BitAt.{BitAt}
+use Rattle.ice_chip.specs.Database.{Parts}
+use Rattle.ice_bits.specs.Configuration.{Configuration, bits_of, IsOf}
+use Rattle.ice_asc.specs.Grammar.{asc_in}
+use Rattle.ice_asc.specs.Text.{asc_text}
 use Rattle.ice_flow.specs.Lists.{Has}
-use Rattle.ice_flow.specs.Database.{Database, IoFunction, PinType, InputEnable, PullUpEnable, is_among_tiles, same_tile, same_bit}
+use Rattle.ice_flow.specs.Database.{Database, IoFunction, PinType, InputEnable, PullUpEnable, is_among_tiles, same_tile, function_bit}
 use Rattle.ice_flow.specs.FirstForm.{left_tile, right_tile, database_with}
-use Rattle.ice_flow.specs.Configuration.{Configuration, bits_in}
+use Rattle.ice_flow.specs.FormChip.{parts_with}
 use Rattle.ice_flow.specs.Switches.{Bits}
 use Rattle.ice_flow.specs.Routes.{value_at}
 use Rattle.ice_flow.specs.Views.{pad_view, port_pad_view}
-use Rattle.ice_flow.specs.Written.{Plan, wants, written}
-use Rattle.ice_flow.specs.Asc.{digit_of_bit, tile_heading}
-use Rattle.ice_flow.specs.declared.bits.IoBits.{IoBits}
+use Rattle.ice_flow.specs.Written.{Plan, wants, written, is_this_bit}
 use Rattle.ice_flow.specs.declared.functions.Function as rust_function
 use Rattle.ice_flow.specs.declared.functions.Function.TheVariants as rust_variants
 use Rattle.ice_flow.specs.declared.pad.Pad as rust_pad
 use Rattle.ice_flow.specs.declared.pad.PortPad as rust_port_pad
 use Rattle.ice_flow.specs.declared.route.RouteRow.{RouteRow}
 
--- ---- the bits that are kept
--- 16 rows of 18 columns
-pub record IsGrid (rows : List (List Bool)) : Type 0 where
-  pub tall : length rows ≡ 16
-  pub wide : (k : ℕ) → k < 16 → length (slice_index_or rows k []) ≡ 18
-
-pub record AreGrids (bits : IoBits) : Type 0 where
-  pub left : IsGrid bits.left
-  pub right : IsGrid bits.right
-
--- the bits as a configuration
-abbrev pub configuration_of : IoBits → Configuration
-configuration_of bits = record { tiles = record { tile = left_tile; rows = bits.left } ∷ record { tile = right_tile; rows = bits.right } ∷ []; extras = [] }
-
-abbrev pub bits_of : IoBits → Bits
-bits_of bits t b = bits_in (configuration_of bits) t b
+-- ---- the bits that are written into
+-- the bits are those of a chip of the form, and there are no extra bits
+pub record AreFormBits (k : Configuration) : Type 0 where
+  pub form : IsOf (parts_with []) k
+  pub extras : k.extras ≡ []
 
 -- ---- the rows that are written
 -- a place in a tile
@@ -64,11 +56,11 @@ function_view (rust_variants.PinType pio digit) = PinType pio digit
 function_view (rust_variants.InputEnable pio) = InputEnable pio
 function_view (rust_variants.PullUpEnable pio) = PullUpEnable pio
 
--- a pin type has six digits
-abbrev pub HasDigit : rust_function.Function → Type 0
-HasDigit (rust_variants.PinType pio digit) = digit < 6
-HasDigit (rust_variants.InputEnable pio) = Unit {0}
-HasDigit (rust_variants.PullUpEnable pio) = Unit {0}
+-- a tile has two pads, and a pin type six digits
+abbrev pub IsOfTile : rust_function.Function → Type 0
+IsOfTile (rust_variants.PinType pio digit) = (pio < 2) × (digit < 6)
+IsOfTile (rust_variants.InputEnable pio) = pio < 2
+IsOfTile (rust_variants.PullUpEnable pio) = pio < 2
 
 -- the database without switches
 abbrev pub bare : Database
@@ -82,25 +74,25 @@ pads_plan roots ports = record { rows = []; roots = map pad_view roots; ports = 
 abbrev pub is_wanted : List rust_pad.Pad → List rust_port_pad.PortPad → TileAt → rust_function.Function → Bool
 is_wanted roots ports t f = wants bare (pads_plan roots ports) t (function_view f)
 
--- what is set in a tile for functions, of which the first has its bit in this row, and each other in the row behind
-abbrev pub functions_set : List rust_pad.Pad → List rust_port_pad.PortPad → TileAt → BitAt → ℕ → List rust_function.Function → Bool
-functions_set roots ports t b row [] = false
-functions_set roots ports t b row (f ∷ fs) =
-    (same_bit (record { row = row; col = 17 }) b && is_wanted roots ports t f) || functions_set roots ports t b (row + 1) fs
+-- the bit of a function
+abbrev pub is_bit_of : rust_function.Function → BitAt → Bool
+is_bit_of f b = is_this_bit (function_bit bare (function_view f)) b
+
+-- what is set in a tile for functions
+abbrev pub functions_set : List rust_pad.Pad → List rust_port_pad.PortPad → TileAt → BitAt → List rust_function.Function → Bool
+functions_set roots ports t b functions = list_any (λ f. is_bit_of f b && is_wanted roots ports t f) functions
 
 -- what is set for the pads
 abbrev pub pads_set : List rust_pad.Pad → List rust_port_pad.PortPad → Bits
 pads_set roots ports t b = written bare (pads_plan roots ports) t b
 
 -- ---- the text that is written
-abbrev pub digits_of_row : List Bool → List ℕ
-digits_of_row row = map digit_of_bit row
-
--- the lines of a tile with these rows
-abbrev pub lines_of_tile : TileAt → List (List Bool) → List (List ℕ)
-lines_of_tile t rows = tile_heading t ∷ map digits_of_row rows
-
--- the lines of the text of these bits
-abbrev pub lines_of_bits : IoBits → List (List ℕ)
-lines_of_bits bits =
-    codes ".comment" ∷ codes "placed and routed" ∷ codes ".device 1k" ∷ (lines_of_tile left_tile bits.left ++ lines_of_tile right_tile bits.right)
+-- The text holds the bits that are written for a plan: it is the text of a configuration of the chip with exactly these bits and
+-- no extra ones, and says that configuration.
+pub record HoldsWritten (parts : Parts) (c : Database) (plan : Plan) (text : List ℕ) : Type 0 where
+  pub configuration : Configuration
+  pub form : IsOf parts configuration
+  pub is_text : text ≡ asc_text parts configuration
+  pub decodes : asc_in parts text ≡ Ok configuration
+  pub extras : configuration.extras ≡ []
+  pub bits : (t : TileAt) (b : BitAt) → bits_of configuration t b ≡ written c plan t b

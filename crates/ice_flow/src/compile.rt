@@ -1,9 +1,12 @@
 //! From the three texts of a build to the text of the bits.
-ghost use Rattle.std.specs.Prelude.{◌≡◌, [], IfOk, IfErr, map};
+ghost use Rattle.std.specs.Prelude.{◌≡◌, Ok, [], IfOk, IfErr, map};
+ghost use Rattle.ice_chip.specs.IsRead.{AreNumbered};
+ghost use Rattle.ice_chip_read.specs.Whole.{chip_says};
 ghost use Rattle.ice_flow.specs.BufferForm.{buffer_plan};
 ghost use Rattle.ice_flow.specs.Views.{groups_view, pad_view, port_pad_view};
 ghost use Rattle.ice_flow.specs.ChipText.{IsOfForm};
 ghost use Rattle.ice_flow.specs.FirstForm.{left_pad, right_pad};
+ghost use Rattle.ice_flow.specs.FormChip.{IsFormChip};
 ghost use Rattle.ice_flow.specs.Built.{IsFormRefusal, IsPinsRefusal, IsLaidOut, IsLayoutRefusal, IsBuilt, IsRefusal};
 ghost use Rattle.ice_flow.specs.Standing.{form_of, standing_of};
 ghost use Rattle.ice_answer.specs.Causes.{no_places};
@@ -20,6 +23,7 @@ use ice_answer::{
 };
 use ice_base::{NetNo, NoMemory, WireNo};
 use ice_blif::read_blif;
+use ice_chip::Chip;
 use ice_chip_read::read_chip;
 use ice_pcf::read_pcf;
 use std::alloc::Global;
@@ -49,19 +53,21 @@ pub fn compile(
     ensures refused { IfErr result (λ cause. IsRefusal (standing_of «package».now chip_text.now pins_text.now netlist_text.now) cause) }
 {
     match read_chip(alloc, chip_text) {
-        Ok(_chip) => compile_form(alloc, package, chip_text, pins_text, netlist_text),
+        Ok(chip) => compile_form(alloc, &chip, package, chip_text, pins_text, netlist_text),
         Err(fault) => Err(chip_refusal(fault)),
     }
 }
 
-// The text of the bits of texts of which the chip's has a database.
+// The text of the bits of texts of which the chip's says this chip.
 fn compile_form(
     alloc: Global,
+    chip: &Chip,
     package: &[u8],
     chip_text: &[u8],
     pins_text: &[u8],
     netlist_text: &[u8],
 ) -> Result<Vec<u8>, Cause>
+    requires { chip_says chip_text.now ≡ Ok chip.now }
     ensures built { IfOk result (λ text. IsBuilt (form_of «package».now chip_text.now pins_text.now netlist_text.now) «package».now chip_text.now pins_text.now netlist_text.now text.items) }
     ensures refused { IfErr result (λ cause. IsRefusal (form_of «package».now chip_text.now pins_text.now netlist_text.now) cause) }
 {
@@ -84,15 +90,24 @@ fn compile_form(
         Ok(pads) => pads,
         Err(stop) => return Err(pins_refusal(stop)),
     };
-    lay_out(alloc, &groups, &pads)
+    groups_are_numbered(chip);
+    lay_out(alloc, chip, &groups, &pads)
+}
+
+// The law that the groups of a chip are numbered one after another.
+fn groups_are_numbered(chip: &Chip)
+    ensures { AreNumbered 0 chip.now.groups }
+{
+    let _wires = chip.wires();
 }
 
 // The bits of a route between the pads, as a text.
-fn lay_out(alloc: Global, groups: &[Group], pads: &PortPads) -> Result<Vec<u8>, Cause>
+fn lay_out(alloc: Global, chip: &Chip, groups: &[Group], pads: &PortPads) -> Result<Vec<u8>, Cause>
+    requires chip { IsFormChip (groups_view groups.now) chip.now }
     requires form { IsOfForm (groups_view groups.now) }
     requires input { pad_view pads.now.input ≡ left_pad }
     requires output { pad_view pads.now.output ≡ right_pad }
-    ensures laid { IfOk result (λ text. IsLaidOut (groups_view groups.now) text.items) }
+    ensures laid { IfOk result (λ text. IsLaidOut chip.now (groups_view groups.now) text.items) }
     ensures refused { IfErr result (λ cause. IsLayoutRefusal (groups_view groups.now) cause) }
 {
     let path = match find_walk(alloc, groups, ROOT, SINK) {
@@ -100,7 +115,7 @@ fn lay_out(alloc: Global, groups: &[Group], pads: &PortPads) -> Result<Vec<u8>, 
         Ok(None) => return Err(unreachable_sink(alloc)),
         Err(NoMemory) => return Err(Cause::NoMemory),
     };
-    match write_bits(alloc, &path, &[pads.input], &typed_pads(pads)) {
+    match write_bits(alloc, chip, &path, &[pads.input], &typed_pads(pads)) {
         Ok(text) => Ok(text),
         Err(NoMemory) => Err(Cause::NoMemory),
     }

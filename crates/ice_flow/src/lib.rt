@@ -2,9 +2,9 @@
 #![tactic(auto)]
 
 mod asc;
-#[cfg(test)]
-mod asc_tests;
 mod bits;
+#[cfg(test)]
+mod bits_tests;
 mod buffer;
 mod build;
 mod bundle;

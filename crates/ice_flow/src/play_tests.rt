@@ -106,6 +106,31 @@ const FALLING_SET_DRIVES: &[u8] = b"....0
 ....0
 ";
 
+// A flip-flop with a falling clock, an enable and an asynchronous set. It is set in the first step, keeps its level while it
+// is disabled, takes 0 in the fourth step, and is set again while it is disabled and its clock rests.
+const FALLING_ASYNC_SET: &[u8] = b".model top
+.inputs c e s d
+.outputs q
+.gate SB_DFFNES C=c E=e S=s D=d Q=q
+.end
+";
+
+const FALLING_ASYNC_SET_LEVELS: &[u8] = b"10100
+00000
+11000
+01000
+00100
+00000
+";
+
+const FALLING_ASYNC_SET_DRIVES: &[u8] = b"....0
+....1
+....1
+....1
+....0
+....1
+";
+
 // A flip-flop with an enable and an asynchronous reset.
 const RISING_RESET: &[u8] = b".model top
 .inputs c e r d
@@ -327,6 +352,13 @@ fn flip_flops_are_played(rt: HostRuntime) {
         &calm(FALLING_SET, FALLING_SET_LEVELS),
         0,
         FALLING_SET_DRIVES,
+    );
+    compare(
+        &rt,
+        alloc,
+        &calm(FALLING_ASYNC_SET, FALLING_ASYNC_SET_LEVELS),
+        0,
+        FALLING_ASYNC_SET_DRIVES,
     );
     compare(
         &rt,

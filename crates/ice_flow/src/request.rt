@@ -1,10 +1,12 @@
 //! The words of the program, read by hand: a command and its names.
 ghost use Rattle.std.specs.Prelude.{◌≡◌, map, string_bytes, not, option_map};
-ghost use Rattle.ice_flow.specs.Command.{is_plain, are_plain, request_of};
+ghost use Rattle.ice_flow.specs.Command.{is_plain, are_plain, are_plain_words, request_of};
 ghost use Rattle.ice_flow.specs.Requests.{build_view, request_view};
+ghost use Rattle.ice_play_bits.specs.Requests as play_bits;
 
 use ice_base::begins_with;
 use ice_play::NetRequest;
+use ice_play_bits::BitsRequest;
 
 /// What a build is asked for: the text of bits at `asc` from the texts of three files, for a package.
 #[derive(Clone, Copy, Debug)]
@@ -23,6 +25,8 @@ pub enum Request<'a> {
     Build(BuildRequest<'a>),
     /// `play-net BLIF LEVELS`.
     PlayNet(NetRequest<'a>),
+    /// `play-bits CHIP PACKAGE ASC LEVELS`.
+    PlayBits(BitsRequest<'a>),
 }
 
 // Whether a word stands for itself, and is no option.
@@ -47,6 +51,19 @@ pub fn read_request(words: &[String]) -> Option<Request<'_>>
                 && is_plain(request.levels)
             {
                 Some(Request::PlayNet(request))
+            } else {
+                None
+            }
+        }
+        [command, chip, package, asc, levels] => {
+            let request = BitsRequest {
+                chip: chip.as_str(),
+                package_name: package.as_str(),
+                asc: asc.as_str(),
+                levels: levels.as_str(),
+            };
+            if command.as_str() == "play-bits" && are_plain_words(&request) {
+                Some(Request::PlayBits(request))
             } else {
                 None
             }
@@ -78,4 +95,14 @@ fn are_plain(request: &BuildRequest<'_>) -> bool
         && is_plain(request.pcf)
         && is_plain(request.blif)
         && is_plain(request.asc)
+}
+
+// Whether all names of bits that are to be played stand for themselves.
+fn are_plain_words(bits: &BitsRequest<'_>) -> bool
+    ensures { result ≡ are_plain_words (play_bits.request_view bits.now) }
+{
+    is_plain(bits.chip)
+        && is_plain(bits.package_name)
+        && is_plain(bits.asc)
+        && is_plain(bits.levels)
 }

@@ -345,6 +345,19 @@ fn faults_of_the_texts_say_their_lines(rt: HostRuntime) {
         b"error 5 chip line 36 badbit\n",
         None,
     );
+    let first_function = Case {
+        words: &["build", "netlist", "tiny", "pins", "netlist", "bits"],
+        netlist: b".device 1k 2 1 4\n.pins tiny\n1 0 0 0\n2 1 0 0\n.ieren\n0 0 0 0 0 0\n1 0 0 1 0 0\n.io_tile 0 0\n.io_tile 1 0\n.io_tile_bits 18 16\nIOB_0.PINTYPE_0 B16[17]\n",
+        ..EXAMPLE
+    };
+    compare(
+        &rt,
+        alloc,
+        &first_function,
+        5,
+        b"error 5 chip line 11 badbit\n",
+        None,
+    );
     let shared = Case {
         switches: b".buffer 0 0 1 B0[17]\n1 0\n",
         ..EXAMPLE

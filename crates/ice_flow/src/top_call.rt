@@ -2,14 +2,16 @@
 ghost use Rattle.std.specs.Prelude.{◌≡◌, true, map, string_bytes};
 ghost use Rattle.ice_answer.specs.Causes.{status_of};
 ghost use Rattle.ice_play.specs.PlayRows as play;
+ghost use Rattle.ice_play_bits.specs.BitsRows as bits;
 ghost use Rattle.ice_flow.specs.Command.{request_of};
-ghost use Rattle.ice_flow.specs.Rows.{Caused, Builds, Plays, UsageRow, OtherChipRow, ChipRow, BlifRow, PcfRow, OtherNetlistRow, OtherPinsRow, PinRow, UnreachableRow, DoneRow, ReadFaultRow, WriteFaultRow, NoMemoryRow, TooLongRow, HeadlineRow, SaidBy, KeptRow, MayUse};
+ghost use Rattle.ice_flow.specs.Rows.{Caused, Builds, Plays, PlaysBits, UsageRow, OtherChipRow, ChipRow, BlifRow, PcfRow, OtherNetlistRow, OtherPinsRow, PinRow, UnreachableRow, DoneRow, ReadFaultRow, WriteFaultRow, NoMemoryRow, TooLongRow, HeadlineRow, SaidBy, KeptRow, MayUse};
 
 use crate::build::build;
 use crate::request::{Request, read_request};
 use ice_answer::{Cause, Done, finish};
 use ice_desk::{Desk, Gate};
 use ice_play::play_net;
+use ice_play_bits::play_bits;
 use std::alloc::Global;
 
 // The answer to the words, with all that is known of it.
@@ -27,6 +29,7 @@ fn answer<D: Desk>(alloc: Global, words: &[String], desk: &mut D) -> Done
             finish(desk, cause)
         }
         Some(Request::PlayNet(request)) => play_net(alloc, desk, &request),
+        Some(Request::PlayBits(request)) => play_bits(alloc, desk, &request),
     }
 }
 
@@ -34,7 +37,8 @@ fn answer<D: Desk>(alloc: Global, words: &[String], desk: &mut D) -> Done
 ///
 /// `build CHIP PACKAGE PCF BLIF ASC` reads the texts of a chip database, pin constraints and a netlist, and writes
 /// the text of the bits. `play-net BLIF LEVELS` reads the texts of a netlist and of levels, and says what the netlist's
-/// ports drive, step by step. No worker runs yet, so the gate is not passed.
+/// ports drive, step by step. `play-bits CHIP PACKAGE ASC LEVELS` reads the texts of a chip database, of bits and of levels, and says
+/// what the configured chip drives at the pads of the package, step by step. No worker runs yet, so the gate is not passed.
 pub fn run<D: Desk, G: Gate>(alloc: Global, words: &[String], desk: &mut D, _gate: &G) -> Done
     requires { MayUse (D.may_read desk.old) (D.may_write desk.old) (request_of (map string_bytes words.now)) }
     ensures status { result.status ≡ status_of result.cause }
@@ -61,6 +65,16 @@ pub fn run<D: Desk, G: Gate>(alloc: Global, words: &[String], desk: &mut D, _gat
     ensures played_read_fault { Plays (request_of (map string_bytes words.now)) (λ p. play.ReadFaultRow p (D.seen desk.old) (D.seen desk.new) result.cause) }
     ensures played_write_fault { Plays (request_of (map string_bytes words.now)) (λ p. play.WriteFaultRow p (D.seen desk.old) (D.seen desk.new) result.cause) }
     ensures played_too_long { Plays (request_of (map string_bytes words.now)) (λ p. play.TooLongRow p (D.seen desk.old) (D.seen desk.new) result.cause) }
+    ensures bits_played { PlaysBits (request_of (map string_bytes words.now)) (λ p. bits.ShownRow p (D.seen desk.old) (D.seen desk.new) result.status) }
+    ensures bits_done { PlaysBits (request_of (map string_bytes words.now)) (λ p. bits.DoneRow p (D.seen desk.old) result.cause) }
+    ensures bits_bad_chip { PlaysBits (request_of (map string_bytes words.now)) (λ p. bits.ChipRow p (D.seen desk.old) result.cause) }
+    ensures bits_bad_asc { PlaysBits (request_of (map string_bytes words.now)) (λ p. bits.AscRow p (D.seen desk.old) result.cause) }
+    ensures bits_no_package { PlaysBits (request_of (map string_bytes words.now)) (λ p. bits.PackageRow p (D.seen desk.old) result.cause) }
+    ensures bits_bad_bits { PlaysBits (request_of (map string_bytes words.now)) (λ p. bits.BitsRow p (D.seen desk.old) result.cause) }
+    ensures bits_bad_levels { PlaysBits (request_of (map string_bytes words.now)) (λ p. bits.LevelsRow p (D.seen desk.old) result.cause) }
+    ensures bits_read_fault { PlaysBits (request_of (map string_bytes words.now)) (λ p. bits.ReadFaultRow p (D.seen desk.old) (D.seen desk.new) result.cause) }
+    ensures bits_write_fault { PlaysBits (request_of (map string_bytes words.now)) (λ p. bits.WriteFaultRow p (D.seen desk.old) (D.seen desk.new) result.cause) }
+    ensures bits_too_long { PlaysBits (request_of (map string_bytes words.now)) (λ p. bits.TooLongRow p (D.seen desk.old) (D.seen desk.new) result.cause) }
     ensures caused { Caused (request_of (map string_bytes words.now)) (D.seen desk.old) (D.seen desk.new) result.cause }
     ensures said { (D.seen desk.old).tells ≡ true → SaidBy (request_of (map string_bytes words.now)) (D.seen desk.old) (D.seen desk.new) result.cause }
     ensures kept { (D.seen desk.old).tells ≡ true → KeptRow (request_of (map string_bytes words.now)) (D.seen desk.old) (D.seen desk.new) result.cause }

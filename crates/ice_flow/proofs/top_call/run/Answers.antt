@@ -1,7 +1,8 @@
 use Rattle.std.proofs.Common.{map, string_bytes}
 use Rattle.ice_flow.specs.Command.{request_of}
-use Rattle.ice_flow.proofs.RowLaws.{built_at, played_at, headline_row, done_row, usage_row, chip_row, pcf_row, blif_row, pin_row, unreachable_row, read_fault_row, write_fault_row, no_memory_row, too_long_row, other_chip_row, other_netlist_row, other_pins_row}
+use Rattle.ice_flow.proofs.RowLaws.{built_at, played_at, bits_played_at, headline_row, done_row, usage_row, chip_row, pcf_row, blif_row, pin_row, unreachable_row, read_fault_row, write_fault_row, no_memory_row, too_long_row, other_chip_row, other_netlist_row, other_pins_row}
 use Rattle.ice_play.proofs.PlayLaws as play
+use Rattle.ice_play_bits.proofs.BitsLaws as bits
 use Rattle.ice_flow.proofs.top_call.run.Goals as goal
 
 pub returns-clause-usage : goal.returns-clause-usage
@@ -72,3 +73,33 @@ returns-clause-played_write_fault g c p e = play.write_fault_row p (g.D.Desk.see
 
 pub returns-clause-played_too_long : goal.returns-clause-played_too_long
 returns-clause-played_too_long g c p e = play.too_long_row p (g.D.Desk.seen c.args.desk.now) (g.D.Desk.seen c.answer.new.desk) c.answer.result.cause (played_at (request_of (map string_bytes c.args.words.now)) p (g.D.Desk.seen c.args.desk.now) (g.D.Desk.seen c.answer.new.desk) c.answer.result.cause c.answer.ensures.caused e)
+
+pub returns-clause-bits_played : goal.returns-clause-bits_played
+returns-clause-bits_played g c p e = bits.shown_row p (g.D.Desk.seen c.args.desk.now) (g.D.Desk.seen c.answer.new.desk) c.answer.result.cause c.answer.result.status (bits_played_at (request_of (map string_bytes c.args.words.now)) p (g.D.Desk.seen c.args.desk.now) (g.D.Desk.seen c.answer.new.desk) c.answer.result.cause c.answer.ensures.caused e) c.answer.ensures.status
+
+pub returns-clause-bits_done : goal.returns-clause-bits_done
+returns-clause-bits_done g c p e = bits.done_row p (g.D.Desk.seen c.args.desk.now) (g.D.Desk.seen c.answer.new.desk) c.answer.result.cause (bits_played_at (request_of (map string_bytes c.args.words.now)) p (g.D.Desk.seen c.args.desk.now) (g.D.Desk.seen c.answer.new.desk) c.answer.result.cause c.answer.ensures.caused e)
+
+pub returns-clause-bits_bad_chip : goal.returns-clause-bits_bad_chip
+returns-clause-bits_bad_chip g c p e = bits.chip_row p (g.D.Desk.seen c.args.desk.now) (g.D.Desk.seen c.answer.new.desk) c.answer.result.cause (bits_played_at (request_of (map string_bytes c.args.words.now)) p (g.D.Desk.seen c.args.desk.now) (g.D.Desk.seen c.answer.new.desk) c.answer.result.cause c.answer.ensures.caused e)
+
+pub returns-clause-bits_bad_asc : goal.returns-clause-bits_bad_asc
+returns-clause-bits_bad_asc g c p e = bits.asc_row p (g.D.Desk.seen c.args.desk.now) (g.D.Desk.seen c.answer.new.desk) c.answer.result.cause (bits_played_at (request_of (map string_bytes c.args.words.now)) p (g.D.Desk.seen c.args.desk.now) (g.D.Desk.seen c.answer.new.desk) c.answer.result.cause c.answer.ensures.caused e)
+
+pub returns-clause-bits_no_package : goal.returns-clause-bits_no_package
+returns-clause-bits_no_package g c p e = bits.package_row p (g.D.Desk.seen c.args.desk.now) (g.D.Desk.seen c.answer.new.desk) c.answer.result.cause (bits_played_at (request_of (map string_bytes c.args.words.now)) p (g.D.Desk.seen c.args.desk.now) (g.D.Desk.seen c.answer.new.desk) c.answer.result.cause c.answer.ensures.caused e)
+
+pub returns-clause-bits_bad_bits : goal.returns-clause-bits_bad_bits
+returns-clause-bits_bad_bits g c p e = bits.bits_row p (g.D.Desk.seen c.args.desk.now) (g.D.Desk.seen c.answer.new.desk) c.answer.result.cause (bits_played_at (request_of (map string_bytes c.args.words.now)) p (g.D.Desk.seen c.args.desk.now) (g.D.Desk.seen c.answer.new.desk) c.answer.result.cause c.answer.ensures.caused e)
+
+pub returns-clause-bits_bad_levels : goal.returns-clause-bits_bad_levels
+returns-clause-bits_bad_levels g c p e = bits.levels_row p (g.D.Desk.seen c.args.desk.now) (g.D.Desk.seen c.answer.new.desk) c.answer.result.cause (bits_played_at (request_of (map string_bytes c.args.words.now)) p (g.D.Desk.seen c.args.desk.now) (g.D.Desk.seen c.answer.new.desk) c.answer.result.cause c.answer.ensures.caused e)
+
+pub returns-clause-bits_read_fault : goal.returns-clause-bits_read_fault
+returns-clause-bits_read_fault g c p e = bits.read_fault_row p (g.D.Desk.seen c.args.desk.now) (g.D.Desk.seen c.answer.new.desk) c.answer.result.cause (bits_played_at (request_of (map string_bytes c.args.words.now)) p (g.D.Desk.seen c.args.desk.now) (g.D.Desk.seen c.answer.new.desk) c.answer.result.cause c.answer.ensures.caused e)
+
+pub returns-clause-bits_write_fault : goal.returns-clause-bits_write_fault
+returns-clause-bits_write_fault g c p e = bits.write_fault_row p (g.D.Desk.seen c.args.desk.now) (g.D.Desk.seen c.answer.new.desk) c.answer.result.cause (bits_played_at (request_of (map string_bytes c.args.words.now)) p (g.D.Desk.seen c.args.desk.now) (g.D.Desk.seen c.answer.new.desk) c.answer.result.cause c.answer.ensures.caused e)
+
+pub returns-clause-bits_too_long : goal.returns-clause-bits_too_long
+returns-clause-bits_too_long g c p e = bits.too_long_row p (g.D.Desk.seen c.args.desk.now) (g.D.Desk.seen c.answer.new.desk) c.answer.result.cause (bits_played_at (request_of (map string_bytes c.args.words.now)) p (g.D.Desk.seen c.args.desk.now) (g.D.Desk.seen c.answer.new.desk) c.answer.result.cause c.answer.ensures.caused e)
