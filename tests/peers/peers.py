@@ -1,0 +1,92 @@
+"""Levels for the two commands, and the comparison of what they say.
+
+levels CHIP PACKAGE PCF BLIF STEPS NET_LEVELS BITS_LEVELS  writes one step a line, for the netlist's ports and for the package's pads
+compare CHIP PACKAGE PCF BLIF NET_DRIVES BITS_DRIVES       ends with 0 where the pads show what the ports show, and every other is Off
+"""
+import random
+import sys
+
+
+def pads_of(chip, package):
+    """The places of the pins of a package, and its different pads in order."""
+    pins, pads, inside = {}, [], False
+    with open(chip, encoding="ascii") as lines:
+        for line in lines:
+            words = line.split()
+            if not words:
+                continue
+            if words[0].startswith("."):
+                inside = words == [".pins", package]
+            elif inside:
+                pad = tuple(words[1:])
+                pins.setdefault(words[0], pad)
+                if pad not in pads:
+                    pads.append(pad)
+    return pins, pads
+
+
+def ports_of(blif):
+    """The ports of a netlist in order, and which of them are inputs."""
+    text = open(blif, encoding="ascii").read().replace("\\\n", " ")
+    ports, inputs = [], set()
+    for line in text.splitlines():
+        words = line.split()
+        if words and words[0] in (".inputs", ".outputs"):
+            for name in words[1:]:
+                if name not in ports:
+                    ports.append(name)
+                if words[0] == ".inputs":
+                    inputs.add(name)
+    return ports, inputs
+
+
+def places_of(chip, package, pcf, ports):
+    """For each port the place of its pad in the package."""
+    pins, pads = pads_of(chip, package)
+    pin = {words[1]: words[2] for words in map(str.split, open(pcf, encoding="ascii")) if words}
+    return [pads.index(pins[pin[port]]) for port in ports], len(pads)
+
+
+def levels(chip, package, pcf, blif, steps, net_out, bits_out):
+    ports, inputs = ports_of(blif)
+    places, count = places_of(chip, package, pcf, ports)
+    source = random.Random(7)
+    clock = 0
+    with open(net_out, "w", encoding="ascii") as net, open(bits_out, "w", encoding="ascii") as bits:
+        for _ in range(int(steps)):
+            clock = 1 - clock
+            # (an enable is mostly 1, and a reset mostly 0, so that a counter gets far)
+            chance = {"en": 0.95, "rst": 0.002}
+            step = [0] * len(ports)
+            for k, port in enumerate(ports):
+                if port == "clk":
+                    step[k] = clock
+                elif port in inputs:
+                    step[k] = int(source.random() < chance.get(port, 0.5))
+            pads = [0] * count
+            for k, place in enumerate(places):
+                pads[place] = step[k]
+            net.write("".join(map(str, step)) + "\n")
+            bits.write("".join(map(str, pads)) + "\n")
+
+
+def compare(chip, package, pcf, blif, net_said, bits_said):
+    ports, _ = ports_of(blif)
+    places, count = places_of(chip, package, pcf, ports)
+    net = open(net_said, encoding="ascii").read().split()
+    bits = open(bits_said, encoding="ascii").read().split()
+    if len(net) != len(bits) or not net:
+        sys.exit(f"{len(net)} steps of the netlist and {len(bits)} of the bits")
+    for number, (ports_show, pads_show) in enumerate(zip(net, bits), 1):
+        if len(pads_show) != count:
+            sys.exit(f"step {number}: {len(pads_show)} pads, not {count}")
+        for k, port in enumerate(ports):
+            if ports_show[k] != pads_show[places[k]]:
+                sys.exit(f"step {number}: port {port} shows {ports_show[k]} and its pad {pads_show[places[k]]}")
+        others = [p for p in range(count) if p not in places and pads_show[p] != "."]
+        if others:
+            sys.exit(f"step {number}: pads {others} are driven")
+    print(f"    {len(net)} steps, {len(ports)} ports, {len(set(net))} different lines: the same")
+
+
+{"levels": levels, "compare": compare}[sys.argv[1]](*sys.argv[2:])
