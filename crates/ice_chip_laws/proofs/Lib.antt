@@ -1,0 +1,14 @@
+mod ListMembers
+mod SameKeys
+mod KnownTiles
+mod FaultFree
+mod TileLaws
+mod OneName
+mod NameLaws
+mod PinLaws
+mod NameTests
+mod FunctionLaws
+mod UseLaws
+mod GroupLaws
+mod RowNumbers
+mod ServerLaws

@@ -1,0 +1,23 @@
+-- Groups of switches, and the numbers of their rows.
+use Rattle.std.specs.Prelude.{◌≡◌, ℕ, ◌+◌, ◌<◌, Some}
+use Rattle.ice_base.specs.declared.number.BitAt.{BitAt}
+use Rattle.ice_chip.specs.Database.{Parts, SwitchGroup, SwitchRow}
+use Rattle.ice_chip.specs.Lookups.{kind_at, rows_of}
+use Rattle.ice_chip.specs.Places.{columns}
+use Rattle.ice_chip.specs.declared.rows.TileKind.{TileKind}
+use Rattle.ice_chip_laws.specs.Members.{At, Has}
+
+pub record HasGroups (parts : Parts) : Type 0 where
+  -- a tile stands at the place of a group
+  pub placed : (g : SwitchGroup) → Has parts.groups g → (kind : TileKind) × (kind_at parts g.tile ≡ Some kind)
+  -- and has the columns of the group's bits
+  pub within : (g : SwitchGroup) (kind : TileKind) (b : BitAt) → Has parts.groups g → kind_at parts g.tile ≡ Some kind → Has g.bits b → b.col < columns kind
+  -- a group leads into a wire of the chip
+  pub target : (g : SwitchGroup) → Has parts.groups g → g.wire < parts.wires
+  -- and each of its rows from one
+  pub source : (g : SwitchGroup) (r : SwitchRow) → Has parts.groups g → Has g.rows r → r.source < parts.wires
+
+-- the number of a row is its place among all rows
+pub record HasRows (parts : Parts) : Type 0 where
+  pub numbered : (g : SwitchGroup) (k : ℕ) (r : SwitchRow) → Has parts.groups g → At g.rows k r → At (rows_of parts.groups) (g.first + k) (g, r)
+  pub only : (n : ℕ) (g : SwitchGroup) (r : SwitchRow) → At (rows_of parts.groups) n (g, r) → Has parts.groups g × ((k : ℕ) × (n ≡ g.first + k) × At g.rows k r)

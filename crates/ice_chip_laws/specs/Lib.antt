@@ -1,0 +1,9 @@
+pub mod Members
+pub mod Tiles
+pub mod Names
+pub mod Pins
+pub mod Functions
+pub mod Bits
+pub mod Groups
+pub mod Served
+pub mod Laws

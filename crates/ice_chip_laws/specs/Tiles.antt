@@ -1,0 +1,14 @@
+-- Tiles and their kinds.
+use Rattle.std.specs.Prelude.{◌≡◌, Some}
+use Rattle.ice_base.specs.declared.number.TileAt.{TileAt}
+use Rattle.ice_chip.specs.Database.{Parts}
+use Rattle.ice_chip.specs.Lookups.{kind_at}
+use Rattle.ice_chip.specs.declared.parts.TileLine.{TileLine}
+use Rattle.ice_chip.specs.declared.rows.TileKind.{TileKind}
+use Rattle.ice_chip_laws.specs.Members.{Has}
+
+pub record HasTiles (parts : Parts) : Type 0 where
+  -- a tile that is found is in the list of tiles, with its kind
+  pub listed : (t : TileAt) (kind : TileKind) → kind_at parts t ≡ Some kind → (known : TileLine) × Has parts.tiles (t, known) × (known.kind ≡ kind)
+  -- and each place in the list has a tile
+  pub stands : (t : TileAt) (known : TileLine) → Has parts.tiles (t, known) → (kind : TileKind) × (kind_at parts t ≡ Some kind)
