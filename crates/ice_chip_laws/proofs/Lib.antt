@@ -12,3 +12,4 @@ mod UseLaws
 mod GroupLaws
 mod RowNumbers
 mod ServerLaws
+mod ExampleLaws

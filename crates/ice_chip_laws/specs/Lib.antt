@@ -8,3 +8,4 @@ pub mod Bits
 pub mod Groups
 pub mod Served
 pub mod Laws
+pub mod Example

@@ -2,9 +2,11 @@
 #![tactic(auto)]
 
 mod cells;
+mod example;
 mod laws;
 mod pins;
 
 pub use cells::{CellInput, cell_input};
+pub use example::worked_example;
 pub use laws::lookups_are_lawful;
 pub use pins::{is_pin_name, pin_of};
