@@ -1,9 +1,12 @@
 -- Tiles have the functions that they need.
-use Rattle.std.proofs.Common.{◌≡◌, ℕ, Bool, true, false, not, cond, Option, None, Some, option_map, List, [], ◌∷◌, ◌++◌, length, inl, inr, refl, sym, ap, subst, ◌∙◌, append_assoc, true≢false}
+use Rattle.std.proofs.Common.{◌≡◌, ℕ, Bool, true, false, not, cond, Option, None, Some, option_map, List, [], ◌∷◌, ◌++◌, length, inl, inr, refl, sym, ap, subst, ◌∙◌, append_assoc, true≢false, ◌<◌, slice_get, get_or, arith}
 use Rattle.std.specs.Prelude.{◌⊎◌, ◌&&◌, ◌||◌, ◌==◌, is_some, find, bytes_eq, codes, if◌then◌else◌}
 use Rattle.std.specs.Map.{values_of}
+use Rattle.std.specs.Option.{option_and_then}
 use Rattle.std.proofs.lemmas.Bool.{and_parts, and_from, or_left, or_right}
+use Rattle.std.proofs.lemmas.Option.{slice_get-get_or}
 use Rattle.ice_base.specs.declared.number.TileAt.{TileAt}
+use Rattle.ice_base.specs.declared.number.BitAt.{BitAt}
 use Rattle.ice_chip.specs.Database.{Parts, FunctionRow}
 use Rattle.ice_chip.specs.FirstLacking.{needs_buffers, is_needed, Lacks, IsWrong, IsFirstLack, LacksFunctionIsFirst}
 use Rattle.ice_chip.specs.Functions.{is_read, is_column_buffer, same_kind, function_line}
@@ -14,6 +17,7 @@ use Rattle.ice_chip.specs.Places.{same_tile, tile_known}
 use Rattle.ice_chip.specs.declared.parts.TileLine.{TileLine}
 use Rattle.ice_chip.specs.declared.rows.TileKind.{TileKind}
 use Rattle.ice_chip.specs.declared.rows.TileKind.TheVariants.{Io, Logic, RamBottom, RamTop}
+use Rattle.ice_chip_laws.specs.Bits.{function_place}
 use Rattle.ice_chip_laws.specs.Functions.{HasFunction, HasColumnBuffers, HasFunctions}
 use Rattle.ice_chip_laws.specs.Members.{Has}
 use Rattle.ice_chip_laws.proofs.FaultFree.{no_fault}
@@ -59,6 +63,18 @@ split (y ∷ xs) x has = by (has_cases y x xs has) (split xs x)
     by : (y ≡ x) ⊎ Has xs x → (Has xs x → (before after : List _) × (xs ≡ before ++ x ∷ after)) → (before after : List _) × (y ∷ xs ≡ before ++ x ∷ after)
     by (inl here) more = ([], xs, ap (λ z. z ∷ xs) here)
     by (inr there) more = let s = more there in (y ∷ s.0, s.1, ap (λ zs. y ∷ zs) s.2)
+
+-- a function with so many bits
+with_bits : (parts : Parts) (kind : TileKind) (name : List ℕ) (count : ℕ) (f : FunctionRow) → function_of parts kind name ≡ Some f → length f.bits ≡ count → HasFunction parts kind name count
+with_bits parts kind name count f found long = record { function = f; there = found; long = long; bits = each }
+  where
+    default : BitAt
+    default = record { row = 0; col = 0 }
+
+    each : (k : ℕ) → k < count → (b : BitAt) × (function_place parts kind name k ≡ Some b)
+    each k lt =
+        let within : k < length f.bits = omega arith in
+        (get_or f.bits k default, ap (option_and_then (λ (g : FunctionRow). slice_get g.bits k)) found ∙ slice_get-get_or f.bits k default within)
 
 -- ---- kinds with tiles
 kind_among : (tiles : List (TileAt × TileLine)) (t : TileAt) (known : TileLine) (kind : TileKind) → Has tiles (t, known) → known.kind ≡ kind → has_kind kind (values_of tiles) ≡ true
@@ -113,7 +129,7 @@ module _ (parts : Parts) (chip : IsChip parts) (first : LacksFunctionIsFirst) wh
       by : (before after : List FunctionRow) × (fs ≡ before ++ f ∷ after) → ⊥
       by (before, after, e) = none_lacks.1 f.line (record { front = front ++ before; function = f; rest = after; stands = stands ∙ ap (λ xs. front ++ xs) e ∙ sym (append_assoc front before (f ∷ after)); wrong = wrong; on_line = refl })
 
-  size_of : (t : TileAt) (kind : TileKind) (name : List ℕ) (f : FunctionRow) → kind_at parts t ≡ Some kind → is_read kind name ≡ true → function_of parts kind name ≡ Some f → length f.bits ≡ bits_needed name
+  pub size_of : (t : TileAt) (kind : TileKind) (name : List ℕ) (f : FunctionRow) → kind_at parts t ≡ Some kind → is_read kind name ≡ true → function_of parts kind name ≡ Some f → length f.bits ≡ bits_needed name
   size_of t kind name f at read found = by (length f.bits == bits_needed f.name) refl
     where
       of : IsOf parts kind name f
@@ -136,7 +152,7 @@ module _ (parts : Parts) (chip : IsChip parts) (first : LacksFunctionIsFirst) wh
   needed_function : (t : TileAt) (kind : TileKind) (name : List ℕ) → kind_at parts t ≡ Some kind → is_read kind name ≡ true → is_needed (is_source kind) kind name ≡ true → HasFunction parts kind name (bits_needed name)
   needed_function t kind name at read needed =
       let found = needed_there t kind name at needed in
-      record { function = found.0; there = found.1; long = size_of t kind name found.0 at read found.1 }
+      with_bits parts kind name (bits_needed name) found.0 found.1 (size_of t kind name found.0 at read found.1)
 
   own_function : (t : TileAt) (kind : TileKind) (count : ℕ) (name : List ℕ) → kind_at parts t ≡ Some kind → is_own kind count name ≡ true → HasFunction parts kind name count
   own_function t kind count name at own =
@@ -164,7 +180,7 @@ module _ (parts : Parts) (chip : IsChip parts) (first : LacksFunctionIsFirst) wh
   -- ---- column buffers
   one_bit : (t : TileAt) (kind : TileKind) (name : List ℕ) → kind_at parts t ≡ Some kind → is_column_buffer name ≡ true → (f : FunctionRow) × (function_of parts kind name ≡ Some f) → HasFunction parts kind name 1
   one_bit t kind name at buffer (f, found) =
-      record { function = f; there = found; long = size_of t kind name f at (buffer_is_read kind name buffer) found ∙ nat_same (bits_needed name) 1 (buffer_is_one name buffer) }
+      with_bits parts kind name 1 f found (size_of t kind name f at (buffer_is_read kind name buffer) found ∙ nat_same (bits_needed name) 1 (buffer_is_one name buffer))
 
   pub held_buffers : (t : TileAt) (kind : TileKind) → kind_at parts t ≡ Some kind → has_column_buffers kind parts.functions ≡ true → HasColumnBuffers parts kind
   held_buffers t kind at all = λ name buffer.

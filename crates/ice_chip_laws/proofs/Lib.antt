@@ -8,6 +8,7 @@ mod NameLaws
 mod PinLaws
 mod NameTests
 mod FunctionLaws
+mod PlaceLaws
 mod UseLaws
 mod GroupLaws
 mod RowNumbers

@@ -2,11 +2,12 @@
 use Rattle.std.proofs.Common.{◌≡◌, ℕ, Bool, true, false, Option, None, Some, option_map, List, [], ◌∷◌, ◌++◌, inl, inr, refl, sym, ap, subst, ◌∙◌, true≢false}
 use Rattle.std.specs.Prelude.{◌⊎◌, ◌||◌, Result, Ok, Err, if◌then◌else◌, bytes_eq, nat_eq}
 use Rattle.std.specs.Map.{lookup}
+use Rattle.std.proofs.lemmas.Option.{none-some}
 use Rattle.std.proofs.lemmas.Bool.{and_parts, or_cases, or_left}
 use Rattle.ice_base.specs.declared.number.TileAt.{TileAt}
 use Rattle.ice_chip.specs.Database.{Parts, WireName}
 use Rattle.ice_chip.specs.IsRead.{IsChip}
-use Rattle.ice_chip.specs.Lookups.{names_of, wire_named, placed_at}
+use Rattle.ice_chip.specs.Lookups.{names_of}
 use Rattle.ice_chip.specs.PinNames.{is_global_name}
 use Rattle.ice_chip.specs.Places.{same_tile, tile_known}
 use Rattle.ice_chip.specs.SharedPins.{is_pin, same_pin, pin_line, with_pin, with_pin_name, shared_from}
@@ -15,10 +16,10 @@ use Rattle.ice_chip.specs.declared.parts.TileLine.{TileLine}
 use Rattle.ice_chip.specs.declared.pins.PinLine.{PinLine}
 use Rattle.ice_chip.specs.declared.whole.PlacedName.{PlacedName}
 use Rattle.ice_chip_laws.specs.Members.{Has}
-use Rattle.ice_chip_laws.specs.Pins.{is_pin_in, is_pin_name, pin_of, AreOnePin, HasPins}
+use Rattle.ice_chip_laws.specs.Pins.{is_pin_in, is_pin_name, pin_of, AreOnePin, IsPinOf, IsOnePin, HasPins}
 use Rattle.ice_chip_laws.proofs.FaultFree.{no_fault}
 use Rattle.ice_chip_laws.proofs.ListMembers.{find_at, has_find, lookup_kept, lookup_added}
-use Rattle.ice_chip_laws.proofs.NameLaws.{gives, names_are}
+use Rattle.ice_chip_laws.proofs.NameLaws.{gives}
 use Rattle.ice_chip_laws.proofs.OneName.{goes_on, fit_one}
 use Rattle.ice_chip_laws.proofs.SameKeys.{nat_self, bytes_same, bytes_self, tile_same, tile_self}
 
@@ -107,21 +108,18 @@ same_test (Some known) name = refl
 counts_as : (parts : Parts) (n : PlacedName) (row : WireName) → placed row ≡ n → is_pin_name parts n ≡ true → is_pin (tile_known parts.tiles row.tile) row.name ≡ true
 counts_as parts n row is pin = sym (same_test (tile_known parts.tiles row.tile) row.name) ∙ ap (is_pin_name parts) is ∙ pin
 
-one_pin : (parts : Parts) → IsChip parts → (w : ℕ) (a b : PlacedName) → Has (names_of parts w) a → Has (names_of parts w) b → is_pin_name parts a ≡ true → is_pin_name parts b ≡ true → AreOnePin a b
-one_pin parts chip w a b has_a has_b pin_a pin_b =
+one_pin : (parts : Parts) → IsChip parts → (w : ℕ) (a b : PlacedName) → IsPinOf parts w a → IsPinOf parts w b → AreOnePin a b
+one_pin parts chip w a b (has_a, pin_a) (has_b, pin_b) =
     let by_a = gives parts w a has_a in
     let by_b = gives parts w b has_b in
     let one = pin_of_wire parts.tiles parts.names by_a.row by_b.row (no_fault parts chip).pins by_a.there by_b.there (counts_as parts a by_a.row by_a.name pin_a) (counts_as parts b by_b.row by_b.name pin_b)
     (by_a.wire ∙ sym by_b.wire) in
     subst (λ x. AreOnePin x b) by_a.name (subst (λ x. AreOnePin (placed by_a.row) x) by_b.name one)
 
-found_pin : (parts : Parts) → IsChip parts → (t : TileAt) (name : List ℕ) (w : ℕ) → wire_named parts t name ≡ Some w → is_pin_name parts (placed_at t name) ≡ true
-    → (n : PlacedName) × (pin_of parts w ≡ Some n) × AreOnePin n (placed_at t name)
-found_pin parts chip t name w e pin =
-    let has = (names_are parts chip).found t name w e in
-    let found = has_find (is_pin_name parts) (names_of parts w) (placed_at t name) has pin in
-    let first = find_at (is_pin_name parts) (names_of parts w) found.0 found.1 in
-    (found.0, found.1, one_pin parts chip w found.0 (placed_at t name) first.0 has first.1 pin)
+found_pin : (parts : Parts) → IsChip parts → (w : ℕ) (n : PlacedName) → IsPinOf parts w n → (first : PlacedName) × (pin_of parts w ≡ Some first) × AreOnePin first n
+found_pin parts chip w n is =
+    let found = has_find (is_pin_name parts) (names_of parts w) n is.0 is.1 in
+    (found.0, found.1, one_pin parts chip w found.0 n (find_at (is_pin_name parts) (names_of parts w) found.0 found.1) is)
 
 -- a pin that is no global's has one name
 same_name : (n m : PlacedName) → AreOnePin n m → is_global_name m.name ≡ false → n ≡ m
@@ -132,10 +130,16 @@ pub pins_are : (parts : Parts) → IsChip parts → HasPins parts
 pins_are parts chip = record {
   one_pin = one_pin parts chip;
   found = found_pin parts chip;
-  only = λ t name w e pin local.
-      let found = found_pin parts chip t name w e pin in
-      found.1 ∙ ap Some (same_name found.0 (placed_at t name) found.2 local);
-  named = λ w n e.
-      let first = find_at (is_pin_name parts) (names_of parts w) n e in
-      (first.1, (names_are parts chip).named n.tile n.name w first.0);
+  only = λ w n is local.
+      let found = found_pin parts chip w n is in
+      found.1 ∙ ap Some (same_name found.0 n found.2 local);
+  named = λ w n e. find_at (is_pin_name parts) (names_of parts w) n e;
 }
+
+-- the pin to which a wire leads is its one pin
+pub pin_is_one : (parts : Parts) → HasPins parts → (w : ℕ) → IsOnePin parts w (pin_of parts w)
+pin_is_one parts has w = by (pin_of parts w) refl
+  where
+    by : (o : Option PlacedName) → pin_of parts w ≡ o → IsOnePin parts w o
+    by None none = λ n is. let found = has.found w n is in none-some found.0 (sym none ∙ found.1)
+    by (Some pin) found = (has.named w pin found, λ n is. has.one_pin w pin n (has.named w pin found) is)

@@ -7,6 +7,7 @@ use Rattle.std.proofs.lemmas.Bool.{cases_order, or_right}
 use Rattle.std.proofs.lemmas.Option.{none-some, same_Some}
 use Rattle.ice_base.specs.declared.number.BitAt.{BitAt}
 use Rattle.ice_chip.specs.Database.{Parts, FunctionRow, SwitchGroup}
+use Rattle.ice_chip.specs.FirstLacking.{LacksFunctionIsFirst}
 use Rattle.ice_chip.specs.FirstShared.{AreShared, AreFirstShared, SharedFunctionIsFirst}
 use Rattle.ice_chip.specs.Functions.{is_read, is_foreign}
 use Rattle.ice_chip.specs.IsRead.{IsChip}
@@ -16,13 +17,14 @@ use Rattle.ice_chip.specs.SharedFunction.{bit_use, function_uses, group_uses, bi
 use Rattle.ice_chip.specs.declared.parts.TileLine.{TileLine}
 use Rattle.ice_chip.specs.declared.rows.TileKind.{TileKind}
 use Rattle.ice_chip.specs.declared.shared.BitUse.{BitUse}
-use Rattle.ice_chip_laws.specs.Bits.{function_place, HasOwnBits}
+use Rattle.ice_chip_laws.specs.Bits.{function_place, IsReadAt, HasOwnBits}
 use Rattle.ice_chip_laws.specs.Members.{At, Has}
 use Rattle.ice_chip_laws.proofs.FaultFree.{no_fault}
 use Rattle.ice_chip_laws.proofs.FunctionLaws.{IsOf, is_of}
 use Rattle.ice_chip_laws.proofs.KnownTiles.{known_kind}
 use Rattle.ice_chip_laws.proofs.ListMembers.{at_left, at_right, at_within, at_map, has_map}
 use Rattle.ice_chip_laws.proofs.NameTests.{read_not_foreign}
+use Rattle.ice_chip_laws.proofs.PlaceLaws.{found_at, found_there, bit_listed, number_below}
 use Rattle.ice_chip_laws.proofs.SameKeys.{nat_self, kind_self}
 
 -- ---- one item before another
@@ -166,9 +168,8 @@ module _ (parts : Parts) (chip : IsChip parts) (first : SharedFunctionIsFirst) w
         (before_parts function_uses parts.functions j i g f (bit_use kind read g.line b) (bit_use kind true f.line b) behind at_g at_f has_g has_f) (one_bit kind b true read f.line g.line refl))
   ]
 
-  one_use : (kind : TileKind) (name other : List ℕ) (k l : ℕ) (b : BitAt) → is_read kind name ≡ true → is_read kind other ≡ true → function_place parts kind name k ≡ Some b → function_place parts kind other l ≡ Some b
-      → (name ≡ other) × (k ≡ l)
-  one_use kind name other k l b read_name read_other at_k at_l = by (found_bit parts kind name k b at_k) (found_bit parts kind other l b at_l)
+  one_use : (kind : TileKind) (name other : List ℕ) (k l : ℕ) (b : BitAt) → IsReadAt parts kind name k b → IsReadAt parts kind other l b → (name ≡ other) × (k ≡ l)
+  one_use kind name other k l b (read_name, at_k) (read_other, at_l) = by (found_bit parts kind name k b at_k) (found_bit parts kind other l b at_l)
     where
       by : (f : FunctionRow) × IsOf parts kind name f × At f.bits k b → (g : FunctionRow) × IsOf parts kind other g × At g.bits l b → (name ≡ other) × (k ≡ l)
       by (f, of_f, bit_f) (g, of_g, bit_g) =
@@ -179,9 +180,9 @@ module _ (parts : Parts) (chip : IsChip parts) (first : SharedFunctionIsFirst) w
           let row : g ≡ f = same_Some g f (sym of_g.there.1 ∙ ap (slice_get parts.functions) (sym place) ∙ of_f.there.1) in
           (sym of_f.of_name ∙ ap (λ (x : FunctionRow). x.name) (sym row) ∙ of_g.of_name, one_place f of_f.there.0 kind k l b of_f.there.1 of_f.of_kind read_f bit_f (subst (λ (x : FunctionRow). At x.bits l b) row bit_g))
 
-  not_foreign : (kind : TileKind) (name : List ℕ) (k : ℕ) (b : BitAt) (g : FunctionRow) → is_read kind name ≡ true → function_place parts kind name k ≡ Some b
+  not_foreign : (kind : TileKind) (name : List ℕ) (k : ℕ) (b : BitAt) (g : FunctionRow) → IsReadAt parts kind name k b
       → Has parts.functions g → g.kind ≡ kind → is_foreign kind g.name ≡ true → Has g.bits b → ⊥
-  not_foreign kind name k b g read at_k has kind_g foreign bit_g = by (found_bit parts kind name k b at_k)
+  not_foreign kind name k b g (read, at_k) has kind_g foreign bit_g = by (found_bit parts kind name k b at_k)
     where
       foreign_g : is_foreign g.kind g.name ≡ true
       foreign_g = ap (λ (x : TileKind). is_foreign x g.name) kind_g ∙ foreign
@@ -199,9 +200,9 @@ module _ (parts : Parts) (chip : IsChip parts) (first : SharedFunctionIsFirst) w
           let row : g ≡ f = same_Some g f (sym has.1 ∙ ap (slice_get parts.functions) (sym place) ∙ of_f.there.1) in
           true≢false (sym read_f ∙ ap (λ (x : FunctionRow). is_read x.kind x.name) (sym row) ∙ unread_g)
 
-  not_grouped : (kind : TileKind) (name : List ℕ) (k : ℕ) (b : BitAt) (g : SwitchGroup) → is_read kind name ≡ true → function_place parts kind name k ≡ Some b
+  not_grouped : (kind : TileKind) (name : List ℕ) (k : ℕ) (b : BitAt) (g : SwitchGroup) → IsReadAt parts kind name k b
       → Has parts.groups g → kind_at parts g.tile ≡ Some kind → Has g.bits b → ⊥
-  not_grouped kind name k b g read at_k has at_g bit_g = by (found_bit parts kind name k b at_k) (known_kind parts g.tile kind at_g)
+  not_grouped kind name k b g (read, at_k) has at_g bit_g = by (found_bit parts kind name k b at_k) (known_kind parts g.tile kind at_g)
     where
       by : (f : FunctionRow) × IsOf parts kind name f × At f.bits k b → (known : TileLine) × (tile_known parts.tiles g.tile ≡ Some known) × (known.kind ≡ kind) → ⊥
       by (f, of_f, bit_f) (known, tile, is) =
@@ -213,5 +214,11 @@ module _ (parts : Parts) (chip : IsChip parts) (first : SharedFunctionIsFirst) w
           let from_g : Has of_groups use_g = has_part (λ (x : SwitchGroup). group_uses (tile_known parts.tiles x.tile) x) parts.groups has.0 g use_g has.1 in_group in
           no_clash use_f use_g (before_across of_functions of_groups use_f use_g from_f from_g) (one_bit kind b false true g.line f.line refl)
 
-  pub bits_are : HasOwnBits parts
-  bits_are = record { one_use = one_use; not_foreign = not_foreign; not_grouped = not_grouped }
+  pub bits_are : LacksFunctionIsFirst → HasOwnBits parts
+  bits_are lacks = record {
+    one_use = one_use;
+    not_foreign = not_foreign;
+    not_grouped = not_grouped;
+    found = found_at parts;
+    named = λ t kind name k b at is. found_there parts kind name k b (one_use kind) is (bit_listed kind name k is.0 (number_below parts chip lacks t kind name k b at is));
+  }

@@ -8,7 +8,7 @@ use Rattle.ice_chip.specs.Lookups.{wire_named, names_of, placed_at, rows_of, glo
 use Rattle.ice_chip.specs.declared.rows.Pad.{Pad}
 use Rattle.ice_chip.specs.declared.rows.TileKind.{TileKind}
 use Rattle.ice_chip.specs.declared.rows.TileKind.TheVariants.{Io, Logic}
-use Rattle.ice_chip_laws.specs.Bits.{function_place}
+use Rattle.ice_chip_laws.specs.Bits.{function_place, function_at}
 use Rattle.ice_chip_laws.specs.Pins.{pin_of}
 
 abbrev pub io_place : TileAt
@@ -110,8 +110,10 @@ pub record FindsExample : Type 0 where
   pub pin : pin_of example 6 ≡ Some (placed_at logic_place (codes "lutff_1/out"))
   pub no_pin : pin_of example 2 ≡ None
   pub global : pin_of example 7 ≡ Some (placed_at io_place (codes "glb_netwk_0"))
-  pub bit : function_place example Logic (codes "LC_3") 12 ≡ Some (bit 7 38)
-  pub no_bit : function_place example Logic (codes "LC_3") 20 ≡ None
+  pub place : function_place example Logic (codes "LC_3") 12 ≡ Some (bit 7 38)
+  pub no_place : function_place example Logic (codes "LC_3") 20 ≡ None
+  pub function : function_at example Logic (bit 7 38) ≡ Some (codes "LC_3", 12)
+  pub no_function : function_at example Logic (bit 2 14) ≡ None
   pub source : option_map (λ (row : SwitchGroup × SwitchRow). row.1.source) (slice_get (rows_of example.groups) 2) ≡ Some 6
   pub target : option_map (λ (row : SwitchGroup × SwitchRow). row.0.wire) (slice_get (rows_of example.groups) 3) ≡ Some 5
   pub enable : ieren_of example first_pad ≡ Some second_pad

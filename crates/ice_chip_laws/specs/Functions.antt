@@ -1,18 +1,22 @@
 -- The functions that tiles have.
-use Rattle.std.specs.Prelude.{◌≡◌, ℕ, true, Some, List, length, codes}
+use Rattle.std.specs.Prelude.{◌≡◌, ℕ, ◌<◌, true, Some, List, length, codes}
 use Rattle.ice_base.specs.declared.number.TileAt.{TileAt}
+use Rattle.ice_base.specs.declared.number.BitAt.{BitAt}
 use Rattle.ice_chip.specs.Database.{Parts, FunctionRow}
 use Rattle.ice_chip.specs.Functions.{is_read, is_logic_cell, is_column_buffer, is_first_pin_type, is_second_pin_type, is_pad_enable}
 use Rattle.ice_chip.specs.LacksFunction.{bits_needed}
 use Rattle.ice_chip.specs.Lookups.{kind_at, function_of}
 use Rattle.ice_chip.specs.declared.rows.TileKind.{TileKind}
 use Rattle.ice_chip.specs.declared.rows.TileKind.TheVariants.{Io, Logic}
+use Rattle.ice_chip_laws.specs.Bits.{function_place}
 
 -- tiles of the kind have the function, with so many bits
 pub record HasFunction (parts : Parts) (kind : TileKind) (name : List ℕ) (count : ℕ) : Type 0 where
   pub function : FunctionRow
   pub there : function_of parts kind name ≡ Some function
   pub long : length function.bits ≡ count
+  -- and each of them stands somewhere
+  pub bits : (k : ℕ) → k < count → (b : BitAt) × (function_place parts kind name k ≡ Some b)
 
 -- the functions of logic tiles: eight cells, the clock's edge, and the first carry
 pub record HasLogicFunctions (parts : Parts) : Type 0 where

@@ -6,10 +6,12 @@ use Rattle.ice_chip.specs.Lookups.{kind_at, rows_of}
 use Rattle.ice_chip.specs.Places.{columns}
 use Rattle.ice_chip.specs.declared.rows.TileKind.{TileKind}
 use Rattle.ice_chip_laws.specs.Members.{At, Has}
+use Rattle.ice_chip_laws.specs.Tiles.{Stands}
 
+-- a group of switches stands in a tile that has its bits, and its wires are of the chip
 pub record HasGroups (parts : Parts) : Type 0 where
   -- a tile stands at the place of a group
-  pub placed : (g : SwitchGroup) → Has parts.groups g → (kind : TileKind) × (kind_at parts g.tile ≡ Some kind)
+  pub placed : (g : SwitchGroup) → Has parts.groups g → Stands parts g.tile
   -- and has the columns of the group's bits
   pub within : (g : SwitchGroup) (kind : TileKind) (b : BitAt) → Has parts.groups g → kind_at parts g.tile ≡ Some kind → Has g.bits b → b.col < columns kind
   -- a group leads into a wire of the chip
@@ -19,5 +21,7 @@ pub record HasGroups (parts : Parts) : Type 0 where
 
 -- the number of a row is its place among all rows
 pub record HasRows (parts : Parts) : Type 0 where
+  -- a row of a group stands at the number of the group's first row and its place in the group
   pub numbered : (g : SwitchGroup) (k : ℕ) (r : SwitchRow) → Has parts.groups g → At g.rows k r → At (rows_of parts.groups) (g.first + k) (g, r)
+  -- and no other row does
   pub only : (n : ℕ) (g : SwitchGroup) (r : SwitchRow) → At (rows_of parts.groups) n (g, r) → Has parts.groups g × ((k : ℕ) × (n ≡ g.first + k) × At g.rows k r)

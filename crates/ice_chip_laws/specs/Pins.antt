@@ -1,12 +1,11 @@
 -- Pins: names by which a wire leads into the cells or pads of a tile, or out of them.
 use Rattle.std.specs.Prelude.{◌≡◌, ◌⊎◌, ◌||◌, ℕ, Bool, true, false, Option, None, Some, List, find}
-use Rattle.ice_base.specs.declared.number.TileAt.{TileAt}
 use Rattle.ice_chip.specs.Database.{Parts}
-use Rattle.ice_chip.specs.Lookups.{kind_at, names_of, wire_named, placed_at}
+use Rattle.ice_chip.specs.Lookups.{kind_at, names_of}
 use Rattle.ice_chip.specs.PinNames.{is_global_name, is_input_name, is_output_name}
 use Rattle.ice_chip.specs.declared.rows.TileKind.{TileKind}
 use Rattle.ice_chip.specs.declared.whole.PlacedName.{PlacedName}
-use Rattle.ice_chip_laws.specs.Members.{Has}
+use Rattle.ice_chip_laws.specs.Names.{HasName}
 
 -- the name is an input or output name in a tile of the kind
 abbrev pub is_pin_in : Option TileKind → List ℕ → Bool
@@ -25,14 +24,21 @@ pin_of parts w = find (is_pin_name parts) (names_of parts w)
 abbrev pub AreOnePin : PlacedName → PlacedName → Type 0
 AreOnePin a b = (a.name ≡ b.name) × ((a.tile ≡ b.tile) ⊎ (is_global_name a.name ≡ true))
 
+-- the wire has the name, which is that of a pin
+abbrev pub IsPinOf : Parts → ℕ → PlacedName → Type 0
+IsPinOf parts w n = HasName parts w n × (is_pin_name parts n ≡ true)
+
+-- the wire has no pin name; or all its pin names are of this one pin
+abbrev pub IsOnePin : Parts → ℕ → Option PlacedName → Type 0
+IsOnePin parts w None = (n : PlacedName) → IsPinOf parts w n → ⊥
+IsOnePin parts w (Some pin) = IsPinOf parts w pin × ((n : PlacedName) → IsPinOf parts w n → AreOnePin pin n)
+
 pub record HasPins (parts : Parts) : Type 0 where
   -- all pin names of a wire are of one pin
-  pub one_pin : (w : ℕ) (a b : PlacedName) → Has (names_of parts w) a → Has (names_of parts w) b → is_pin_name parts a ≡ true → is_pin_name parts b ≡ true → AreOnePin a b
-  -- the wire of a pin's name leads to that pin
-  pub found : (t : TileAt) (name : List ℕ) (w : ℕ) → wire_named parts t name ≡ Some w → is_pin_name parts (placed_at t name) ≡ true
-      → (n : PlacedName) × (pin_of parts w ≡ Some n) × AreOnePin n (placed_at t name)
+  pub one_pin : (w : ℕ) (a b : PlacedName) → IsPinOf parts w a → IsPinOf parts w b → AreOnePin a b
+  -- a wire with a pin name leads to that pin
+  pub found : (w : ℕ) (n : PlacedName) → IsPinOf parts w n → (first : PlacedName) × (pin_of parts w ≡ Some first) × AreOnePin first n
   -- and has no other pin name, unless it is a global
-  pub only : (t : TileAt) (name : List ℕ) (w : ℕ) → wire_named parts t name ≡ Some w → is_pin_name parts (placed_at t name) ≡ true
-      → is_global_name name ≡ false → pin_of parts w ≡ Some (placed_at t name)
-  -- the pin that a wire leads to is one, and its name is of this wire
-  pub named : (w : ℕ) (n : PlacedName) → pin_of parts w ≡ Some n → (is_pin_name parts n ≡ true) × (wire_named parts n.tile n.name ≡ Some w)
+  pub only : (w : ℕ) (n : PlacedName) → IsPinOf parts w n → is_global_name n.name ≡ false → pin_of parts w ≡ Some n
+  -- the pin to which a wire leads is named by it
+  pub named : (w : ℕ) (n : PlacedName) → pin_of parts w ≡ Some n → IsPinOf parts w n

@@ -7,8 +7,12 @@ use Rattle.ice_chip.specs.declared.parts.TileLine.{TileLine}
 use Rattle.ice_chip.specs.declared.rows.TileKind.{TileKind}
 use Rattle.ice_chip_laws.specs.Members.{Has}
 
+-- a tile stands at the place
+abbrev pub Stands : Parts → TileAt → Type 0
+Stands parts t = (kind : TileKind) × (kind_at parts t ≡ Some kind)
+
 pub record HasTiles (parts : Parts) : Type 0 where
   -- a tile that is found is in the list of tiles, with its kind
   pub listed : (t : TileAt) (kind : TileKind) → kind_at parts t ≡ Some kind → (known : TileLine) × Has parts.tiles (t, known) × (known.kind ≡ kind)
-  -- and each place in the list has a tile
-  pub stands : (t : TileAt) (known : TileLine) → Has parts.tiles (t, known) → (kind : TileKind) × (kind_at parts t ≡ Some kind)
+  -- and at each place of the list a tile stands
+  pub stands : (t : TileAt) (known : TileLine) → Has parts.tiles (t, known) → Stands parts t

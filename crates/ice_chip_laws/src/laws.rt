@@ -1,7 +1,7 @@
-//! The laws of a chip's look-ups. The function does nothing: its contract is the law.
-ghost use Rattle.ice_chip_laws.specs.Laws.{LookupsAreLawful};
+//! The laws of a chip's look-ups. The functions do nothing: their contracts are the laws.
+ghost use Rattle.ice_chip_laws.specs.Laws.{IsLawful, LookupsAreLawful};
 
-use ice_chip::{lacks_function_is_first, shared_function_is_first};
+use ice_chip::{Chip, lacks_function_is_first, shared_function_is_first};
 
 /// What the look-ups of every chip owe one another: names of wires go both ways; all pin names of a wire are of one pin;
 /// tiles have the functions that their kinds need, each with its number of bits; a bit of a function that is read is of
@@ -12,4 +12,12 @@ pub fn lookups_are_lawful()
 {
     shared_function_is_first();
     lacks_function_is_first();
+}
+
+/// The look-ups of this chip keep the laws.
+pub fn chip_is_lawful(chip: &Chip)
+    ensures { IsLawful chip.now }
+{
+    chip.wires();
+    lookups_are_lawful();
 }

@@ -8,5 +8,5 @@ mod pins;
 
 pub use cells::{CellInput, cell_input};
 pub use example::worked_example;
-pub use laws::lookups_are_lawful;
+pub use laws::{chip_is_lawful, lookups_are_lawful};
 pub use pins::{is_pin_name, pin_of};
