@@ -1,5 +1,5 @@
 //! Logic cells, as the names of wires tell them.
-ghost use Rattle.std.specs.Prelude.{◌≡◌, false, MatchOption, option_map};
+ghost use Rattle.std.specs.Prelude.{◌≡◌, false, MatchOption};
 ghost use Rattle.ice_chip.specs.PinNames.{cell_pin, is_cell_input};
 ghost use Rattle.ice_chip_laws.specs.Cells.{input_number, IsInputName};
 

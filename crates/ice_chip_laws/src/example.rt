@@ -1,4 +1,4 @@
-//! A chip that is met: a worked example of the laws.
+//! A worked example: a small chip that keeps the laws.
 ghost use Rattle.ice_chip.specs.IsRead.{IsChip};
 ghost use Rattle.ice_chip_laws.specs.Laws.{IsLawful};
 ghost use Rattle.ice_chip_laws.specs.Example.{example, FindsExample};
