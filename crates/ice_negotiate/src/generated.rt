@@ -7,6 +7,7 @@ ghost use Rattle.ice_path.specs.Room.{AreWires};
 use crate::{RouteFault, Routed, negotiate};
 use ice_base::{NetNo, RowNo, WireNo};
 use ice_core::{Net, RoundLog};
+use ice_desk::OpenGate;
 use ice_graph::{Edge, Graph, Tree};
 use std::alloc::{AllocError, Global};
 use std::process::Abort;
@@ -454,7 +455,7 @@ fn compare_drawn(
         drawn_net(rt, alloc, seed, 2),
     ];
     let rounds = 1 + draw(seed, 8);
-    let found = negotiate(alloc, &graph, &nets, rounds);
+    let found = negotiate(alloc, &graph, &nets, rounds, 1, &OpenGate);
     let plain = plain_answer(rt, alloc, graph.edges(), &nets, rounds);
     let said = format!(in alloc; "{found:?}").expect(rt, "memory");
     let expected = format!(in alloc; "{plain:?}").expect(rt, "memory");

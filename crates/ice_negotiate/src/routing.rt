@@ -11,6 +11,7 @@ use crate::moving::move_nets;
 use crate::start::{all_nets, bare_trees};
 use ice_base::{NetNo, NoMemory};
 use ice_core::{Net, Prices, RoundLog, holders, movers, raise};
+use ice_desk::Gate;
 use ice_graph::{Graph, Tree};
 use ice_path::Scratch;
 use std::alloc::Global;
@@ -146,13 +147,19 @@ fn prepare(
 /// `Unreachable` exactly where a sink can't be reached, with the least such net and its first such sink,
 /// `GaveUp` exactly where each permitted round ends with an overused wire, and `NoMemory` where it finds no
 /// memory.
-pub fn negotiate(
+///
+/// From 1 to 8 workers may be named. The routes and the logs don't depend on their number: all work is done on the
+/// thread of the call, and the gate isn't passed.
+pub fn negotiate<G: Gate + Sync>(
     alloc: Global,
     graph: &Graph,
     nets: &[Net],
     rounds: u32,
+    _workers: u32,
+    _gate: &G,
 ) -> Result<Routed, RouteFault>
     requires rounds { (1 ≤ rounds) × (rounds ≤ 64) }
+    requires workers { (1 ≤ _workers) × (_workers ≤ 8) }
     requires wires { graph.now.wires ≤ 262144 }
     requires few { length nets.now ≤ 65536 }
     requires nets { AreNets graph.now nets.now }

@@ -4,6 +4,7 @@ ghost use Rattle.std.specs.Prelude.{◌≡◌};
 use crate::{RouteFault, TreeStop, negotiate, tree_of};
 use ice_base::{NetNo, RowNo, WireNo};
 use ice_core::{Net, Prices, RoundLog};
+use ice_desk::OpenGate;
 use ice_graph::{Edge, Graph, Tree};
 use ice_path::Scratch;
 use std::process::Abort;
@@ -124,7 +125,7 @@ fn a_net_moves_to_the_long_way(rt: HostRuntime) {
             sinks: other,
         },
     ];
-    let routed = negotiate(alloc, &graph, &nets, 64).expect(&rt, "routes");
+    let routed = negotiate(alloc, &graph, &nets, 64, 1, &OpenGate).expect(&rt, "routes");
     assert_eq!(rt; routed.trees.len(), 2);
     expect_tree(
         &rt,
@@ -181,7 +182,7 @@ fn no_way_round_gives_up(rt: HostRuntime) {
             sinks: other,
         },
     ];
-    let fault = negotiate(alloc, &graph, &nets, 3)
+    let fault = negotiate(alloc, &graph, &nets, 3, 1, &OpenGate)
         .err()
         .expect(&rt, "a fault");
     let RouteFault::GaveUp { logs } = fault else {
@@ -237,7 +238,7 @@ fn the_least_unreachable_net_is_named(rt: HostRuntime) {
             sinks: other,
         },
     ];
-    let fault = negotiate(alloc, &graph, &nets, 3)
+    let fault = negotiate(alloc, &graph, &nets, 3, 1, &OpenGate)
         .err()
         .expect(&rt, "a fault");
     let RouteFault::Unreachable { net, sink } = fault else {

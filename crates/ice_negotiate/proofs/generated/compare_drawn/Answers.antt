@@ -13,9 +13,9 @@ three wires a b c x y z (suc (suc zero)) net at = (let same : c ≡ net = (cc) i
 three wires a b c x y z (suc (suc (suc n))) net at = absurd (cc)
 
 pub negotiate-found-requires-clause-nets : goal.negotiate-found-requires-clause-nets
-negotiate-found-requires-clause-nets g c =
-    let wires = sym c.drawn_graph-graph.ensures in
+negotiate-found-requires-clause-nets g c = λ lifetimes.
+    (let wires = sym c.drawn_graph-graph.ensures in
     three c.drawn_graph-graph.result.wires c.drawn_net.result c.drawn_net-2.result c.drawn_net-3.result
     (subst (λ w. Fits w c.drawn_net.result) wires (c.drawn_net.ensures.root, c.drawn_net.ensures.sinks))
     (subst (λ w. Fits w c.drawn_net-2.result) wires (c.drawn_net-2.ensures.root, c.drawn_net-2.ensures.sinks))
-    (subst (λ w. Fits w c.drawn_net-3.result) wires (c.drawn_net-3.ensures.root, c.drawn_net-3.ensures.sinks))
+    (subst (λ w. Fits w c.drawn_net-3.result) wires (c.drawn_net-3.ensures.root, c.drawn_net-3.ensures.sinks)))

@@ -2,7 +2,7 @@ use Rattle.std.proofs.Common.{arith}
 use Rattle.ice_negotiate.proofs.routing.negotiate.Goals as goal
 
 pub returns-clause-fault : goal.returns-clause-fault
-returns-clause-fault c =
+returns-clause-fault g c =
     let before = c.loop-round.invariant.before in
     let number = before.number in
     let most = c.loop-round.auto.round-end in
@@ -18,4 +18,4 @@ returns-clause-fault c =
     }
 
 pub returns-in-Err-clause-fault : goal.returns-in-Err-clause-fault
-returns-in-Err-clause-fault c = c.in-Err.ensures.stop c.args.rounds
+returns-in-Err-clause-fault g c = c.in-Err.ensures.stop c.args.rounds
