@@ -74,7 +74,7 @@ fn add(nets: &mut Vec<NetNo>, net: NetNo, moves: bool) -> Result<(), NoMemory>
 }
 
 /// How many of the trees hold each wire, for the wires below `wires`. There are at most 65,536 trees, and
-/// their wires are below that number. It answers `NoMemory` where it finds no memory for its lists.
+/// each of their wires is below `wires`. It answers `NoMemory` where it finds no memory for its lists.
 pub fn holders(alloc: Global, wires: usize, trees: &[Tree]) -> Result<Vec<u32>, NoMemory>
     requires trees { length trees.now ≤ 65536 }
     requires within { AreWithin wires trees.now }

@@ -77,9 +77,10 @@ fn prices_at(rt: &impl Abort, alloc: Global, round: u32, history: u8, others: u8
     }
 }
 
-#[test]
-fn a_short_way_and_a_long_way(rt: HostRuntime) {
-    let alloc = rt.alloc();
+// Two wires from which two wires are reached over a short wire, 2, and over two more wires, 3 and 4.
+fn two_ways(rt: &impl Abort, alloc: Global) -> Graph
+    ensures { result.wires ≡ 7 }
+{
     let edges = vec![in alloc;
         edge(0, 0, 2),
         edge(1, 1, 2),
@@ -91,57 +92,68 @@ fn a_short_way_and_a_long_way(rt: HostRuntime) {
         edge(7, 2, 6),
         edge(8, 4, 6),
     ]
-    .expect(&rt, "memory");
-    let graph = Graph::new(alloc, 7, edges).expect(&rt, "memory");
+    .expect(rt, "memory");
+    Graph::new(alloc, 7, edges).expect(rt, "memory")
+}
+
+// The same wires with the way over the short wire alone.
+fn short_way(rt: &impl Abort, alloc: Global) -> Graph
+    ensures { result.wires ≡ 7 }
+{
+    let edges = vec![in alloc; edge(0, 0, 2), edge(1, 1, 2), edge(5, 2, 5), edge(7, 2, 6)].expect(
+        rt, "memory",
+    );
+    Graph::new(alloc, 7, edges).expect(rt, "memory")
+}
+
+#[test]
+fn a_short_way_and_a_long_way(rt: HostRuntime) {
+    let alloc = rt.alloc();
+    let graph = two_ways(&rt, alloc);
+    let mut scratch = Scratch::new(alloc, &graph).expect(&rt, "memory");
+    let plain = prices_at(&rt, alloc, 1, 0, 0);
+    let tied = prices_at(&rt, alloc, 2, 1, 0);
+    let one = [WireNo(0)];
+    let way_of = way(&rt, alloc, &graph, &plain, &one, 5, &mut scratch);
+    expect_way(&rt, way_of, 2, &[0, 5]);
+    let way_of = way(&rt, alloc, &graph, &tied, &one, 5, &mut scratch);
+    expect_way(&rt, way_of, 3, &[0, 5]);
+    let way_of = way(&rt, alloc, &graph, &plain, &one, 2, &mut scratch);
+    expect_way(&rt, way_of, 1, &[0]);
+}
+
+#[test]
+fn ways_from_a_tree_of_two_wires(rt: HostRuntime) {
+    let alloc = rt.alloc();
+    let graph = two_ways(&rt, alloc);
     let mut scratch = Scratch::new(alloc, &graph).expect(&rt, "memory");
     let plain = prices_at(&rt, alloc, 1, 0, 0);
     let crowded = prices_at(&rt, alloc, 2, 1, 1);
-    let tied = prices_at(&rt, alloc, 2, 1, 0);
-    let one = [WireNo(0)];
     let two = [WireNo(0), WireNo(3)];
-    expect_way(
-        &rt,
-        way(&rt, alloc, &graph, &plain, &one, 5, &mut scratch),
-        2,
-        &[0, 5],
-    );
-    expect_way(
-        &rt,
-        way(&rt, alloc, &graph, &crowded, &one, 5, &mut scratch),
-        3,
-        &[2, 4, 6],
-    );
-    expect_way(
-        &rt,
-        way(&rt, alloc, &graph, &tied, &one, 5, &mut scratch),
-        3,
-        &[0, 5],
-    );
-    expect_way(
-        &rt,
-        way(&rt, alloc, &graph, &plain, &two, 6, &mut scratch),
-        2,
-        &[0, 7],
-    );
-    expect_way(
-        &rt,
-        way(&rt, alloc, &graph, &crowded, &two, 6, &mut scratch),
-        2,
-        &[4, 8],
-    );
-    expect_way(
-        &rt,
-        way(&rt, alloc, &graph, &plain, &two, 3, &mut scratch),
-        0,
-        &[],
-    );
+    let way_of = way(&rt, alloc, &graph, &plain, &two, 6, &mut scratch);
+    expect_way(&rt, way_of, 2, &[0, 7]);
+    let way_of = way(&rt, alloc, &graph, &crowded, &two, 6, &mut scratch);
+    expect_way(&rt, way_of, 2, &[4, 8]);
+    let way_of = way(&rt, alloc, &graph, &plain, &two, 3, &mut scratch);
+    expect_way(&rt, way_of, 0, &[]);
     assert!(rt; way(&rt, alloc, &graph, &plain, &two, 1, &mut scratch).is_none());
-    expect_way(
-        &rt,
-        way(&rt, alloc, &graph, &plain, &one, 2, &mut scratch),
-        1,
-        &[0],
-    );
+}
+
+#[test]
+fn a_crowded_wire_is_left_for_a_longer_way(rt: HostRuntime) {
+    let alloc = rt.alloc();
+    let crowded = prices_at(&rt, alloc, 2, 1, 1);
+    let one = [WireNo(0)];
+    let graph = short_way(&rt, alloc);
+    let mut scratch = Scratch::new(alloc, &graph).expect(&rt, "memory");
+    let way_of = way(&rt, alloc, &graph, &crowded, &one, 2, &mut scratch);
+    expect_way(&rt, way_of, 4, &[0]);
+    let way_of = way(&rt, alloc, &graph, &crowded, &one, 5, &mut scratch);
+    expect_way(&rt, way_of, 5, &[0, 5]);
+    let graph = two_ways(&rt, alloc);
+    let mut scratch = Scratch::new(alloc, &graph).expect(&rt, "memory");
+    let way_of = way(&rt, alloc, &graph, &crowded, &one, 5, &mut scratch);
+    expect_way(&rt, way_of, 3, &[2, 4, 6]);
 }
 
 #[test]
