@@ -1,14 +1,13 @@
 -- Nets move one after the other.
-use Rattle.std.proofs.Common.{◌≡◌, ◌≢◌, ℕ, zero, suc, ◌+◌, ◌-◌, ◌≤◌, ◌<◌, Bool, true, false, cond, List, [], ◌∷◌, Some, length, get_or, slice_get, slice_set, slice_index, refl, sym, ap, ◌∙◌, subst, arith, inl, inr, ◌⊎◌, length-set}
+use Rattle.std.proofs.Common.{◌≡◌, ◌≢◌, ℕ, zero, suc, ◌+◌, ◌≤◌, ◌<◌, Bool, true, false, cond, List, [], ◌∷◌, Some, length, get_or, slice_get, slice_set, slice_index, refl, sym, ap, ◌∙◌, subst, arith, inl, inr, ◌⊎◌, length-set}
 use Rattle.std.proofs.lemmas.Bool.{cases_eq}
-use Rattle.ice_base.specs.declared.number.WireNo.{WireNo}
 use Rattle.ice_base.specs.declared.number.NetNo.{NetNo}
 use Rattle.ice_graph.specs.declared.tree.Tree.{Tree}
 use Rattle.ice_graph.specs.Network.{Network}
 use Rattle.ice_core.specs.declared.net.Net.{Net}
 use Rattle.ice_core.specs.declared.prices.Prices.{Prices}
 use Rattle.ice_core.specs.Congestion.{ArePrices}
-use Rattle.ice_core.specs.Moves.{holds, stands_in, occupancy, AreWithin, IsOccupancy}
+use Rattle.ice_core.specs.Moves.{holds, occupancy, AreWithin, IsOccupancy}
 use Rattle.ice_negotiate.specs.Rounds.{ArePricesOf, AreBounded, AreFew, IsRound, Moves, AreDifferent, AreMoversReached}
 use Rattle.ice_negotiate.specs.Trees.{AreReached, IsCause}
 use Rattle.ice_negotiate.specs.Logs.{IsStop, fault_of}
@@ -55,17 +54,13 @@ left_prices graph round history counts tree p b few h =
       ];
     }
 
--- beside the net's own route the others are the counts
-pub left_same : (counts others : List ℕ) (wires : List WireNo) → ((w : ℕ) → w < length counts → slice_index others w ≡ slice_index counts w - cond (stands_in wires w) 1 0)
-    → (w : ℕ) → w < length counts → stands_in wires w ≡ false → slice_index others w ≡ slice_index counts w
-left_same counts others wires h w lt none = (let e = h w lt ∙ ap (λ b. slice_index counts w - cond b 1 0) none in omega arith)
-
-got_same : (xs : List Tree) (i : ℕ) (a : Tree) → i < length xs → slice_get (slice_set xs i a) i ≡ Some a
+-- another tree in a place
+pub got_same : (xs : List Tree) (i : ℕ) (a : Tree) → i < length xs → slice_get (slice_set xs i a) i ≡ Some a
 got_same [] i a lt = absurd (omega arith)
 got_same (x ∷ xs) zero a lt = refl
 got_same (x ∷ xs) (suc i) a lt = got_same xs i a (omega arith)
 
-got_other : (xs : List Tree) (i : ℕ) (a : Tree) (k : ℕ) → k ≢ i → slice_get (slice_set xs i a) k ≡ slice_get xs k
+pub got_other : (xs : List Tree) (i : ℕ) (a : Tree) (k : ℕ) → k ≢ i → slice_get (slice_set xs i a) k ≡ slice_get xs k
 got_other [] i a k other = refl
 got_other (x ∷ xs) zero a zero other = absurd (other refl)
 got_other (x ∷ xs) zero a (suc k) other = refl
@@ -199,6 +194,11 @@ module _ (graph : Network) (nets : List Net) (round : ℕ) (history counts : Lis
     | inr differ ↦ h j other net (grind arith) other_at is
   ]
 
-pub moves_as : (graph : Network) (round same : ℕ) (history histories counts : List ℕ) (net : Net) (old new : Tree) → round ≡ same → history ≡ histories → Moves graph round history counts net old new → Moves graph same histories counts net old new
-moves_as graph round same history histories counts net old new r h m =
-    subst (λ x. Moves graph x histories counts net old new) r (subst (λ x. Moves graph round x counts net old new) h m)
+pub moves_as : (graph : Network) (round same : ℕ) (history histories counts others : List ℕ) (net : Net) (old new : Tree) → round ≡ same → history ≡ histories → counts ≡ others → Moves graph round history counts net old new
+    → Moves graph same histories others net old new
+moves_as graph round same history histories counts others net old new r h c m =
+    subst (λ x. Moves graph x histories others net old new) r (subst (λ x. Moves graph round x others net old new) h (subst (λ x. Moves graph round history x net old new) c m))
+
+pub bounded_as : (graph : Network) (round same : ℕ) (history histories counts others : List ℕ) → same ≡ round → histories ≡ history → others ≡ counts → AreBounded graph round history counts → AreBounded graph same histories others
+bounded_as graph round same history histories counts others r h c b =
+    subst (λ x. AreBounded graph x histories others) (sym r) (subst (λ x. AreBounded graph round x others) (sym h) (subst (λ x. AreBounded graph round history x) (sym c) b))

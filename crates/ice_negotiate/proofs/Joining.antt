@@ -1,14 +1,17 @@
 -- One sink more is joined to a tree.
 use Rattle.std.proofs.Common.{◌≡◌, ℕ, zero, suc, ◌≤◌, ◌<◌, ◌+◌, List, [], ◌∷◌, ◌++◌, Some, length, get_or, drop, map, slice_get, refl, sym, ap, ◌∙◌, subst, arith, inl, inr, ◌⊎◌}
-use Rattle.std.proofs.lemmas.List.{drop_more, drop_all}
+use Rattle.std.specs.Prelude.{reverse}
+use Rattle.std.proofs.lemmas.List.{drop_more, drop_all, append_assoc, append-nil, map-append, reverse-reverse}
+use Rattle.std.proofs.lemmas.Grind.{reverse_onto}
 use Rattle.std.proofs.lemmas.Bool.{cases_eq}
 use Rattle.ice_base.specs.declared.number.WireNo.{WireNo}
 use Rattle.ice_graph.specs.declared.edge.Edge.{Edge}
 use Rattle.ice_graph.specs.Network.{Network, AreBetween}
-use Rattle.ice_path.specs.Walks.{HasEdge, InTree, IsWalk, NoWalk}
-use Rattle.ice_path.specs.Paths.{IsTaken}
-use Rattle.ice_path.proofs.Taking.{taken_cheapest, taken_unique}
-use Rattle.ice_negotiate.specs.Trees.{Route, bare, extended, IsJoined, AreJoined, IsTree, IsReached, IsRooted}
+use Rattle.ice_path.specs.Walks.{HasEdge, InTree, IsLabel, IsWalk, NoWalk, cost}
+use Rattle.ice_path.specs.Paths.{IsTaken, LeadBack}
+use Rattle.ice_path.proofs.Taking.{label_unique, of_rows_into, taken_cheapest, taken_unique}
+use Rattle.ice_negotiate.proofs.Listing.{pushed}
+use Rattle.ice_negotiate.specs.Trees.{AreOnce, Route, bare, extended, IsJoined, AreJoined, IsTree, IsReached, IsRooted}
 
 walks_joined : (edges : List Edge) (a b c : ℕ) (one other : List Edge) → IsWalk edges a one b → IsWalk edges b other c → IsWalk edges a (one ++ other) c
 walks_joined edges a b c [] other h k = subst (λ x. IsWalk edges x other c) (sym h) k
@@ -127,3 +130,67 @@ joined_unique edges price route [] one other h k = sym h ∙ k
 joined_unique edges price route (sink ∷ sinks) one other h k =
     let same = next_unique edges price route sink h.0 k.0 h.1 k.1 in
     joined_unique edges price k.0 sinks one other (subst (λ r. AreJoined edges price r sinks one) same h.2) k.2
+
+-- the root stands once in the tree that holds it alone
+once_bare : (root : WireNo) → AreOnce (root ∷ [])
+once_bare root zero zero v a b = refl
+once_bare root zero (suc k) v a b = absurd (cc)
+once_bare root (suc j) k v a b = absurd (cc)
+
+pub once_first : (root : WireNo) (wires : List WireNo) → wires ≡ root ∷ [] → AreOnce wires
+once_first root wires is = subst AreOnce (sym is) (once_bare root)
+
+-- with one wire more that was not there
+once_push : (wires : List WireNo) (new : WireNo) → AreOnce wires → ((k : ℕ) → slice_get wires k ≡ Some new → ⊥) → AreOnce (wires ++ new ∷ [])
+once_push wires new once none = λ j k v a b. elim (pushed wires new j v a) [
+  | inl old ↦ elim (pushed wires new k v b) [
+    | inl other ↦ once j k v old other
+    | inr end ↦ absurd (none j (old ∙ ap Some (sym end.1)))
+  ]
+  | inr end ↦ elim (pushed wires new k v b) [
+    | inl other ↦ absurd (none k (other ∙ ap Some (sym end.1)))
+    | inr again ↦ end.0 ∙ sym again.0
+  ]
+]
+
+-- each wire stands once, and is a wire of the tree or has a label of at most c
+record Entered (edges : List Edge) (price : ℕ → ℕ) (tree : List WireNo) (c : ℕ) (wires : List WireNo) : Type 0 where
+  pub apart : AreOnce wires
+  pub each : (k : ℕ) (v : WireNo) → slice_get wires k ≡ Some v → InTree tree v.0 ⊎ ((l : ℕ) × IsLabel edges price tree v.0 l × (l ≤ c))
+
+module _ (edges : List Edge) (price : ℕ → ℕ) (tree : List WireNo) (positive : (v : ℕ) → 1 ≤ price v) (once : AreOnce tree) where
+  -- one wire more, with a label above the others'
+  entered_more : (b c : ℕ) (wires : List WireNo) (new : WireNo) → b < c → Entered edges price tree b wires → (InTree tree new.0 → ⊥) → IsLabel edges price tree new.0 c → Entered edges price tree c (wires ++ new ∷ [])
+  entered_more b c wires new less h outside label = record {
+    apart = once_push wires new h.apart (λ k at. elim (h.each k new at) [
+      | inl inside ↦ outside inside
+      | inr t ↦ (let same = label_unique edges price tree new.0 t.0 c t.1 label in omega (arith, t.2))
+    ]);
+    each = λ k v at. elim (pushed wires new k v at) [
+      | inl old ↦ elim (h.each k v old) [
+        | inl inside ↦ inl inside
+        | inr t ↦ inr (t.0, t.1, omega (arith, t.2))
+      ]
+      | inr end ↦ inr (c, subst (λ (x : WireNo). IsLabel edges price tree x.0 c) end.1 label, omega arith)
+    ];
+  }
+
+  -- edges that lead back enter each wire once, and none of the tree
+  back_entered : (w c : ℕ) (back : List Edge) → LeadBack edges price tree w back → IsLabel edges price tree w c → Entered edges price tree c (tree ++ map (λ (e : Edge). e.to) (reverse back))
+  back_entered w c [] h label = subst (Entered edges price tree c) (sym (append-nil tree)) (record { apart = once; each = λ k v at. inl (k, v, at, refl) })
+  back_entered w c (e ∷ back) h label =
+      let makes = h.1.makes in
+      let same : makes.0 + price w ≡ c = label_unique edges price tree w (makes.0 + price w) c makes.2 label in
+      let less : makes.0 < c = omega (arith, same, positive w) in
+      let enters : e.to.0 ≡ w = (of_rows_into edges w e (h.1.place, h.1.stands)).1 in
+      let before : List WireNo = map (λ (e : Edge). e.to) (reverse back) in
+      let turned : tree ++ map (λ (e : Edge). e.to) (reverse (e ∷ back)) ≡ (tree ++ before) ++ e.to ∷ [] =
+      ap (λ p. tree ++ map (λ (e : Edge). e.to) p) (reverse_onto back e []) ∙ (ap (λ q. tree ++ q) (map-append (λ (e : Edge). e.to) (reverse back) (e ∷ [])) ∙ sym (append_assoc tree before (e.to ∷ []))) in
+      subst (Entered edges price tree c) (sym turned)
+      (entered_more makes.0 c (tree ++ before) e.to less (back_entered e.from.0 makes.0 back h.2 makes.1) (λ inside. h.0 (subst (InTree tree) enters inside)) (subst (λ x. IsLabel edges price tree x c) (sym enters) label))
+
+  -- with a taken path no wire stands twice
+  pub taken_once : (w : ℕ) (path : List Edge) → IsTaken edges price tree w path → AreOnce (tree ++ map (λ (e : Edge). e.to) path)
+  taken_once w path h =
+      let t = taken_cheapest edges price tree w path h in
+      subst (λ p. AreOnce (tree ++ map (λ (e : Edge). e.to) p)) (reverse-reverse path) (back_entered w (cost price path) (reverse path) h t.1).apart

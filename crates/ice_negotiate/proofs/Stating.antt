@@ -10,7 +10,8 @@ use Rattle.ice_core.specs.declared.log.RoundLog.{RoundLog}
 use Rattle.ice_core.specs.declared.prices.Prices.{Prices}
 use Rattle.ice_core.specs.Congestion.{next_history}
 use Rattle.ice_core.specs.Moves.{IsOccupancy, movers_of}
-use Rattle.ice_negotiate.specs.Rounds.{Past, past_of, AreAll, AreBare, AreBounded, AreMoversReached, AreOpen, AreReachedBefore, AreRounds, IsFirst, IsFirstStop, IsRound}
+use Rattle.ice_negotiate.specs.Trees.{AreOnce}
+use Rattle.ice_negotiate.specs.Rounds.{Past, past_of, AreAll, AreBare, AreBounded, AreMoversReached, AreOpen, AreReachedBefore, AreRounds, HoldOnce, IsFirst, IsFirstStop, IsRound}
 use Rattle.ice_negotiate.specs.Logs.{AreLogs, IsLog, IsStop, IsFault}
 use Rattle.ice_negotiate.specs.Progress.{IsAfter, IsBefore, last_of}
 use Rattle.ice_negotiate.specs.declared.routing.State.{State}
@@ -48,6 +49,7 @@ before_first graph nets number history others counts moved trees logs h o c all 
     counted = c_long;
     occupied = bare_occupied graph.wires counts.items trees.items c bare;
     trees = long;
+    apart = λ n tree at. subst AreOnce (sym (bare n tree at)) (λ j k v a b. absurd (let none_there : slice_get [] j ≡ Some v = a in cc));
     different = all_different nets moved.items all;
   };
   others = o ∙ sym c;
@@ -85,10 +87,10 @@ before_first graph nets number history others counts moved trees logs h o c all 
 pub after_round : (graph : Network) (nets : List Net) (round : ℕ) (old : State) (prices : Prices) (counts : Vec ℕ Global) (trees : Vec Tree Global) (logs : Vec RoundLog Global) (log : RoundLog)
     → IsBefore graph nets round old → AreOpen (round + 1) old.prices.history.items old.counts.items prices
     → IsRound graph nets (round + 1) old.prices.history.items old.counts.items old.moved.items old.trees.items trees.items
-    → length counts.items ≡ graph.wires → IsOccupancy counts.items trees.items → logs.items ≡ old.logs.items ++ log ∷ [] → IsLog (past_of prices.round prices.history.items old.moved.items trees.items counts.items) log
+    → length counts.items ≡ graph.wires → IsOccupancy counts.items trees.items → HoldOnce trees.items → logs.items ≡ old.logs.items ++ log ∷ [] → IsLog (past_of prices.round prices.history.items old.moved.items trees.items counts.items) log
     → AreMoversReached graph nets old.moved.items (length old.moved.items)
     → IsAfter graph nets round (record { prices = prices; counts = counts; moved = old.moved; trees = trees; logs = logs })
-after_round graph nets round old prices counts trees logs log h open_prices done long occupied logs_are is_log reached =
+after_round graph nets round old prices counts trees logs log h open_prices done long occupied apart logs_are is_log reached =
     let same = open_prices.histories in
     let rounds : AreRounds graph nets (h.earlier ++ past_of (round + 1) prices.history.items old.moved.items trees.items counts.items ∷ []) =
     subst (λ x. AreRounds graph nets (h.earlier ++ past_of (round + 1) x old.moved.items trees.items counts.items ∷ [])) (sym same) (h.next.on trees.items counts.items done long occupied) in
@@ -101,6 +103,7 @@ after_round graph nets round old prices counts trees logs log h open_prices done
         counted = long;
         occupied = occupied;
         trees = done.news;
+        apart = apart;
         different = h.sound.different;
       };
       earlier = h.earlier;
@@ -130,6 +133,7 @@ before_next graph nets round number old history others moved few h over risen ot
     counted = h.sound.counted;
     occupied = h.sound.occupied;
     trees = h.sound.trees;
+    apart = h.sound.apart;
     different = movers_different (round + 1) old.trees.items nets moved.items h.sound.trees movers;
   };
   others = others_are;
@@ -179,3 +183,6 @@ round_as graph nets round history counts counts' moved moved' old old' new new' 
 pub log_as : (round : ℕ) (history counts counts' : List ℕ) (moved moved' : List NetNo) (trees trees' : List Tree) (log : RoundLog) → counts ≡ counts' → moved ≡ moved' → trees ≡ trees' → IsLog (past_of round history moved trees counts) log → IsLog (past_of round history moved' trees' counts') log
 log_as round history counts counts' moved moved' trees trees' log c m t h =
     subst (λ x. IsLog (past_of round history moved' trees' x) log) c (subst (λ x. IsLog (past_of round history moved' x counts) log) t (subst (λ x. IsLog (past_of round history x trees counts) log) m h))
+
+pub occupancy_as : (counts counts' : List ℕ) (trees trees' : List Tree) → counts ≡ counts' → trees ≡ trees' → IsOccupancy counts trees → IsOccupancy counts' trees'
+occupancy_as counts counts' trees trees' c t h = subst (λ x. IsOccupancy counts' x) t (subst (λ x. IsOccupancy x trees) c h)

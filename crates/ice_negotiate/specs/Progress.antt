@@ -4,7 +4,7 @@ use Rattle.ice_graph.specs.declared.tree.Tree.{Tree}
 use Rattle.ice_graph.specs.Network.{Network}
 use Rattle.ice_core.specs.declared.net.Net.{Net}
 use Rattle.ice_core.specs.Moves.{IsOccupancy}
-use Rattle.ice_negotiate.specs.Rounds.{Past, past_of, AreAll, AreDifferent, AreRounds, AreOverused, AreReachedBefore, IsRound}
+use Rattle.ice_negotiate.specs.Rounds.{Past, past_of, AreAll, AreDifferent, AreRounds, AreOverused, AreReachedBefore, HoldOnce, IsRound}
 use Rattle.ice_negotiate.specs.Logs.{AreLogs}
 use Rattle.ice_negotiate.specs.declared.routing.State.{State}
 
@@ -20,6 +20,7 @@ pub record IsSound (graph : Network) (nets : List Net) (round : ℕ) (state : St
   pub counted : length state.counts.items ≡ graph.wires
   pub occupied : IsOccupancy state.counts.items state.trees.items
   pub trees : length state.trees.items ≡ length nets
+  pub apart : HoldOnce state.trees.items
   pub different : AreDifferent nets state.moved.items
 
 -- this many rounds are done, each with an overused wire at its end, and the state is that before the next one

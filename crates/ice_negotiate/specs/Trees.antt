@@ -48,6 +48,10 @@ IsReached edges root wire = (walk : List Edge) × IsWalk edges root.0 walk wire.
 abbrev pub AreReached : List Edge → WireNo → List WireNo → Type 0
 AreReached edges root wires = (k : ℕ) (v : WireNo) → slice_get wires k ≡ Some v → IsReached edges root v
 
+-- no wire stands twice in the list
+abbrev pub AreOnce : List WireNo → Type 0
+AreOnce wires = (j k : ℕ) (v : WireNo) → slice_get wires j ≡ Some v → slice_get wires k ≡ Some v → j ≡ k
+
 -- wires of the graph, the root among them, to which walks lead from the root
 pub record IsRooted (graph : Network) (root : WireNo) (wires : List WireNo) : Type 0 where
   pub within : AreWires graph.wires wires

@@ -2,11 +2,11 @@
 //! wire move until none is shared.
 #![tactic(auto)]
 
+mod counts;
 mod fault;
 pub mod laws;
 mod logs;
 mod moving;
-mod others;
 mod routing;
 mod start;
 mod stop;

@@ -10,7 +10,7 @@ use crate::logs::log_of;
 use crate::moving::move_nets;
 use crate::start::{all_nets, bare_trees};
 use ice_base::{NetNo, NoMemory};
-use ice_core::{Net, Prices, RoundLog, holders, movers, raise};
+use ice_core::{Net, Prices, RoundLog, movers, raise};
 use ice_desk::Gate;
 use ice_graph::{Graph, Tree};
 use ice_path::Scratch;
@@ -90,13 +90,12 @@ fn play(
         nets,
         &state.moved,
         &mut state.prices,
-        &state.counts,
+        &mut state.counts,
         &mut state.trees,
         scratch,
     ) {
         return Err(fault);
     }
-    state.counts = holders(alloc, graph.wires() as usize, &state.trees)?;
     let log = log_of(
         alloc,
         &state.prices,

@@ -5,7 +5,7 @@ ghost use Rattle.ice_base.specs.declared.number.WireNo.{WireNo as Wire};
 ghost use Rattle.ice_graph.specs.declared.edge.Edge.{Edge as Row};
 ghost use Rattle.ice_path.specs.Paths.{IsTaken};
 ghost use Rattle.ice_path.specs.Room.{IsFor, AreWires};
-ghost use Rattle.ice_negotiate.specs.Trees.{AreReached, IsCause, IsJoined, IsReached, IsRooted, IsTree, StopsAt, route_of};
+ghost use Rattle.ice_negotiate.specs.Trees.{AreOnce, AreReached, IsCause, IsJoined, IsReached, IsRooted, IsTree, StopsAt, route_of};
 
 use crate::stop::TreeStop;
 use ice_base::{NoMemory, WireNo};
@@ -39,9 +39,11 @@ fn join(
     requires wires { length prices.now.history.items ≡ graph.now.wires }
     requires sink { sink.0 < graph.now.wires }
     requires rooted { IsRooted graph.now root tree.old.wires.items }
+    requires apart { AreOnce tree.old.wires.items }
     requires scratch { IsFor graph.now scratch.old }
     ensures joined { OnOk result (IsJoined graph.now.edges (price prices.now) (route_of tree.old) sink (route_of tree.new)) }
     ensures rooted { OnOk result (IsRooted graph.now root tree.new.wires.items) }
+    ensures apart { OnOk result (AreOnce tree.new.wires.items) }
     ensures reached { OnOk result (IsReached graph.now.edges root sink) }
     ensures stop { IfErr result (StopsAt graph.now.edges root sink) }
     ensures scratch { IsFor graph.now scratch.new }
@@ -55,11 +57,12 @@ fn join(
 }
 
 /// The tree of a net: its sinks joined to the root one by one in order, each by the taken path from the tree
-/// so far. A sink that the tree holds already adds nothing.
+/// so far. A sink that the tree holds already adds nothing, and no wire stands twice in the tree.
 ///
 /// The scratch was made for this graph, the prices are for its wires, and root and sinks are wires of the
 /// graph. It answers `Unreachable` with the first sink to which no walk leads from the root, exactly where
 /// there is one, and `NoMemory` where it finds no memory for the tree.
+#[tactic(auto, using(crate::proofs::Joining::once_first))]
 pub fn tree_of(
     alloc: Global,
     graph: &Graph,
@@ -75,6 +78,7 @@ pub fn tree_of(
     requires scratch { IsFor graph.now scratch.old }
     ensures tree { IfOk result (λ tree. IsTree graph.now.edges (price prices.now) root sinks.now (route_of tree)) }
     ensures rooted { IfOk result (λ tree. IsRooted graph.now root tree.wires.items) }
+    ensures apart { IfOk result (λ tree. AreOnce tree.wires.items) }
     ensures reached { OnOk result (AreReached graph.now.edges root sinks.now) }
     ensures stop { IfErr result (IsCause graph.now.edges root sinks.now) }
     ensures scratch { IsFor graph.now scratch.new }

@@ -2,8 +2,9 @@ use Rattle.std.proofs.Common.{◌≡◌, List, Option, Some, IfSome, sym, subst}
 use Rattle.ice_core.specs.Congestion.{price}
 use Rattle.ice_graph.specs.declared.edge.Edge.{Edge}
 use Rattle.ice_path.specs.Paths.{IsTaken}
-use Rattle.ice_negotiate.specs.Trees.{IsRooted}
-use Rattle.ice_negotiate.proofs.Joining.{rooted_more, sink_reached}
+use Rattle.ice_path.proofs.Settling.{price_positive}
+use Rattle.ice_negotiate.specs.Trees.{AreOnce, IsRooted}
+use Rattle.ice_negotiate.proofs.Joining.{rooted_more, sink_reached, taken_once}
 use Rattle.ice_negotiate.proofs.tree.join.Goals as goal
 
 -- the path that is there is the taken one
@@ -20,3 +21,9 @@ pub returns-clause-reached : goal.returns-clause-reached
 returns-clause-reached c =
     let taken = the_taken (IsTaken c.args.graph.now.edges (price c.args.prices.now) c.args.tree.now.wires.items c.args.sink.0) c.connect.new.scratch.path c.path.result.now c.path.ensures c.in-Some.ensures.path in
     sink_reached c.args.graph.now c.args.root (price c.args.prices.now) c.args.tree.now.wires.items c.args.sink c.path.result.now c.requires.rooted taken
+
+pub returns-clause-apart : goal.returns-clause-apart
+returns-clause-apart c =
+    let taken = the_taken (IsTaken c.args.graph.now.edges (price c.args.prices.now) c.args.tree.now.wires.items c.args.sink.0) c.connect.new.scratch.path c.path.result.now c.path.ensures c.in-Some.ensures.path in
+    subst AreOnce (sym c.in_ok-extend.ensures.wires)
+    (taken_once c.args.graph.now.edges (price c.args.prices.now) c.args.tree.now.wires.items (price_positive c.args.prices.now) c.requires.apart c.args.sink.0 c.path.result.now taken)

@@ -16,6 +16,7 @@ loop-sink-preserved c =
     record {
       joined = goes_more c.args.graph.now.edges (price c.args.prices.now) c.args.root c.args.sinks.now c.loop-sink.sink-index none (route_of c.loop-sink.tree) (route_of c.join.new.tree) c.loop-sink-test.true e.joined i.joined;
       rooted = e.rooted;
+      apart = e.apart;
       reached = reached_more c.args.graph.now.edges c.args.root c.args.sinks.now c.loop-sink.sink-index none c.loop-sink-test.true e.reached i.reached;
       scratch = e.scratch;
     }
