@@ -164,7 +164,8 @@ impl Bits {
         }
     }
 
-    /// The bit of a function in a tile, where `at` is below the number of the function's bits. It takes no memory.
+    /// The bit of a function in a tile, where `at` is below the number of the function's bits. The tile is of the function's kind: the
+    /// bit at the same place of a tile of another kind is none of the function's. It takes no memory.
     pub fn get_function(&self, tile: TileAt, function: &Function, at: usize) -> bool
         requires { at < length function.now.bits.items }
         ensures { (bit : BitAt) → slice_get function.now.bits.items at ≡ Some bit → result ≡ bits_of self.now tile bit }
@@ -172,7 +173,8 @@ impl Bits {
         self.get(tile, function.bits[at])
     }
 
-    /// Writes the bit of a function in a tile, which has such a place. It takes no memory.
+    /// Writes the bit of a function in a tile, which has such a place. The tile is of the function's kind: the bit at the same place of
+    /// a tile of another kind is none of the function's. It takes no memory.
     pub fn set_function(&mut self, tile: TileAt, function: &Function, at: usize, value: bool)
         requires { option_map_or (is_there self.old tile) (slice_get function.now.bits.items at) false ≡ true }
         ensures { (bit : BitAt) → slice_get function.now.bits.items at ≡ Some bit → Rewrites self.old self.new (with_bit tile bit value (bits_of self.old)) }
