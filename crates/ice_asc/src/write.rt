@@ -1,5 +1,5 @@
 //! Writing the text of bits.
-ghost use Rattle.std.specs.Prelude.{◌≡◌, ◌≤◌, ◌∷◌, [], ◌++◌, map, decimal, option_map, OnOk};
+ghost use Rattle.std.specs.Prelude.{◌≡◌, ◌≤◌, ◌∷◌, [], ◌++◌, map, decimal, option_map, OnOk, OnErr};
 ghost use Rattle.std.specs.List.{flat_map, range_with_len};
 ghost use Rattle.ice_bits.specs.Configuration.{bit_at, bits_of};
 ghost use Rattle.ice_chip.specs.Lookups.{tile_of};
@@ -141,9 +141,8 @@ fn put_extras(out: &mut Vec<u8>, extras: &[(u32, u32, u32)]) -> Result<(), NoMem
     Ok(())
 }
 
-/// Appends the text of the bits: a comment and the device, each tile of the chip in order with its heading and sixteen
-/// rows, and the extra bits in order. It fails for want of memory alone, and may then have written a part of the text.
-pub fn write_asc(bits: &Bits, chip: &Chip, out: &mut Vec<u8>) -> Result<(), NoMemory>
+// Writes the text of the bits: a comment and the device, the tiles and the extra bits.
+fn put_text(out: &mut Vec<u8>, bits: &Bits, chip: &Chip) -> Result<(), NoMemory>
     ensures { OnOk result (out.new.items ≡ out.old.items ++ asc_text chip.now bits.now) }
 {
     put_line(out, b".comment")?;
@@ -151,5 +150,21 @@ pub fn write_asc(bits: &Bits, chip: &Chip, out: &mut Vec<u8>) -> Result<(), NoMe
     put_line(out, b".device 1k")?;
     put_tiles(out, bits, chip.tiles())?;
     put_extras(out, bits.extras())?;
+    Ok(())
+}
+
+/// Appends the text of the bits: a comment and the device, each tile of the chip in order with its heading and sixteen
+/// rows, and the extra bits in order. The text is made apart from what it is appended to, so that want of memory changes
+/// nothing.
+///
+/// # Errors
+/// Want of memory alone.
+pub fn write_asc(bits: &Bits, chip: &Chip, out: &mut Vec<u8>) -> Result<(), NoMemory>
+    ensures written { OnOk result (out.new.items ≡ out.old.items ++ asc_text chip.now bits.now) }
+    ensures refused { OnErr result (out.new.items ≡ out.old.items) }
+{
+    let mut text = Vec::new(*out.allocator());
+    put_text(&mut text, bits, chip)?;
+    out.extend_from_slice(&text)?;
     Ok(())
 }

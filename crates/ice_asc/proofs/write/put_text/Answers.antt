@@ -1,5 +1,5 @@
 use Rattle.ice_asc.proofs.Joining.{text_joined}
-use Rattle.ice_asc.proofs.write.write_asc.Goals as goal
+use Rattle.ice_asc.proofs.write.put_text.Goals as goal
 
 pub returns : goal.returns
 returns c =
