@@ -1,5 +1,6 @@
 pub mod Members
 pub mod Graphs
+pub mod Walks
 pub mod DifferentTiles
 pub mod PointPlaces
 pub mod Switches
@@ -8,6 +9,7 @@ pub mod ReadPoints
 pub mod Loopless
 pub mod TileLists
 pub mod DriverTables
+pub mod Driven
 pub mod Groups
 pub mod RowValues
 pub mod FirstOf

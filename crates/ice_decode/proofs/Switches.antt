@@ -21,7 +21,7 @@ pub some_mapped : {A B : Type 0} (f : A → B) (o : Option A) (y : B) → option
 some_mapped f None y e = cc e
 some_mapped f (Some x) y e = (x, refl, same_Some (f x) y e)
 
-some_then : {A B : Type 0} (f : A → Option B) (o : Option A) (y : B) → option_and_then f o ≡ Some y → (x : A) × (o ≡ Some x) × (f x ≡ Some y)
+pub some_then : {A B : Type 0} (f : A → Option B) (o : Option A) (y : B) → option_and_then f o ≡ Some y → (x : A) × (o ≡ Some x) × (f x ≡ Some y)
 some_then f None y e = cc e
 some_then f (Some x) y e = (x, refl, e)
 

@@ -1,5 +1,5 @@
 -- The points of a circuit have values, and faulty bits have no circuit.
-use Rattle.std.proofs.Common.{◌≡◌, ◌≢◌, ℕ, ◌+◌, ◌*◌, ◌<◌, Bool, false, Some, List, refl, ap, sym, ◌∙◌, length, map, arith}
+use Rattle.std.proofs.Common.{◌≡◌, ◌≢◌, ℕ, ◌+◌, ◌*◌, ◌<◌, Bool, false, Some, List, refl, ap, sym, ◌∙◌, subst, length, map, arith}
 use Rattle.std.specs.Prelude.{unwrap_or}
 use Rattle.std.proofs.lemmas.Option.{slice_get_within}
 use Rattle.ice_value.specs.System.{value}
@@ -8,6 +8,7 @@ use Rattle.ice_value.specs.Order.{At, Has}
 use Rattle.ice_value.proofs.Values.{value_there, value_ranked}
 use Rattle.ice_value.proofs.Gaps.{local_gapped}
 use Rattle.ice_chip.specs.Database.{Parts}
+use Rattle.ice_chip.specs.IsRead.{IsRead}
 use Rattle.ice_chip.specs.declared.rows.Pad.{Pad}
 use Rattle.ice_bits.specs.Configuration.{Bits, Configuration, bits_of}
 use Rattle.ice_decode.specs.declared.point.Point.{Point}
@@ -18,7 +19,10 @@ use Rattle.ice_decode.specs.Reads.{points, count_points, reads}
 use Rattle.ice_decode.specs.Meaning.{makes, system_of, point_level}
 use Rattle.ice_decode.specs.Faults.{IsOrderOf, first_extra}
 use Rattle.ice_decode.specs.Refusals.{CircuitData, IsCircuitOf, IsFaultless, IsFaultOf}
+use Rattle.ice_decode.specs.declared.point.Point.TheVariants.{Wire}
 use Rattle.ice_decode.proofs.PointPlaces.{cells_long, points_long}
+use Rattle.ice_decode.proofs.ReadPoints.{read_there}
+use Rattle.ice_decode.proofs.Walks.{all_valued}
 
 pub counted : (parts : Parts) → count_points parts ≡ parts.wires + 8 * length (logic_tiles parts)
 counted parts = ap (λ n. parts.wires + n) (cells_long (logic_tiles parts))
@@ -48,6 +52,17 @@ unique parts bits order o bonded levels kept v meets p has =
     (value_ranked (system_of parts bits bonded levels kept) (At order) v o.after
     (λ i q at. meets q (o.within q (i, at)) ∙ sym (local_gapped (reads parts bits) false (makes parts bits bonded levels kept) v q))
     (count_points parts + 1) there.0 p there.1 (place_below parts bits order o there.0 p there.1))
+
+-- without a fault no order is needed: a loop alone could leave a point without a value
+pub faultless_valued : (parts : Parts) (bits : Bits) (extras : List (ℕ × ℕ × ℕ)) → IsRead parts → IsFaultless parts bits extras
+    → (bonded : List Pad) (levels kept : List Bool) (p : Point) → Has (points parts) p
+    → value (system_of parts bits bonded levels kept) (count_points parts + 1) p ≡ Some (point_level parts bits bonded levels kept p)
+faultless_valued parts bits extras read faultless bonded levels kept p has =
+    let system = system_of parts bits bonded levels kept in
+    let found = all_valued system (points parts) (Wire (record { 0 = 0 })) (read_there parts bits read) faultless.loopless.none p has in
+    let long : length (points parts) ≡ count_points parts = points_long parts.wires (logic_tiles parts) ∙ sym (counted parts) in
+    let enough : value system (count_points parts + 1) p ≡ Some found.0 = subst (λ n. value system (n + 1) p ≡ Some found.0) long found.1 in
+    enough ∙ ap (λ (x : Bool). Some x) (sym (ap (λ x. unwrap_or x false) enough))
 
 -- ---- faults
 faultless_has_none : (parts : Parts) (bits : Bits) (extras : List (ℕ × ℕ × ℕ)) (fault : DecodeFault) → fault ≢ NoMemory → IsFaultOf parts bits extras fault → IsFaultless parts bits extras → ⊥
