@@ -97,6 +97,7 @@ fn check_pin_types(chip: &Chip, bits: &Bits, sources: &[bool]) -> Result<(), Dec
 /// may be told. Want of memory may come at any time.
 pub fn decode(alloc: Global, chip: &Chip, bits: &Bits) -> Result<Circuit, DecodeFault>
     ensures circuit { IfOk result (λ circuit. IsCircuitOf chip.now bits.now circuit) }
+    ensures own_bits { IfOk result (λ circuit. IsCircuitOf chip.now circuit.configuration circuit) }
     ensures fault { IfErr result (IsFaultOf chip.now (bits_of bits.now) bits.now.extras) }
 {
     let wires = chip.wires();

@@ -1,8 +1,13 @@
 use Rattle.std.proofs.Common.{sym, ◌∙◌, subst}
-use Rattle.ice_bits.specs.Configuration.{bits_of}
-use Rattle.ice_decode.specs.Refusals.{IsCircuitOf}
+use Rattle.ice_chip.specs.Database.{Parts}
+use Rattle.ice_bits.specs.Configuration.{Configuration, bits_of}
+use Rattle.ice_decode.specs.Refusals.{CircuitData, IsCircuitOf}
 use Rattle.ice_decode.proofs.Switches.{all_between, are_drivers}
 use Rattle.ice_decode.proofs.decoding.decode.Goals as goal
+
+-- a circuit of bits is that of the bits that it keeps
+of_its_bits : (parts : Parts) (k : Configuration) (circuit : CircuitData) → IsCircuitOf parts k circuit → IsCircuitOf parts circuit.configuration circuit
+of_its_bits parts k circuit of = subst (λ kept. IsCircuitOf parts kept circuit) (sym of.same) of
 
 pub drivers_of-requires : goal.drivers_of-requires
 drivers_of-requires c =
@@ -34,3 +39,8 @@ returns-clause-circuit c = subst (IsCircuitOf c.args.chip.now c.args.bits.now) (
       (c.deref.ensures.value ∙ c.in_ok-switches.ensures) c.in_ok-drivers.ensures;
   ordered = c.in_ok-order.ensures.order;
 })
+
+pub returns-clause-own_bits : goal.returns-clause-own_bits
+returns-clause-own_bits c =
+    let circuit = returns-clause-circuit c in
+    of_its_bits c.args.chip.now c.args.bits.now c.of.result circuit
