@@ -34,10 +34,6 @@ use Rattle.ice_decode.specs.Reads.{reads, cell_inputs, count_points}
 use Rattle.ice_decode.specs.Pads.{pad_gives, pin_level, drive_at}
 
 -- ---- column buffers
--- the number of the global that a name is
-abbrev pub global_in : List ℕ → Option ℕ
-global_in name = if is_global_name name then Some (number_at name 10) else None
-
 -- the number of the global whose name stands among these at a place
 abbrev pub global_at : TileAt → List PlacedName → Option ℕ
 global_at t [] = None

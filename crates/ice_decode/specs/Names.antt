@@ -20,10 +20,6 @@ pad_output_name p = codes "io_" ++ digit p ∷ codes "/D_OUT_0"
 abbrev pub output_enable_name : ℕ → List ℕ
 output_enable_name p = codes "io_" ++ digit p ∷ codes "/OUT_ENB"
 
--- `glb_netwk_N`
-abbrev pub global_name : ℕ → List ℕ
-global_name n = codes "glb_netwk_" ++ digit n ∷ []
-
 -- ---- functions
 -- `LC_I`
 abbrev pub cell_function : ℕ → List ℕ

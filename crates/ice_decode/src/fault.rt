@@ -13,24 +13,48 @@ use thiserror::Error;
 pub enum DecodeFault {
     /// Two rows of switches into the wire are on, of which these are the first two; the least such wire.
     #[error("two rows of switches drive one wire")]
-    Contention { wire: WireNo, rows: (RowNo, RowNo) },
+    Contention {
+        /// The wire.
+        wire: WireNo,
+        /// The first two rows into it that are on.
+        rows: (RowNo, RowNo),
+    },
     /// A row is on whose source is this wire, an output of a memory; the least such row.
     #[error("a memory drives a wire")]
-    ForeignSource { wire: WireNo },
+    ForeignSource {
+        /// The source of the row.
+        wire: WireNo,
+    },
     /// A bit of a function of a PLL or of a pair of pads is set in this tile, the function of this line; the first in the order of
     /// tiles and then of lines.
     #[error("line {line}: a function of a PLL or of a pair of pads is set")]
-    ForeignFunction { tile: TileAt, line: u32 },
+    ForeignFunction {
+        /// The place of the tile.
+        tile: TileAt,
+        /// The line of the function in the database.
+        line: u32,
+    },
     /// There is an extra bit; the first in their order.
     #[error("an extra bit")]
-    ForeignExtra { extra: (u32, u32, u32) },
+    ForeignExtra {
+        /// Its bank, its column and its row.
+        extra: (u32, u32, u32),
+    },
     /// The wires of a closed list of wires and carries, each of which depends on the next, and the last on the first.
     #[error("a loop of wires")]
-    ChipLoop { wires: Wires },
+    ChipLoop {
+        /// The wires in the order of the list.
+        wires: Wires,
+    },
     /// The pad's type has an output part that is unknown, or another input part than 01 while its input is read; the first in
     /// the order of tiles and pads. The value is from 0 to 63.
     #[error("{value} is no type of a pad that is known")]
-    PinType { pad: Pad, value: u8 },
+    PinType {
+        /// The pad.
+        pad: Pad,
+        /// The type that its bits say.
+        value: u8,
+    },
     /// Want of memory.
     #[error("want of memory")]
     NoMemory,

@@ -10,6 +10,7 @@ mod driver;
 mod evaluation;
 mod fault;
 mod foreign;
+/// What is proved of the meaning of bits.
 pub mod laws;
 mod names;
 mod numbering;
@@ -35,7 +36,7 @@ pub use names::{
 };
 pub use pads::{is_enabled, pin_type};
 pub use point::Point;
-pub use reads::{add_reads, at_pin};
+pub use reads::at_pin;
 pub use role::{Role, role_of};
 pub use settings::{cell_bit, has_carry, has_flop, setting};
 pub use tiles::logic_tiles;

@@ -163,7 +163,7 @@ fn driver_at(chip: &Chip, bits: &Bits, drivers: &[Driver], wire: WireNo) -> Driv
 ///
 /// # Errors
 /// Want of memory alone.
-pub fn add_reads(
+pub(crate) fn add_reads(
     chip: &Chip,
     bits: &Bits,
     drivers: &[Driver],
