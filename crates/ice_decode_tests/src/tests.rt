@@ -9,7 +9,7 @@ use std::process::Abort;
 use std::test::Fail;
 
 // Four wires: `span` has a group in each tile. Rows: 0 into wire 1 from 0, 1 into 2 from 1, 2 into 1 from 3.
-const CHIP_A: &[u8] = b".device 1k 2 1 4
+const TWO_TILES: &[u8] = b".device 1k 2 1 4
 .pins tiny
 1 0 0 0
 2 1 0 0
@@ -53,7 +53,7 @@ IoCtrl.REN_1 B15[17]
 ";
 
 // Two ways from tile to tile. Rows 0 and 1 lead into wire 2 from 0 and 1, 7 and 8 into wire 6 from 2 and 4.
-const CHIP_C: &[u8] = b".device 1k 2 1 7
+const TWO_WAYS: &[u8] = b".device 1k 2 1 7
 .pins tiny
 1 0 0 0
 2 0 0 1
@@ -112,7 +112,7 @@ IoCtrl.REN_1 B15[17]
 
 // A logic tile between two IO tiles. Rows: 0 and 1 into `lutff_0/in_0` from `lutff_0/out` and a pad, 2 into `lutff_0/in_1` from
 // `lutff_1/cout`, 3 into `span` from a memory, 4 to 6 into it from two outputs, of which 5 has the values of 4.
-const CHIP_L: &[u8] = b".device 1k 3 1 15
+const LOGIC: &[u8] = b".device 1k 3 1 15
 .io_tile 0 0
 .logic_tile 1 0
 .io_tile 2 0
@@ -192,17 +192,17 @@ CarryInSet B8[1]
 // One of the chips.
 #[derive(Clone, Copy)]
 enum Sample {
-    A,
-    C,
-    L,
+    TwoTiles,
+    TwoWays,
+    Logic,
 }
 
 // The text of a chip.
 fn text_of(sample: Sample) -> &'static [u8] {
     match sample {
-        Sample::A => CHIP_A,
-        Sample::C => CHIP_C,
-        Sample::L => CHIP_L,
+        Sample::TwoTiles => TWO_TILES,
+        Sample::TwoWays => TWO_WAYS,
+        Sample::Logic => LOGIC,
     }
 }
 
@@ -339,18 +339,18 @@ fn expect_circuit(
 #[test]
 fn rows_that_are_on_drive_their_wires(rt: HostRuntime) -> Result<(), Fail> {
     let alloc = rt.alloc();
-    expect_circuit(&rt, alloc, Sample::A, &[], 4, &[])?;
-    // The first example: a pad that is read, and a pad that is driven.
+    expect_circuit(&rt, alloc, Sample::TwoTiles, &[], 4, &[])?;
+    // A pad that is read, and a pad that is driven.
     let left = [(0, 17), (0, 0)];
     let right = [(0, 0), (0, 17), (3, 17), (4, 17)];
     let tiles = [(LEFT, left.as_slice()), (MIDDLE, right.as_slice())];
-    expect_circuit(&rt, alloc, Sample::A, &tiles, 4, &[(1, 0), (2, 1)])?;
-    // Both ways of the third chip, to its two pads.
+    expect_circuit(&rt, alloc, Sample::TwoTiles, &tiles, 4, &[(1, 0), (2, 1)])?;
+    // Both ways, to the two pads.
     let left = [(0, 17), (6, 17), (0, 0), (3, 0)];
     let right = [(0, 0), (1, 0), (4, 0)];
     let tiles = [(LEFT, left.as_slice()), (MIDDLE, right.as_slice())];
     let driven = [(2, 0), (3, 3), (4, 4), (5, 5), (6, 8)];
-    expect_circuit(&rt, alloc, Sample::C, &tiles, 7, &driven)
+    expect_circuit(&rt, alloc, Sample::TwoWays, &tiles, 7, &driven)
 }
 
 #[test]
@@ -360,7 +360,7 @@ fn the_first_row_of_equal_values_is_on(rt: HostRuntime) -> Result<(), Fail> {
     expect_circuit(
         &rt,
         alloc,
-        Sample::L,
+        Sample::Logic,
         &[(MIDDLE, first.as_slice())],
         23,
         &[(13, 4)],
@@ -369,14 +369,21 @@ fn the_first_row_of_equal_values_is_on(rt: HostRuntime) -> Result<(), Fail> {
     expect_circuit(
         &rt,
         alloc,
-        Sample::L,
+        Sample::Logic,
         &[(MIDDLE, third.as_slice())],
         23,
         &[(13, 6)],
     )?;
     // Values of no row.
     let none = [(10, 4)];
-    expect_circuit(&rt, alloc, Sample::L, &[(MIDDLE, none.as_slice())], 23, &[])
+    expect_circuit(
+        &rt,
+        alloc,
+        Sample::Logic,
+        &[(MIDDLE, none.as_slice())],
+        23,
+        &[],
+    )
 }
 
 #[test]
@@ -384,11 +391,11 @@ fn contention_and_what_is_foreign_are_told(rt: HostRuntime) -> Result<(), Fail> 
     let alloc = rt.alloc();
     // Two rows into `span`, each in a tile of its own.
     let tiles = [(LEFT, [(0, 0)].as_slice()), (MIDDLE, [(2, 0)].as_slice())];
-    expect_fault(&rt, alloc, Sample::A, &tiles, &[], (1, 1, 0, 2))?;
+    expect_fault(&rt, alloc, Sample::TwoTiles, &tiles, &[], (1, 1, 0, 2))?;
     expect_fault(
         &rt,
         alloc,
-        Sample::L,
+        Sample::Logic,
         &[(LEFT, [(0, 0)].as_slice())],
         &[],
         (2, 12, 0, 0),
@@ -396,7 +403,7 @@ fn contention_and_what_is_foreign_are_told(rt: HostRuntime) -> Result<(), Fail> 
     expect_fault(
         &rt,
         alloc,
-        Sample::L,
+        Sample::Logic,
         &[(RIGHT, [(15, 0), (15, 1)].as_slice())],
         &[],
         (3, 2, 0, 22),
@@ -404,7 +411,7 @@ fn contention_and_what_is_foreign_are_told(rt: HostRuntime) -> Result<(), Fail> 
     expect_fault(
         &rt,
         alloc,
-        Sample::L,
+        Sample::Logic,
         &[(RIGHT, [(15, 1)].as_slice())],
         &[],
         (3, 2, 0, 23),
@@ -412,7 +419,7 @@ fn contention_and_what_is_foreign_are_told(rt: HostRuntime) -> Result<(), Fail> 
     expect_fault(
         &rt,
         alloc,
-        Sample::L,
+        Sample::Logic,
         &[],
         &[(5, 6, 7), (1, 2, 3)],
         (4, 5, 6, 7),
@@ -427,7 +434,7 @@ fn loops_and_pads_of_wrong_types_are_told(rt: HostRuntime) -> Result<(), Fail> {
     expect_fault(
         &rt,
         alloc,
-        Sample::L,
+        Sample::Logic,
         &[(MIDDLE, [(10, 0)].as_slice())],
         &[],
         (5, 2, 0, 4),
@@ -436,7 +443,7 @@ fn loops_and_pads_of_wrong_types_are_told(rt: HostRuntime) -> Result<(), Fail> {
     expect_fault(
         &rt,
         alloc,
-        Sample::L,
+        Sample::Logic,
         &[(MIDDLE, carries.as_slice())],
         &[],
         (5, 2, 1, 10),
@@ -445,7 +452,7 @@ fn loops_and_pads_of_wrong_types_are_told(rt: HostRuntime) -> Result<(), Fail> {
     expect_fault(
         &rt,
         alloc,
-        Sample::A,
+        Sample::TwoTiles,
         &[(LEFT, [(0, 0)].as_slice())],
         &[],
         (6, 0, 0, 0),
@@ -453,7 +460,7 @@ fn loops_and_pads_of_wrong_types_are_told(rt: HostRuntime) -> Result<(), Fail> {
     expect_fault(
         &rt,
         alloc,
-        Sample::A,
+        Sample::TwoTiles,
         &[(MIDDLE, [(11, 17)].as_slice())],
         &[],
         (6, 1, 1, 32),
@@ -467,7 +474,7 @@ fn no_loop_goes_through_a_flip_flop_or_a_carry_that_is_off(rt: HostRuntime) -> R
     expect_circuit(
         &rt,
         alloc,
-        Sample::L,
+        Sample::Logic,
         &[(MIDDLE, flop.as_slice())],
         23,
         &[(0, 0)],
@@ -476,7 +483,7 @@ fn no_loop_goes_through_a_flip_flop_or_a_carry_that_is_off(rt: HostRuntime) -> R
     expect_circuit(
         &rt,
         alloc,
-        Sample::L,
+        Sample::Logic,
         &[(MIDDLE, first.as_slice())],
         23,
         &[(1, 2)],
@@ -485,7 +492,7 @@ fn no_loop_goes_through_a_flip_flop_or_a_carry_that_is_off(rt: HostRuntime) -> R
     expect_circuit(
         &rt,
         alloc,
-        Sample::L,
+        Sample::Logic,
         &[(MIDDLE, second.as_slice())],
         23,
         &[(1, 2)],
@@ -499,12 +506,19 @@ fn the_first_kind_of_fault_is_told(rt: HostRuntime) -> Result<(), Fail> {
     let left = [(0, 0), (15, 1), (5, 17)];
     let middle = [(10, 0), (10, 3)];
     let both = [(LEFT, left.as_slice()), (MIDDLE, middle.as_slice())];
-    expect_fault(&rt, alloc, Sample::L, &both, &[(1, 2, 3)], (1, 13, 3, 4))?;
+    expect_fault(
+        &rt,
+        alloc,
+        Sample::Logic,
+        &both,
+        &[(1, 2, 3)],
+        (1, 13, 3, 4),
+    )?;
     let looped = (MIDDLE, [(10, 0)].as_slice());
     expect_fault(
         &rt,
         alloc,
-        Sample::L,
+        Sample::Logic,
         &[(LEFT, left.as_slice()), looped],
         &[(1, 2, 3)],
         (2, 12, 0, 0),
@@ -513,7 +527,7 @@ fn the_first_kind_of_fault_is_told(rt: HostRuntime) -> Result<(), Fail> {
     expect_fault(
         &rt,
         alloc,
-        Sample::L,
+        Sample::Logic,
         &[function, looped],
         &[(1, 2, 3)],
         (3, 0, 0, 23),
@@ -522,11 +536,18 @@ fn the_first_kind_of_fault_is_told(rt: HostRuntime) -> Result<(), Fail> {
     expect_fault(
         &rt,
         alloc,
-        Sample::L,
+        Sample::Logic,
         &[wrong, looped],
         &[(1, 2, 3)],
         (4, 1, 2, 3),
     )?;
-    expect_fault(&rt, alloc, Sample::L, &[wrong, looped], &[], (5, 2, 0, 4))?;
-    expect_fault(&rt, alloc, Sample::L, &[wrong], &[], (6, 0, 0, 32))
+    expect_fault(
+        &rt,
+        alloc,
+        Sample::Logic,
+        &[wrong, looped],
+        &[],
+        (5, 2, 0, 4),
+    )?;
+    expect_fault(&rt, alloc, Sample::Logic, &[wrong], &[], (6, 0, 0, 32))
 }
