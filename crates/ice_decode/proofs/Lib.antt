@@ -8,6 +8,7 @@ pub mod RolePlaces
 pub mod ReadPoints
 pub mod Loopless
 pub mod TileLists
+pub mod ForeignBits
 pub mod DriverTables
 pub mod Driven
 pub mod Groups

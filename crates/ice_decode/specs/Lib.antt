@@ -10,6 +10,7 @@ pub mod Refusals
 pub mod Tables
 pub mod Tiles
 pub mod ForeignTiles
+pub mod ForeignPlaces
 pub mod PadTiles
 pub mod Points
 pub mod Different

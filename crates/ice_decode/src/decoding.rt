@@ -36,7 +36,12 @@ fn check_contention(chip: &Chip, bits: &Bits, drivers: &[Driver]) -> Result<(), 
 }
 
 // Looks for what no circuit holds: outputs of memories, functions of PLLs and of pairs of pads, and extra bits.
-fn check_foreign(chip: &Chip, bits: &Bits, switches: &[Switch]) -> Result<(), DecodeFault>
+fn check_foreign(
+    alloc: Global,
+    chip: &Chip,
+    bits: &Bits,
+    switches: &[Switch],
+) -> Result<(), DecodeFault>
     requires rows { switches.now ≡ switches_on (bits_of bits.now) chip.now.groups }
     requires wires { All (IsBetween chip.now.wires) switches.now }
     requires uncontended { contention chip.now (bits_of bits.now) ≡ None }
@@ -46,7 +51,7 @@ fn check_foreign(chip: &Chip, bits: &Bits, switches: &[Switch]) -> Result<(), De
     if let Some(wire) = foreign_source(chip, switches) {
         return Err(DecodeFault::ForeignSource { wire });
     }
-    if let Some((tile, line)) = foreign_function(chip, bits) {
+    if let Some((tile, line)) = foreign_function(alloc, chip, bits)? {
         return Err(DecodeFault::ForeignFunction { tile, line });
     }
     if let Some(extra) = bits.extras().first() {
@@ -104,7 +109,7 @@ pub fn decode(alloc: Global, chip: &Chip, bits: &Bits) -> Result<Circuit, Decode
     let switches = switches_on(alloc, chip, bits)?;
     let drivers = drivers_of(alloc, wires, &switches)?;
     check_contention(chip, bits, &drivers)?;
-    check_foreign(chip, bits, &switches)?;
+    check_foreign(alloc, chip, bits, &switches)?;
     let order = check_loops(alloc, chip, bits, &drivers)?;
     let sources = sources_of(alloc, wires, &switches)?;
     check_pin_types(chip, bits, &sources)?;

@@ -1,5 +1,5 @@
 //! What no circuit holds: outputs of memories, functions of PLLs and of pairs of pads.
-ghost use Rattle.std.specs.Prelude.{◌≡◌, ◌<◌, All, map, find, option_map};
+ghost use Rattle.std.specs.Prelude.{◌≡◌, ◌<◌, [], All, map, find, option_map, IfOk, OnOk};
 ghost use Rattle.std.specs.List.{list_any};
 ghost use Rattle.ice_chip.specs.Functions.{same_kind};
 ghost use Rattle.ice_chip.specs.Views.{function_view};
@@ -7,11 +7,14 @@ ghost use Rattle.ice_bits.specs.Configuration.{bits_of};
 ghost use Rattle.ice_decode.specs.Faults.{is_memory_output, is_foreign_wire, foreign_function};
 ghost use Rattle.ice_decode.specs.Tables.{IsBetween, foreign_source_of};
 ghost use Rattle.ice_decode.specs.ForeignTiles.{is_set_at, foreign_at};
+ghost use Rattle.ice_decode.specs.ForeignPlaces.{with_places, foreign_places};
 
 use crate::Switch;
-use ice_base::{BitAt, TileAt, WireNo};
+use ice_base::{BitAt, NoMemory, TileAt, WireNo};
 use ice_bits::Bits;
 use ice_chip::{Chip, Function, Tile, TileKind, is_foreign};
+use indexmap::IndexSet;
+use std::alloc::Global;
 
 // Whether this is a name of what a memory reads out.
 fn is_memory_output(name: &[u8]) -> bool
@@ -93,16 +96,63 @@ fn foreign_at(functions: &[Function], bits: &Bits, tile: Tile) -> Option<u32>
     None
 }
 
-/// The first tile in which a bit of a foreign function is set, and the line of the first function with one there. It takes no memory.
-#[tactic(auto, using(crate::proofs::TileLists::foreign_same))]
-pub(crate) fn foreign_function(chip: &Chip, bits: &Bits) -> Option<(TileAt, u32)>
-    ensures { result ≡ foreign_function chip.now (bits_of bits.now) }
+// Adds the places that are new.
+fn add_places(places: &mut IndexSet<BitAt>, bits: &[BitAt]) -> Result<(), NoMemory>
+    ensures { OnOk result (places.new.keys ≡ with_places places.old.keys bits.now) }
 {
-    let functions = chip.functions();
-    for tile in chip.tiles() {
-        if let Some(line) = foreign_at(functions, bits, *tile) {
-            return Some((tile.at, line));
+    for bit in bits {
+        places.insert(*bit)?;
+    }
+    Ok(())
+}
+
+// The different places of the bits of the foreign ones of these functions.
+fn foreign_places(alloc: Global, functions: &[Function]) -> Result<IndexSet<BitAt>, NoMemory>
+    ensures { IfOk result (λ places. places.keys ≡ foreign_places [] (map function_view functions.now)) }
+{
+    let mut places = IndexSet::new(alloc);
+    for function in functions {
+        if is_foreign(function.kind, function.name.as_bytes()) {
+            add_places(&mut places, &function.bits)?;
         }
     }
-    None
+    Ok(places)
+}
+
+// The line of the first foreign function with a bit that is set in the tile, by the different places of such bits: functions are gone
+// through in a tile alone in which one of the places is set.
+#[tactic(auto, using(crate::proofs::ForeignBits::none_marked, crate::proofs::ForeignBits::none_elsewhere))]
+fn foreign_in(functions: &[Function], places: &[BitAt], bits: &Bits, tile: Tile) -> Option<u32>
+    requires { places.now ≡ foreign_places [] (map function_view functions.now) }
+    ensures { result ≡ foreign_at (map function_view functions.now) (bits_of bits.now) tile }
+{
+    if !same_kind(TileKind::Io, tile.kind) {
+        return None;
+    }
+    if !has_one(bits, tile.at, places) {
+        return None;
+    }
+    foreign_at(functions, bits, tile)
+}
+
+/// The first tile in which a bit of a foreign function is set, and the line of the first function with one there.
+///
+/// # Errors
+/// Want of memory alone.
+#[tactic(auto, using(crate::proofs::TileLists::foreign_same))]
+pub(crate) fn foreign_function(
+    alloc: Global,
+    chip: &Chip,
+    bits: &Bits,
+) -> Result<Option<(TileAt, u32)>, NoMemory>
+    ensures { IfOk result (λ found. found ≡ foreign_function chip.now (bits_of bits.now)) }
+{
+    let functions = chip.functions();
+    let places = foreign_places(alloc, functions)?;
+    for tile in chip.tiles() {
+        if let Some(line) = foreign_in(functions, places.as_slice(), bits, *tile) {
+            return Ok(Some((tile.at, line)));
+        }
+    }
+    Ok(None)
 }
