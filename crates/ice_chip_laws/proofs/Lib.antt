@@ -14,3 +14,7 @@ mod GroupLaws
 mod RowNumbers
 mod ServerLaws
 mod ExampleLaws
+mod TwiceKeys
+mod TwiceScan
+mod TwiceFirst
+mod PinsFirst

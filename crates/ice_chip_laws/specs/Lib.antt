@@ -9,3 +9,6 @@ pub mod Groups
 pub mod Served
 pub mod Laws
 pub mod Example
+pub mod FirstTwo
+pub mod FirstTwice
+pub mod FirstPins
