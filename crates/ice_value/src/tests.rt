@@ -1,6 +1,8 @@
-//! Small graphs with their orders and cycles, and one that is deep.
+//! Small graphs with their orders and cycles, and one that is deep; gates that are evaluated; and the laws at concrete types.
+ghost use Rattle.std.specs.Prelude.{length};
+ghost use Rattle.ice_value.specs.Graph.{depends_of, IsWithin};
 
-use crate::{Graph, Outcome, from_least, order};
+use crate::{Graph, Outcome, Points, evaluate, from_least, laws, order};
 use std::alloc::Global;
 use std::process::Abort;
 use std::test::Fail;
@@ -127,4 +129,115 @@ fn a_row_of_100000_points_has_an_order(rt: HostRuntime) -> Result<(), Fail> {
         Outcome::Order(order) => expect_order(rt.alloc(), &rt, &graph, &order),
         Outcome::Cycle(cycle) => panic!(rt; "a cycle: {cycle:?}"),
     }
+}
+
+// ---- values
+
+// Gates of any number of inputs, each of which is 0 where all that it reads are 1. A gate that reads nothing is 0.
+#[derive(Drop)]
+struct Nands {
+    graph: Graph,
+}
+
+impl Points for Nands {
+    ghost use Rattle.std.specs.Prelude.{Bool, not};
+    ghost use Rattle.std.specs.List.{list_all};
+
+    ghost points = { λ n. length n.graph };
+
+    ghost system = { λ n. record { depends = depends_of n.graph; local = λ p levels. not (list_all (λ (level : Bool). level) levels) } };
+
+    ghost is_ready = { λ n. IsWithin n.graph };
+
+    fn local(&self, point: usize, values: &[bool]) -> bool {
+        for &read in self.graph.depends(point) {
+            if !values[read] {
+                return true;
+            }
+        }
+        false
+    }
+}
+
+// Fails unless the gates of these rows have these values.
+fn expect_values(
+    alloc: Global,
+    rt: &impl Abort,
+    rows: &[&[usize]],
+    expected: &[bool],
+) -> Result<(), Fail> {
+    let mut graph = Graph::new(alloc);
+    for row in rows {
+        graph.push(row)?;
+    }
+    assert!(rt; graph.is_within());
+    let Outcome::Order(order) = order(alloc, &graph)? else {
+        panic!(rt; "a cycle");
+    };
+    let mut values = vec![in alloc; false; graph.len()]?;
+    evaluate(&Nands { graph }, &order, &mut values);
+    assert_eq!(rt; values.as_slice(), expected);
+    Ok(())
+}
+
+// Fails unless these are the values of eight gates that make the exclusive or and the and of the first two. Four gates make the
+// exclusive or, the last one inverts the first of them, and the one before it reads nothing.
+fn expect_sum(
+    alloc: Global,
+    rt: &impl Abort,
+    first: &[usize],
+    second: &[usize],
+    expected: &[bool],
+) -> Result<(), Fail> {
+    let rows: [&[usize]; 8] = [first, second, &[0, 1], &[0, 2], &[1, 2], &[3, 4], &[], &[2]];
+    expect_values(alloc, rt, &rows, expected)
+}
+
+#[test]
+fn gates_have_their_values(rt: HostRuntime) -> Result<(), Fail> {
+    let (low, high) = (false, true);
+    // A gate is high that reads the one that reads nothing.
+    expect_sum(
+        rt.alloc(),
+        &rt,
+        &[],
+        &[],
+        &[low, low, high, high, high, low, low, low],
+    )?;
+    expect_sum(
+        rt.alloc(),
+        &rt,
+        &[6],
+        &[],
+        &[high, low, high, low, high, high, low, low],
+    )?;
+    expect_sum(
+        rt.alloc(),
+        &rt,
+        &[],
+        &[6],
+        &[low, high, high, high, low, high, low, low],
+    )?;
+    expect_sum(
+        rt.alloc(),
+        &rt,
+        &[6],
+        &[6],
+        &[high, high, low, high, high, low, low, high],
+    )
+}
+
+// ---- laws
+
+#[test]
+fn laws_hold_of_levels(_rt: HostRuntime) {
+    laws::more_steps_keep_values::<usize, bool>();
+    laws::ordered_points_have_values::<bool>();
+    laws::values_are_unique::<bool>();
+    laws::points_and_one_are_enough::<usize, bool>();
+    laws::cycles_have_no_value::<usize, bool>();
+    laws::orders_have_no_cycle();
+    laws::bare_inputs_read_bare::<usize, bool>();
+    laws::carried_values_arrive::<usize, u32, bool>();
+    laws::simulations_show_the_same::<usize, u32, bool, bool>();
 }
