@@ -33,6 +33,3 @@ pub use rows::{Function, Group, NameRow, Pad, Row, TileKind};
 pub use shared::{BitUse, KindBit};
 pub use tile::Tile;
 pub use whole::{PlacedName, WireLine};
-
-#[cfg(test)]
-mod function_tests;

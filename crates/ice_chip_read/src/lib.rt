@@ -10,8 +10,6 @@ mod read;
 mod reading;
 mod rows;
 mod section;
-#[cfg(test)]
-mod tests;
 mod words;
 
 use fault::ReadStop;
