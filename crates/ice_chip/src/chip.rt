@@ -177,6 +177,11 @@ fn row_in(groups: &[Group], place: RowPlace) -> (&Group, &Row)
 }
 
 /// The chip of these rows, or the first fault of the whole.
+///
+/// It asks that the wires of names, groups and switch rows are below the number of wires, that the number of each
+/// group's first row is how many rows the groups before it have, and that there are at most 262,144 wires and 4,194,304
+/// switch rows. The rows are taken to stand in the order of their lines, as those of a text do: whether there is a fault
+/// doesn't rest on that, but which lines are told of it does.
 pub fn build(alloc: Global, parts: ChipParts) -> Result<Chip, ChipFault>
     requires { IsRead (parts_view parts) }
     ensures { Answers result (chip_of (parts_view parts)) }

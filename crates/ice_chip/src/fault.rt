@@ -68,7 +68,7 @@ pub enum ChipFault {
         /// The line.
         line: u32,
     },
-    /// A wire has two input or output names.
+    /// A wire has two input or output names, where one `glb_netwk_N` in several tiles is one name.
     #[error("line {line}: the wire has a pin since line {other}")]
     SharedPin {
         /// The line.

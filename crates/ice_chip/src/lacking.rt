@@ -24,7 +24,7 @@ fn has_function(kind: TileKind, name: &[u8], functions: &[Function]) -> bool
     function_line(kind, name, functions).is_some()
 }
 
-// Whether the kind has the column buffers of all eight globals.
+/// Whether the kind has the column buffers of all eight globals.
 pub fn has_column_buffers(kind: TileKind, functions: &[Function]) -> bool
     ensures { result ≡ has_column_buffers kind (map function_view functions.now) }
 {

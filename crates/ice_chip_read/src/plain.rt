@@ -8,8 +8,11 @@ use std::marker::Model;
 /// A line that has words before its comment.
 #[derive(Debug, Drop)]
 pub struct PlainLine<'a> {
+    /// The number of the line.
     pub number: u32,
+    /// The first word.
     pub first: &'a [u8],
+    /// The words behind the first.
     pub others: PlainWords<'a>,
 }
 
