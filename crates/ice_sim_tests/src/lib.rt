@@ -1,4 +1,4 @@
-//! Tests of bits of the sample chip that are set by hand, decoded and played.
+//! Tests of bits of the sample chip that are set up by hand, decoded and played.
 #![tactic(auto)]
 
 #[cfg(test)]
@@ -12,6 +12,6 @@ mod flop_tests;
 #[cfg(test)]
 mod global_tests;
 #[cfg(test)]
-mod small;
+mod set_up;
 #[cfg(test)]
 mod table_tests;
