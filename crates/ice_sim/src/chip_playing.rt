@@ -7,7 +7,8 @@ ghost use Rattle.ice_sim.specs.LevelTexts.{HasWidth};
 ghost use Rattle.ice_sim.specs.DriveTexts.{drives_line, drives_text};
 ghost use Rattle.ice_sim.specs.ChipRuns.{with_state};
 
-use crate::{ChipRun, Levels, put_drives};
+use crate::drives::put_drives;
+use crate::{ChipRun, Levels};
 use ice_base::NoMemory;
 use ice_chip::{Chip, Package};
 use ice_decode::Circuit;

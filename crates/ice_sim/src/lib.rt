@@ -26,12 +26,8 @@ mod wiring;
 
 pub use chip_playing::play_chip;
 pub use chip_run::ChipRun;
-pub use drives::put_drives;
 pub use fault::LevelFault;
 pub use levels::{LevelSteps, Levels};
 pub use playing::play;
 pub use reading::read_levels;
 pub use run::NetRun;
-
-#[cfg(test)]
-mod tests;

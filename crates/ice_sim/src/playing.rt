@@ -4,7 +4,8 @@ ghost use Rattle.ice_net.specs.Meaning.{shows, step};
 ghost use Rattle.ice_sim.specs.LevelTexts.{HasWidth};
 ghost use Rattle.ice_sim.specs.DriveTexts.{drives_line, drives_text};
 
-use crate::{Levels, NetRun, put_drives};
+use crate::drives::put_drives;
+use crate::{Levels, NetRun};
 use ice_base::NoMemory;
 use ice_check::Sound;
 use ice_net::Drive;

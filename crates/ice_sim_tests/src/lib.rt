@@ -1,4 +1,4 @@
-//! Tests of bits of the sample chip that are set up by hand, decoded and played.
+//! Tests of texts of levels, of netlists, and of bits of the sample chip that are set up by hand, decoded and played.
 #![tactic(auto)]
 
 #[cfg(test)]
@@ -11,6 +11,12 @@ mod chip_tests;
 mod flop_tests;
 #[cfg(test)]
 mod global_tests;
+#[cfg(test)]
+mod level_tests;
+#[cfg(test)]
+mod netlist_tests;
+#[cfg(test)]
+mod netlists;
 #[cfg(test)]
 mod set_up;
 #[cfg(test)]
