@@ -5,3 +5,4 @@ pub mod OpenCells
 pub mod CoverSignals
 pub mod KindForms
 pub mod Limits
+pub mod PortNames

@@ -204,7 +204,7 @@ circuit_of name chip pins netlist a y text constraints circuit parts groups rows
       is_chip = has.is_chip;
       is_package = ap (λ (p : Parts). package_of p name) is ∙ named;
       is_circuit = has.blif;
-      are_pads = form_port_pads groups name a y pins constraints circuit has.pcf has.buffer has.pads;
+      are_pads = form_port_pads groups name a y pins netlist constraints circuit has.pcf has.blif has.formed has.buffer has.pads;
       decodes = holds.decodes;
       faultless = no_fault gs parts rows bits holds.configuration.extras is w holds.extras;
       shows_same = shows gs parts rows bits circuit a y is w has.formed has.buffer;
