@@ -1,6 +1,8 @@
 -- What was said of a line.
 use Rattle.std.specs.Prelude.{◌≡◌, ◌⊎◌, ℕ, ◌≤◌, Bool, true, false, Result, Ok, Err, List, ◌++◌, length, take}
 use Rattle.ice_desk.specs.Desk.{Meaning, Rose, after_more}
+use Rattle.ice_answer.specs.declared.cause.Cause.{Cause}
+use Rattle.ice_answer.specs.declared.cause.Cause.TheVariants.{Good}
 
 -- a front of the line was said
 abbrev pub SaysFront : Meaning → Meaning → List ℕ → Type 0
@@ -20,3 +22,19 @@ SaidRow old new line = (new.said ≡ old.said ++ line) ⊎ (Rose old.say_faults 
 abbrev pub IsTextSaid : {X : Type 0} → Meaning → Meaning → List ℕ → Result X ℕ → Type 0
 IsTextSaid old new text (Ok done) = IsSaid old new text true
 IsTextSaid old new text (Err put) = IsSaid old new text false × Rose old.write_faults new.write_faults × (new.says ≡ after_more old.says put)
+
+-- nothing was said
+pub record IsSilent (old new : Meaning) : Type 0 where
+  pub said : new.said ≡ old.said
+  pub says : new.says ≡ old.says
+  pub say_faults : new.say_faults ≡ old.say_faults
+
+-- the work is done
+abbrev pub IsWorkDone : Cause → Type 0
+IsWorkDone (Good placement) = Unit {0}
+IsWorkDone cause = ⊥
+
+-- where the work is done, nothing was said
+abbrev pub SilentWhereDone : Meaning → Meaning → Cause → Type 0
+SilentWhereDone old new (Good placement) = IsSilent old new
+SilentWhereDone old new cause = Unit {0}

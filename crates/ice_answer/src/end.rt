@@ -1,8 +1,8 @@
 //! The end of a command: its status, and the line that a refusal says.
-ghost use Rattle.std.specs.Prelude.{◌≡◌, true};
+ghost use Rattle.std.specs.Prelude.{◌≡◌, ◌↔◌, IsTrue, true};
 ghost use Rattle.ice_desk.specs.Desk.{SameButSaying, SameTest};
 ghost use Rattle.ice_answer.specs.Causes.{status_of, line_of};
-ghost use Rattle.ice_answer.specs.Says.{SaidRow};
+ghost use Rattle.ice_answer.specs.Says.{SaidRow, IsWorkDone, SilentWhereDone};
 
 use crate::cause::{Cause, Done};
 use crate::say::say_line;
@@ -32,6 +32,16 @@ fn status(cause: &Cause) -> u8
     }
 }
 
+// Whether the work is done.
+fn is_done(cause: &Cause) -> bool
+    ensures { IsTrue result ↔ IsWorkDone cause.now }
+{
+    match cause {
+        Cause::Good { .. } => true,
+        _ => false,
+    }
+}
+
 /// The answer with its status; nothing more is said. It takes no memory.
 pub fn done(cause: Cause) -> Done
     ensures cause { result.cause ≡ cause }
@@ -43,7 +53,8 @@ pub fn done(cause: Cause) -> Done
     }
 }
 
-/// The end of a command: a refusal says its line, as far as no say fails. It takes no memory.
+/// The end of a command: a refusal says its line, as far as no say fails, and where the work is done nothing is said. It takes no
+/// memory.
 pub fn finish<D: Desk>(desk: &mut D, cause: Cause) -> Done
     ensures same { SameButSaying (D.seen desk.old) (D.seen desk.new) }
     ensures names_read { SameTest (D.may_read desk.old) (D.may_read desk.new) }
@@ -51,7 +62,11 @@ pub fn finish<D: Desk>(desk: &mut D, cause: Cause) -> Done
     ensures cause { result.cause ≡ cause }
     ensures status { result.status ≡ status_of cause }
     ensures said { (D.seen desk.old).tells ≡ true → SaidRow (D.seen desk.old) (D.seen desk.new) (line_of cause) }
+    ensures silent { SilentWhereDone (D.seen desk.old) (D.seen desk.new) cause }
 {
+    if is_done(&cause) {
+        return done(cause);
+    }
     let _said = say_line(desk, &cause);
     done(cause)
 }

@@ -1,16 +1,18 @@
 -- What the writing of good texts' bits comes to, and what saying a line leaves as it was.
-use Rattle.std.proofs.Common.{◌≡◌, ◌∙◌, ◌≤◌, ℕ, Option, Some, List, sym, ap, subst, arith}
+use Rattle.std.proofs.Common.{◌≡◌, ◌⊎◌, inl, inr, ◌∙◌, ◌≤◌, ℕ, Option, Some, List, sym, ap, subst, arith}
 use Rattle.ice_desk.specs.Desk.{Meaning, SameButReading, SameButSaying, Rose, after_one, HoldsAfter}
 use Rattle.ice_answer.specs.declared.cause.Cause.{Cause}
 use Rattle.ice_answer.specs.declared.cause.Cause.TheVariants.{Good, Usage, BadBlif, BadPcf, BadChip, BadNet, BadPin, Unreachable, ReadFault, WriteFault, NoMemory, BadAsc, BadBits, TooLong, BadLevels, NotBuilt}
 use Rattle.ice_answer.specs.declared.cause.FileRole.TheVariants.{Chip, Pcf, Blif, Asc, Levels, Pins, Report, Standard}
 use Rattle.ice_answer.specs.Reading.{IsUnread}
+use Rattle.ice_answer.specs.Says.{SilentWhereDone}
 use Rattle.ice_answer.proofs.ReadStops.{fault_said, long_said}
 use Rattle.ice_flow.specs.Command.{Build}
 use Rattle.ice_flow.specs.Standing.{standing_of}
 use Rattle.ice_flow.specs.Built.{IsBuilt}
 use Rattle.ice_flow.specs.Answers.{AreTexts, files_of, IsTrueOf}
-use Rattle.ice_flow.specs.Building.{IsWritten}
+use Rattle.ice_flow.specs.Building.{SameButBuilding, KeepsFiles, IsWritten}
+use Rattle.ice_flow.specs.Rows.{MadeByBuild}
 
 -- what stopped the reading is true of the build
 pub unread_is_true : (b : Build) (old new : Meaning) (cause : Cause) → IsUnread (files_of b) old new cause → IsTrueOf b old new cause
@@ -110,3 +112,53 @@ true_while_said b old mid new (NotBuilt Levels) same is = is
 true_while_said b old mid new (NotBuilt Pins) same is = is
 true_while_said b old mid new (NotBuilt Report) same is = is
 true_while_said b old mid new (NotBuilt Standard) same is = is
+
+-- ---- what is known over every desk
+
+-- no file was made while a line was said
+pub keeps_said : (old mid new : Meaning) (cause : Cause) → SameButSaying mid new → KeepsFiles old mid cause → KeepsFiles old new cause
+keeps_said old mid new cause same (inl done) = inl done
+keeps_said old mid new cause same (inr kept) = inr (same.makes ∙ kept.0, same.files ∙ kept.1)
+
+-- the work was refused before its writing, so no file was made
+unmade : (old new : Meaning) (Done : Type 0) → (Done → ⊥) → Done ⊎ ((new.makes ≡ old.makes) × (new.files ≡ old.files)) → new.makes ≡ old.makes
+unmade old new Done refused (inl done) = absurd (refused done)
+unmade old new Done refused (inr kept) = kept.0
+
+-- how many files a build made, by what its cause says
+pub made_by : (b : Build) (old new : Meaning) (cause : Cause) → IsTrueOf b old new cause → KeepsFiles old new cause → MadeByBuild old new cause
+made_by b old new (Good placement) is kept = is.1.made
+made_by b old new Usage is kept = unmade old new ⊥ (λ done. done) kept
+made_by b old new (BadBlif fault) is kept = unmade old new ⊥ (λ done. done) kept
+made_by b old new (BadPcf fault) is kept = unmade old new ⊥ (λ done. done) kept
+made_by b old new (BadChip fault) is kept = unmade old new ⊥ (λ done. done) kept
+made_by b old new (BadNet fault) is kept = unmade old new ⊥ (λ done. done) kept
+made_by b old new (BadPin fault) is kept = unmade old new ⊥ (λ done. done) kept
+made_by b old new (Unreachable placement net sink) is kept = unmade old new ⊥ (λ done. done) kept
+made_by b old new (ReadFault role) is kept = unmade old new ⊥ (λ done. done) kept
+made_by b old new (WriteFault role put) is kept = is.made
+made_by b old new NoMemory is kept = unmade old new ⊥ (λ done. done) kept
+made_by b old new (BadAsc fault) is kept = unmade old new ⊥ (λ done. done) kept
+made_by b old new (BadBits fault) is kept = unmade old new ⊥ (λ done. done) kept
+made_by b old new (TooLong role limit) is kept = unmade old new ⊥ (λ done. done) kept
+made_by b old new (BadLevels line) is kept = unmade old new ⊥ (λ done. done) kept
+made_by b old new (NotBuilt role) is kept = unmade old new ⊥ (λ done. done) kept
+
+-- where a build is done and nothing was said behind it, nothing was said
+pub silent_after : (name : List ℕ) (old mid new : Meaning) (cause : Cause) → SameButBuilding name old mid → SilentWhereDone mid new cause → SilentWhereDone old new cause
+silent_after name old mid new (Good placement) same silent = record { said = silent.said ∙ same.said; says = silent.says ∙ same.says; say_faults = silent.say_faults ∙ same.say_faults }
+silent_after name old mid new Usage same silent = tt
+silent_after name old mid new (BadBlif fault) same silent = tt
+silent_after name old mid new (BadPcf fault) same silent = tt
+silent_after name old mid new (BadChip fault) same silent = tt
+silent_after name old mid new (BadNet fault) same silent = tt
+silent_after name old mid new (BadPin fault) same silent = tt
+silent_after name old mid new (Unreachable placement net sink) same silent = tt
+silent_after name old mid new (ReadFault role) same silent = tt
+silent_after name old mid new (WriteFault role put) same silent = tt
+silent_after name old mid new NoMemory same silent = tt
+silent_after name old mid new (BadAsc fault) same silent = tt
+silent_after name old mid new (BadBits fault) same silent = tt
+silent_after name old mid new (TooLong role limit) same silent = tt
+silent_after name old mid new (BadLevels line) same silent = tt
+silent_after name old mid new (NotBuilt role) same silent = tt

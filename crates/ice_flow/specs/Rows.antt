@@ -1,6 +1,6 @@
 -- When each answer of the program comes: only where its cause is true, and always there, unless the desk or the memory fails.
 use Rattle.std.specs.Prelude.{◌≡◌, ◌≢◌, ◌⊎◌, ◌↔◌, ℕ, ◌≤◌, true, Option, None, Some, List, length}
-use Rattle.ice_desk.specs.Desk.{Meaning}
+use Rattle.ice_desk.specs.Desk.{Meaning, after_one}
 use Rattle.ice_answer.specs.declared.cause.Cause.{Cause}
 use Rattle.ice_answer.specs.declared.cause.Cause.TheVariants.{Good, Usage, BadBlif, BadPcf, BadChip, BadPin, Unreachable, ReadFault, WriteFault, NoMemory, TooLong, NotBuilt}
 use Rattle.ice_answer.specs.declared.cause.FileRole.{FileRole}
@@ -9,7 +9,7 @@ use Rattle.ice_answer.specs.declared.cause.PinFault.TheVariants as pin_fault
 use Rattle.ice_answer.specs.Causes.{no_places, line_of}
 use Rattle.ice_answer.specs.Reading.{most_bytes, IsReadFault, IsTooLong, IsFirstTooLong, IsInterrupted}
 use Rattle.ice_answer.specs.Refusals.{IsKnown}
-use Rattle.ice_answer.specs.Says.{SaidRow}
+use Rattle.ice_answer.specs.Says.{SaidRow, SilentWhereDone}
 use Rattle.ice_blif.specs.declared.fault.BlifFault.{BlifFault}
 use Rattle.ice_chip.specs.declared.fault.ChipFault.{ChipFault}
 use Rattle.ice_pcf.specs.declared.fault.PcfFault.{PcfFault}
@@ -143,6 +143,26 @@ KeptRow (Some (ForBuild b)) old new cause =
     ((name : List ℕ) → name ≢ b.asc → new.files name ≡ old.files name) × (IsDone cause ⊎ ((new.makes ≡ old.makes) × ((name : List ℕ) → new.files name ≡ old.files name)))
 KeptRow (Some (ForPlayNet p)) old new cause = (new.makes ≡ old.makes) × ((name : List ℕ) → new.files name ≡ old.files name)
 KeptRow (Some (ForPlayBits p)) old new cause = (new.makes ≡ old.makes) × ((name : List ℕ) → new.files name ≡ old.files name)
+
+-- how many files a build made, over every desk: one where it came to its writing, and else none
+abbrev pub MadeByBuild : Meaning → Meaning → Cause → Type 0
+MadeByBuild old new (Good placement) = new.makes ≡ after_one old.makes
+MadeByBuild old new (WriteFault role put) = new.makes ≡ after_one old.makes
+MadeByBuild old new cause = new.makes ≡ old.makes
+
+-- how many files were made, over every desk: none where the words are no command, or one that plays
+abbrev pub MadeRow : Option Request → Meaning → Meaning → Cause → Type 0
+MadeRow None old new cause = new.makes ≡ old.makes
+MadeRow (Some (ForBuild b)) old new cause = MadeByBuild old new cause
+MadeRow (Some (ForPlayNet p)) old new cause = new.makes ≡ old.makes
+MadeRow (Some (ForPlayBits p)) old new cause = new.makes ≡ old.makes
+
+-- where a build is done, nothing was said, over every desk
+abbrev pub SilentRow : Option Request → Meaning → Meaning → Cause → Type 0
+SilentRow None old new cause = Unit {0}
+SilentRow (Some (ForBuild b)) old new cause = SilentWhereDone old new cause
+SilentRow (Some (ForPlayNet p)) old new cause = Unit {0}
+SilentRow (Some (ForPlayBits p)) old new cause = Unit {0}
 
 -- the names of the files pass the desk's tests
 abbrev pub MayUse : (List ℕ → Type 0) → (List ℕ → Type 0) → Option Request → Type 0

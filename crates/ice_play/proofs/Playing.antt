@@ -17,10 +17,10 @@ use Rattle.ice_answer.specs.declared.cause.Cause.TheVariants.{Good, Usage, BadBl
 use Rattle.ice_answer.specs.Causes.{line_of}
 use Rattle.ice_answer.specs.Refusals.{IsBlifRefusal}
 use Rattle.ice_answer.specs.Reading.{IsUnread}
-use Rattle.ice_answer.specs.Says.{SaidRow}
+use Rattle.ice_answer.specs.Says.{SaidRow, IsSilent}
 use Rattle.ice_answer.proofs.ReadStops.{fault_said, long_said}
 use Rattle.ice_play.specs.Played.{PlayNet, files_of, AreTexts, IsPlayed, IsRefusal, IsTrueOf}
-use Rattle.ice_play.specs.Playing.{IsSilent, HasSaid, IsRefused, IsPut}
+use Rattle.ice_play.specs.Playing.{HasSaid, IsRefused, IsPut}
 use Rattle.ice_play.specs.PlayRows.{SaidOf}
 use Rattle.ice_play.specs.Refusals.{IsNetRefusal, IsLevelsRefusal}
 

@@ -5,7 +5,7 @@ use Rattle.ice_answer.specs.declared.cause.Cause.{Cause}
 use Rattle.ice_answer.specs.declared.cause.Cause.TheVariants.{Good, WriteFault}
 use Rattle.ice_answer.specs.declared.cause.FileRole.TheVariants.{Standard}
 use Rattle.ice_answer.specs.Causes.{no_places}
-use Rattle.ice_answer.specs.Says.{SaysFront}
+use Rattle.ice_answer.specs.Says.{SaysFront, IsSilent}
 
 -- no file changed and none was made, and no count of faults fell
 pub record SameButPlaying (old new : Meaning) : Type 0 where
@@ -14,12 +14,6 @@ pub record SameButPlaying (old new : Meaning) : Type 0 where
   pub makes : new.makes ≡ old.makes
   pub read_faults : old.read_faults ≤ new.read_faults
   pub write_faults : old.write_faults ≤ new.write_faults
-
--- nothing was said
-pub record IsSilent (old new : Meaning) : Type 0 where
-  pub said : new.said ≡ old.said
-  pub says : new.says ≡ old.says
-  pub say_faults : new.say_faults ≡ old.say_faults
 
 -- what was played was said, or a front of it; or there was a refusal, and nothing was said
 abbrev pub HasSaid : Meaning → Meaning → Cause → Type 0
