@@ -1,12 +1,12 @@
 -- Where the reading of a command's files stopped.
-use Rattle.std.proofs.Common.{◌≡◌, ◌⊎◌, inl, inr, ◌∙◌, ◌≤◌, ◌<◌, ◌+◌, ℕ, Option, Some, List, length, refl, sym, ap, subst, true, arith}
+use Rattle.std.proofs.Common.{◌≡◌, ◌↔◌, ◌⊎◌, inl, inr, ◌∙◌, ◌≤◌, ◌<◌, ◌+◌, ℕ, Option, Some, List, length, refl, sym, ap, subst, true, arith}
 use Rattle.std.proofs.lemmas.Bool.{cases_lt}
 use Rattle.std.proofs.Math.Nat.{eq-or-lt_of_le}
 use Rattle.ice_desk.specs.Desk.{Meaning, SameButReading, SameButSaying, Rose, after_one, after_more}
 use Rattle.ice_answer.specs.declared.cause.Cause.{Cause}
 use Rattle.ice_answer.specs.declared.cause.Cause.TheVariants.{Good, Usage, BadBlif, BadPcf, BadChip, BadNet, BadPin, Unreachable, ReadFault, WriteFault, NoMemory, BadAsc, BadBits, TooLong, BadLevels, NotBuilt}
 use Rattle.ice_answer.specs.declared.cause.FileRole.{FileRole}
-use Rattle.ice_answer.specs.Reading.{most_bytes, Files, IsTextOf, FitBefore, IsLastRead, IsReadFault, IsTooLong, IsUnread, IsFirstTooLong, IsReadStop}
+use Rattle.ice_answer.specs.Reading.{most_bytes, Files, IsTextOf, FitBefore, IsLastRead, IsReadFault, IsTooLong, IsUnread, IsFirstTooLong, IsReadStop, IsLong, TellsLong}
 
 pub next_place : (old mid new place : ℕ) → mid ≡ after_more old place → new ≡ after_one mid → new ≡ after_more old (place + 1)
 next_place old mid new place m n = omega (arith, m, n)
@@ -115,3 +115,45 @@ stops_at_first files old new role limit place t is first = elim (cases_lt is.las
         absurd (omega arith)
   ]
 ]
+
+-- ---- a file that gave more than the limit
+
+-- the answer that a text is too long, with the text's role
+long_is : (cause : Cause) → IsLong cause → (role : FileRole) × (limit : ℕ) × (cause ≡ TooLong role limit)
+long_is (Good placement) is = absurd is
+long_is Usage is = absurd is
+long_is (BadBlif fault) is = absurd is
+long_is (BadPcf fault) is = absurd is
+long_is (BadChip fault) is = absurd is
+long_is (BadNet fault) is = absurd is
+long_is (BadPin fault) is = absurd is
+long_is (Unreachable placement net sink) is = absurd is
+long_is (ReadFault of_role) is = absurd is
+long_is (WriteFault of_role put) is = absurd is
+long_is NoMemory is = absurd is
+long_is (BadAsc fault) is = absurd is
+long_is (BadBits fault) is = absurd is
+long_is (TooLong of_role limit) is = (of_role, limit, refl)
+long_is (BadLevels line) is = absurd is
+long_is (NotBuilt of_role) is = absurd is
+
+-- a text is too long exactly where the file that was begun last gave more than the limit
+pub long_exactly : (files : Files) (old new : Meaning) (cause : Cause) → ((role : FileRole) (limit : ℕ) → cause ≡ TooLong role limit → IsTooLong files old new role limit) → TellsLong new cause
+    → (IsLong cause ↔ (most_bytes < new.given))
+long_exactly files old new cause only tells = (
+  (λ is.
+      let l = long_is cause is in
+      let t = only l.0 l.1 l.2 in
+      let more : l.1 < new.given = t.given in
+      let same : l.1 ≡ most_bytes = t.is_limit in
+      omega arith),
+  tells,
+)
+
+-- no more than the limit was given, so the answer may be any
+pub few_given : (new : Meaning) (cause : Cause) → new.given ≤ most_bytes → TellsLong new cause
+few_given new cause few = λ more. absurd (omega arith)
+
+-- what was given stays while a line is said
+pub long_told : (mid new : Meaning) (cause : Cause) → SameButSaying mid new → TellsLong mid cause → TellsLong new cause
+long_told mid new cause same tells = λ more. tells (let e : new.given ≡ mid.given = same.given in omega arith)

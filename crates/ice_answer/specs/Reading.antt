@@ -75,3 +75,13 @@ abbrev pub IsInterrupted : Cause → Type 0
 IsInterrupted (ReadFault role) = Unit {0}
 IsInterrupted NoMemory = Unit {0}
 IsInterrupted cause = ⊥
+
+-- the answer that a text is too long
+abbrev pub IsLong : Cause → Type 0
+IsLong (TooLong role limit) = Unit {0}
+IsLong cause = ⊥
+
+-- Where the file that was begun last gave more bytes than the limit, the answer is that a text is too long. What a file gave is known
+-- over every desk.
+abbrev pub TellsLong : Meaning → Cause → Type 0
+TellsLong new cause = most_bytes < new.given → IsLong cause

@@ -1,7 +1,7 @@
 //! Reading the files of a command, each to its end.
-ghost use Rattle.std.specs.Prelude.{◌≡◌, ◌≤◌, length, IfOk, IfErr};
+ghost use Rattle.std.specs.Prelude.{◌≡◌, ◌≤◌, length, IfOk, IfErr, OnOk};
 ghost use Rattle.ice_desk.specs.Desk.{SameButReading, SameTest, after_one};
-ghost use Rattle.ice_answer.specs.Reading.{IsTextOf, IsReadStop, most_bytes};
+ghost use Rattle.ice_answer.specs.Reading.{IsTextOf, IsReadStop, TellsLong, most_bytes};
 
 use crate::cause::{Cause, FileRole};
 use ice_desk::{Desk, ReadStop, read_whole};
@@ -27,6 +27,8 @@ pub fn read_text<D: Desk>(
     ensures begun { (D.seen desk.new).begins ≡ after_one (D.seen desk.old).begins }
     ensures text { IfOk result (λ text. IsTextOf (D.seen desk.old) name.now text.items) }
     ensures fits { IfOk result (λ text. length text.items ≤ most_bytes) }
+    ensures given { OnOk result ((D.seen desk.new).given ≤ most_bytes) }
+    ensures given_stop { IfErr result (λ cause. TellsLong (D.seen desk.new) cause) }
     ensures stop { IfErr result (λ cause. IsReadStop name.now role (D.seen desk.old) (D.seen desk.new) cause) }
 {
     match read_whole(alloc, desk, name, MOST_BYTES) {

@@ -7,9 +7,9 @@ use Rattle.ice_answer.specs.declared.cause.FileRole.{FileRole}
 use Rattle.ice_answer.specs.declared.cause.FileRole.TheVariants.{Chip, Pcf, Blif, Asc, Levels, Pins, Report, Standard}
 use Rattle.ice_answer.specs.declared.cause.PinFault.TheVariants as pin_fault
 use Rattle.ice_answer.specs.Causes.{no_places, status_of}
-use Rattle.ice_answer.specs.Reading.{most_bytes, IsTextOf, IsTooLong, IsFirstTooLong, IsInterrupted}
+use Rattle.ice_answer.specs.Reading.{most_bytes, IsTextOf, IsTooLong, IsFirstTooLong, IsInterrupted, TellsLong}
 use Rattle.ice_answer.specs.Refusals.{IsKnown}
-use Rattle.ice_answer.proofs.ReadStops.{none_before, one_more, all_fit_not_long, stops_at_first}
+use Rattle.ice_answer.proofs.ReadStops.{none_before, one_more, all_fit_not_long, stops_at_first, long_exactly}
 use Rattle.ice_blif.specs.declared.fault.BlifFault.{BlifFault}
 use Rattle.ice_chip.specs.declared.fault.ChipFault.{ChipFault}
 use Rattle.ice_pcf.specs.declared.fault.PcfFault.{PcfFault}
@@ -27,7 +27,7 @@ use Rattle.ice_flow.specs.Command.{Build, Request, ForBuild, ForPlayNet, ForPlay
 use Rattle.ice_flow.specs.Standing.{Standing, FaultyChip, FaultyPins, FaultyNetlist, OtherChip, OtherNetlist, OtherPins, UnknownPin, Ready, standing_of, AreEnds, IsApart, IsRoutable}
 use Rattle.ice_flow.specs.Headline.{IsCircuitOf}
 use Rattle.ice_flow.specs.Answers.{AreTexts, OfTexts, Stands, PinStands, Apart, Routable, files_of, IsTrueOf}
-use Rattle.ice_flow.specs.Rows.{Caused, IsDone, HoldsTexts, ComesExactly, UsageRow, ChipRow, OtherChipRow, BlifRow, PcfRow, OtherNetlistRow, OtherPinsRow, PinRow, UnreachableRow, DoneRow, ReadFaultRow, WriteFaultRow, NoMemoryRow, TooLongRow, HeadlineRow}
+use Rattle.ice_flow.specs.Rows.{Caused, IsDone, HoldsTexts, ComesExactly, UsageRow, ChipRow, OtherChipRow, BlifRow, PcfRow, OtherNetlistRow, OtherPinsRow, PinRow, UnreachableRow, DoneRow, ReadFaultRow, WriteFaultRow, NoMemoryRow, TooLongRow, HeadlineRow, GivenRow}
 
 -- the texts that were read are those that the files hold
 text_is : (desk : Meaning) (name text bytes : List ℕ) → IsTextOf desk name text → desk.tells ≡ true → desk.files name ≡ Some bytes → text ≡ bytes
@@ -258,6 +258,10 @@ played_at request p old new cause caused e = subst (λ (r : Option Request). Cau
 -- the words ask to play these bits
 pub bits_played_at : (request : Option Request) (p : PlayBits) (old new : Meaning) (cause : Cause) → Caused request old new cause → request ≡ Some (ForPlayBits p) → play_bits.IsTrueOf p old new cause
 bits_played_at request p old new cause caused e = subst (λ (r : Option Request). Caused r old new cause) e caused
+
+-- what the words ask for tells where a text is too long
+pub told_at : (request : Option Request) (asked : Request) (new : Meaning) (cause : Cause) → GivenRow request new cause → request ≡ Some asked → TellsLong new cause
+told_at request asked new cause given e = subst (λ (r : Option Request). GivenRow r new cause) e given
 
 -- where the texts are of this kind, the cause is of it, or an interruption
 always_of : (b : Build) (old new : Meaning) (cause : Cause) (chip pins netlist : List ℕ) (k : Kind) → IsTrueOf b old new cause → HoldsTexts b old chip pins netlist
@@ -498,10 +502,11 @@ too_long_always b old new (NotBuilt Pins) place is t long = absurd is
 too_long_always b old new (NotBuilt Report) place is t long = absurd is
 too_long_always b old new (NotBuilt Standard) place is t long = absurd is
 
-pub too_long_row : (b : Build) (old new : Meaning) (cause : Cause) → IsTrueOf b old new cause → TooLongRow b old new cause
-too_long_row b old new cause is_true = record {
+pub too_long_row : (b : Build) (old new : Meaning) (cause : Cause) → IsTrueOf b old new cause → TellsLong new cause → TooLongRow b old new cause
+too_long_row b old new cause is_true told = record {
   only = λ role limit e. subst (λ (x : Cause). IsTrueOf b old new x) e is_true;
   always = λ place t long. too_long_always b old new cause place is_true t long;
+  exactly = long_exactly (files_of b) old new cause (λ role limit e. subst (λ (x : Cause). IsTrueOf b old new x) e is_true) told;
 }
 
 -- ---- the headline

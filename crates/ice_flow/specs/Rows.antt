@@ -1,5 +1,5 @@
 -- When each answer of the program comes: only where its cause is true, and always there, unless the desk or the memory fails.
-use Rattle.std.specs.Prelude.{◌≡◌, ◌≢◌, ◌⊎◌, ◌↔◌, ℕ, ◌≤◌, true, Option, None, Some, List, length}
+use Rattle.std.specs.Prelude.{◌≡◌, ◌≢◌, ◌⊎◌, ◌↔◌, ℕ, ◌<◌, ◌≤◌, true, Option, None, Some, List, length}
 use Rattle.ice_desk.specs.Desk.{Meaning, after_one}
 use Rattle.ice_answer.specs.declared.cause.Cause.{Cause}
 use Rattle.ice_answer.specs.declared.cause.Cause.TheVariants.{Good, Usage, BadBlif, BadPcf, BadChip, BadPin, Unreachable, ReadFault, WriteFault, NoMemory, TooLong, NotBuilt}
@@ -7,7 +7,7 @@ use Rattle.ice_answer.specs.declared.cause.FileRole.{FileRole}
 use Rattle.ice_answer.specs.declared.cause.FileRole.TheVariants.{Chip, Pcf, Blif}
 use Rattle.ice_answer.specs.declared.cause.PinFault.TheVariants as pin_fault
 use Rattle.ice_answer.specs.Causes.{no_places, line_of}
-use Rattle.ice_answer.specs.Reading.{most_bytes, IsReadFault, IsTooLong, IsFirstTooLong, IsInterrupted}
+use Rattle.ice_answer.specs.Reading.{most_bytes, IsReadFault, IsTooLong, IsFirstTooLong, IsInterrupted, IsLong, TellsLong}
 use Rattle.ice_answer.specs.Refusals.{IsKnown}
 use Rattle.ice_answer.specs.Says.{SaidRow, SilentWhereDone}
 use Rattle.ice_blif.specs.declared.fault.BlifFault.{BlifFault}
@@ -118,10 +118,12 @@ pub record NoMemoryRow (old new : Meaning) (cause : Cause) : Type 0 where
   pub unmade : cause ≡ NoMemory → new.makes ≡ old.makes
   pub alone : IsKnown cause
 
--- status 16: exactly where a file has more bytes than the limit
+-- status 16: exactly where a file has more bytes than the limit; and over every desk, exactly where the file that was begun last gave
+-- more than the limit
 pub record TooLongRow (b : Build) (old new : Meaning) (cause : Cause) : Type 0 where
   pub only : (role : FileRole) (limit : ℕ) → cause ≡ TooLong role limit → IsTooLong (files_of b) old new role limit
   pub always : (place : ℕ) → old.tells ≡ true → IsFirstTooLong (files_of b) old place → (cause ≡ TooLong ((files_of b).role place) most_bytes) ⊎ IsInterrupted cause
+  pub exactly : IsLong cause ↔ (most_bytes < new.given)
 
 -- The headline: where the desk tells its contents, status 0 means that the file of the bits holds the circuit of the netlist.
 abbrev pub HeadlineRow : Build → Meaning → Meaning → ℕ → Type 0
@@ -163,6 +165,11 @@ SilentRow None old new cause = Unit {0}
 SilentRow (Some (ForBuild b)) old new cause = SilentWhereDone old new cause
 SilentRow (Some (ForPlayNet p)) old new cause = Unit {0}
 SilentRow (Some (ForPlayBits p)) old new cause = Unit {0}
+
+-- where the file that was begun last gave more than the limit, a command says that a text is too long
+abbrev pub GivenRow : Option Request → Meaning → Cause → Type 0
+GivenRow None new cause = Unit {0}
+GivenRow (Some request) new cause = TellsLong new cause
 
 -- the names of the files pass the desk's tests
 abbrev pub MayUse : (List ℕ → Type 0) → (List ℕ → Type 0) → Option Request → Type 0

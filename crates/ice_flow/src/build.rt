@@ -1,6 +1,7 @@
 //! The command `build`: three texts are read, and the text of the bits is written.
 ghost use Rattle.std.specs.Prelude.{◌≡◌, IfOk, IfErr};
 ghost use Rattle.ice_desk.specs.Desk.{SameTest};
+ghost use Rattle.ice_answer.specs.Reading.{TellsLong};
 ghost use Rattle.ice_flow.specs.Standing.{standing_of};
 ghost use Rattle.ice_flow.specs.Answers.{IsTrueOf};
 ghost use Rattle.ice_flow.specs.Requests.{build_view};
@@ -21,6 +22,7 @@ fn write_text<D: Desk>(alloc: Global, desk: &mut D, name: &str, text: &[u8]) -> 
     ensures names_read { SameTest (D.may_read desk.old) (D.may_read desk.new) }
     ensures names_written { SameTest (D.may_write desk.old) (D.may_write desk.new) }
     ensures written { IsWritten name.now text.now (D.seen desk.old) (D.seen desk.new) result }
+    ensures given { (D.seen desk.new).given ≡ (D.seen desk.old).given }
 {
     match write_whole(desk, name, text) {
         Ok(()) => Cause::Good {
@@ -58,6 +60,7 @@ pub fn build<D: Desk>(alloc: Global, desk: &mut D, request: &BuildRequest<'_>) -
     ensures names_written { SameTest (D.may_write desk.old) (D.may_write desk.new) }
     ensures cause { IsTrueOf (build_view request.now) (D.seen desk.old) (D.seen desk.new) result }
     ensures kept { KeepsFiles (D.seen desk.old) (D.seen desk.new) result }
+    ensures given { TellsLong (D.seen desk.new) result }
 {
     let texts = match read_texts(alloc, desk, request) {
         Ok(texts) => texts,

@@ -4,7 +4,7 @@ ghost use Rattle.ice_answer.specs.Causes.{status_of};
 ghost use Rattle.ice_play.specs.PlayRows as play;
 ghost use Rattle.ice_play_bits.specs.BitsRows as bits;
 ghost use Rattle.ice_flow.specs.Command.{request_of};
-ghost use Rattle.ice_flow.specs.Rows.{Caused, Builds, Plays, PlaysBits, UsageRow, OtherChipRow, ChipRow, BlifRow, PcfRow, OtherNetlistRow, OtherPinsRow, PinRow, UnreachableRow, DoneRow, ReadFaultRow, WriteFaultRow, NoMemoryRow, TooLongRow, HeadlineRow, SaidBy, KeptRow, MadeRow, SilentRow, MayUse};
+ghost use Rattle.ice_flow.specs.Rows.{Caused, Builds, Plays, PlaysBits, UsageRow, OtherChipRow, ChipRow, BlifRow, PcfRow, OtherNetlistRow, OtherPinsRow, PinRow, UnreachableRow, DoneRow, ReadFaultRow, WriteFaultRow, NoMemoryRow, TooLongRow, HeadlineRow, SaidBy, KeptRow, MadeRow, SilentRow, GivenRow, MayUse};
 
 use crate::build::build;
 use crate::request::{Request, read_request};
@@ -23,6 +23,7 @@ fn answer<D: Desk>(alloc: Global, words: &[String], desk: &mut D) -> Done
     ensures kept { (D.seen desk.old).tells ≡ true → KeptRow (request_of (map string_bytes words.now)) (D.seen desk.old) (D.seen desk.new) result.cause }
     ensures made { MadeRow (request_of (map string_bytes words.now)) (D.seen desk.old) (D.seen desk.new) result.cause }
     ensures silent { SilentRow (request_of (map string_bytes words.now)) (D.seen desk.old) (D.seen desk.new) result.cause }
+    ensures given { GivenRow (request_of (map string_bytes words.now)) (D.seen desk.new) result.cause }
 {
     match read_request(words) {
         None => finish(desk, Cause::Usage),

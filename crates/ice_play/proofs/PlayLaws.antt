@@ -12,9 +12,9 @@ use Rattle.ice_answer.specs.declared.cause.Cause.{Cause}
 use Rattle.ice_answer.specs.declared.cause.Cause.TheVariants.{Good, Usage, BadBlif, BadPcf, BadChip, BadNet, BadPin, Unreachable, ReadFault, WriteFault, NoMemory, BadAsc, BadBits, TooLong, BadLevels, NotBuilt}
 use Rattle.ice_answer.specs.declared.cause.FileRole.{FileRole}
 use Rattle.ice_answer.specs.Causes.{status_of}
-use Rattle.ice_answer.specs.Reading.{most_bytes, IsTextOf, IsTooLong, IsFirstTooLong, IsInterrupted}
+use Rattle.ice_answer.specs.Reading.{most_bytes, IsTextOf, IsTooLong, IsFirstTooLong, IsInterrupted, TellsLong}
 use Rattle.ice_answer.specs.Refusals.{IsKnown}
-use Rattle.ice_answer.proofs.ReadStops.{none_before, one_more, all_fit_not_long, stops_at_first}
+use Rattle.ice_answer.proofs.ReadStops.{none_before, one_more, all_fit_not_long, stops_at_first, long_exactly}
 use Rattle.ice_play.specs.Played.{PlayNet, files_of, OfTexts, IsMalformed, IsFaulty, HasBadLine, IsPlayed, IsTrueOf}
 use Rattle.ice_play.specs.PlayRows.{HoldsTexts, BlifRow, IsNetFault, IsUnsound, NetRow, LevelsRow, IsDone, ArePlayable, DoneRow, ShownRow, ReadFaultRow, WriteFaultRow, TooLongRow}
 
@@ -311,10 +311,11 @@ too_long_always p old new (TooLong role limit) place is t long = inl (ap (λ (x 
 too_long_always p old new (BadLevels line) place is t long = absurd (read_not_long p old place (HasBadLine line) t long is)
 too_long_always p old new (NotBuilt role) place is t long = absurd is
 
-pub too_long_row : (p : PlayNet) (old new : Meaning) (cause : Cause) → IsTrueOf p old new cause → TooLongRow p old new cause
-too_long_row p old new cause is = record {
+pub too_long_row : (p : PlayNet) (old new : Meaning) (cause : Cause) → IsTrueOf p old new cause → TellsLong new cause → TooLongRow p old new cause
+too_long_row p old new cause is told = record {
   only = λ role limit e. subst (λ (x : Cause). IsTrueOf p old new x) e is;
   always = λ place t long. too_long_always p old new cause place is t long;
+  exactly = long_exactly (files_of p) old new cause (λ role limit e. subst (λ (x : Cause). IsTrueOf p old new x) e is) told;
 }
 
 -- the fault that a refusal tells isn't want of memory

@@ -1,5 +1,5 @@
 -- When each answer of `play-net` comes: only where its cause is true, and always there, unless the desk or the memory fails.
-use Rattle.std.specs.Prelude.{◌≡◌, ◌⊎◌, ℕ, ◌≤◌, true, Some, List, ◌++◌, length, Ok, Err}
+use Rattle.std.specs.Prelude.{◌≡◌, ◌⊎◌, ◌↔◌, ℕ, ◌<◌, ◌≤◌, true, Some, List, ◌++◌, length, Ok, Err}
 use Rattle.ice_desk.specs.Desk.{Meaning}
 use Rattle.ice_net.specs.NetlistData.{NetlistData}
 use Rattle.ice_blif.specs.Grammar.{netlist_of}
@@ -10,7 +10,7 @@ use Rattle.ice_answer.specs.declared.cause.Cause.{Cause}
 use Rattle.ice_answer.specs.declared.cause.Cause.TheVariants.{Good, BadBlif, BadNet, ReadFault, WriteFault, TooLong, BadLevels}
 use Rattle.ice_answer.specs.declared.cause.FileRole.{FileRole}
 use Rattle.ice_answer.specs.Causes.{line_of}
-use Rattle.ice_answer.specs.Reading.{most_bytes, IsReadFault, IsTooLong, IsFirstTooLong, IsInterrupted}
+use Rattle.ice_answer.specs.Reading.{most_bytes, IsReadFault, IsTooLong, IsFirstTooLong, IsInterrupted, IsLong}
 use Rattle.ice_answer.specs.Says.{SaidRow}
 use Rattle.ice_play.specs.Played.{PlayNet, files_of, OfTexts, IsFaulty, HasBadLine, IsPlayed, IsWriteFault}
 
@@ -76,10 +76,12 @@ ReadFaultRow p old new cause = (role : FileRole) → cause ≡ ReadFault role �
 abbrev pub WriteFaultRow : PlayNet → Meaning → Meaning → Cause → Type 0
 WriteFaultRow p old new cause = (role : FileRole) (put : ℕ) → cause ≡ WriteFault role put → IsWriteFault p old new role put
 
--- status 16: exactly where a file has more bytes than the limit
+-- status 16: exactly where a file has more bytes than the limit; and over every desk, exactly where the file that was begun last gave
+-- more than the limit
 pub record TooLongRow (p : PlayNet) (old new : Meaning) (cause : Cause) : Type 0 where
   pub only : (role : FileRole) (limit : ℕ) → cause ≡ TooLong role limit → IsTooLong (files_of p) old new role limit
   pub always : (place : ℕ) → old.tells ≡ true → IsFirstTooLong (files_of p) old place → (cause ≡ TooLong ((files_of p).role place) most_bytes) ⊎ IsInterrupted cause
+  pub exactly : IsLong cause ↔ (most_bytes < new.given)
 
 -- What was said where it wasn't drives: the whole line of a refusal, or a front of it where a say failed. After a failed say of
 -- the drives nothing more was said.

@@ -1,6 +1,7 @@
 //! Playing a netlist: two texts are read, and the text of drives is said.
 ghost use Rattle.std.specs.Prelude.{◌≡◌, ◌↔◌, IsTrue, true, IfOk, IfErr};
 ghost use Rattle.ice_answer.specs.Causes.{status_of};
+ghost use Rattle.ice_answer.specs.Reading.{TellsLong};
 ghost use Rattle.ice_desk.specs.Desk.{SameButSaying, SameTest};
 ghost use Rattle.ice_check.specs.declared.fault.NetFault.{NetFault};
 ghost use Rattle.ice_play.specs.Played.{IsPlayed, IsRefusal, IsTrueOf};
@@ -89,6 +90,7 @@ fn play_files<D: Desk>(alloc: Global, desk: &mut D, request: &NetRequest<'_>) ->
     ensures names_written { SameTest (D.may_write desk.old) (D.may_write desk.new) }
     ensures cause { IsTrueOf (request_view request.now) (D.seen desk.old) (D.seen desk.new) result }
     ensures said { HasSaid (D.seen desk.old) (D.seen desk.new) result }
+    ensures given { TellsLong (D.seen desk.new) result }
 {
     let texts = match read_texts(alloc, desk, request) {
         Ok(texts) => texts,
@@ -120,6 +122,7 @@ pub fn play_net<D: Desk>(alloc: Global, desk: &mut D, request: &NetRequest<'_>) 
     ensures same { SameButPlaying (D.seen desk.old) (D.seen desk.new) }
     ensures cause { IsTrueOf (request_view request.now) (D.seen desk.old) (D.seen desk.new) result.cause }
     ensures said { (D.seen desk.old).tells ≡ true → SaidOf (D.seen desk.old) (D.seen desk.new) result.cause }
+    ensures given { TellsLong (D.seen desk.new) result.cause }
 {
     let cause = play_files(alloc, desk, request);
     if is_refused(&cause) {

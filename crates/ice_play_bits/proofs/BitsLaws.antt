@@ -18,9 +18,9 @@ use Rattle.ice_answer.specs.declared.cause.Cause.TheVariants.{Good, Usage, BadBl
 use Rattle.ice_answer.specs.declared.cause.FileRole.{FileRole}
 use Rattle.ice_answer.specs.declared.cause.PinFault.TheVariants as pin_fault
 use Rattle.ice_answer.specs.Causes.{status_of}
-use Rattle.ice_answer.specs.Reading.{most_bytes, IsTextOf, IsTooLong, IsFirstTooLong, IsInterrupted}
+use Rattle.ice_answer.specs.Reading.{most_bytes, IsTextOf, IsTooLong, IsFirstTooLong, IsInterrupted, TellsLong}
 use Rattle.ice_answer.specs.Refusals.{IsKnown}
-use Rattle.ice_answer.proofs.ReadStops.{none_before, one_more, all_fit_not_long, stops_at_first}
+use Rattle.ice_answer.proofs.ReadStops.{none_before, one_more, all_fit_not_long, stops_at_first, long_exactly}
 use Rattle.ice_play.specs.PlayRows.{IsDone}
 use Rattle.ice_play_bits.specs.Played.{PlayBits, Texts, files_of, OfTexts, IsRead, IsPacked, IsBadChip, IsBadAsc, LacksPackage, IsBadBits, HasBadLine, IsPlayed, IsTrueOf}
 use Rattle.ice_play_bits.specs.BitsRows.{HoldsTexts, ChipRow, HasAscFault, AscRow, PackageRow, IsBitsFault, IsFaulty, BitsRow, LevelsRow, ArePlayable, DoneRow, ShownRow, ReadFaultRow, WriteFaultRow, TooLongRow}
@@ -450,10 +450,11 @@ too_long_always p old new (TooLong role limit) place is tells long = inl (ap (λ
 too_long_always p old new (BadLevels k) place is tells long = absurd (read_not_long p old place (HasBadLine p.package_name k) tells long is)
 too_long_always p old new (NotBuilt role) place is tells long = absurd is
 
-pub too_long_row : (p : PlayBits) (old new : Meaning) (cause : Cause) → IsTrueOf p old new cause → TooLongRow p old new cause
-too_long_row p old new cause is = record {
+pub too_long_row : (p : PlayBits) (old new : Meaning) (cause : Cause) → IsTrueOf p old new cause → TellsLong new cause → TooLongRow p old new cause
+too_long_row p old new cause is told = record {
   only = λ role limit e. subst (λ (x : Cause). IsTrueOf p old new x) e is;
   always = λ place tells long. too_long_always p old new cause place is tells long;
+  exactly = long_exactly (files_of p) old new cause (λ role limit e. subst (λ (x : Cause). IsTrueOf p old new x) e is) told;
 }
 
 -- the fault that a refusal tells isn't want of memory

@@ -1,5 +1,5 @@
 -- When each answer of `play-bits` comes: only where its cause is true, and always there, unless the desk or the memory fails.
-use Rattle.std.specs.Prelude.{◌≡◌, ◌⊎◌, ℕ, ◌≤◌, true, Some, List, ◌++◌, length, Ok, Err}
+use Rattle.std.specs.Prelude.{◌≡◌, ◌⊎◌, ◌↔◌, ℕ, ◌<◌, ◌≤◌, true, Some, List, ◌++◌, length, Ok, Err}
 use Rattle.ice_desk.specs.Desk.{Meaning}
 use Rattle.ice_chip.specs.Database.{Parts, PackageRows}
 use Rattle.ice_chip.specs.declared.fault.ChipFault.{ChipFault}
@@ -13,7 +13,7 @@ use Rattle.ice_answer.specs.declared.cause.Cause.{Cause}
 use Rattle.ice_answer.specs.declared.cause.Cause.TheVariants.{BadChip, BadPin, ReadFault, WriteFault, BadAsc, BadBits, TooLong, BadLevels}
 use Rattle.ice_answer.specs.declared.cause.FileRole.{FileRole}
 use Rattle.ice_answer.specs.declared.cause.PinFault.TheVariants as pin_fault
-use Rattle.ice_answer.specs.Reading.{most_bytes, IsReadFault, IsTooLong, IsFirstTooLong, IsInterrupted}
+use Rattle.ice_answer.specs.Reading.{most_bytes, IsReadFault, IsTooLong, IsFirstTooLong, IsInterrupted, IsLong}
 use Rattle.ice_play.specs.PlayRows.{IsDone}
 use Rattle.ice_play_bits.specs.Played.{PlayBits, Texts, files_of, OfTexts, IsPacked, LacksPackage, IsBadBits, HasBadLine, IsPlayed, IsWriteFault}
 
@@ -91,7 +91,9 @@ ReadFaultRow p old new cause = (role : FileRole) → cause ≡ ReadFault role �
 abbrev pub WriteFaultRow : PlayBits → Meaning → Meaning → Cause → Type 0
 WriteFaultRow p old new cause = (role : FileRole) (put : ℕ) → cause ≡ WriteFault role put → IsWriteFault p old new role put
 
--- status 16: exactly where a file has more bytes than the limit
+-- status 16: exactly where a file has more bytes than the limit; and over every desk, exactly where the file that was begun last gave
+-- more than the limit
 pub record TooLongRow (p : PlayBits) (old new : Meaning) (cause : Cause) : Type 0 where
   pub only : (role : FileRole) (limit : ℕ) → cause ≡ TooLong role limit → IsTooLong (files_of p) old new role limit
   pub always : (place : ℕ) → old.tells ≡ true → IsFirstTooLong (files_of p) old place → (cause ≡ TooLong ((files_of p).role place) most_bytes) ⊎ IsInterrupted cause
+  pub exactly : IsLong cause ↔ (most_bytes < new.given)

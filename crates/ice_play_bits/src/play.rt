@@ -1,6 +1,7 @@
 //! Playing bits: three texts are read, and the text of drives is said.
 ghost use Rattle.std.specs.Prelude.{◌≡◌, true, Ok, IfOk, IfErr};
 ghost use Rattle.ice_answer.specs.Causes.{status_of};
+ghost use Rattle.ice_answer.specs.Reading.{TellsLong};
 ghost use Rattle.ice_desk.specs.Desk.{SameTest};
 ghost use Rattle.ice_chip_read.specs.Whole.{chip_says};
 ghost use Rattle.ice_asc.specs.Grammar.{asc_in};
@@ -86,6 +87,7 @@ fn play_files<D: Desk>(alloc: Global, desk: &mut D, request: &BitsRequest<'_>) -
     ensures names_written { SameTest (D.may_write desk.old) (D.may_write desk.new) }
     ensures cause { IsTrueOf (request_view request.now) (D.seen desk.old) (D.seen desk.new) result }
     ensures said { HasSaid (D.seen desk.old) (D.seen desk.new) result }
+    ensures given { TellsLong (D.seen desk.new) result }
 {
     let texts = match read_texts(alloc, desk, request) {
         Ok(texts) => texts,
@@ -108,6 +110,7 @@ pub fn play_bits<D: Desk>(alloc: Global, desk: &mut D, request: &BitsRequest<'_>
     ensures same { SameButPlaying (D.seen desk.old) (D.seen desk.new) }
     ensures cause { IsTrueOf (request_view request.now) (D.seen desk.old) (D.seen desk.new) result.cause }
     ensures said { (D.seen desk.old).tells ≡ true → SaidOf (D.seen desk.old) (D.seen desk.new) result.cause }
+    ensures given { TellsLong (D.seen desk.new) result.cause }
 {
     let cause = play_files(alloc, desk, request);
     if is_refused(&cause) {

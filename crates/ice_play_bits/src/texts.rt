@@ -1,7 +1,7 @@
 //! Reading the three texts, each to its end.
-ghost use Rattle.std.specs.Prelude.{◌≡◌, IfOk, IfErr};
+ghost use Rattle.std.specs.Prelude.{◌≡◌, ◌≤◌, OnOk, IfOk, IfErr};
 ghost use Rattle.ice_desk.specs.Desk.{SameButReading, SameTest};
-ghost use Rattle.ice_answer.specs.Reading.{IsUnread};
+ghost use Rattle.ice_answer.specs.Reading.{most_bytes, IsUnread, TellsLong};
 ghost use Rattle.ice_play_bits.specs.Played.{AreTexts, files_of};
 ghost use Rattle.ice_play_bits.specs.Requests.{request_view, texts_view};
 
@@ -33,6 +33,8 @@ pub fn read_texts<D: Desk>(
     ensures names_written { SameTest (D.may_write desk.old) (D.may_write desk.new) }
     ensures texts { IfOk result (λ texts. AreTexts (request_view request.now) (D.seen desk.old) (texts_view texts)) }
     ensures stop { IfErr result (λ cause. IsUnread (files_of (request_view request.now)) (D.seen desk.old) (D.seen desk.new) cause) }
+    ensures given { OnOk result ((D.seen desk.new).given ≤ most_bytes) }
+    ensures given_stop { IfErr result (λ cause. TellsLong (D.seen desk.new) cause) }
 {
     let chip = match read_text(alloc, desk, request.chip, FileRole::Chip) {
         Ok(chip) => chip,

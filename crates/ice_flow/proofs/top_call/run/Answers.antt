@@ -1,6 +1,6 @@
 use Rattle.std.proofs.Common.{map, string_bytes}
-use Rattle.ice_flow.specs.Command.{request_of}
-use Rattle.ice_flow.proofs.RowLaws.{built_at, played_at, bits_played_at, headline_row, done_row, usage_row, chip_row, pcf_row, blif_row, pin_row, unreachable_row, read_fault_row, write_fault_row, no_memory_row, too_long_row, other_chip_row, other_netlist_row, other_pins_row}
+use Rattle.ice_flow.specs.Command.{request_of, ForBuild, ForPlayNet, ForPlayBits}
+use Rattle.ice_flow.proofs.RowLaws.{built_at, told_at, played_at, bits_played_at, headline_row, done_row, usage_row, chip_row, pcf_row, blif_row, pin_row, unreachable_row, read_fault_row, write_fault_row, no_memory_row, too_long_row, other_chip_row, other_netlist_row, other_pins_row}
 use Rattle.ice_play.proofs.PlayLaws as play
 use Rattle.ice_play_bits.proofs.BitsLaws as bits
 use Rattle.ice_flow.proofs.top_call.run.Goals as goal
@@ -39,7 +39,7 @@ pub returns-clause-write_fault : goal.returns-clause-write_fault
 returns-clause-write_fault g c b e = write_fault_row b (g.D.Desk.seen c.args.desk.now) (g.D.Desk.seen c.answer.new.desk) c.answer.result.cause (built_at (request_of (map string_bytes c.args.words.now)) b (g.D.Desk.seen c.args.desk.now) (g.D.Desk.seen c.answer.new.desk) c.answer.result.cause c.answer.ensures.caused e)
 
 pub returns-clause-too_long : goal.returns-clause-too_long
-returns-clause-too_long g c b e = too_long_row b (g.D.Desk.seen c.args.desk.now) (g.D.Desk.seen c.answer.new.desk) c.answer.result.cause (built_at (request_of (map string_bytes c.args.words.now)) b (g.D.Desk.seen c.args.desk.now) (g.D.Desk.seen c.answer.new.desk) c.answer.result.cause c.answer.ensures.caused e)
+returns-clause-too_long g c b e = too_long_row b (g.D.Desk.seen c.args.desk.now) (g.D.Desk.seen c.answer.new.desk) c.answer.result.cause (built_at (request_of (map string_bytes c.args.words.now)) b (g.D.Desk.seen c.args.desk.now) (g.D.Desk.seen c.answer.new.desk) c.answer.result.cause c.answer.ensures.caused e) (told_at (request_of (map string_bytes c.args.words.now)) (ForBuild b) (g.D.Desk.seen c.answer.new.desk) c.answer.result.cause c.answer.ensures.given e)
 
 pub returns-clause-not_built_chip : goal.returns-clause-not_built_chip
 returns-clause-not_built_chip g c b e = other_chip_row b (g.D.Desk.seen c.args.desk.now) (g.D.Desk.seen c.answer.new.desk) c.answer.result.cause (built_at (request_of (map string_bytes c.args.words.now)) b (g.D.Desk.seen c.args.desk.now) (g.D.Desk.seen c.answer.new.desk) c.answer.result.cause c.answer.ensures.caused e)
@@ -72,7 +72,7 @@ pub returns-clause-played_write_fault : goal.returns-clause-played_write_fault
 returns-clause-played_write_fault g c p e = play.write_fault_row p (g.D.Desk.seen c.args.desk.now) (g.D.Desk.seen c.answer.new.desk) c.answer.result.cause (played_at (request_of (map string_bytes c.args.words.now)) p (g.D.Desk.seen c.args.desk.now) (g.D.Desk.seen c.answer.new.desk) c.answer.result.cause c.answer.ensures.caused e)
 
 pub returns-clause-played_too_long : goal.returns-clause-played_too_long
-returns-clause-played_too_long g c p e = play.too_long_row p (g.D.Desk.seen c.args.desk.now) (g.D.Desk.seen c.answer.new.desk) c.answer.result.cause (played_at (request_of (map string_bytes c.args.words.now)) p (g.D.Desk.seen c.args.desk.now) (g.D.Desk.seen c.answer.new.desk) c.answer.result.cause c.answer.ensures.caused e)
+returns-clause-played_too_long g c p e = play.too_long_row p (g.D.Desk.seen c.args.desk.now) (g.D.Desk.seen c.answer.new.desk) c.answer.result.cause (played_at (request_of (map string_bytes c.args.words.now)) p (g.D.Desk.seen c.args.desk.now) (g.D.Desk.seen c.answer.new.desk) c.answer.result.cause c.answer.ensures.caused e) (told_at (request_of (map string_bytes c.args.words.now)) (ForPlayNet p) (g.D.Desk.seen c.answer.new.desk) c.answer.result.cause c.answer.ensures.given e)
 
 pub returns-clause-bits_played : goal.returns-clause-bits_played
 returns-clause-bits_played g c p e = bits.shown_row p (g.D.Desk.seen c.args.desk.now) (g.D.Desk.seen c.answer.new.desk) c.answer.result.cause c.answer.result.status (bits_played_at (request_of (map string_bytes c.args.words.now)) p (g.D.Desk.seen c.args.desk.now) (g.D.Desk.seen c.answer.new.desk) c.answer.result.cause c.answer.ensures.caused e) c.answer.ensures.status
@@ -102,4 +102,4 @@ pub returns-clause-bits_write_fault : goal.returns-clause-bits_write_fault
 returns-clause-bits_write_fault g c p e = bits.write_fault_row p (g.D.Desk.seen c.args.desk.now) (g.D.Desk.seen c.answer.new.desk) c.answer.result.cause (bits_played_at (request_of (map string_bytes c.args.words.now)) p (g.D.Desk.seen c.args.desk.now) (g.D.Desk.seen c.answer.new.desk) c.answer.result.cause c.answer.ensures.caused e)
 
 pub returns-clause-bits_too_long : goal.returns-clause-bits_too_long
-returns-clause-bits_too_long g c p e = bits.too_long_row p (g.D.Desk.seen c.args.desk.now) (g.D.Desk.seen c.answer.new.desk) c.answer.result.cause (bits_played_at (request_of (map string_bytes c.args.words.now)) p (g.D.Desk.seen c.args.desk.now) (g.D.Desk.seen c.answer.new.desk) c.answer.result.cause c.answer.ensures.caused e)
+returns-clause-bits_too_long g c p e = bits.too_long_row p (g.D.Desk.seen c.args.desk.now) (g.D.Desk.seen c.answer.new.desk) c.answer.result.cause (bits_played_at (request_of (map string_bytes c.args.words.now)) p (g.D.Desk.seen c.args.desk.now) (g.D.Desk.seen c.answer.new.desk) c.answer.result.cause c.answer.ensures.caused e) (told_at (request_of (map string_bytes c.args.words.now)) (ForPlayBits p) (g.D.Desk.seen c.answer.new.desk) c.answer.result.cause c.answer.ensures.given e)

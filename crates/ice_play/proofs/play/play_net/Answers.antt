@@ -1,5 +1,7 @@
 use Rattle.std.proofs.Common.{◌∙◌, subst, sym}
 use Rattle.ice_answer.specs.declared.cause.Cause.{Cause}
+use Rattle.ice_answer.specs.Reading.{TellsLong}
+use Rattle.ice_answer.proofs.ReadStops.{long_told}
 use Rattle.ice_play.specs.Requests.{request_view}
 use Rattle.ice_play.specs.Played.{IsTrueOf}
 use Rattle.ice_play.specs.PlayRows.{SaidOf}
@@ -24,3 +26,10 @@ returns-then-is_refused-clause-said g c t =
     let new = D.seen c.finish.new.desk in
     subst (λ (x : Cause). SaidOf old new x) (sym c.finish.ensures.cause)
     (said_after old mid new c.play_files-cause.result (c.is_refused.ensures.0 c.if-is_refused.true) c.play_files-cause.ensures.said (c.finish.ensures.said (c.play_files-cause.ensures.same.tells ∙ t)))
+
+pub returns-then-is_refused-clause-given : goal.returns-then-is_refused-clause-given
+returns-then-is_refused-clause-given g c =
+    let D = g.D.Desk in
+    let mid = D.seen c.play_files-cause.new.desk in
+    let new = D.seen c.finish.new.desk in
+    subst (λ (x : Cause). TellsLong new x) (sym c.finish.ensures.cause) (long_told mid new c.play_files-cause.result c.finish.ensures.same c.play_files-cause.ensures.given)
