@@ -16,13 +16,21 @@ use std::marker::Model;
 /// What a file is to the command.
 #[derive(Clone, Copy, Debug, PartialEq, Eq)]
 pub enum FileRole {
+    /// The text of a chip database.
     Chip,
+    /// The text of the pin constraints.
     Pcf,
+    /// The text of a netlist.
     Blif,
+    /// The text of bits.
     Asc,
+    /// The text of levels.
     Levels,
+    /// The report on the pins.
     Pins,
+    /// The report on the routes.
     Report,
+    /// The standard output.
     Standard,
 }
 
@@ -64,6 +72,7 @@ impl Places {
 /// Where the clusters of a design stand.
 #[derive(Debug, Drop)]
 pub struct Placement {
+    /// The tile of each cluster.
     pub at: Places,
 }
 
@@ -125,7 +134,9 @@ pub enum Cause {
 /// The end of a command: its status and its cause.
 #[derive(Debug, Drop)]
 pub struct Done {
+    /// The number of the cause, with which the program ends.
     pub status: u8,
+    /// What the answer is about.
     pub cause: Cause,
 }
 

@@ -1,7 +1,8 @@
 //! The words of the program, read by hand: a command and its names.
 ghost use Rattle.std.specs.Prelude.{◌≡◌, map, string_bytes, not, option_map};
-ghost use Rattle.ice_flow.specs.Command.{is_plain, are_plain, are_plain_words, request_of};
+ghost use Rattle.ice_flow.specs.Command.{is_plain, are_plain, are_plain_words, build_with, play_with, play_bits_with, request_of};
 ghost use Rattle.ice_flow.specs.Requests.{build_view, request_view};
+ghost use Rattle.ice_play.specs.Requests as play;
 ghost use Rattle.ice_play_bits.specs.Requests as play_bits;
 
 use ice_base::begins_with;
@@ -11,10 +12,15 @@ use ice_play_bits::BitsRequest;
 /// What a build is asked for: the text of bits at `asc` from the texts of three files, for a package.
 #[derive(Clone, Copy, Debug)]
 pub struct BuildRequest<'a> {
+    /// The name of the file of the chip database.
     pub chip: &'a str,
+    /// The name of the package.
     pub package_name: &'a str,
+    /// The name of the file of the pin constraints.
     pub pcf: &'a str,
+    /// The name of the netlist's file.
     pub blif: &'a str,
+    /// The name of the file of bits.
     pub asc: &'a str,
 }
 
@@ -36,6 +42,39 @@ fn is_plain(word: &str) -> bool
     !begins_with(b'-', word.as_bytes())
 }
 
+// The request of `build` and its names.
+fn build_request<'a>(command: &str, request: BuildRequest<'a>) -> Option<Request<'a>>
+    ensures { option_map request_view result ≡ build_with command.now (build_view request.entry) }
+{
+    if command == "build" && are_plain(&request) {
+        Some(Request::Build(request))
+    } else {
+        None
+    }
+}
+
+// The request of `play-net` and its names.
+fn play_net_request<'a>(command: &str, request: NetRequest<'a>) -> Option<Request<'a>>
+    ensures { option_map request_view result ≡ play_with command.now (play.request_view request.entry) }
+{
+    if command == "play-net" && is_plain(request.blif) && is_plain(request.levels) {
+        Some(Request::PlayNet(request))
+    } else {
+        None
+    }
+}
+
+// The request of `play-bits` and its names.
+fn play_bits_request<'a>(command: &str, request: BitsRequest<'a>) -> Option<Request<'a>>
+    ensures { option_map request_view result ≡ play_bits_with command.now (play_bits.request_view request.entry) }
+{
+    if command == "play-bits" && are_plain_words(&request) {
+        Some(Request::PlayBits(request))
+    } else {
+        None
+    }
+}
+
 /// The request of the words after the program's name, where they are one.
 pub fn read_request(words: &[String]) -> Option<Request<'_>>
     ensures { option_map request_view result ≡ request_of (map string_bytes words.now) }
@@ -46,14 +85,7 @@ pub fn read_request(words: &[String]) -> Option<Request<'_>>
                 blif: blif.as_str(),
                 levels: levels.as_str(),
             };
-            if command.as_str() == "play-net"
-                && is_plain(request.blif)
-                && is_plain(request.levels)
-            {
-                Some(Request::PlayNet(request))
-            } else {
-                None
-            }
+            play_net_request(command.as_str(), request)
         }
         [command, chip, package, asc, levels] => {
             let request = BitsRequest {
@@ -62,11 +94,7 @@ pub fn read_request(words: &[String]) -> Option<Request<'_>>
                 asc: asc.as_str(),
                 levels: levels.as_str(),
             };
-            if command.as_str() == "play-bits" && are_plain_words(&request) {
-                Some(Request::PlayBits(request))
-            } else {
-                None
-            }
+            play_bits_request(command.as_str(), request)
         }
         [command, chip, package, pcf, blif, asc] => {
             let request = BuildRequest {
@@ -76,11 +104,7 @@ pub fn read_request(words: &[String]) -> Option<Request<'_>>
                 blif: blif.as_str(),
                 asc: asc.as_str(),
             };
-            if command.as_str() == "build" && are_plain(&request) {
-                Some(Request::Build(request))
-            } else {
-                None
-            }
+            build_request(command.as_str(), request)
         }
         _ => None,
     }

@@ -13,8 +13,11 @@ use std::alloc::Global;
 /// The texts of a build.
 #[derive(Debug, Drop)]
 pub struct Texts {
+    /// The text of the chip database.
     pub chip: Vec<u8>,
+    /// The text of the pin constraints.
     pub pcf: Vec<u8>,
+    /// The text of the netlist.
     pub blif: Vec<u8>,
 }
 

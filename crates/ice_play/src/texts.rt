@@ -13,7 +13,9 @@ use std::alloc::Global;
 /// The texts of a netlist and of levels.
 #[derive(Debug, Drop)]
 pub struct Texts {
+    /// The text of the netlist.
     pub blif: Vec<u8>,
+    /// The text of the levels.
     pub levels: Vec<u8>,
 }
 

@@ -13,8 +13,11 @@ use std::alloc::Global;
 /// The texts of a chip database, of bits and of levels.
 #[derive(Debug, Drop)]
 pub struct Texts {
+    /// The text of the chip database.
     pub chip: Vec<u8>,
+    /// The text of the bits.
     pub asc: Vec<u8>,
+    /// The text of the levels.
     pub levels: Vec<u8>,
 }
 
