@@ -58,8 +58,8 @@ impl<T: Drop> From<AllocFailed<T>> for ChipStop {
 // The most rows of a chip text.
 const MOST_ROWS: u32 = 4_194_304;
 
-/// The lines up to the first switch.
-pub const HEADER: &[u8] = b".device 1k 2 1 4
+// The lines up to the first switch.
+const HEADER: &[u8] = b".device 1k 2 1 4
 .pins tiny
 1 0 0 0
 2 1 0 0

@@ -3,8 +3,6 @@
 
 mod asc;
 mod bits;
-#[cfg(test)]
-mod bits_tests;
 mod buffer;
 mod build;
 mod bundle;
@@ -18,18 +16,10 @@ mod pad;
 mod pin_pads;
 mod place;
 mod plain;
-#[cfg(test)]
-mod play_tests;
-#[cfg(test)]
-mod reader_tests;
 mod request;
 mod route;
 mod rows;
-#[cfg(test)]
-mod run_tests;
 mod search;
-#[cfg(test)]
-mod search_tests;
 mod texts;
 mod top_call;
 mod usable;
