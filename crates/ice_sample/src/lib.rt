@@ -16,6 +16,3 @@ mod tracks;
 
 pub use chip::sample_chip;
 pub use laws::{names_are_at_places, worked_numbers};
-
-#[cfg(test)]
-mod tests;

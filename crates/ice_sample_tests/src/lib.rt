@@ -1,0 +1,5 @@
+//! Tests of the text of sample chips.
+#![tactic(auto)]
+
+#[cfg(test)]
+mod tests;
