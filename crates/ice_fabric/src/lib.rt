@@ -11,6 +11,3 @@ mod rows;
 mod usable;
 
 pub use usable::fabric;
-
-#[cfg(test)]
-mod tests;
