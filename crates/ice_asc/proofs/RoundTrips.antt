@@ -1,27 +1,28 @@
 -- The text that is written for bits of a chip says these bits.
 use Rattle.std.proofs.Common.{◌≡◌, ◌≢◌, ℕ, Bool, true, false, Option, Some, Ok, List, [], ◌∷◌, ◌++◌, length, map, refl, sym, ap, ◌∙◌, subst, append-nil, append_assoc, arith}
-use Rattle.std.specs.Prelude.{codes, decimal}
+use Rattle.std.specs.Prelude.{codes, decimal, All, ◌≤◌}
 use Rattle.std.specs.List.{AllByRecursion, flat_map, range_with_len, IsDistinct}
 use Rattle.std.specs.Map.{lookup, keys_of}
-use Rattle.std.proofs.lemmas.List.Elements.{recursion_from_All}
+use Rattle.std.proofs.lemmas.List.Elements.{recursion_from_All, All-weaker}
 use Rattle.ice_base.specs.declared.number.TileAt.{TileAt}
 use Rattle.ice_base.specs.declared.number.BitAt.{BitAt}
 use Rattle.ice_base.specs.Text.{numbered, IsLine}
 use Rattle.ice_chip.specs.Database.{Parts}
 use Rattle.ice_chip.specs.Lookups.{tile_of}
 use Rattle.ice_chip.specs.Places.{same_tile, columns, tile_known}
+use Rattle.ice_chip.specs.Within.{IsPlace}
 use Rattle.ice_chip.specs.declared.parts.TileLine.{TileLine}
 use Rattle.ice_chip.specs.declared.tile.Tile.{Tile}
-use Rattle.ice_bits.specs.Configuration.{Configuration, bit_at, bits_of, rows_at, IsGrid, AreGrids, blank_rows, blank_tile, blank}
+use Rattle.ice_bits.specs.Configuration.{Configuration, bit_at, bits_of, rows_at, IsGrid, AreGrids, IsOf, blank_rows, blank_tile, blank}
 use Rattle.ice_bits.specs.Rewriting.{with_rows}
 use Rattle.ice_asc.specs.Faults.{◌>>=◌}
 use Rattle.ice_asc.specs.Grammar.{Reading, start, lines_say, end_says, asc_in}
 use Rattle.ice_asc.specs.Headings.{heading_of_kind}
-use Rattle.ice_asc.specs.RoundTrip.{IsNear, IsSmall, IsWritable}
+use Rattle.ice_asc.specs.RoundTrip.{IsSmall, WrittenIsRead}
 use Rattle.ice_asc.specs.Text.{digit_of_bit, bit_at_place, spaced, row_line, tile_heading, tile_lines, extra_line, asc_lines, asc_text}
 use Rattle.ice_asc.proofs.TextLines.{lines_read, all_append, plain_line, word_line, decimal_line, kind_word}
 use Rattle.ice_asc.proofs.WrittenLines.{rows_are, IsElsewhere, apart_before, unseen, found, changed, self_same}
-use Rattle.ice_asc.proofs.WrittenReading.{Reads, reads_line, behind, rows_read, ready, entered, heading_read, extra_read, in_comment, comment_read, remark_read, device_read}
+use Rattle.ice_asc.proofs.WrittenReading.{IsNear, Reads, reads_line, behind, rows_read, ready, entered, heading_read, extra_read, in_comment, comment_read, remark_read, device_read}
 
 abbrev Tiles : Type 0
 Tiles = List (TileAt × List (List Bool))
@@ -136,7 +137,14 @@ extras_are_lines (extra ∷ extras) small =
     )
 
 -- ---- the whole text
-pub written_says : (parts : Parts) (k : Configuration) → IsWritable parts k → asc_in parts (asc_text parts k) ≡ Ok k
+-- bits of a database whose tiles stand at different places, with numbers that can be written
+record IsWritable (parts : Parts) (k : Configuration) : Type 0 where
+  form : IsOf parts k
+  apart : IsDistinct same_tile (keys_of parts.tiles)
+  near : All IsNear (keys_of parts.tiles)
+  small : All IsSmall k.extras
+
+written_says : (parts : Parts) (k : Configuration) → IsWritable parts k → asc_in parts (asc_text parts k) ≡ Ok k
 written_says parts k w =
     let near : AllByRecursion IsNear (keys_of parts.tiles) = recursion_from_All IsNear (keys_of parts.tiles) w.near in
     let small : AllByRecursion IsSmall k.extras = recursion_from_All IsSmall k.extras w.small in
@@ -157,3 +165,20 @@ written_says parts k w =
     let comment : Reads parts (start parts) (asc_lines parts k) k =
     reads_line parts (start parts) (λ n. in_comment parts) (codes ".comment") (codes "placed and routed" ∷ codes ".device 1k" ∷ body) k (comment_read parts) (λ n. remark) in
     ap (λ ls. lines_say parts (start parts) (numbered 1 ls) >>= (λ (r : Reading). end_says r r.section)) (lines_read (asc_lines parts k) are_lines) ∙ comment 0 1
+
+-- ---- the text of a chip
+near_place : (width height : ℕ) (t : TileAt) → width ≤ 256 → height ≤ 256 → IsPlace width height t → IsNear t
+near_place width height t narrow low place =
+    let x = place.x in
+    let y = place.y in
+    record { x = omega arith; y = omega arith }
+
+pub chip_says : WrittenIsRead
+chip_says parts k chip form small =
+    let read = chip.read in
+    written_says parts k (record {
+      form = form;
+      apart = read.tiles_once;
+      near = All-weaker (IsPlace parts.width parts.height) IsNear (λ t place. near_place parts.width parts.height t read.narrow read.low place) (keys_of parts.tiles) read.tile_places;
+      small = small;
+    })

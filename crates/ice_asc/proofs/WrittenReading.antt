@@ -24,7 +24,7 @@ use Rattle.ice_asc.specs.Faults.{◌>>=◌}
 use Rattle.ice_asc.specs.Headings.{heading_of_kind, heading_of}
 use Rattle.ice_asc.specs.Words.{all_known, bit_of_digit, row_of_words, place_of, tile_of_words, extra_bit, extra_of_words}
 use Rattle.ice_asc.specs.Grammar.{Reading, start, with_row, known_row, is_of_kind, opened, tile_says, extra_says, heading_says, line_says, at_line, lines_say, end_says}
-use Rattle.ice_asc.specs.RoundTrip.{IsNear, IsSmall}
+use Rattle.ice_asc.specs.RoundTrip.{IsSmall}
 use Rattle.ice_asc.specs.Text.{digit_of_bit, spaced, tile_heading, extra_line}
 use Rattle.ice_asc.specs.declared.fault.AscFault.{AscFault}
 use Rattle.ice_asc.specs.declared.fault.AscFault.TheVariants as fault
@@ -115,6 +115,11 @@ rows_read parts r heading at kind before (row ∷ next ∷ after) ls k wide some
     (subst (λ (rows : List (List Bool)). Reads parts (behind r at rows) ls k) (sym (append_assoc before (row ∷ []) (next ∷ after))) later)))
 
 -- ---- headings of tiles
+-- both coordinates are below 65,536
+pub record IsNear (at : TileAt) : Type 0 where
+  pub x : at.x < 2 ^ 16
+  pub y : at.y < 2 ^ 16
+
 heading_words : (tile : Tile) → IsNear tile.at → words (tile_heading tile) ≡ heading_of_kind tile.kind ∷ decimal tile.at.x ∷ decimal tile.at.y ∷ []
 heading_words tile near =
     let x : IsWord (decimal tile.at.x) = decimal_is_word tile.at.x (let lt = near.x in omega arith) in

@@ -1,11 +1,14 @@
 //! Writing the text of bits.
-ghost use Rattle.std.specs.Prelude.{◌≡◌, ◌≤◌, ◌∷◌, [], ◌++◌, map, decimal, option_map, OnOk, OnErr};
+ghost use Rattle.std.specs.Prelude.{◌≡◌, ◌≤◌, ◌<◌, ◌^◌, ◌∷◌, [], ◌++◌, map, decimal, option_map, All, Ok, OnOk, OnErr};
 ghost use Rattle.std.specs.List.{flat_map, range_with_len};
-ghost use Rattle.ice_bits.specs.Configuration.{bit_at, bits_of};
+ghost use Rattle.ice_bits.specs.Configuration.{bit_at, bits_of, IsOf};
 ghost use Rattle.ice_chip.specs.Lookups.{tile_of};
+ghost use Rattle.ice_asc.specs.Grammar.{asc_in};
 ghost use Rattle.ice_asc.specs.Headings.{heading_of_kind};
+ghost use Rattle.ice_asc.specs.RoundTrip.{IsSmall};
 ghost use Rattle.ice_asc.specs.Text.{digit_of_bit, row_line, tile_heading, tile_lines, extra_line, text_of_lines, asc_text};
 
+use crate::laws::written_is_read;
 use ice_base::{BitAt, NoMemory};
 use ice_bits::{Bits, TileBits};
 use ice_chip::{Chip, Tile, TileKind};
@@ -34,7 +37,8 @@ fn put_number(out: &mut Vec<u8>, number: u32) -> Result<(), NoMemory>
 
 // Writes a space and a number.
 fn put_field(out: &mut Vec<u8>, number: u32) -> Result<(), NoMemory>
-    ensures { OnOk result (out.new.items ≡ out.old.items ++ 32 ∷ decimal number) }
+    ensures written { OnOk result (out.new.items ≡ out.old.items ++ 32 ∷ decimal number) }
+    ensures small { number < 2 ^ 32 }
 {
     out.push(b' ')?;
     put_number(out, number)
@@ -121,7 +125,8 @@ fn put_tiles(out: &mut Vec<u8>, bits: &Bits, tiles: &[Tile]) -> Result<(), NoMem
 
 // Writes an extra bit.
 fn put_extra(out: &mut Vec<u8>, extra: &(u32, u32, u32)) -> Result<(), NoMemory>
-    ensures { OnOk result (out.new.items ≡ out.old.items ++ text_of_lines (extra_line extra.now ∷ [])) }
+    ensures written { OnOk result (out.new.items ≡ out.old.items ++ text_of_lines (extra_line extra.now ∷ [])) }
+    ensures small { OnOk result (IsSmall extra.now) }
 {
     out.extend_from_slice(b".extra_bit")?;
     put_field(out, extra.0)?;
@@ -133,7 +138,8 @@ fn put_extra(out: &mut Vec<u8>, extra: &(u32, u32, u32)) -> Result<(), NoMemory>
 
 // Writes the extra bits in order.
 fn put_extras(out: &mut Vec<u8>, extras: &[(u32, u32, u32)]) -> Result<(), NoMemory>
-    ensures { OnOk result (out.new.items ≡ out.old.items ++ text_of_lines (map extra_line extras.now)) }
+    ensures written { OnOk result (out.new.items ≡ out.old.items ++ text_of_lines (map extra_line extras.now)) }
+    ensures small { OnOk result (All IsSmall extras.now) }
 {
     for extra in extras {
         put_extra(out, extra)?;
@@ -143,7 +149,8 @@ fn put_extras(out: &mut Vec<u8>, extras: &[(u32, u32, u32)]) -> Result<(), NoMem
 
 // Writes the text of the bits: a comment and the device, the tiles and the extra bits.
 fn put_text(out: &mut Vec<u8>, bits: &Bits, chip: &Chip) -> Result<(), NoMemory>
-    ensures { OnOk result (out.new.items ≡ out.old.items ++ asc_text chip.now bits.now) }
+    ensures written { OnOk result (out.new.items ≡ out.old.items ++ asc_text chip.now bits.now) }
+    ensures small { OnOk result (All IsSmall bits.now.extras) }
 {
     put_line(out, b".comment")?;
     put_line(out, b"placed and routed")?;
@@ -154,15 +161,18 @@ fn put_text(out: &mut Vec<u8>, bits: &Bits, chip: &Chip) -> Result<(), NoMemory>
 }
 
 /// Appends the text of the bits: a comment and the device, each tile of the chip in order with its heading and sixteen
-/// rows, and the extra bits in order. The text is made apart from what it is appended to, so that want of memory changes
-/// nothing.
+/// rows, and the extra bits in order. Where the bits are of this chip, the text says exactly these bits. It is made apart
+/// from what it is appended to, so that want of memory changes nothing.
 ///
 /// # Errors
 /// Want of memory alone.
 pub fn write_asc(bits: &Bits, chip: &Chip, out: &mut Vec<u8>) -> Result<(), NoMemory>
     ensures written { OnOk result (out.new.items ≡ out.old.items ++ asc_text chip.now bits.now) }
+    ensures read_back { OnOk result (IsOf chip.now bits.now → asc_in chip.now (asc_text chip.now bits.now) ≡ Ok bits.now) }
     ensures refused { OnErr result (out.new.items ≡ out.old.items) }
 {
+    chip.wires();
+    written_is_read();
     let mut text = Vec::new(*out.allocator());
     put_text(&mut text, bits, chip)?;
     out.extend_from_slice(&text)?;

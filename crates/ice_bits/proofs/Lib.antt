@@ -2,3 +2,4 @@ mod Keys
 mod RowWrites
 mod TileWrites
 pub mod Forms
+mod OtherKinds

@@ -4,8 +4,14 @@ ghost use Rattle.ice_base.specs.declared.number.TileAt.{TileAt};
 ghost use Rattle.ice_base.specs.declared.number.BitAt.{BitAt};
 ghost use Rattle.ice_chip.specs.Database.{Parts};
 ghost use Rattle.ice_bits.specs.Configuration.{Configuration, IsOf, is_there, is_bit_of};
+ghost use Rattle.ice_bits.specs.Settings.{OtherKindsReadZero};
 
 /// Bits of a chip have exactly the places that the kinds of its tiles have.
 pub fn chip_has_its_bits()
     ensures { (parts : Parts) (k : Configuration) → IsOf parts k → (t : TileAt) (b : BitAt) → is_there k t b ≡ is_bit_of parts t b }
+{}
+
+/// At a place without a tile, or with a tile of another kind, a function has no bits: each of them is read as 0.
+pub fn functions_of_other_kinds_are_0()
+    ensures { OtherKindsReadZero }
 {}

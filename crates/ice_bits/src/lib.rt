@@ -6,5 +6,5 @@ mod laws;
 mod tile;
 
 pub use bits::{Bits, blank};
-pub use laws::chip_has_its_bits;
+pub use laws::{chip_has_its_bits, functions_of_other_kinds_are_0};
 pub use tile::TileBits;

@@ -14,6 +14,7 @@ pub mod SharedPins
 pub mod Views
 pub mod Whole
 pub mod WholeFaults
+pub mod Within
 pub mod LeastLine
 pub mod SharedFunction
 pub mod BitsUsed

@@ -178,9 +178,11 @@ fn row_in(groups: &[Group], place: RowPlace) -> (&Group, &Row)
 
 /// The chip of these rows, or the first fault of the whole.
 ///
-/// It asks that the wires of names, groups and switch rows are below the number of wires, that the number of each
-/// group's first row is how many rows the groups before it have, and that there are at most 262,144 wires and 4,194,304
-/// switch rows. The rows are taken to stand in the order of their lines, as those of a text do: whether there is a fault
+/// It asks that no line of the rows has a fault, as of those that are read from a text (`IsRead`): places, wires, pads and
+/// globals are in range, bits have one of the forms of some tile, each switch row has one value for each bit of its group,
+/// no tile and no function that is read stands twice, the limits are kept, and only functions that are kept are there. The
+/// number of each group's first row is how many rows the groups before it have, and a package's pads are the different ones
+/// of its pins. The rows are taken to stand in the order of their lines, as those of a text do: whether there is a fault
 /// doesn't rest on that, but which lines are told of it does.
 pub fn build(alloc: Global, parts: ChipParts) -> Result<Chip, ChipFault>
     requires { IsRead (parts_view parts) }

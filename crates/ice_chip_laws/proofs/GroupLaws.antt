@@ -1,8 +1,7 @@
 -- Groups stand in tiles that have their bits.
-use Rattle.std.proofs.Common.{◌≡◌, ℕ, ◌<◌, Bool, true, false, Option, None, Some, List, [], ◌∷◌, inl, inr, refl, sym, ap, subst, ◌∙◌, true≢false}
+use Rattle.std.proofs.Common.{◌≡◌, ℕ, ◌<◌, Bool, true, false, Option, None, Some, List, [], ◌∷◌, length, inl, inr, refl, sym, ap, subst, ◌∙◌, true≢false}
 use Rattle.std.specs.Prelude.{◌⊎◌, nat_lt, if◌then◌else◌}
-use Rattle.std.proofs.lemmas.List.Elements.{All-get_or}
-use Rattle.std.proofs.lemmas.Option.{none-some, slice_get_within, get_or_from_slice_get}
+use Rattle.std.proofs.lemmas.Option.{none-some}
 use Rattle.std.proofs.lemmas.Bool.{ltb-true}
 use Rattle.ice_base.specs.declared.number.TileAt.{TileAt}
 use Rattle.ice_base.specs.declared.number.BitAt.{BitAt}
@@ -10,6 +9,7 @@ use Rattle.ice_chip.specs.Database.{Parts, SwitchGroup, SwitchRow}
 use Rattle.ice_chip.specs.IsRead.{IsChip, HasWiresBelow}
 use Rattle.ice_chip.specs.Lookups.{kind_at}
 use Rattle.ice_chip.specs.Places.{columns, tile_known}
+use Rattle.ice_chip.specs.Within.{IsBit, IsGroup}
 use Rattle.ice_chip.specs.WholeFaults.{lacks_tile, group_without_tile, has_bit_beyond, exceeds, group_beyond_tile}
 use Rattle.ice_chip.specs.declared.parts.TileLine.{TileLine}
 use Rattle.ice_chip.specs.declared.rows.TileKind.{TileKind}
@@ -17,7 +17,7 @@ use Rattle.ice_chip_laws.specs.Members.{Has}
 use Rattle.ice_chip_laws.specs.Groups.{HasGroups}
 use Rattle.ice_chip_laws.proofs.FaultFree.{no_fault}
 use Rattle.ice_chip_laws.proofs.KnownTiles.{known_kind, kind_known}
-use Rattle.ice_chip_laws.proofs.ListMembers.{has_cases, has_none}
+use Rattle.ice_chip_laws.proofs.ListMembers.{has_cases, has_none, has_all}
 
 -- no group is at fault
 no_group : (tiles : List (TileAt × TileLine)) (gs : List SwitchGroup) (g : SwitchGroup) → group_without_tile tiles gs ≡ None → Has gs g → lacks_tile (tile_known tiles g.tile) ≡ false
@@ -67,21 +67,18 @@ group_within parts chip g kind b has at of =
     subst (λ (k : TileKind). b.col < columns k) tile.2 (bit_within (columns tile.0.kind) g.bits b fits of)
 
 wires_below : (parts : Parts) → IsChip parts → (g : SwitchGroup) → Has parts.groups g → HasWiresBelow parts.wires g
-wires_below parts chip g has =
-    let within = slice_get_within parts.groups has.0 g has.1 in
-    let here = All-get_or (HasWiresBelow parts.wires) parts.groups has.0 g within chip.read.group_wires in
-    subst (HasWiresBelow parts.wires) (get_or_from_slice_get parts.groups has.0 g g has.1) here
+wires_below parts chip g has = has_all (HasWiresBelow parts.wires) parts.groups g chip.read.group_wires has
 
-source_below : (parts : Parts) → IsChip parts → (g : SwitchGroup) (r : SwitchRow) → Has parts.groups g → Has g.rows r → r.source < parts.wires
-source_below parts chip g r has of =
-    let within = slice_get_within g.rows of.0 r of.1 in
-    let here = All-get_or (λ (x : SwitchRow). x.source < parts.wires) g.rows of.0 r within (wires_below parts chip g has).sources in
-    subst (λ (x : SwitchRow). x.source < parts.wires) (get_or_from_slice_get g.rows of.0 r r of.1) here
+form_of : (parts : Parts) → IsChip parts → (g : SwitchGroup) → Has parts.groups g → IsGroup parts.width parts.height g
+form_of parts chip g has = has_all (IsGroup parts.width parts.height) parts.groups g chip.read.group_forms has
 
 pub groups_are : (parts : Parts) → IsChip parts → HasGroups parts
 groups_are parts chip = record {
   placed = group_placed parts chip;
   within = group_within parts chip;
+  rows_of_bits = λ g b has of. (has_all (IsBit 54) g.bits b (form_of parts chip g has).bits of).row;
+  some = λ g has. (form_of parts chip g has).some;
+  values = λ g r has of. has_all (λ (x : SwitchRow). length x.values ≡ length g.bits) g.rows r (form_of parts chip g has).values of;
   target = λ g has. (wires_below parts chip g has).target;
-  source = source_below parts chip;
+  source = λ g r has of. has_all (λ (x : SwitchRow). x.source < parts.wires) g.rows r (wires_below parts chip g has).sources of;
 }

@@ -1,7 +1,8 @@
 -- Items of lists that are made of others.
 use Rattle.std.proofs.Common.{◌≡◌, ℕ, zero, suc, ◌+◌, ◌<◌, Bool, true, false, cond, None, Some, List, [], ◌∷◌, ◌++◌, map, filter, find, length, inl, inr, refl, sym, ap, ◌∙◌, subst, true≢false, arith}
-use Rattle.std.specs.Prelude.{◌⊎◌}
+use Rattle.std.specs.Prelude.{◌⊎◌, All}
 use Rattle.std.specs.Map.{lookup}
+use Rattle.std.proofs.lemmas.List.Elements.{All-head, All-tail}
 use Rattle.std.proofs.lemmas.Option.{none-some, same_Some}
 use Rattle.ice_chip_laws.specs.Members.{At, Has}
 
@@ -18,6 +19,15 @@ has_none x (i, at) = none-some x at
 pub has_cases : {X : Type 0} (x y : X) (xs : List X) → Has (x ∷ xs) y → (x ≡ y) ⊎ Has xs y
 has_cases x y xs (zero, at) = inl (same_Some x y at)
 has_cases x y xs (suc i, at) = inr (i, at)
+
+-- what holds of each item
+pub has_all : {X : Type 0} (P : X → Type 0) (xs : List X) (x : X) → All P xs → Has xs x → P x
+has_all P [] x all has = absurd (has_none x has)
+has_all P (y ∷ xs) x all has = by (has_cases y x xs has) (has_all P xs x (All-tail P y xs all))
+  where
+    by : (y ≡ x) ⊎ Has xs x → (Has xs x → P x) → P x
+    by (inl here) more = subst P here (All-head P y xs all)
+    by (inr there) more = more there
 
 -- ---- two lists
 pub at_left : {X : Type 0} (xs ys : List X) (i : ℕ) (x : X) → At xs i x → At (xs ++ ys) i x

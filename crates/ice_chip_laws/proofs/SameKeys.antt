@@ -1,5 +1,6 @@
 -- Keys that a test takes for the same are equal.
-use Rattle.std.proofs.Common.{◌≡◌, ℕ, ◌==◌, true, List, refl, sym, true≢false, rules, tests}
+use Rattle.std.proofs.Common.{◌≡◌, ℕ, ◌==◌, Bool, true, false, List, refl, sym, ap, ◌∙◌, true≢false, rules, tests}
+use Rattle.std.specs.Cmp.{IsEquivalence}
 use Rattle.std.specs.Prelude.{bytes_eq, nat_eq}
 use Rattle.std.proofs.lemmas.Bool.{and_parts}
 use Rattle.ice_base.specs.declared.number.TileAt.{TileAt}
@@ -31,6 +32,17 @@ tile_same a b e =
 
 pub tile_self : (a : TileAt) → same_tile a a ≡ true
 tile_self a = rw (nat_self a.x, nat_self a.y) refl
+
+pub tiles_equal : IsEquivalence same_tile
+tiles_equal = record { refl = tile_self; symm = λ a b. flipped a b (same_tile a b) (same_tile b a) refl refl; congr = λ a b c e. ap (λ (t : TileAt). same_tile t c) (tile_same a b e) }
+  where
+    other : (a b : TileAt) → same_tile a b ≡ true → same_tile b a ≡ true
+    other a b e = ap (λ (t : TileAt). same_tile t a) (sym (tile_same a b e)) ∙ tile_self a
+
+    flipped : (a b : TileAt) (one two : Bool) → same_tile a b ≡ one → same_tile b a ≡ two → one ≡ two
+    flipped a b true two e f = sym (other a b e) ∙ f
+    flipped a b false true e f = absurd (true≢false (sym (other b a f) ∙ e))
+    flipped a b false false e f = refl
 
 pub placed_same : (a b : PlacedName) → same_placed a b ≡ true → a ≡ b
 placed_same a b e =

@@ -1,6 +1,6 @@
 -- Tiles that serve others have what serves them.
 use Rattle.std.proofs.Common.{◌≡◌, true, Option, None, Some, List, refl, sym, ap, subst, ◌∙◌, true≢false}
-use Rattle.std.specs.Prelude.{ℕ, map, filter, nat_eq}
+use Rattle.std.specs.Prelude.{ℕ, ◌<◌, map, filter, nat_eq}
 use Rattle.ice_base.specs.declared.number.TileAt.{TileAt}
 use Rattle.ice_chip.specs.Database.{Parts, FunctionRow}
 use Rattle.ice_chip.specs.FirstLacking.{LacksFunctionIsFirst}
@@ -8,6 +8,7 @@ use Rattle.ice_chip.specs.IsRead.{IsChip}
 use Rattle.ice_chip.specs.LacksFunction.{has_column_buffers}
 use Rattle.ice_chip.specs.Lookups.{kind_at, colbuf_of, ieren_of, global_of, global_tile, is_io_kind, is_io, enable_counts, holds_buffers, buffer_counts, served_tile}
 use Rattle.ice_chip.specs.Places.{same_tile, same_pad, tile_known}
+use Rattle.ice_chip.specs.Within.{ArePads}
 use Rattle.ice_chip.specs.declared.parts.TileLine.{TileLine}
 use Rattle.ice_chip.specs.declared.rows.Pad.{Pad}
 use Rattle.ice_chip.specs.declared.rows.TileKind.{TileKind}
@@ -16,7 +17,7 @@ use Rattle.ice_chip_laws.specs.Members.{Has}
 use Rattle.ice_chip_laws.specs.Served.{HoldsBuffers, HasServers}
 use Rattle.ice_chip_laws.proofs.FunctionLaws.{held_buffers, source_buffers}
 use Rattle.ice_chip_laws.proofs.KnownTiles.{kind_known}
-use Rattle.ice_chip_laws.proofs.ListMembers.{map_has, filter_has, lookup_has}
+use Rattle.ice_chip_laws.proofs.ListMembers.{map_has, filter_has, lookup_has, has_all}
 use Rattle.ice_chip_laws.proofs.SameKeys.{nat_same}
 
 -- a tile stands where column buffers are held
@@ -53,6 +54,12 @@ enabling parts p q e =
     let tile = io_known (tile_known parts.tiles q.tile) kept.1 in
     kind_known parts q.tile tile.0 tile.1 ∙ ap Some tile.2
 
+enable_pad : (parts : Parts) → IsChip parts → (p q : Pad) → ieren_of parts p ≡ Some q → q.pio < 2
+enable_pad parts chip p q e =
+    let found = lookup_has (same_pad p) (filter (enable_counts parts.tiles) parts.ieren) q e in
+    let kept = filter_has (enable_counts parts.tiles) parts.ieren (found.0, q) found.1 in
+    (has_all (ArePads parts.width parts.height) parts.ieren (found.0, q) chip.read.enables kept.0).enable.pio
+
 feeding : (parts : Parts) (n : ℕ) (t : TileAt) → global_of parts n ≡ Some t → Has parts.gbufin (t, n)
 feeding parts n t e =
     let found = lookup_has (nat_eq n) (map global_tile parts.gbufin) t e in
@@ -66,5 +73,6 @@ servers_are parts chip first = record {
   buffers = serving parts chip first;
   sources = source_buffers parts chip first;
   enables = enabling parts;
+  pads = enable_pad parts chip;
   globals = feeding parts;
 }

@@ -12,7 +12,8 @@ use Rattle.ice_chip.specs.FirstShared.{AreShared, AreFirstShared, SharedFunction
 use Rattle.ice_chip.specs.Functions.{is_read, is_foreign}
 use Rattle.ice_chip.specs.IsRead.{IsChip}
 use Rattle.ice_chip.specs.Lookups.{kind_at, function_of}
-use Rattle.ice_chip.specs.Places.{tile_known}
+use Rattle.ice_chip.specs.Places.{columns, tile_known}
+use Rattle.ice_chip.specs.Within.{IsBit, IsKept}
 use Rattle.ice_chip.specs.SharedFunction.{bit_use, function_uses, group_uses, bit_uses, clash, two_lines}
 use Rattle.ice_chip.specs.declared.parts.TileLine.{TileLine}
 use Rattle.ice_chip.specs.declared.rows.TileKind.{TileKind}
@@ -22,7 +23,7 @@ use Rattle.ice_chip_laws.specs.Members.{At, Has}
 use Rattle.ice_chip_laws.proofs.FaultFree.{no_fault}
 use Rattle.ice_chip_laws.proofs.FunctionLaws.{IsOf, is_of}
 use Rattle.ice_chip_laws.proofs.KnownTiles.{known_kind}
-use Rattle.ice_chip_laws.proofs.ListMembers.{at_left, at_right, at_within, at_map, has_map}
+use Rattle.ice_chip_laws.proofs.ListMembers.{at_left, at_right, at_within, at_map, has_map, has_all}
 use Rattle.ice_chip_laws.proofs.NameTests.{read_not_foreign}
 use Rattle.ice_chip_laws.proofs.PlaceLaws.{found_at, found_there, bit_listed, number_below}
 use Rattle.ice_chip_laws.proofs.SameKeys.{nat_self, kind_self}
@@ -214,8 +215,18 @@ module _ (parts : Parts) (chip : IsChip parts) (first : SharedFunctionIsFirst) w
           let from_g : Has of_groups use_g = has_part (λ (x : SwitchGroup). group_uses (tile_known parts.tiles x.tile) x) parts.groups has.0 g use_g has.1 in_group in
           no_clash use_f use_g (before_across of_functions of_groups use_f use_g from_f from_g) (one_bit kind b false true g.line f.line refl)
 
+  -- a bit of a function stands in the tiles of its kind
+  within : (kind : TileKind) (name : List ℕ) (k : ℕ) (b : BitAt) → IsReadAt parts kind name k b → (b.row < 16) × (b.col < columns kind)
+  within kind name k b (read, at_k) =
+      let found = found_bit parts kind name k b at_k in
+      let f : FunctionRow = found.0 in
+      let kept : IsKept f = has_all IsKept parts.functions f chip.read.functions_kept found.1.there in
+      let bit : IsBit (columns f.kind) b = has_all (IsBit (columns f.kind)) f.bits b kept.bits (k, found.2) in
+      (bit.row, subst (λ (x : TileKind). b.col < columns x) found.1.of_kind bit.column)
+
   pub bits_are : LacksFunctionIsFirst → HasOwnBits parts
   bits_are lacks = record {
+    within = within;
     one_use = one_use;
     not_foreign = not_foreign;
     not_grouped = not_grouped;

@@ -1,5 +1,5 @@
 -- The bits of functions.
-use Rattle.std.specs.Prelude.{◌≡◌, ◌==◌, ◌&&◌, ℕ, ◌+◌, Bool, true, false, Option, None, Some, List, [], ◌∷◌, ◌++◌, map, find, slice_get, codes}
+use Rattle.std.specs.Prelude.{◌≡◌, ◌==◌, ◌&&◌, ℕ, ◌+◌, ◌<◌, Bool, true, false, Option, None, Some, List, [], ◌∷◌, ◌++◌, map, find, slice_get, codes}
 use Rattle.std.specs.List.{flat_map, range_with_len}
 use Rattle.std.specs.Option.{option_and_then}
 use Rattle.ice_base.specs.declared.number.TileAt.{TileAt}
@@ -7,6 +7,7 @@ use Rattle.ice_base.specs.declared.number.BitAt.{BitAt}
 use Rattle.ice_chip.specs.Database.{Parts, FunctionRow, SwitchGroup}
 use Rattle.ice_chip.specs.Functions.{is_read, is_foreign}
 use Rattle.ice_chip.specs.Lookups.{kind_at, function_of}
+use Rattle.ice_chip.specs.Places.{columns}
 use Rattle.ice_chip.specs.declared.rows.TileKind.{TileKind}
 use Rattle.ice_chip.specs.declared.rows.TileKind.TheVariants.{Io, Logic, RamBottom, RamTop}
 use Rattle.ice_chip_laws.specs.Members.{Has}
@@ -48,8 +49,10 @@ abbrev pub function_at : Parts → TileKind → BitAt → Option (List ℕ × �
 function_at parts kind b = find (λ (bit : List ℕ × ℕ). is_there b (function_place parts kind bit.0 bit.1)) (read_bits kind)
 
 -- ---- the laws
--- the bits of functions that are read are of nothing else
+-- the bits of functions that are read stand in their tiles, and are of nothing else
 pub record HasOwnBits (parts : Parts) : Type 0 where
+  -- a bit of a function stands in one of the 16 rows and of the columns of its tiles
+  pub within : (kind : TileKind) (name : List ℕ) (k : ℕ) (b : BitAt) → IsReadAt parts kind name k b → (b.row < 16) × (b.col < columns kind)
   -- a bit is of one function, and stands there once
   pub one_use : (kind : TileKind) (name other : List ℕ) (k l : ℕ) (b : BitAt) → IsReadAt parts kind name k b → IsReadAt parts kind other l b → (name ≡ other) × (k ≡ l)
   -- and of no function of a PLL or a pair of pads

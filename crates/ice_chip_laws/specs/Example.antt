@@ -88,7 +88,7 @@ second_pad = record { tile = io_place; pio = 1 }
 abbrev pub example : Parts
 example = record {
   width = 2;
-  height = 1;
+  height = 2;
   wires = 9;
   tiles = (io_place, record { kind = Io; line = 0 }) ∷ (logic_place, record { kind = Logic; line = 0 }) ∷ [];
   functions = pad_functions ++ logic_functions;

@@ -1,5 +1,5 @@
 -- Groups of switches, and the numbers of their rows.
-use Rattle.std.specs.Prelude.{◌≡◌, ℕ, ◌+◌, ◌<◌, Some}
+use Rattle.std.specs.Prelude.{◌≡◌, ℕ, ◌+◌, ◌<◌, Some, length}
 use Rattle.ice_base.specs.declared.number.BitAt.{BitAt}
 use Rattle.ice_chip.specs.Database.{Parts, SwitchGroup, SwitchRow}
 use Rattle.ice_chip.specs.Lookups.{kind_at, rows_of}
@@ -14,6 +14,12 @@ pub record HasGroups (parts : Parts) : Type 0 where
   pub placed : (g : SwitchGroup) → Has parts.groups g → Stands parts g.tile
   -- and has the columns of the group's bits
   pub within : (g : SwitchGroup) (kind : TileKind) (b : BitAt) → Has parts.groups g → kind_at parts g.tile ≡ Some kind → Has g.bits b → b.col < columns kind
+  -- and the rows, of which there are 16
+  pub rows_of_bits : (g : SwitchGroup) (b : BitAt) → Has parts.groups g → Has g.bits b → b.row < 16
+  -- a group has one or more bits
+  pub some : (g : SwitchGroup) → Has parts.groups g → 0 < length g.bits
+  -- and each of its rows has as many values
+  pub values : (g : SwitchGroup) (r : SwitchRow) → Has parts.groups g → Has g.rows r → length r.values ≡ length g.bits
   -- a group leads into a wire of the chip
   pub target : (g : SwitchGroup) → Has parts.groups g → g.wire < parts.wires
   -- and each of its rows from one

@@ -1,5 +1,5 @@
 -- Tiles that serve others: by column buffers, by input enables, and by feeding a global.
-use Rattle.std.specs.Prelude.{◌≡◌, ℕ, Some}
+use Rattle.std.specs.Prelude.{◌≡◌, ℕ, ◌<◌, Some}
 use Rattle.ice_base.specs.declared.number.TileAt.{TileAt}
 use Rattle.ice_chip.specs.Database.{Parts}
 use Rattle.ice_chip.specs.Lookups.{kind_at, colbuf_of, ieren_of, global_of}
@@ -20,5 +20,7 @@ pub record HasServers (parts : Parts) : Type 0 where
   pub sources : (t s : TileAt) (kind : TileKind) → Has parts.colbuf (s, t) → kind_at parts s ≡ Some kind → (kind ≡ Io → ⊥) → HasColumnBuffers parts kind
   -- a pad's input enable stands in an IO tile
   pub enables : (p q : Pad) → ieren_of parts p ≡ Some q → kind_at parts q.tile ≡ Some Io
+  -- as that of pad 0 or pad 1
+  pub pads : (p q : Pad) → ieren_of parts p ≡ Some q → q.pio < 2
   -- the tile that feeds a global is one that a row names
   pub globals : (n : ℕ) (t : TileAt) → global_of parts n ≡ Some t → Has parts.gbufin (t, n)

@@ -2,3 +2,7 @@ mod BitCuts
 mod KnownLists
 mod Entries
 mod ReadParts
+mod Results
+mod InRange
+mod Once
+mod ReadForms

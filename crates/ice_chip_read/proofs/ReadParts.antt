@@ -1,5 +1,5 @@
 -- The rows that are read of a text are those of a database: each line keeps it so.
-use Rattle.std.proofs.Common.{◌≡◌, ℕ, ◌+◌, ◌<◌, ◌≤◌, ◌==◌, ◌&&◌, Bool, true, false, List, [], ◌∷◌, ◌++◌, map, length, All, IfOk, Option, None, Some, Result, Ok, Err, refl, sym, ap, ◌∙◌, arith, rules, tests, subst, nat_lt, nat_eq, bytes_eq, codes, if◌then◌else◌, length-append, append-nil}
+use Rattle.std.proofs.Common.{◌≡◌, ℕ, ◌+◌, ◌<◌, ◌≤◌, ◌==◌, ◌&&◌, Bool, true, false, List, [], ◌∷◌, ◌++◌, map, length, All, IfOk, Option, None, Some, Ok, Err, refl, sym, ap, ◌∙◌, arith, rules, tests, subst, nat_lt, nat_eq, bytes_eq, codes, if◌then◌else◌, length-append, append-nil}
 use Rattle.std.proofs.lemmas.List.{length-map}
 use Rattle.std.proofs.lemmas.List.Elements.{All-nil, All-push}
 use Rattle.std.specs.Map.{lookup}
@@ -11,7 +11,6 @@ use Rattle.ice_chip.specs.Functions.{is_read, is_foreign, function_line}
 use Rattle.ice_chip.specs.IsRead.{HasWiresBelow, AreNumbered, IsRead}
 use Rattle.ice_chip.specs.Lookups.{in_group, rows_of}
 use Rattle.ice_chip.specs.Places.{columns, tile_known}
-use Rattle.ice_chip.specs.declared.fault.ChipFault.{ChipFault}
 use Rattle.ice_chip.specs.declared.fault.ChipFault.TheVariants.{NoDevice, OutOfRange, TooMany}
 use Rattle.ice_chip.specs.declared.rows.TileKind.{TileKind}
 use Rattle.ice_chip.specs.declared.parts.TileLine.{TileLine}
@@ -26,6 +25,8 @@ use Rattle.ice_chip_read.specs.Reading.{Reading, begun, closed}
 use Rattle.ice_chip_read.specs.Bits.{bits_in}
 use Rattle.ice_chip_read.specs.Words.{number, two, three, ended}
 use Rattle.ice_chip_read.specs.Lines.{most_wires, most_places, most_rows, tile_in, pad_in, wire_in, global_in, unseen, one_word, sizes_in, begun_within, device_first, new_tile, bits_at, group_bits, heading_says, kept_function, values_at, with_row, row_says, with_closed, line_says, lines_say, first_says, plain_says, text_says}
+use Rattle.ice_chip_read.proofs.Results.{bind, held}
+use Rattle.ice_chip_read.proofs.ReadForms.{AreWithin, plain_within}
 
 -- ---- groups of switches
 rows-append : (gs : List SwitchGroup) (g : SwitchGroup) → length (rows_of (gs ++ g ∷ [])) ≡ length (rows_of gs) + length g.rows
@@ -70,11 +71,7 @@ record Holds (r : Reading) : Type 0 where
   few : r.rows ≤ 4194304
   opened : IsOpen r.open_section r.parts.wires r.parts.groups r.group r.rows
 
--- ---- results
-bind : {A B : Type 0} (P : B → Type 0) (m : Result A ChipFault) (f : A → Result B ChipFault) → ((x : A) → m ≡ Ok x → IfOk (f x) P) → IfOk (m >>= f) P
-bind P (Ok x) f h = h x refl
-bind P (Err e) f h = tt
-
+-- ---- wires
 wire_below : (line : ℕ) (parts : Parts) (wire x : ℕ) → wire_in line parts wire ≡ Ok x → x < parts.wires
 wire_below line parts wire x e = by (nat_lt wire parts.wires) refl e
   where
@@ -204,9 +201,6 @@ line_holds r h line (w ∷ ws) = by (begins_with 46 w)
     by true = heading_holds (with_closed r) line (heading_of w) ws (close_holds r.open_section r h)
     by false = row_holds r r.open_section line w ws h
 
-pub held : {A : Type 0} (P : A → Type 0) (m : Result A ChipFault) (x : A) → m ≡ Ok x → IfOk m P → P x
-held P m x e h = subst (λ n. IfOk n P) e h
-
 lines_hold : (ls : List (ℕ × List (List ℕ))) (r : Reading) → Holds r → IfOk (lines_say r ls) Holds
 lines_hold [] r h = h
 lines_hold (l ∷ ls) r h = bind Holds (line_says r l.0 l.1) _ (λ more e. lines_hold ls more (held Holds (line_says r l.0 l.1) more e (line_holds r h l.0 l.1)))
@@ -240,14 +234,33 @@ plain_holds : (ls : List (ℕ × List (List ℕ))) → IfOk (plain_says ls) Hold
 plain_holds [] = tt
 plain_holds (l ∷ ls) = bind Holds (first_says l.0 l.1) _ (λ r e. lines_hold ls r (held Holds (first_says l.0 l.1) r e (first_holds l.0 l.1)))
 
-closed_is_read : (r : Reading) → Holds r → IsRead (closed r)
-closed_is_read r h =
+closed_is_read : (r : Reading) → Holds r → AreWithin (closed r) → IsRead (closed r)
+closed_is_read r h within =
     let whole = close_holds r.open_section r h in
     let few : length (rows_of (closed r).groups) ≤ 4194304 = omega (arith, whole.few, whole.opened) in
-    record { named_wires = whole.sound.named_wires; group_wires = whole.sound.group_wires; numbered = whole.sound.numbers; few_wires = whole.sound.few_wires; few_rows = few }
+    record {
+      narrow = within.small.narrow;
+      low = within.small.low;
+      few_wires = whole.sound.few_wires;
+      few_rows = few;
+      tiles_once = within.listed.tiles_once;
+      tile_places = within.listed.tile_places;
+      functions_kept = within.listed.functions_kept;
+      functions_once = within.listed.functions_once;
+      named_wires = whole.sound.named_wires;
+      named_places = within.listed.named_places;
+      group_wires = whole.sound.group_wires;
+      group_forms = within.joined.group_forms;
+      numbered = whole.sound.numbers;
+      package_forms = within.joined.package_forms;
+      feeds = within.served.feeds;
+      pad_feeds = within.served.pad_feeds;
+      enables = within.served.enables;
+      buffers = within.served.buffers;
+    }
 
 -- what is read of a text are the rows of a database
 pub text_is_read : (text : List ℕ) → IfOk (text_says text) IsRead
 text_is_read text =
-    bind IsRead (plain_says (plain_lines (numbered 1 (lines text)))) _
-    (λ r e. closed_is_read r (held Holds (plain_says (plain_lines (numbered 1 (lines text)))) r e (plain_holds (plain_lines (numbered 1 (lines text))))))
+    let ls = plain_lines (numbered 1 (lines text)) in
+    bind IsRead (plain_says ls) _ (λ r e. closed_is_read r (held Holds (plain_says ls) r e (plain_holds ls)) (plain_within ls r e))

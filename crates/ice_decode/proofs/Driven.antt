@@ -1,23 +1,25 @@
 -- What drives a wire: no row of any group into it, or the rows that are on.
-use Rattle.std.proofs.Common.{◌≡◌, ℕ, zero, suc, ◌+◌, ◌-◌, ◌<◌, ◌≤◌, Bool, true, false, cond, Option, None, Some, List, [], ◌∷◌, inl, inr, refl, ap, sym, ◌∙◌, eqb, length, All, arith}
-use Rattle.std.specs.Prelude.{◌↔◌, slice_get, option_map}
+use Rattle.std.proofs.Common.{◌≡◌, ℕ, zero, suc, ◌+◌, ◌-◌, ◌<◌, ◌≤◌, Bool, true, false, cond, Option, None, Some, List, [], ◌∷◌, inl, inr, refl, ap, sym, ◌∙◌, eqb, length, All, arith, subst}
+use Rattle.std.specs.Prelude.{◌↔◌, slice_get, option_map, map}
 use Rattle.std.specs.Bool.{beq}
-use Rattle.std.specs.List.{list_any, cons_option}
+use Rattle.std.specs.List.{list_any, cons_option, range_with_len}
 use Rattle.std.specs.Option.{option_and_then}
 use Rattle.std.specs.Cmp.Lexicographic.{pointwise}
 use Rattle.std.proofs.lemmas.Bool.{cases_eq, eqb-true, eq-eqb}
 use Rattle.std.proofs.lemmas.List.Elements.{All-nil, All-cons, All-head, All-tail}
-use Rattle.std.proofs.lemmas.Option.{same_Some}
+use Rattle.std.proofs.lemmas.Option.{same_Some, slice_get-map}
 use Rattle.ice_base.specs.declared.number.RowNo.{RowNo}
 use Rattle.ice_chip.specs.Database.{Parts, SwitchGroup, SwitchRow}
-use Rattle.ice_bits.specs.Configuration.{Bits}
+use Rattle.ice_bits.specs.Configuration.{Bits, Configuration, bits_of}
 use Rattle.ice_bits.specs.RowsOn.{values_of, number_with, row_on}
 use Rattle.ice_decode.specs.declared.driver.Switch.{Switch}
-use Rattle.ice_decode.specs.declared.driver.Driver.TheVariants.{Nothing, Several}
-use Rattle.ice_decode.specs.Drivers.{switch, switch_at, switch_on, switches_on, into, driver_among, driver}
+use Rattle.ice_decode.specs.declared.driver.Driver.{Driver}
+use Rattle.ice_decode.specs.declared.driver.Driver.TheVariants.{Nothing, By, Several}
+use Rattle.ice_decode.specs.Drivers.{switch, switch_at, switch_on, switches_on, into, driver_among, driver, row_of}
 use Rattle.ice_decode.specs.Faults.{or_else, first_of, contended_by}
-use Rattle.ice_decode.specs.Refusals.{IsFaultless}
-use Rattle.ice_decode.specs.Laws.{HasNoRowOn}
+use Rattle.ice_decode.specs.Refusals.{IsFaultless, CircuitData, IsCircuitOf}
+use Rattle.ice_decode.specs.Laws.{HasNoRowOn, IsDriverOf}
+use Rattle.ice_decode.proofs.Members.{At_map, At_range}
 use Rattle.ice_decode.proofs.Switches.{some_mapped, some_then}
 
 -- ---- contention
@@ -123,3 +125,22 @@ none_among (s ∷ r ∷ others) e = cc e
 pub undriven : (parts : Parts) (bits : Bits) (w : ℕ) → (driver parts bits w ≡ Nothing) ↔ HasNoRowOn parts bits w
 undriven parts bits w =
     (λ e. into_none bits w parts.groups (none_among (into w (switches_on bits parts.groups)) e), λ off. ap driver_among (none_into bits w parts.groups off))
+
+-- ---- what a circuit tells of a wire
+no_row : (d : Driver) → ((first second : RowNo) → d ≡ Several first second → ⊥) → row_of d ≡ None → d ≡ Nothing
+no_row Nothing one e = refl
+no_row (By s) one e = cc e
+no_row (Several first second) one e = absurd (one first second refl)
+
+pub told : (parts : Parts) (k : Configuration) (circuit : CircuitData) (w : ℕ) (row : Option RowNo) → slice_get (map row_of circuit.drivers) w ≡ Some row
+    → IsCircuitOf parts k circuit → w < parts.wires → IsDriverOf parts (bits_of k) w row
+told parts k circuit w row at is lt =
+    let d = driver parts (bits_of k) w in
+    let placed : slice_get (range_with_len 0 parts.wires) w ≡ Some w = let e : 0 + w ≡ w = omega arith in subst (λ v. slice_get (range_with_len 0 parts.wires) w ≡ Some v) e (At_range 0 parts.wires w lt) in
+    let kept : slice_get circuit.drivers w ≡ Some d = ap (λ ds. slice_get ds w) is.driven_by ∙ At_map (driver parts (bits_of k)) (range_with_len 0 parts.wires) w w placed in
+    let driving : row ≡ row_of d = same_Some row (row_of d) (sym at ∙ slice_get-map row_of circuit.drivers w ∙ ap (option_map row_of) kept) in
+    let law = undriven parts (bits_of k) w in
+    record {
+      driving = driving;
+      undriven = (λ none. law.0 (no_row d (uncontended parts (bits_of k) k.extras is.faultless w lt) (sym driving ∙ none)), λ off. driving ∙ ap row_of (law.1 off));
+    }

@@ -1,5 +1,5 @@
 -- The laws of the meaning of bits, each as one sentence.
-use Rattle.std.specs.Prelude.{◌≡◌, ◌≢◌, ◌↔◌, ℕ, ◌+◌, ◌*◌, ◌<◌, All, Bool, false, None, Some, List, length, map}
+use Rattle.std.specs.Prelude.{◌≡◌, ◌≢◌, ◌↔◌, ℕ, ◌+◌, ◌*◌, ◌<◌, All, Bool, false, Option, None, Some, List, length, map}
 use Rattle.ice_base.specs.declared.number.RowNo.{RowNo}
 use Rattle.ice_value.specs.System.{value}
 use Rattle.ice_value.specs.Inputs.{reading}
@@ -14,7 +14,7 @@ use Rattle.ice_decode.specs.declared.driver.Driver.TheVariants.{Nothing, Several
 use Rattle.ice_decode.specs.declared.fault.DecodeFault.{DecodeFault}
 use Rattle.ice_decode.specs.declared.fault.DecodeFault.TheVariants.{NoMemory}
 use Rattle.ice_decode.specs.Cells.{logic_tiles}
-use Rattle.ice_decode.specs.Drivers.{driver}
+use Rattle.ice_decode.specs.Drivers.{driver, row_of}
 use Rattle.ice_decode.specs.Reads.{points, count_points, reads}
 use Rattle.ice_decode.specs.Meaning.{makes, system_of, point_level}
 use Rattle.ice_decode.specs.Faults.{IsOrderOf}
@@ -55,6 +55,11 @@ HasNoRowOn parts bits w = All (λ (g : SwitchGroup). g.wire ≡ w → row_on bit
 -- the driver of a wire is nothing exactly where no row into the wire is on
 abbrev pub UndrivenWiresHaveNoRowOn : Type 0
 UndrivenWiresHaveNoRowOn = (parts : Parts) (bits : Bits) (w : ℕ) → (driver parts bits w ≡ Nothing) ↔ HasNoRowOn parts bits w
+
+-- what a circuit tells of a wire: the row that drives it, and None exactly where no row into it is on
+pub record IsDriverOf (parts : Parts) (bits : Bits) (w : ℕ) (row : Option RowNo) : Type 0 where
+  pub driving : row ≡ row_of (driver parts bits w)
+  pub undriven : (row ≡ None) ↔ HasNoRowOn parts bits w
 
 -- bits with a fault have no circuit, so a decoding that answers the fault has refused no bits with a meaning
 abbrev pub FaultsHaveNoCircuit : Type 0

@@ -1,7 +1,10 @@
 //! Circuits: bits without a fault.
 ghost use Rattle.std.specs.Prelude.{◌≡◌, ◌<◌, Some, length, map, slice_get};
+ghost use Rattle.ice_chip.specs.Database.{Parts};
+ghost use Rattle.ice_bits.specs.Configuration.{bits_of};
 ghost use Rattle.ice_decode.specs.Drivers.{row_of};
-ghost use Rattle.ice_decode.specs.Refusals.{CircuitData};
+ghost use Rattle.ice_decode.specs.Laws.{IsDriverOf};
+ghost use Rattle.ice_decode.specs.Refusals.{CircuitData, IsCircuitOf};
 
 use crate::{Driver, Point};
 use ice_base::{RowNo, WireNo};
@@ -25,9 +28,8 @@ impl Model for Circuit {
 }
 
 impl Circuit {
-    /// The row of switches that drives a wire, or None exactly where no row into the wire is on. The wire is one of the chip. Takes no
-    /// memory, as the other readers.
-    pub fn driver(&self, wire: WireNo) -> Option<RowNo>
+    // The number of the one row that drives a wire, as the table of drivers has it.
+    fn row_kept(&self, wire: WireNo) -> Option<RowNo>
         requires { wire.0 < length self.now.drivers }
         ensures { slice_get (map row_of self.now.drivers) wire.0 ≡ Some result }
     {
@@ -35,6 +37,16 @@ impl Circuit {
             Driver::Nothing | Driver::Several(_, _) => None,
             Driver::By(switch) => Some(switch.row),
         }
+    }
+
+    /// The row of switches that drives a wire, or None exactly where no row into the wire is on. The wire is one of the chip. Takes no
+    /// memory, as the other readers.
+    pub fn driver(&self, wire: WireNo) -> Option<RowNo>
+        requires { wire.0 < length self.now.drivers }
+        ensures kept { slice_get (map row_of self.now.drivers) wire.0 ≡ Some result }
+        ensures driver { (parts : Parts) → IsCircuitOf parts self.now.configuration self.now → wire.0 < parts.wires → IsDriverOf parts (bits_of self.now.configuration) wire.0 result }
+    {
+        self.row_kept(wire)
     }
 
     /// What drives each wire, by its number.

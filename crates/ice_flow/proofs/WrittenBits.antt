@@ -1,20 +1,18 @@
 -- The bits that are kept in the end are those that are to be written.
-use Rattle.std.proofs.Common.{◌≡◌, ℕ, ◌^◌, Bool, true, false, ltb, List, [], ◌∷◌, map, Result, refl, sym, ap, ◌∙◌, subst, Ok, Err}
+use Rattle.std.proofs.Common.{◌≡◌, ℕ, Bool, false, List, [], ◌∷◌, map, Result, refl, sym, ap, ◌∙◌, subst, Ok, Err}
 use Rattle.std.specs.Prelude.{◌&&◌, ◌||◌, IfOk, All}
-use Rattle.std.specs.List.{list_any, IsDistinct}
-use Rattle.std.proofs.lemmas.Bool.{ltb-true}
-use Rattle.std.proofs.lemmas.List.Elements.{All-nil, All-from_recursion}
+use Rattle.std.specs.List.{list_any}
+use Rattle.std.proofs.lemmas.List.Elements.{All-nil}
 use Rattle.ice_base.specs.declared.number.TileAt.{TileAt}
 use Rattle.ice_base.specs.declared.number.BitAt.{BitAt}
 use Rattle.ice_chip.specs.Database.{Parts}
-use Rattle.ice_chip.specs.Database as chip
-use Rattle.ice_chip.specs.Places.{same_tile as same_place}
+use Rattle.ice_chip.specs.IsRead.{IsChip}
 use Rattle.ice_bits.specs.Configuration.{Configuration, bits_of, IsOf}
 use Rattle.ice_asc.specs.Grammar.{asc_in}
-use Rattle.ice_asc.specs.RoundTrip.{IsNear, IsSmall, IsWritable, WrittenIsRead}
+use Rattle.ice_asc.specs.RoundTrip.{IsSmall, WrittenIsRead}
 use Rattle.ice_asc.specs.Text.{asc_text}
 use Rattle.ice_flow.specs.Database.{Pad, Row, SwitchGroup, same_tile, has_tile, function_bit}
-use Rattle.ice_flow.specs.FirstForm.{database_with, left_tile, right_tile}
+use Rattle.ice_flow.specs.FirstForm.{database_with}
 use Rattle.ice_flow.specs.FormChip.{parts_with}
 use Rattle.ice_flow.specs.Routes.{sets, value_at}
 use Rattle.ice_flow.specs.Views.{IsCopyOf, AreCopies, pad_view, port_pad_view}
@@ -61,50 +59,33 @@ bits_are groups plan rows roots ports t b blank middle last copies same_roots sa
     ∙ sym (written_is groups plan t b)
 
 -- ---- the text
-near_tile : (t : TileAt) → ltb t.x (2 ^ 16) ≡ true → ltb t.y (2 ^ 16) ≡ true → IsNear t
-near_tile t x y = record { x = ltb-true t.x (2 ^ 16) x; y = ltb-true t.y (2 ^ 16) y }
-
-tiles_apart : IsDistinct same_place (left_tile ∷ right_tile ∷ [])
-unfolding IsDistinct
-tiles_apart = ((refl, tt), (tt, tt))
-
--- the tiles of the form stand at different places, and their numbers can be written
-writable : (groups : List chip.SwitchGroup) (k : Configuration) → IsOf (parts_with []) k → k.extras ≡ [] → IsWritable (parts_with groups) k
-writable groups k form extras = record {
-  form = record { grids = form.grids };
-  apart = tiles_apart;
-  near = All-from_recursion IsNear (left_tile ∷ right_tile ∷ []) (near_tile left_tile refl refl, (near_tile right_tile refl refl, tt));
-  small = subst (λ (es : List (ℕ × ℕ × ℕ)). All IsSmall es) (sym extras) (All-nil IsSmall);
-}
-
--- the text of bits of the form says these bits
-text_says : (parts : Parts) (k : Configuration) → WrittenIsRead → parts ≡ parts_with parts.groups → AreFormBits k → asc_in parts (asc_text parts k) ≡ Ok k
-text_says parts k law is are =
-    subst (λ (p : Parts). asc_in p (asc_text p k) ≡ Ok k) (sym is) (law (parts_with parts.groups) k (writable parts.groups k are.form are.extras))
-
 form_of_chip : (parts : Parts) (k : Configuration) → parts ≡ parts_with parts.groups → AreFormBits k → IsOf parts k
 form_of_chip parts k is are = subst (λ (p : Parts). IsOf p k) (sym is) (record { grids = are.form.grids })
 
+-- the text of bits of the form says these bits
+text_says : (parts : Parts) (k : Configuration) → WrittenIsRead → IsChip parts → parts ≡ parts_with parts.groups → AreFormBits k → asc_in parts (asc_text parts k) ≡ Ok k
+text_says parts k law chip is are = law parts k chip (form_of_chip parts k is are) (subst (λ (es : List (ℕ × ℕ × ℕ)). All IsSmall es) (sym are.extras) (All-nil IsSmall))
+
 -- what is written holds the bits
-pub text_holds : (parts : Parts) (groups : List SwitchGroup) (plan : Plan) (k : Configuration) (text : List ℕ) → WrittenIsRead → parts ≡ parts_with parts.groups → AreFormBits k → text ≡ asc_text parts k
+pub text_holds : (parts : Parts) (groups : List SwitchGroup) (plan : Plan) (k : Configuration) (text : List ℕ) → WrittenIsRead → IsChip parts → parts ≡ parts_with parts.groups → AreFormBits k → text ≡ asc_text parts k
     → ((t : TileAt) (b : BitAt) → bits_of k t b ≡ written (database_with groups) plan t b) → HoldsWritten parts (database_with groups) plan text
-text_holds parts groups plan k text law is are printed same = record {
+text_holds parts groups plan k text law chip is are printed same = record {
   configuration = k;
   form = form_of_chip parts k is are;
   is_text = printed;
-  decodes = ap (asc_in parts) printed ∙ text_says parts k law is are;
+  decodes = ap (asc_in parts) printed ∙ text_says parts k law chip is are;
   extras = are.extras;
   bits = same;
 }
 
 pub all_texts_hold : (parts : Parts) (rows : List RouteRow) (roots : List rust_pad.Pad) (ports : List rust_port_pad.PortPad) (blank middle last : Configuration) (text : List ℕ)
-    → WrittenIsRead → parts ≡ parts_with parts.groups → AreFormBits last → text ≡ asc_text parts last
+    → WrittenIsRead → IsChip parts → parts ≡ parts_with parts.groups → AreFormBits last → text ≡ asc_text parts last
     → ((t : TileAt) (b : BitAt) → bits_of blank t b ≡ false)
     → ((t : TileAt) (b : BitAt) → bits_of middle t b ≡ (bits_of blank t b || list_any (λ x. row_sets x t b) rows))
     → ((t : TileAt) (b : BitAt) → bits_of last t b ≡ (bits_of middle t b || pads_set roots ports t b))
     → (groups : List SwitchGroup) (plan : Plan) → AreCopies rows plan.rows → plan.roots ≡ map pad_view roots → plan.ports ≡ map port_pad_view ports → HoldsWritten parts (database_with groups) plan text
-all_texts_hold parts rows roots ports blank middle last text law is are printed at_first with_rows with_pads groups plan copies same_roots same_ports =
-    text_holds parts groups plan last text law is are printed
+all_texts_hold parts rows roots ports blank middle last text law chip is are printed at_first with_rows with_pads groups plan copies same_roots same_ports =
+    text_holds parts groups plan last text law chip is are printed
     (λ t b. bits_are groups plan rows roots ports t b (bits_of blank t b) (bits_of middle t b) (bits_of last t b) copies same_roots same_ports (at_first t b) (with_rows t b) (with_pads t b))
 
 pub ok_maps : {T E : Type 0} (P Q : T → Type 0) (r : Result T E) → ((x : T) → P x → Q x) → IfOk r P → IfOk r Q

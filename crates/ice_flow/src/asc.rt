@@ -45,6 +45,7 @@ pub fn write_bits(
     let mut bits = blank(alloc, chip)?;
     write_rows(&mut bits, rows);
     write_pads(&mut bits, chip, roots, ports);
+    chip.wires();
     written_is_read();
     print(alloc, chip, &bits)
 }

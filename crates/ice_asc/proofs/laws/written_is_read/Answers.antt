@@ -1,5 +1,5 @@
-use Rattle.ice_asc.proofs.RoundTrips.{written_says}
+use Rattle.ice_asc.proofs.RoundTrips.{chip_says}
 use Rattle.ice_asc.proofs.laws.written_is_read.Goals as goal
 
 pub returns : goal.returns
-returns c = written_says
+returns c = chip_says

@@ -10,7 +10,7 @@ use Rattle.ice_chip_laws.proofs.laws.lookups_are_lawful.Goals as goal
 
 pub returns : goal.returns
 returns c = λ parts chip. record {
-  tiles = tiles_are parts;
+  tiles = tiles_are parts chip;
   names = names_are parts chip;
   pins = pins_are parts chip;
   functions = functions_are parts chip c.lacks_function_is_first.ensures;

@@ -1,7 +1,8 @@
 use Rattle.ice_chip.specs.IsRead.{IsRead}
 use Rattle.ice_chip.specs.Views.{parts_view}
 use Rattle.ice_chip_read.specs.Lines.{text_says}
-use Rattle.ice_chip_read.proofs.ReadParts.{held, text_is_read}
+use Rattle.ice_chip_read.proofs.ReadParts.{text_is_read}
+use Rattle.ice_chip_read.proofs.Results.{held}
 use Rattle.ice_chip_read.proofs.read.read_chip.Goals as goal
 
 pub build-requires : goal.build-requires

@@ -19,6 +19,6 @@ returns c =
     → HoldsWritten c.args.chip.now (database_with groups) plan text.items)
     c.print.result
     (λ text printed. all_texts_hold c.args.chip.now c.args.rows.now c.args.roots.now c.args.ports.now c.in_ok-bits.bits c.write_rows.new.bits c.write_pads.new.bits text.items
-    c.written_is_read.ensures c.requires.chip c.write_pads.ensures.form printed (λ t b. blank_is_zero c.args.chip.now c.in_ok-bits.bits t b c.requires.chip c.in_ok-bits.ensures.blank)
+    c.written_is_read.ensures c.wires.ensures.chip c.requires.chip c.write_pads.ensures.form printed (λ t b. blank_is_zero c.args.chip.now c.in_ok-bits.bits t b c.requires.chip c.in_ok-bits.ensures.blank)
     c.write_rows.ensures.set c.write_pads.ensures.set)
     c.print.ensures
