@@ -12,6 +12,7 @@ use Rattle.ice_chip.specs.Lookups.{tile_of}
 use Rattle.ice_chip.specs.Places.{same_tile, columns, tile_known}
 use Rattle.ice_chip.specs.Within.{IsPlace}
 use Rattle.ice_chip.specs.declared.parts.TileLine.{TileLine}
+use Rattle.ice_chip.specs.declared.rows.TileKind.{TileKind}
 use Rattle.ice_chip.specs.declared.tile.Tile.{Tile}
 use Rattle.ice_bits.specs.Configuration.{Configuration, bit_at, bits_of, rows_at, IsGrid, AreGrids, IsOf, blank_rows, blank_tile, blank}
 use Rattle.ice_bits.specs.Rewriting.{with_rows}
@@ -27,18 +28,18 @@ use Rattle.ice_asc.proofs.WrittenReading.{IsNear, Reads, reads_line, behind, row
 abbrev Tiles : Type 0
 Tiles = List (TileAt × List (List Bool))
 
-abbrev bits_with : Tiles → List (ℕ × ℕ × ℕ) → Configuration
-bits_with tiles extras = record { tiles = tiles; extras = extras }
+abbrev bits_with : List TileKind → Tiles → List (ℕ × ℕ × ℕ) → Configuration
+bits_with kinds tiles extras = record { tiles = tiles; kinds = kinds; extras = extras }
 
 -- ---- extra bits, and the end
-extras_read : (parts : Parts) (seen : List TileAt) (tiles : Tiles) (done left : List (ℕ × ℕ × ℕ)) → AllByRecursion IsSmall left
-    → Reads parts (ready seen (bits_with tiles done)) (map extra_line left) (bits_with tiles (done ++ left))
-extras_read parts seen tiles done [] small = λ last n. ap (λ extras. Ok (bits_with tiles extras)) (sym (append-nil done))
-extras_read parts seen tiles done (extra ∷ left) small =
-    reads_line parts (ready seen (bits_with tiles done)) (λ n. ready seen (bits_with tiles (done ++ extra ∷ []))) (extra_line extra) (map extra_line left) (bits_with tiles (done ++ extra ∷ left))
-    (λ n. extra_read parts seen (bits_with tiles done) extra n small.0)
-    (λ n. subst (λ extras. Reads parts (ready seen (bits_with tiles (done ++ extra ∷ []))) (map extra_line left) (bits_with tiles extras)) (append_assoc done (extra ∷ []) left)
-    (extras_read parts seen tiles (done ++ extra ∷ []) left small.1))
+extras_read : (parts : Parts) (seen : List TileAt) (kinds : List TileKind) (tiles : Tiles) (done left : List (ℕ × ℕ × ℕ)) → AllByRecursion IsSmall left
+    → Reads parts (ready seen (bits_with kinds tiles done)) (map extra_line left) (bits_with kinds tiles (done ++ left))
+extras_read parts seen kinds tiles done [] small = λ last n. ap (λ extras. Ok (bits_with kinds tiles extras)) (sym (append-nil done))
+extras_read parts seen kinds tiles done (extra ∷ left) small =
+    reads_line parts (ready seen (bits_with kinds tiles done)) (λ n. ready seen (bits_with kinds tiles (done ++ extra ∷ []))) (extra_line extra) (map extra_line left) (bits_with kinds tiles (done ++ extra ∷ left))
+    (λ n. extra_read parts seen (bits_with kinds tiles done) extra n small.0)
+    (λ n. subst (λ extras. Reads parts (ready seen (bits_with kinds tiles (done ++ extra ∷ []))) (map extra_line left) (bits_with kinds tiles extras)) (append_assoc done (extra ∷ []) left)
+    (extras_read parts seen kinds tiles (done ++ extra ∷ []) left small.1))
 
 -- ---- tiles
 -- the lines of a tile whose rows are these
@@ -49,13 +50,13 @@ lines_of k tile rows at is =
 tiles_read : (parts : Parts) (k : Configuration) (front rest : List (TileAt × TileLine)) (done grids : Tiles) (ls : List (List ℕ))
     → parts.tiles ≡ front ++ rest → k.tiles ≡ done ++ grids → keys_of done ≡ keys_of front → AreGrids rest grids
     → IsDistinct same_tile (keys_of front ++ keys_of rest) → AllByRecursion IsNear (keys_of rest)
-    → Reads parts (ready (keys_of parts.tiles) (bits_with k.tiles [])) ls k
-    → Reads parts (ready (keys_of front) (bits_with (done ++ map blank_tile rest) [])) (flat_map (tile_lines k) (map tile_of rest) ++ ls) k
+    → Reads parts (ready (keys_of parts.tiles) (bits_with k.kinds k.tiles [])) ls k
+    → Reads parts (ready (keys_of front) (bits_with k.kinds (done ++ map blank_tile rest) [])) (flat_map (tile_lines k) (map tile_of rest) ++ ls) k
 tiles_read parts k front [] done [] ls stand held keys are apart near later =
     let tiles : parts.tiles ≡ front = stand ∙ append-nil front in
     let grids : k.tiles ≡ done ++ [] = held in
-    subst (λ (f : List (TileAt × TileLine)). Reads parts (ready (keys_of f) (bits_with (done ++ []) [])) ls k) tiles
-    (subst (λ (ts : Tiles). Reads parts (ready (keys_of parts.tiles) (bits_with ts [])) ls k) grids later)
+    subst (λ (f : List (TileAt × TileLine)). Reads parts (ready (keys_of f) (bits_with k.kinds (done ++ []) [])) ls k) tiles
+    (subst (λ (ts : Tiles). Reads parts (ready (keys_of parts.tiles) (bits_with k.kinds ts [])) ls k) grids later)
 tiles_read parts k front [] done (grid ∷ grids) ls stand held keys are apart near later = absurd are
 tiles_read parts k front (tile ∷ rest) done [] ls stand held keys are apart near later = absurd are
 tiles_read parts k front (tile ∷ rest) done (grid ∷ grids) ls stand held keys are apart near later =
@@ -68,8 +69,8 @@ tiles_read parts k front (tile ∷ rest) done (grid ∷ grids) ls stand held key
     let kept : rows_at k at ≡ Some rows = ap (lookup (same_tile at)) (held ∙ ap (λ (g : TileAt × List (List Bool)). done ++ g ∷ grids) same_grid) ∙ found at rows done grids new_done (self_same at) in
     let said : tile_lines k (tile_of tile) ≡ tile_heading (tile_of tile) ∷ map (map digit_of_bit) rows = lines_of k (tile_of tile) rows kept are.1 in
     let more : List (List ℕ) = flat_map (tile_lines k) (map tile_of rest) ++ ls in
-    let bits : Configuration = bits_with (done ++ map blank_tile (tile ∷ rest)) [] in
-    let next : Reads parts (ready (keys_of (front ++ tile ∷ [])) (bits_with ((done ++ grid ∷ []) ++ map blank_tile rest) [])) more k =
+    let bits : Configuration = bits_with k.kinds (done ++ map blank_tile (tile ∷ rest)) [] in
+    let next : Reads parts (ready (keys_of (front ++ tile ∷ [])) (bits_with k.kinds ((done ++ grid ∷ []) ++ map blank_tile rest) [])) more k =
     tiles_read parts k (front ++ tile ∷ []) rest (done ++ grid ∷ []) grids ls
     (stand ∙ sym (append_assoc front (tile ∷ []) rest))
     (held ∙ sym (append_assoc done (grid ∷ []) grids))
@@ -77,13 +78,13 @@ tiles_read parts k front (tile ∷ rest) done (grid ∷ grids) ls stand held key
     are.2
     (subst (IsDistinct same_tile) (sym (ap (λ ks. ks ++ keys_of rest) (keys_push front tile) ∙ append_assoc (keys_of front) (at ∷ []) (keys_of rest))) apart)
     near.1 later in
-    let written : with_rows at rows bits ≡ bits_with ((done ++ grid ∷ []) ++ map blank_tile rest) [] =
-    ap (λ (ts : Tiles). bits_with ts [])
+    let written : with_rows at rows bits ≡ bits_with k.kinds ((done ++ grid ∷ []) ++ map blank_tile rest) [] =
+    ap (λ (ts : Tiles). bits_with k.kinds ts [])
     (changed at (λ _. rows) (blank_rows (columns tile.1.kind)) done (map blank_tile rest) new_done (self_same at)
     ∙ ap (λ (g : TileAt × List (List Bool)). done ++ g ∷ map blank_tile rest) (sym same_grid) ∙ sym (append_assoc done (grid ∷ []) (map blank_tile rest))) in
     let after : (n : ℕ) → Reads parts (behind (entered (keys_of front) bits n at tile.1.kind) at rows) more k = λ n.
     subst (λ (c : Configuration). Reads parts (ready (keys_of front ++ at ∷ []) c) more k) (sym written)
-    (subst (λ (ks : List TileAt). Reads parts (ready ks (bits_with ((done ++ grid ∷ []) ++ map blank_tile rest) [])) more k) (keys_push front tile) next) in
+    (subst (λ (ks : List TileAt). Reads parts (ready ks (bits_with k.kinds ((done ++ grid ∷ []) ++ map blank_tile rest) [])) more k) (keys_push front tile) next) in
     let all : Reads parts (ready (keys_of front) bits) (tile_heading (tile_of tile) ∷ (map (map digit_of_bit) rows ++ more)) k =
     reads_line parts (ready (keys_of front) bits) (λ n. entered (keys_of front) bits n at tile.1.kind) (tile_heading (tile_of tile)) (map (map digit_of_bit) rows ++ more) k
     (λ n. heading_read parts (keys_of front) bits (tile_of tile) tile.1 n near.0 known refl (unseen at (keys_of front) new))
@@ -157,8 +158,10 @@ written_says parts k w =
         (plain_line (codes ".device 1k") refl, all_append IsLine (flat_map (tile_lines k) (map tile_of parts.tiles)) ends (tiles_are_lines k parts.tiles near) (extras_are_lines k.extras small)),
       ),
     ) in
-    let ended : Reads parts (ready (keys_of parts.tiles) (bits_with k.tiles [])) ends k = extras_read parts (keys_of parts.tiles) k.tiles [] k.extras small in
-    let tiles : Reads parts (ready [] (blank parts)) body k = tiles_read parts k [] parts.tiles [] k.tiles ends refl refl refl w.form.grids w.apart near ended in
+    let ended : Reads parts (ready (keys_of parts.tiles) (bits_with k.kinds k.tiles [])) ends k = extras_read parts (keys_of parts.tiles) k.kinds k.tiles [] k.extras small in
+    let tiles : Reads parts (ready [] (blank parts)) body k =
+    subst (λ (kinds : List TileKind). Reads parts (ready [] (bits_with kinds (map blank_tile parts.tiles) [])) body k) w.form.kinds
+    (tiles_read parts k [] parts.tiles [] k.tiles ends refl refl refl w.form.grids w.apart near ended) in
     let device : Reads parts (in_comment parts) (codes ".device 1k" ∷ body) k = reads_line parts (in_comment parts) (λ n. ready [] (blank parts)) (codes ".device 1k") body k (device_read parts) (λ n. tiles) in
     let remark : Reads parts (in_comment parts) (codes "placed and routed" ∷ codes ".device 1k" ∷ body) k =
     reads_line parts (in_comment parts) (λ n. in_comment parts) (codes "placed and routed") (codes ".device 1k" ∷ body) k (remark_read parts) (λ n. device) in

@@ -13,13 +13,13 @@ use Rattle.ice_chip.specs.Places.{same_tile, columns, tile_known}
 use Rattle.ice_chip.specs.declared.rows.TileKind.{TileKind}
 use Rattle.ice_chip.specs.declared.rows.TileKind.TheVariants.{Io, Logic, RamBottom, RamTop}
 use Rattle.ice_chip.specs.declared.parts.TileLine.{TileLine}
-use Rattle.ice_bits.specs.Configuration.{Configuration, IsGrid, IsOf}
+use Rattle.ice_bits.specs.Configuration.{Configuration, is_of_kind, IsGrid, IsOf}
 use Rattle.ice_bits.specs.Rewriting.{with_rows}
 use Rattle.ice_bits.proofs.Forms.{blank_is_of, with_rows_is_of}
 use Rattle.ice_asc.specs.Faults.{◌>>=◌}
 use Rattle.ice_asc.specs.Headings.{heading_of}
 use Rattle.ice_asc.specs.Words.{all_known, bit_of_digit, row_of_words, tile_of_words, extra_of_words}
-use Rattle.ice_asc.specs.Grammar.{Reading, start, with_row, known_row, row_says, device_says, is_of_kind, opened, tile_says, extra_says, heading_says, words_say, line_says, at_line, lines_say, end_says, asc_in}
+use Rattle.ice_asc.specs.Grammar.{Reading, start, with_row, known_row, row_says, device_says, opened, tile_says, extra_says, heading_says, words_say, line_says, at_line, lines_say, end_says, asc_in}
 use Rattle.ice_asc.specs.Answers.{Answers}
 use Rattle.ice_asc.specs.declared.fault.AscFault.{AscFault}
 use Rattle.ice_asc.specs.declared.fault.AscFault.TheVariants as fault
@@ -151,7 +151,7 @@ tile_sound parts r kind (Some at) sound = by (tile_known parts.tiles at) refl
 
 extra_sound : (parts : Parts) (r : Reading) (extra : Option (ℕ × ℕ × ℕ)) → IsSound parts r → IfOk (extra_says r extra) (IsSound parts)
 extra_sound parts r None sound = tt
-extra_sound parts r (Some extra) sound = record { bits = record { grids = sound.bits.grids }; open_tile = tt }
+extra_sound parts r (Some extra) sound = record { bits = record { grids = sound.bits.grids; kinds = sound.bits.kinds }; open_tile = tt }
 
 heading_sound : (parts : Parts) (r : Reading) (heading : Heading) (ws : List (List ℕ)) → IsSound parts r → IfOk (heading_says parts r heading ws) (IsSound parts)
 heading_sound parts r Device ws sound = device_sound parts r ws sound

@@ -18,12 +18,13 @@ use Rattle.ice_chip.specs.declared.rows.TileKind.{TileKind}
 use Rattle.ice_chip.specs.declared.rows.TileKind.TheVariants.{Io, Logic, RamBottom, RamTop}
 use Rattle.ice_chip.specs.declared.parts.TileLine.{TileLine}
 use Rattle.ice_chip.specs.declared.tile.Tile.{Tile}
-use Rattle.ice_bits.specs.Configuration.{Configuration, blank}
+use Rattle.ice_bits.specs.Configuration.{Configuration, is_of_kind, blank}
 use Rattle.ice_bits.specs.Rewriting.{with_rows}
+use Rattle.ice_bits.proofs.TileKinds.{kind_same}
 use Rattle.ice_asc.specs.Faults.{◌>>=◌}
 use Rattle.ice_asc.specs.Headings.{heading_of_kind, heading_of}
 use Rattle.ice_asc.specs.Words.{all_known, bit_of_digit, row_of_words, place_of, tile_of_words, extra_bit, extra_of_words}
-use Rattle.ice_asc.specs.Grammar.{Reading, start, with_row, known_row, is_of_kind, opened, tile_says, extra_says, heading_says, line_says, at_line, lines_say, end_says}
+use Rattle.ice_asc.specs.Grammar.{Reading, start, with_row, known_row, opened, tile_says, extra_says, heading_says, line_says, at_line, lines_say, end_says}
 use Rattle.ice_asc.specs.RoundTrip.{IsSmall}
 use Rattle.ice_asc.specs.Text.{digit_of_bit, spaced, tile_heading, extra_line}
 use Rattle.ice_asc.specs.declared.fault.AscFault.{AscFault}
@@ -149,12 +150,6 @@ heading_begins Logic = refl
 heading_begins RamBottom = refl
 heading_begins RamTop = refl
 
-kind_same : (kind : TileKind) → same_kind kind kind ≡ true
-kind_same Io = refl
-kind_same Logic = refl
-kind_same RamBottom = refl
-kind_same RamTop = refl
-
 -- the device is named, no section takes the next line, and no tile is open
 abbrev pub ready : List TileAt → Configuration → Reading
 ready seen bits = record { line = 0; has_device = true; section = Nowhere; rows = []; seen = seen; bits = bits }
@@ -192,7 +187,7 @@ three_read extra small =
     ∙ ap (option_map (extra_bit extra.0 extra.1)) (number_in_decimal extra.2 small.row)
 
 pub extra_read : (parts : Parts) (seen : List TileAt) (bits : Configuration) (extra : ℕ × ℕ × ℕ) (n : ℕ) → IsSmall extra
-    → line_says parts (at_line (ready seen bits) n) (words (extra_line extra)) ≡ Ok (at_line (ready seen (record { tiles = bits.tiles; extras = bits.extras ++ extra ∷ [] })) n)
+    → line_says parts (at_line (ready seen bits) n) (words (extra_line extra)) ≡ Ok (at_line (ready seen (record { tiles = bits.tiles; kinds = bits.kinds; extras = bits.extras ++ extra ∷ [] })) n)
 extra_read parts seen bits extra n small =
     ap (line_says parts (at_line (ready seen bits) n)) (extra_words extra small) ∙ ap (extra_says (at_line (ready seen bits) n)) (three_read extra small)
 

@@ -5,11 +5,10 @@ use Rattle.ice_base.specs.declared.number.TileAt.{TileAt}
 use Rattle.ice_base.specs.Text.{lines, numbered, words}
 use Rattle.ice_base.specs.Comments.{begins_with}
 use Rattle.ice_chip.specs.Database.{Parts}
-use Rattle.ice_chip.specs.Functions.{same_kind}
 use Rattle.ice_chip.specs.Lookups.{kind_at}
 use Rattle.ice_chip.specs.Places.{same_tile, columns}
 use Rattle.ice_chip.specs.declared.rows.TileKind.{TileKind}
-use Rattle.ice_bits.specs.Configuration.{Configuration, blank}
+use Rattle.ice_bits.specs.Configuration.{Configuration, is_of_kind, blank}
 use Rattle.ice_bits.specs.Rewriting.{with_rows, with_extra}
 use Rattle.ice_asc.specs.Faults.{◌>>=◌}
 use Rattle.ice_asc.specs.Headings.{heading_of}
@@ -56,10 +55,6 @@ device_says r (name ∷ []) = if bytes_eq name (codes "1k") then Ok (record r { 
 device_says r (name ∷ w ∷ ws) = Err (OtherDevice r.line)
 
 -- a tile of this kind stands there
-abbrev pub is_of_kind : TileKind → Option TileKind → Bool
-is_of_kind kind None = false
-is_of_kind kind (Some known) = same_kind known kind
-
 abbrev pub opened : Reading → TileKind → TileAt → Result Reading AscFault
 opened r kind at =
     if list_any (same_tile at) r.seen then Err (TileTwice r.line) else Ok (record r { section = Rows r.line at kind; rows = []; seen = r.seen ++ at ∷ [] })

@@ -1,6 +1,6 @@
 //! What the headings of sections say.
 ghost use Rattle.std.specs.Prelude.{◌≡◌, ◌∷◌};
-ghost use Rattle.ice_asc.specs.Grammar.{device_says, is_of_kind, opened, tile_says, extra_says, heading_says};
+ghost use Rattle.ice_asc.specs.Grammar.{device_says, opened, tile_says, extra_says, heading_says};
 ghost use Rattle.ice_asc.specs.Words.{extra_of_words};
 ghost use Rattle.ice_asc.specs.Views.{Says, Gives, reading_view};
 
@@ -9,7 +9,7 @@ use crate::reading::Reading;
 use crate::section::{Heading, Section};
 use crate::words::{extra_of, tile_of};
 use ice_base::{TileAt, WordIter};
-use ice_bits::TileBits;
+use ice_bits::{TileBits, is_of_kind};
 use ice_chip::{Chip, TileKind};
 use std::alloc::Global;
 
@@ -27,22 +27,6 @@ fn device_line(reading: &mut Reading, mut words: WordIter<'_>) -> Result<(), Asc
     reading.has_device = true;
     reading.section = Section::Nowhere;
     Ok(())
-}
-
-// Whether a tile of this kind is known.
-fn is_of_kind(kind: TileKind, known: Option<TileKind>) -> bool
-    ensures { result ≡ is_of_kind kind known }
-{
-    match known {
-        None => false,
-        Some(known) => matches!(
-            (known, kind),
-            (TileKind::Io, TileKind::Io)
-                | (TileKind::Logic, TileKind::Logic)
-                | (TileKind::RamBottom, TileKind::RamBottom)
-                | (TileKind::RamTop, TileKind::RamTop)
-        ),
-    }
 }
 
 // Opens a tile, which must be its first heading.

@@ -26,7 +26,7 @@ blank_grids [] = tt
 blank_grids (tile ∷ tiles) = (refl, blank_grid (columns tile.1.kind), blank_grids tiles)
 
 pub blank_is_of : (parts : Parts) → IsOf parts (blank parts)
-blank_is_of parts = record { grids = blank_grids parts.tiles }
+blank_is_of parts = record { grids = blank_grids parts.tiles; kinds = refl }
 
 -- ---- the places of the bits
 places_of_grid : (width : ℕ) (rows : List (List Bool)) (b : BitAt) → IsGrid width rows → is_in rows b ≡ (nat_lt b.row 16 && nat_lt b.col width)
@@ -78,4 +78,4 @@ grids_with (tile ∷ tiles) (grid ∷ grids) t rows known are at is = by (same_t
 
 pub with_rows_is_of : (parts : Parts) (k : Configuration) (t : TileAt) (rows : List (List Bool)) (known : TileLine) → IsOf parts k → tile_known parts.tiles t ≡ Some known
     → IsGrid (columns known.kind) rows → IsOf parts (with_rows t rows k)
-with_rows_is_of parts k t rows known of at is = record { grids = grids_with parts.tiles k.tiles t rows known of.grids at is }
+with_rows_is_of parts k t rows known of at is = record { grids = grids_with parts.tiles k.tiles t rows known of.grids at is; kinds = of.kinds }

@@ -1,5 +1,5 @@
 -- A function has no bits in tiles of other kinds.
-use Rattle.std.proofs.Common.{◌≡◌, ℕ, false, Option, None, Some, option_map, List, refl, ap}
+use Rattle.std.proofs.Common.{◌≡◌, ℕ, false, Option, None, Some, List, refl, ap}
 use Rattle.std.specs.Prelude.{slice_get}
 use Rattle.std.specs.Option.{option_map_or, option_and_then}
 use Rattle.ice_base.specs.declared.number.TileAt.{TileAt}

@@ -2,7 +2,7 @@
 use Rattle.std.proofs.Common.{◌≤◌, ◌+◌, take, drop, map, slice_get, ◌≡◌, ℕ, zero, suc, ◌<◌, Bool, true, false, cond, if◌then◌else◌, Option, None, Some, option_map, List, [], ◌∷◌, ◌++◌, length, get_or, set, refl, sym, ap, ◌∙◌, subst, arith}
 use Rattle.std.specs.Prelude.{◌&&◌}
 use Rattle.std.specs.Map.{lookup}
-use Rattle.std.specs.Option.{option_map_or, option_or}
+use Rattle.std.specs.Option.{option_map_or, option_and_then, option_or}
 use Rattle.std.proofs.lemmas.List.{take_more, take_all, map-append}
 use Rattle.ice_base.specs.declared.number.TileAt.{TileAt}
 use Rattle.ice_base.specs.declared.number.BitAt.{BitAt}
@@ -11,10 +11,11 @@ use Rattle.ice_chip.specs.Lookups.{tile_of, rows_of}
 use Rattle.ice_chip.specs.declared.tile.Tile.{Tile}
 use Rattle.ice_chip.specs.Places.{same_tile, columns}
 use Rattle.ice_chip.specs.declared.parts.TileLine.{TileLine}
-use Rattle.ice_bits.specs.Configuration.{Bits, Configuration, bit_in, bit_at, rows_at, bits_of, is_in, is_there, same_place, AreGrids, blank_rows, blank_tile, blank}
+use Rattle.ice_chip.specs.declared.rows.TileKind.{TileKind}
+use Rattle.ice_bits.specs.Configuration.{Bits, Configuration, bit_in, bit_at, rows_at, bits_of, kind_in, is_in, is_there, same_place, AreGrids, blank_rows, blank_tile, kind_of_tile, blank}
 use Rattle.ice_bits.specs.Written.{with_bit, with_bits}
 use Rattle.ice_bits.specs.Rewriting.{where_there, Rewrites, rows_with, tiles_with, with_place, with_places, with_row}
-use Rattle.ice_bits.specs.Views.{blank_at}
+use Rattle.ice_bits.specs.Views.{blank_at, kind_of}
 use Rattle.ice_bits.specs.TilePlaces.{place_in}
 use Rattle.ice_bits.proofs.Keys.{tile_same, tile_self, place_same, both_true}
 use Rattle.ice_bits.proofs.RowWrites.{rows_keep, grid_keeps, nothing_outside, read_after}
@@ -93,14 +94,14 @@ pub written_at : (t : TileAt) (change : Rows → Rows) (es : Tiles) (i : ℕ) (e
 written_at t change es i e rows at is wrote =
     ap (λ (new : Rows). set es i (e.0, new)) wrote ∙ ap (λ (x : TileAt × Rows). set es i (x.0, change x.1)) is ∙ sym (place_change t change es i e at)
 
-abbrev pub of_tiles : Tiles → List (ℕ × ℕ × ℕ) → Configuration
-of_tiles tiles extras = record { tiles = tiles; extras = extras }
+abbrev pub of_tiles : Tiles → List TileKind → List (ℕ × ℕ × ℕ) → Configuration
+of_tiles tiles kinds extras = record { tiles = tiles; kinds = kinds; extras = extras }
 
 -- the configuration of which the tiles are these, with other rows of a tile
-pub seen_written : (t : TileAt) (change : Rows → Rows) (tiles new : Tiles) (extras : List (ℕ × ℕ × ℕ)) (k : Configuration) → of_tiles tiles extras ≡ k → new ≡ tiles_with t change tiles
-    → of_tiles new extras ≡ of_tiles (tiles_with t change k.tiles) k.extras
-seen_written t change tiles new extras k view is =
-    ap (λ (ts : Tiles). of_tiles ts extras) is ∙ ap (λ (c : Configuration). of_tiles (tiles_with t change c.tiles) c.extras) view
+pub seen_written : (t : TileAt) (change : Rows → Rows) (tiles new : Tiles) (kinds : List TileKind) (extras : List (ℕ × ℕ × ℕ)) (k : Configuration) → of_tiles tiles kinds extras ≡ k
+    → new ≡ tiles_with t change tiles → of_tiles new kinds extras ≡ of_tiles (tiles_with t change k.tiles) k.kinds k.extras
+seen_written t change tiles new kinds extras k view is =
+    ap (λ (ts : Tiles). of_tiles ts kinds extras) is ∙ ap (λ (c : Configuration). of_tiles (tiles_with t change c.tiles) c.kinds c.extras) view
 
 pub nothing_changes : (t : TileAt) (change : Rows → Rows) (es : Tiles) → place_in t es ≡ None → tiles_with t change es ≡ es
 nothing_changes t change [] at = refl
@@ -144,7 +145,7 @@ same_elsewhere t u change (e ∷ es) other = by (same_tile t e.0) refl (same_til
         ∙ ap (λ (o : Option Rows). cond there (Some e.1) o) rest
 
 -- ---- one bit
-unseen : (k : Configuration) (u : TileAt) (b : BitAt) → is_there k u b ≡ false → bits_of k u b ≡ false
+pub unseen : (k : Configuration) (u : TileAt) (b : BitAt) → is_there k u b ≡ false → bits_of k u b ≡ false
 unseen k u b out = by (rows_at k u) out
   where
     by : (o : Option Rows) → option_map_or (λ rows. is_in rows b) o false ≡ false → bit_at o b ≡ false
@@ -198,12 +199,16 @@ grids_stay t p v (tile ∷ tiles) (e ∷ es) are = by (same_tile t e.0) (grids_s
     by true rest = (are.0, grid_keeps p v (columns tile.1.kind) e.1 are.1, are.2)
     by false rest = (are.0, are.1, rest)
 
+pub kinds_stay : (k : Configuration) (t : TileAt) (p : BitAt) (v : Bool) (u : TileAt) → kind_in (with_place t p v k) u ≡ kind_in k u
+kinds_stay k t p v u = ap (option_and_then (λ i. slice_get k.kinds i)) (place_after t u (rows_with p v) k.tiles)
+
 pub place_rewrites : (k : Configuration) (t : TileAt) (p : BitAt) (v : Bool) → Rewrites k (with_place t p v k) (where_there k (with_bit t p v (bits_of k)))
 place_rewrites k t p v = record {
   bits = bit_written k t p v;
   places = places_stay k t p v;
+  kinds = kinds_stay k t p v;
   extras = refl;
-  form = λ parts is. record { grids = grids_stay t p v parts.tiles k.tiles is.grids };
+  form = λ parts is. record { grids = grids_stay t p v parts.tiles k.tiles is.grids; kinds = is.kinds };
 }
 
 -- a bit that is there
@@ -211,6 +216,7 @@ pub bit_rewrites : (k : Configuration) (t : TileAt) (p : BitAt) (v : Bool) → i
 bit_rewrites k t p v there = record {
   bits = λ u b. bit_written k t p v u b ∙ seen u b;
   places = places_stay k t p v;
+  kinds = kinds_stay k t p v;
   extras = refl;
   form = (place_rewrites k t p v).form;
 }
@@ -229,10 +235,11 @@ bit_rewrites k t p v there = record {
             absurd (cc)
 
 -- ---- several bits
-as_it_is : (k : Configuration) → Rewrites k k (where_there k (bits_of k))
+pub as_it_is : (k : Configuration) → Rewrites k k (where_there k (bits_of k))
 as_it_is k = record {
   bits = λ u b. by u b (is_there k u b) refl;
   places = λ u b. refl;
+  kinds = λ u. refl;
   extras = refl;
   form = λ parts is. is;
 }
@@ -256,7 +263,7 @@ pub places_nowhere : (t : TileAt) (ps : List BitAt) (vs : List Bool) (k : Config
 places_nowhere t [] vs k none = refl
 places_nowhere t (p ∷ ps) [] k none = refl
 places_nowhere t (p ∷ ps) (v ∷ vs) k none =
-    let same : k ≡ with_place t p v k = ap (λ (ts : Tiles). of_tiles ts k.extras) (sym (nothing_changes t (rows_with p v) k.tiles none)) in
+    let same : k ≡ with_place t p v k = ap (λ (ts : Tiles). of_tiles ts k.kinds k.extras) (sym (nothing_changes t (rows_with p v) k.tiles none)) in
     places_nowhere t ps vs k none ∙ ap (with_places t ps vs) same
 
 pub never_there : (k : Configuration) (t : TileAt) (p : BitAt) → place_in t k.tiles ≡ None → is_there k t p ≡ false
@@ -271,6 +278,7 @@ places_rewrite t (p ∷ ps) (v ∷ vs) k =
     record {
       bits = λ u b. later.bits u b ∙ by ps vs k p v u b (is_there k u b) refl (first.bits u b) (first.places u b);
       places = λ u b. later.places u b ∙ first.places u b;
+      kinds = λ u. later.kinds u ∙ first.kinds u;
       extras = later.extras;
       form = λ parts is. later.form parts (first.form parts is);
     }
@@ -330,11 +338,22 @@ blank_more tiles i d done rows lt so_far is =
     ap (λ (ts : Tiles). ts ++ ((get_or tiles i d).at, rows) ∷ []) so_far ∙ ap (λ (rs : Rows). map blank_at (take i tiles) ++ ((get_or tiles i d).at, rs) ∷ []) is
     ∙ sym (map-append blank_at (take i tiles) (get_or tiles i d ∷ [])) ∙ ap (map blank_at) (sym (take_more tiles i d lt))
 
-pub blank_all : (parts : Parts) (tiles : List Tile) (i : ℕ) (done : Tiles) (extras : List (ℕ × ℕ × ℕ)) → tiles ≡ map tile_of parts.tiles → length tiles ≤ i → done ≡ map blank_at (take i tiles) → extras ≡ []
-    → of_tiles done extras ≡ blank parts
-blank_all parts tiles i done extras are le so_far none =
-    ap (λ (ts : Tiles). of_tiles ts extras) (so_far ∙ ap (map blank_at) (take_all i tiles le ∙ are) ∙ fused parts.tiles) ∙ ap (of_tiles (map blank_tile parts.tiles)) none
+pub kinds_more : (tiles : List Tile) (i : ℕ) (d : Tile) (kinds : List TileKind) → i < length tiles → kinds ≡ map kind_of (take i tiles)
+    → kinds ++ (get_or tiles i d).kind ∷ [] ≡ map kind_of (take (i + 1) tiles)
+kinds_more tiles i d kinds lt so_far =
+    ap (λ (ks : List TileKind). ks ++ (get_or tiles i d).kind ∷ []) so_far ∙ sym (map-append kind_of (take i tiles) (get_or tiles i d ∷ [])) ∙ ap (map kind_of) (sym (take_more tiles i d lt))
+
+pub blank_all : (parts : Parts) (tiles : List Tile) (i : ℕ) (done : Tiles) (kinds : List TileKind) (extras : List (ℕ × ℕ × ℕ)) → tiles ≡ map tile_of parts.tiles → length tiles ≤ i
+    → done ≡ map blank_at (take i tiles) → kinds ≡ map kind_of (take i tiles) → extras ≡ [] → of_tiles done kinds extras ≡ blank parts
+blank_all parts tiles i done kinds extras are le so_far kinds_so_far none =
+    ap (λ (ts : Tiles). of_tiles ts kinds extras) (so_far ∙ ap (map blank_at) (take_all i tiles le ∙ are) ∙ fused parts.tiles)
+    ∙ ap (λ (ks : List TileKind). of_tiles (map blank_tile parts.tiles) ks extras) (kinds_so_far ∙ ap (map kind_of) (take_all i tiles le ∙ are) ∙ kinds_fused parts.tiles)
+    ∙ ap (of_tiles (map blank_tile parts.tiles) (map kind_of_tile parts.tiles)) none
   where
     fused : (ts : List (TileAt × TileLine)) → map blank_at (map tile_of ts) ≡ map blank_tile ts
     fused [] = refl
     fused (t ∷ ts) = ap (λ (rest : Tiles). blank_tile t ∷ rest) (fused ts)
+
+    kinds_fused : (ts : List (TileAt × TileLine)) → map kind_of (map tile_of ts) ≡ map kind_of_tile ts
+    kinds_fused [] = refl
+    kinds_fused (t ∷ ts) = ap (λ (rest : List TileKind). kind_of_tile t ∷ rest) (kinds_fused ts)

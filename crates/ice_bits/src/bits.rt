@@ -1,19 +1,21 @@
 //! The configuration bits of all tiles of a chip.
-ghost use Rattle.std.specs.Prelude.{◌≡◌, ◌<◌, ℕ, true, false, Some, [], ◌∷◌, ◌++◌, length, map, slice_get, option_map, IfOk, OnOk, OnErr, if◌then◌else◌};
+ghost use Rattle.std.specs.Prelude.{◌≡◌, ◌<◌, ℕ, true, false, Some, [], ◌∷◌, ◌++◌, length, map, option_map, IfOk, OnOk, OnErr, if◌then◌else◌};
 ghost use Rattle.std.specs.Map.{lookup};
-ghost use Rattle.std.specs.Option.{option_map_or, option_or};
+ghost use Rattle.std.specs.Option.{option_or};
 ghost use Rattle.ice_base.specs.declared.number.TileAt.{TileAt};
 ghost use Rattle.ice_base.specs.declared.number.BitAt.{BitAt};
 ghost use Rattle.ice_chip.specs.Lookups.{rows_of};
 ghost use Rattle.ice_chip.specs.Places.{same_tile};
-ghost use Rattle.ice_bits.specs.Configuration.{Configuration, bits_of, rows_at, is_there, blank, IsOf};
+ghost use Rattle.ice_bits.specs.Configuration.{Configuration, bits_of, rows_at, kind_in, is_of_kind, is_there, blank, IsOf};
 ghost use Rattle.ice_bits.specs.Written.{with_bit};
 ghost use Rattle.ice_bits.specs.Rewriting.{where_there, Rewrites, with_row, with_rows, with_place, with_places, with_extra};
+ghost use Rattle.ice_bits.specs.FunctionBits.{bit_place, function_value, with_function};
 ghost use Rattle.ice_bits.specs.TilePlaces.{place_in};
+ghost use Rattle.ice_chip.specs.Views.{function_view};
 
 use crate::TileBits;
 use ice_base::{BitAt, NoMemory, RowNo, TileAt};
-use ice_chip::{Chip, Function};
+use ice_chip::{Chip, Function, TileKind, same_kind};
 use indexmap::IndexMap;
 use std::alloc::Global;
 use std::marker::Model;
@@ -23,6 +25,8 @@ use std::marker::Model;
 pub struct Bits {
     // The bits of each tile, in the order of the chip's tiles.
     tiles: Vec<(TileAt, TileBits)>,
+    // The kinds of these tiles in the same order.
+    kinds: Vec<TileKind>,
     // Where the bits of each tile stand.
     places: IndexMap<TileAt, usize>,
     // The extra bits in order.
@@ -39,6 +43,16 @@ impl Model for Bits {
     ghost view = { bits_view };
 
     ghost invariant = { IsIndexed };
+}
+
+/// Whether a tile is known and of this kind.
+pub fn is_of_kind(kind: TileKind, known: Option<TileKind>) -> bool
+    ensures { result ≡ is_of_kind kind known }
+{
+    match known {
+        None => false,
+        Some(known) => same_kind(known, kind),
+    }
 }
 
 // Notes the place of a tile that has none yet.
@@ -77,13 +91,16 @@ pub fn blank(alloc: Global, chip: &Chip) -> Result<Bits, NoMemory>
     ensures form { IfOk result (IsOf chip.now) }
 {
     let mut tiles = Vec::with_capacity(alloc, chip.tiles().len())?;
+    let mut kinds = Vec::with_capacity(alloc, chip.tiles().len())?;
     let mut places = IndexMap::with_capacity(alloc, chip.tiles().len())?;
     for tile in chip.tiles() {
         let rows = TileBits::blank(alloc, tile.kind.columns())?;
         add_tile(&mut tiles, &mut places, tile.at, rows)?;
+        kinds.push(tile.kind)?;
     }
     Ok(Bits {
         tiles,
+        kinds,
         places,
         extras: Vec::new(alloc),
     })
@@ -102,6 +119,7 @@ impl Bits {
         }
         Ok(Bits {
             tiles,
+            kinds: self.kinds.clone()?,
             places,
             extras: self.extras.clone()?,
         })
@@ -121,6 +139,16 @@ impl Bits {
         match self.place(tile) {
             None => None,
             Some(place) => Some(&self.tiles[place].1),
+        }
+    }
+
+    /// The kind of a tile, or None exactly where no tile stands there. It takes no memory.
+    pub fn kind(&self, tile: TileAt) -> Option<TileKind>
+        ensures { result ≡ kind_in self.now tile }
+    {
+        match self.place(tile) {
+            None => None,
+            Some(place) => self.kinds.get(place).copied(),
         }
     }
 
@@ -164,22 +192,36 @@ impl Bits {
         }
     }
 
-    /// The bit of a function in a tile, where `at` is below the number of the function's bits. The tile is of the function's kind: the
-    /// bit at the same place of a tile of another kind is none of the function's. It takes no memory.
-    pub fn get_function(&self, tile: TileAt, function: &Function, at: usize) -> bool
-        requires { at < length function.now.bits.items }
-        ensures { (bit : BitAt) → slice_get function.now.bits.items at ≡ Some bit → result ≡ bits_of self.now tile bit }
+    // Where the bit of a function with this number stands in a tile.
+    fn function_place(&self, tile: TileAt, function: &Function, at: usize) -> Option<BitAt>
+        ensures { result ≡ bit_place self.now tile (function_view function.now) at }
     {
-        self.get(tile, function.bits[at])
+        if !is_of_kind(function.kind, self.kind(tile)) {
+            return None;
+        }
+        let bit = function.bits.get(at).copied()?;
+        if self.has(tile, bit) { Some(bit) } else { None }
     }
 
-    /// Writes the bit of a function in a tile, which has such a place. The tile is of the function's kind: the bit at the same place of
-    /// a tile of another kind is none of the function's. It takes no memory.
-    pub fn set_function(&mut self, tile: TileAt, function: &Function, at: usize, value: bool)
-        requires { option_map_or (is_there self.old tile) (slice_get function.now.bits.items at) false ≡ true }
-        ensures { (bit : BitAt) → slice_get function.now.bits.items at ≡ Some bit → Rewrites self.old self.new (with_bit tile bit value (bits_of self.old)) }
+    /// The bit of a function with this number, from 0, in a tile. It is 0 in a tile that isn't of the function's kind, and where the
+    /// function has no such bit or the tile no such place. It takes no memory.
+    pub fn get_function(&self, tile: TileAt, function: &Function, at: usize) -> bool
+        ensures { result ≡ function_value self.now tile (function_view function.now) at }
     {
-        self.set(tile, function.bits[at], value);
+        match self.function_place(tile, function, at) {
+            None => false,
+            Some(bit) => self.get(tile, bit),
+        }
+    }
+
+    /// Writes the bit of a function with this number, from 0, in a tile. Nothing changes in a tile that isn't of the function's kind, and
+    /// where the function has no such bit or the tile no such place. It takes no memory.
+    pub fn set_function(&mut self, tile: TileAt, function: &Function, at: usize, value: bool)
+        ensures { Rewrites self.old self.new (with_function self.old tile (function_view function.now) at value) }
+    {
+        if let Some(bit) = self.function_place(tile, function, at) {
+            self.set(tile, bit, value);
+        }
     }
 
     // Writes several bits of the tile at a place in the list, where the tile has such bits.

@@ -5,6 +5,9 @@ mod bits;
 mod laws;
 mod tile;
 
-pub use bits::{Bits, blank};
-pub use laws::{chip_has_its_bits, functions_of_other_kinds_are_0};
+pub use bits::{Bits, blank, is_of_kind};
+pub use laws::{
+    chip_has_its_bits, chip_has_its_kinds, function_bits_are_those_of_the_name,
+    functions_of_other_kinds_are_0,
+};
 pub use tile::TileBits;

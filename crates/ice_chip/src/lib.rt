@@ -25,7 +25,7 @@ mod whole;
 pub use chip::{Chip, build};
 pub use fault::ChipFault;
 pub use function_laws::{lacks_function_is_first, shared_function_is_first};
-pub use functions::{function_line, is_foreign, is_read};
+pub use functions::{function_line, is_foreign, is_read, same_kind};
 pub use parts::{ChipParts, Package, TileLine};
 pub use pin_names::{cell_pin, is_global_name, is_input_name, is_output_name};
 pub use pins::PinLine;

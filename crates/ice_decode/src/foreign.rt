@@ -1,7 +1,6 @@
 //! What no circuit holds: outputs of memories, functions of PLLs and of pairs of pads.
 ghost use Rattle.std.specs.Prelude.{◌≡◌, ◌<◌, [], All, map, find, option_map, IfOk, OnOk};
 ghost use Rattle.std.specs.List.{list_any};
-ghost use Rattle.ice_chip.specs.Functions.{same_kind};
 ghost use Rattle.ice_chip.specs.Views.{function_view};
 ghost use Rattle.ice_bits.specs.Configuration.{bits_of};
 ghost use Rattle.ice_decode.specs.Faults.{is_memory_output, is_foreign_wire, foreign_function};
@@ -12,7 +11,7 @@ ghost use Rattle.ice_decode.specs.ForeignPlaces.{with_places, foreign_places};
 use crate::Switch;
 use ice_base::{BitAt, NoMemory, TileAt, WireNo};
 use ice_bits::Bits;
-use ice_chip::{Chip, Function, Tile, TileKind, is_foreign};
+use ice_chip::{Chip, Function, Tile, TileKind, is_foreign, same_kind};
 use indexmap::IndexSet;
 use std::alloc::Global;
 
@@ -48,19 +47,6 @@ pub(crate) fn foreign_source(chip: &Chip, switches: &[Switch]) -> Option<WireNo>
         }
     }
     None
-}
-
-// Whether two kinds are the same.
-fn same_kind(a: TileKind, b: TileKind) -> bool
-    ensures { result ≡ same_kind a b }
-{
-    match (a, b) {
-        (TileKind::Io, TileKind::Io) => true,
-        (TileKind::Logic, TileKind::Logic) => true,
-        (TileKind::RamBottom, TileKind::RamBottom) => true,
-        (TileKind::RamTop, TileKind::RamTop) => true,
-        _ => false,
-    }
 }
 
 // Whether one of these bits of a tile is 1.

@@ -11,7 +11,7 @@ ghost use Rattle.ice_fabric.specs.Alone.{in_tile};
 use crate::index::{Index, groups_into};
 use crate::owners::is_other;
 use ice_base::{BitAt, TileAt, WireNo};
-use ice_chip::{Chip, Function, Group, TileKind, is_foreign};
+use ice_chip::{Chip, Function, Group, TileKind, is_foreign, same_kind};
 
 // Whether the bit is among these.
 fn has_bit(bits: &[BitAt], bit: BitAt) -> bool
@@ -23,19 +23,6 @@ fn has_bit(bits: &[BitAt], bit: BitAt) -> bool
         }
     }
     false
-}
-
-// Whether two kinds of tiles are the same.
-fn same_kind(a: TileKind, b: TileKind) -> bool
-    ensures { result ≡ same_kind a b }
-{
-    match (a, b) {
-        (TileKind::Io, TileKind::Io)
-        | (TileKind::Logic, TileKind::Logic)
-        | (TileKind::RamBottom, TileKind::RamBottom)
-        | (TileKind::RamTop, TileKind::RamTop) => true,
-        _ => false,
-    }
 }
 
 // Whether this is a foreign function of the kind that has the bit.

@@ -60,7 +60,7 @@ bits_are groups plan rows roots ports t b blank middle last copies same_roots sa
 
 -- ---- the text
 form_of_chip : (parts : Parts) (k : Configuration) → parts ≡ parts_with parts.groups → AreFormBits k → IsOf parts k
-form_of_chip parts k is are = subst (λ (p : Parts). IsOf p k) (sym is) (record { grids = are.form.grids })
+form_of_chip parts k is are = subst (λ (p : Parts). IsOf p k) (sym is) (record { grids = are.form.grids; kinds = are.form.kinds })
 
 -- the text of bits of the form says these bits
 text_says : (parts : Parts) (k : Configuration) → WrittenIsRead → IsChip parts → parts ≡ parts_with parts.groups → AreFormBits k → asc_in parts (asc_text parts k) ≡ Ok k

@@ -27,6 +27,7 @@ mod wiring;
 pub use chip_playing::play_chip;
 pub use chip_run::ChipRun;
 pub use fault::LevelFault;
+pub use ice_net::Drive;
 pub use levels::{LevelSteps, Levels};
 pub use playing::play;
 pub use reading::read_levels;

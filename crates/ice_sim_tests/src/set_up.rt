@@ -44,9 +44,8 @@ fn function_at<'a>(rt: &impl Abort, chip: &'a Chip, tile: TileAt, name: &[u8]) -
 
 // Sets the bit of a function with a number.
 fn set_bit(rt: &impl Abort, bits: &mut Bits, tile: TileAt, function: &Function, number: usize) {
-    let bit = function.bits.get(number).copied().expect(rt, "a bit");
-    assert!(rt; bits.has(tile, bit));
     bits.set_function(tile, function, number, true);
+    assert!(rt; bits.get_function(tile, function, number));
 }
 
 // Sets bit 0 of the functions that are named behind a tile.

@@ -21,10 +21,10 @@ invariant_of-self c =
 pub returns-in-Some : goal.returns-in-Some
 returns-in-Some c =
     let at : place_in c.args.tile c.self.inside.tiles.items ≡ Some c.in-Some.place = ap (λ (k : Configuration). place_in c.args.tile k.tiles) c.self.view_is ∙ sym c.in-Some.ensures in
-    seen_written c.args.tile (λ _. c.args.rows) c.self.inside.tiles.items (set c.self.inside.tiles.items c.in-Some.place (c.index_mut.result.now.0, c.args.rows)) c.self.inside.extras.items c.args.self.now
+    seen_written c.args.tile (λ _. c.args.rows) c.self.inside.tiles.items (set c.self.inside.tiles.items c.in-Some.place (c.index_mut.result.now.0, c.args.rows)) c.self.inside.kinds.items c.self.inside.extras.items c.args.self.now
     c.self.view_is (written_at c.args.tile (λ _. c.args.rows) c.self.inside.tiles.items c.in-Some.place c.index_mut.result.now c.args.rows at c.index_mut.ensures.value refl)
 
 pub returns-in_default : goal.returns-in_default
 returns-in_default c =
     let k : Configuration = c.args.self.now in
-    ap (λ ts. record { tiles = ts; extras = k.extras }) (sym (nothing_changes c.args.tile (λ _. c.args.rows) k.tiles (sym c.in_default.ensures)))
+    ap (λ ts. record { tiles = ts; kinds = k.kinds; extras = k.extras }) (sym (nothing_changes c.args.tile (λ _. c.args.rows) k.tiles (sym c.in_default.ensures)))

@@ -24,7 +24,7 @@ pub returns-clause-written : goal.returns-clause-written
 returns-clause-written c =
     let at : place_in c.args.tile c.self.inside.tiles.items ≡ Some c.args.place = ap (λ (k : Configuration). place_in c.args.tile k.tiles) c.self.view_is ∙ c.requires in
     seen_written c.args.tile (rows_with c.args.bit c.args.value) c.self.inside.tiles.items
-    (set c.self.inside.tiles.items c.args.place (c.index_mut-held.result.now.0, c.write.new.self)) c.self.inside.extras.items c.args.self.now c.self.view_is
+    (set c.self.inside.tiles.items c.args.place (c.index_mut-held.result.now.0, c.write.new.self)) c.self.inside.kinds.items c.self.inside.extras.items c.args.self.now c.self.view_is
     (written_at c.args.tile (rows_with c.args.bit c.args.value) c.self.inside.tiles.items c.args.place c.index_mut-held.result.now c.write.new.self at c.index_mut-held.ensures.value c.write.ensures)
 
 pub returns-clause-place : goal.returns-clause-place
