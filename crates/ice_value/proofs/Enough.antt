@@ -1,13 +1,14 @@
 -- As many steps as there are points, and one more, are always enough: more steps give a value to no point that has none with
 -- these. The least number of steps with which a point has a value falls along dependences, so the number of listed points that
 -- need fewer is a rank, and it is below the number of points.
-use Rattle.std.proofs.Common.{◌≡◌, ◌⊎◌, ℕ, zero, suc, ◌+◌, ◌<◌, ◌≤◌, Bool, true, false, cond, leb, Option, None, Some, List, [], ◌∷◌, map, length, refl, sym, ◌∙◌, subst, inl, inr, arith}
+use Rattle.std.proofs.Common.{◌≡◌, ◌⊎◌, ℕ, zero, suc, ◌+◌, ◌<◌, ◌≤◌, cond, leb, Option, None, Some, List, [], ◌∷◌, map, length, refl, sym, ◌∙◌, subst, inl, inr, arith}
 use Rattle.std.proofs.lemmas.Bool.{cases_lt}
 use Rattle.std.proofs.lemmas.Bool.Decides.{leb_tells}
 use Rattle.std.proofs.lemmas.List.{length-map}
 use Rattle.ice_base.specs.Lists.{all_known}
 use Rattle.ice_value.specs.System.{System, value}
 use Rattle.ice_value.specs.Order.{At, Has, Descends}
+use Rattle.ice_base.proofs.Booleans.{one_bound}
 use Rattle.ice_base.proofs.Options.{option_map_some}
 use Rattle.ice_value.proofs.Members.{At_map}
 use Rattle.ice_value.proofs.Together.{together_parts}
@@ -40,10 +41,6 @@ below_strictly (b ∷ ranks) zero a s at lt =
     ]
 below_strictly (b ∷ ranks) (suc k) a s at lt =
     let first = below_one b a s (omega arith) in let rest = below_strictly ranks k a s at lt in omega (arith, first, rest)
-
-one_bound : (b : Bool) → cond b 1 0 ≤ 1
-one_bound true = omega arith
-one_bound false = omega arith
 
 pub below_length : (ranks : List ℕ) (r : ℕ) → below ranks r ≤ length ranks
 below_length [] r = omega arith
