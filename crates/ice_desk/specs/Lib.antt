@@ -1,3 +1,4 @@
 pub mod Desk
 pub mod Memory
 pub mod Plan
+pub mod Said

@@ -8,6 +8,7 @@ mod files;
 mod gate;
 mod host;
 mod memory;
+mod say;
 mod whole;
 
 pub use calls::DeskCall;
@@ -15,4 +16,5 @@ pub use desk::{Desk, Failed};
 pub use gate::{Gate, MeetGate, OpenGate};
 pub use host::HostDesk;
 pub use memory::MemoryDesk;
+pub use say::say_text;
 pub use whole::{ReadStop, WriteStop, read_whole, write_whole};
