@@ -1,6 +1,3 @@
-mod BitCuts
-mod KnownLists
-mod Entries
 mod ReadParts
 mod Results
 mod InRange

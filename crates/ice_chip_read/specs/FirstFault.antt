@@ -6,7 +6,7 @@ use Rattle.ice_chip.specs.Whole.{whole_fault}
 use Rattle.ice_chip.specs.declared.fault.ChipFault.{ChipFault}
 use Rattle.ice_chip.specs.declared.fault.ChipFault.TheVariants.{NoDevice}
 use Rattle.ice_chip_read.specs.Lines.{line_says, first_says}
-use Rattle.ice_chip_read.specs.PlainLines.{plain_lines}
+use Rattle.ice_base.specs.PlainLines.{plain_lines}
 use Rattle.ice_chip_read.specs.Reading.{Reading, closed}
 
 -- the number and the words of a line that has words
