@@ -3,4 +3,5 @@ mod Results
 mod InRange
 mod Once
 mod ReadForms
+mod FaultLines
 mod FirstFaults
