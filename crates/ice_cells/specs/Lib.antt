@@ -1,1 +1,18 @@
-
+pub mod Tables
+pub mod Same
+pub mod Nodes
+pub mod Meaning
+pub mod Readings
+pub mod Origins
+pub mod Uses
+pub mod Pairs
+pub mod Homes
+pub mod Packed
+pub mod Sets
+pub mod Pieces
+pub mod Clusters
+pub mod Follows
+pub mod Chains
+pub mod Moves
+pub mod Runs
+pub mod Formed

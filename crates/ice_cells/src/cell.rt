@@ -4,7 +4,7 @@ use crate::Root;
 use ice_net::Reset;
 
 /// How a flip-flop is driven: its control set, which all flip-flops of a tile share.
-#[derive(Clone, Copy, Debug, PartialEq, Eq, Hash)]
+#[derive(Clone, Copy, PartialEq, Eq, Hash)]
 pub struct Control {
     /// The clock.
     pub clock: Option<Root>,
@@ -17,7 +17,7 @@ pub struct Control {
 }
 
 /// A logic cell: a look-up table, a carry beside its inputs 1 and 2, and a flip-flop behind it.
-#[derive(Clone, Copy, Debug)]
+#[derive(Clone, Copy)]
 pub struct LogicCell {
     /// The table: bit j for the inputs' levels that make the number j, input 0 the lowest digit.
     pub table: u16,

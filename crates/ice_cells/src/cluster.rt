@@ -4,7 +4,7 @@ ghost use Rattle.std.specs.Prelude.{◌≡◌};
 use crate::{Control, Items};
 
 /// Cells that go into one tile, from slot 0 on, at most eight.
-#[derive(Debug, Drop)]
+#[derive(Drop)]
 pub struct Group {
     /// The numbers of the cells.
     pub cells: Items<u32>,
@@ -15,7 +15,7 @@ pub struct Group {
 }
 
 /// The eight slots of a tile.
-#[derive(Debug, Drop)]
+#[derive(Drop)]
 pub struct Cluster {
     /// The cell in each slot.
     pub cells: Items<Option<u32>>,
@@ -26,7 +26,7 @@ pub struct Cluster {
 }
 
 /// The clusters of a design.
-#[derive(Debug, Drop)]
+#[derive(Drop)]
 pub struct Clusters {
     /// The clusters, in order.
     pub list: Items<Cluster>,

@@ -4,7 +4,7 @@ ghost use Rattle.std.specs.Prelude.{◌≡◌};
 use crate::{CarryIn, Items, LogicCell, Root};
 
 /// Cells that stand one above the other, so that the carry of each comes into the next.
-#[derive(Debug, Drop)]
+#[derive(Drop)]
 pub struct Run {
     /// The numbers of the cells, from below.
     pub cells: Items<u32>,
@@ -13,7 +13,7 @@ pub struct Run {
 }
 
 /// The pad of a port.
-#[derive(Clone, Copy, Debug)]
+#[derive(Clone, Copy)]
 pub struct DesignPad {
     /// The place of the port.
     pub port: u32,
@@ -30,7 +30,7 @@ pub struct DesignPad {
 }
 
 /// A packed design.
-#[derive(Debug, Drop)]
+#[derive(Drop)]
 pub struct Design {
     /// The logic cells, by their numbers.
     pub cells: Items<LogicCell>,

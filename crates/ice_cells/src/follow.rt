@@ -1,7 +1,7 @@
 //! How the carries of a design are read.
 
 /// How the carry of a cell is read.
-#[derive(Clone, Copy, Debug)]
+#[derive(Clone, Copy)]
 pub enum Follow {
     /// By nothing.
     Nobody,
@@ -12,7 +12,7 @@ pub enum Follow {
 }
 
 /// What reads a root.
-#[derive(Clone, Copy, Debug)]
+#[derive(Clone, Copy)]
 pub enum Reader {
     /// The carry of the cell of this number, as what comes into it.
     Into(usize),

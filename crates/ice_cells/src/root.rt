@@ -1,7 +1,7 @@
 //! Where the levels of a design come from.
 
 /// Where a level comes from: the source of a net.
-#[derive(Clone, Copy, Debug, PartialEq, Eq, Hash)]
+#[derive(Clone, Copy, PartialEq, Eq, Hash)]
 pub enum Root {
     /// The pad of the port at this place in the list of ports.
     PadIn(u32),
@@ -14,7 +14,7 @@ pub enum Root {
 }
 
 /// What comes into a carry.
-#[derive(Clone, Copy, Debug, PartialEq, Eq)]
+#[derive(Clone, Copy)]
 pub enum CarryIn {
     /// A constant.
     Fixed(bool),

@@ -3,7 +3,7 @@
 use crate::Origin;
 
 /// What a cell of a netlist is in a logic cell.
-#[derive(Clone, Copy, Debug)]
+#[derive(Clone, Copy)]
 pub enum Part {
     /// A look-up table.
     Table,
@@ -16,7 +16,7 @@ pub enum Part {
 }
 
 /// What the two inputs read by which a carry and a look-up table are compared.
-#[derive(Clone, Copy, Debug, PartialEq, Eq, Hash)]
+#[derive(Clone, Copy, PartialEq, Eq, Hash)]
 pub struct Pair {
     /// I0 of a carry, I1 of a look-up table.
     pub first: Origin,
@@ -25,7 +25,7 @@ pub struct Pair {
 }
 
 /// What a cell of a netlist is where carries and look-up tables are brought together.
-#[derive(Clone, Copy, Debug)]
+#[derive(Clone, Copy)]
 pub enum Role {
     /// A look-up table with that pair.
     Gives(Pair),

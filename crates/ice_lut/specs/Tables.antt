@@ -42,11 +42,15 @@ abbrev pub passing : ℕ → ℕ
 passing input = table_of (λ xs. slice_index_or xs input false)
 
 -- ---- several constant inputs
+-- the table with an input constant, if there is a level for it
+abbrev pub folded_one : ℕ → ℕ → Option Bool → ℕ
+folded_one table k None = table
+folded_one table k (Some level) = with_constant table k level
+
 -- the table in which each input that has a level is constant, the inputs numbered from k
 abbrev pub folded : ℕ → ℕ → List (Option Bool) → ℕ
 folded table k [] = table
-folded table k (None ∷ levels) = folded table (suc k) levels
-folded table k (Some level ∷ levels) = folded (with_constant table k level) (suc k) levels
+folded table k (level ∷ levels) = folded (folded_one table k level) (suc k) levels
 
 -- levels, of which those that are given are that
 abbrev pub overlaid : List (Option Bool) → List Bool → List Bool
