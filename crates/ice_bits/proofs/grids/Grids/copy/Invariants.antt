@@ -3,7 +3,7 @@ use Rattle.std.specs.Map.{lookup}
 use Rattle.ice_base.specs.declared.number.TileAt.{TileAt}
 use Rattle.ice_chip.specs.Places.{same_tile}
 use Rattle.ice_bits.specs.TilePlaces.{place_in}
-use Rattle.ice_bits.proofs.bits.Bits.copy.Given as goal
+use Rattle.ice_bits.proofs.grids.Grids.copy.Given as goal
 
 abbrev pub invariant-loop-held : goal.invariant-loop-held
 invariant-loop-held l = record {

@@ -4,7 +4,7 @@ use Rattle.std.specs.Map.{lookup}
 use Rattle.ice_chip.specs.Places.{same_tile}
 use Rattle.ice_bits.specs.TilePlaces.{place_in}
 use Rattle.ice_bits.proofs.TileWrites.{place_last}
-use Rattle.ice_bits.proofs.bits.add_tile.Goals as goal
+use Rattle.ice_bits.proofs.grids.add_tile.Goals as goal
 
 pub returns-clause-places : goal.returns-clause-places
 returns-clause-places c t =
