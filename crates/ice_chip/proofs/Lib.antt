@@ -1,16 +1,19 @@
-mod Entries
+pub mod Entries
+pub mod GroupRows
 mod Firsts
-mod Keys
+pub mod Keys
 mod Listing
-mod NameLists
 mod NamePlaces
 mod NamedRows
 mod Numbering
 mod Readers
 mod RowPlaces
-mod JoinedTests
+pub mod Prefixes
+mod WireNamesRead
+mod FunctionNamesRead
 mod DerivedEquality
 mod SharedLaws
 mod FirstOfAll
+mod EachNumber
 mod NeededNames
 mod LackingLaws

@@ -1,10 +1,9 @@
-pub mod PlainLines
 pub mod Faults
 pub mod Whole
 pub mod Words
-pub mod Bits
 pub mod Headings
 pub mod Reading
 pub mod Lines
 pub mod Stops
 pub mod Views
+pub mod FirstFault

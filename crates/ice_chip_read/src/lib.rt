@@ -4,7 +4,7 @@
 mod bits;
 mod fault;
 mod headings;
-mod plain;
+mod laws;
 mod ranges;
 mod read;
 mod reading;
@@ -13,4 +13,5 @@ mod section;
 mod words;
 
 use fault::ReadStop;
+pub use laws::says_chip_or_first_fault;
 pub use read::read_chip;

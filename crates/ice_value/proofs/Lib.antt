@@ -1,4 +1,5 @@
 pub mod Together
+pub mod Members
 pub mod Gaps
 pub mod Values
 pub mod Cycles
@@ -10,3 +11,4 @@ pub mod SearchSteps
 pub mod FillingSteps
 pub mod Carrying
 pub mod Enough
+pub mod Arriving

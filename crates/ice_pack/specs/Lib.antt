@@ -1,0 +1,4 @@
+pub mod Sweeps
+pub mod Turns
+pub mod Views
+pub mod Marks

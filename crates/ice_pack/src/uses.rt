@@ -1,0 +1,159 @@
+//! How the cells of a netlist are read.
+ghost use Rattle.std.specs.Prelude.{◌≡◌, ◌∷◌, [], map, replicate, IfOk};
+ghost use Rattle.ice_net.specs.Drives.{pad_uses};
+ghost use Rattle.ice_cells.specs.Uses.{reading_ins, taker, reads_from, cells_read, port_reading, uses, taker_of, marked, use_after};
+
+use crate::inputs::{input_origin, is_alias, is_dropped, signal_at};
+use ice_base::{NoMemory, SignalNo};
+use ice_cells::{Origin, Use};
+use ice_net::{Cell, CellKind, Port};
+use std::alloc::Global;
+
+// How a cell is read after one more reading.
+fn use_after(before: Use, reader: Option<usize>) -> Use
+    ensures { result ≡ use_after before reader }
+{
+    match (before, reader) {
+        (Use::Nobody, Some(f)) => Use::Taken(f),
+        _ => Use::Other,
+    }
+}
+
+// Takes down one reading.
+fn mark(uses: &mut Vec<Use>, origin: Origin, reader: Option<usize>)
+    ensures { uses.new.items ≡ marked uses.old.items ((origin, reader) ∷ []) }
+{
+    if let Origin::Made(j) = origin {
+        if j < uses.len() {
+            uses[j] = use_after(uses[j], reader);
+        }
+    }
+}
+
+// The flip-flop that reads by its input of that place as what it takes.
+fn taker(j: usize, kind: CellKind, place: usize) -> Option<usize>
+    ensures { result ≡ taker j kind place }
+{
+    match kind {
+        CellKind::Flop { .. } => if place == 1 { Some(j) } else { None },
+        _ => None,
+    }
+}
+
+// Takes down what a cell reads by inputs.
+fn mark_ins(
+    uses: &mut Vec<Use>,
+    origins: &[Origin],
+    j: usize,
+    kind: CellKind,
+    ins: &[Option<SignalNo>],
+)
+    ensures { uses.new.items ≡ marked uses.old.items (reads_from origins.now j kind 0 ins.now) }
+{
+    for (place, input) in ins.iter().enumerate() {
+        mark(uses, input_origin(origins, *input), taker(j, kind, place));
+    }
+}
+
+// Takes down what an SB_IO reads.
+fn mark_pad(
+    uses: &mut Vec<Use>,
+    origins: &[Origin],
+    j: usize,
+    kind: CellKind,
+    pin_type: u8,
+    ins: &[Option<SignalNo>],
+)
+    ensures { uses.new.items ≡ marked uses.old.items (reads_from origins.now j kind 0 (pad_uses pin_type ins.now)) }
+{
+    match pin_type {
+        25 => mark_ins(uses, origins, j, kind, &[signal_at(ins, 1)]),
+        41 => mark_ins(uses, origins, j, kind, &[signal_at(ins, 1), signal_at(ins, 2)]),
+        _ => {}
+    }
+}
+
+// Takes down what a cell reads: nothing where it is an alias or a carry that is dropped, and of an SB_IO what is in use.
+fn mark_cell(uses: &mut Vec<Use>, origins: &[Origin], j: usize, cell: &Cell)
+    ensures { uses.new.items ≡ marked uses.old.items (reads_from origins.now j cell.now.kind 0 (reading_ins cell.now.kind cell.now.ins cell.now.outs)) }
+{
+    let ins = cell.ins.as_slice();
+    match cell.kind {
+        CellKind::Cover { .. } => {
+            if !is_alias(cell.kind) {
+                mark_ins(uses, origins, j, cell.kind, ins);
+            }
+        }
+        CellKind::Carry => {
+            if !is_dropped(cell.outs.as_slice()) {
+                mark_ins(uses, origins, j, cell.kind, ins);
+            }
+        }
+        CellKind::PadCell { pin_type, .. } => mark_pad(uses, origins, j, cell.kind, pin_type, ins),
+        CellKind::Lut { .. } | CellKind::Flop { .. } | CellKind::Global => {
+            mark_ins(uses, origins, j, cell.kind, ins);
+        }
+    }
+}
+
+// Takes down what cells read.
+fn mark_cells(uses: &mut Vec<Use>, origins: &[Origin], cells: &[Cell])
+    ensures { uses.new.items ≡ marked uses.old.items (cells_read origins.now 0 cells.now) }
+{
+    for (j, cell) in cells.iter().enumerate() {
+        mark_cell(uses, origins, j, cell);
+    }
+}
+
+// Takes down what the bare Output ports read.
+fn mark_ports(uses: &mut Vec<Use>, origins: &[Origin], bare: &[Port])
+    ensures { uses.new.items ≡ marked uses.old.items (map (port_reading origins.now) bare.now) }
+{
+    for port in bare {
+        mark(uses, input_origin(origins, Some(port.signal)), None);
+    }
+}
+
+// So many cells that nothing reads.
+fn unread(alloc: Global, count: usize) -> Result<Vec<Use>, NoMemory>
+    ensures { IfOk result (λ uses. uses.items ≡ replicate count Use.Nobody) }
+{
+    Ok(vec![in alloc; Use::Nobody; count]?)
+}
+
+/// How each cell is read, by all cells and by the Output ports that have no SB_IO.
+#[tactic(auto, using(crate::proofs::Marking::uses_found))]
+pub(crate) fn find_uses(
+    alloc: Global,
+    cells: &[Cell],
+    bare: &[Port],
+    origins: &[Origin],
+) -> Result<Vec<Use>, NoMemory>
+    ensures { IfOk result (λ found. found.items ≡ uses origins.now cells.now bare.now) }
+{
+    let mut found = unread(alloc, cells.len())?;
+    mark_cells(&mut found, origins, cells);
+    mark_ports(&mut found, origins, bare);
+    Ok(found)
+}
+
+// The flip-flop that alone reads a cell, as the level that it takes.
+fn taker_of(read: Use) -> Option<usize>
+    ensures { result ≡ taker_of read }
+{
+    match read {
+        Use::Taken(f) => Some(f),
+        Use::Nobody | Use::Other => None,
+    }
+}
+
+/// The flip-flop that alone takes each cell.
+pub(crate) fn find_takers(alloc: Global, uses: &[Use]) -> Result<Vec<Option<usize>>, NoMemory>
+    ensures { IfOk result (λ takers. takers.items ≡ map taker_of uses.now) }
+{
+    let mut takers = Vec::new(alloc);
+    for read in uses {
+        takers.push(taker_of(*read))?;
+    }
+    Ok(takers)
+}
