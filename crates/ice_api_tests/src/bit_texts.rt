@@ -2,8 +2,8 @@
 use crate::small_chips::{Sample, count_words, number_at, text_with};
 use ice_asc::{read_asc, write_asc};
 use ice_base::{BitAt, Line, TileAt, lines_of};
-use ice_bits::Bits;
-use ice_chip::Chip;
+use ice_bits::{Bits, blank};
+use ice_chip::{Chip, Function, TileKind};
 use ice_chip_read::read_chip;
 use std::alloc::{AllocError, Global};
 use std::process::Abort;
@@ -224,4 +224,54 @@ const OTHER: &[u8] = b".extra_bit 9 8 7
 fn bits_are_read_and_written(rt: HostRuntime) -> Result<(), Fail> {
     let last: Case = (b"0 0 0 15 17", b".extra_bit 9 8 7\n.extra_bit 6 5 4\n");
     expect_all(&rt, rt.alloc(), &CASES, OTHER, last)
+}
+
+// ---- functions
+
+// Whether the bit of a function can be set in a tile: it is 0 before, and 1 once it was set.
+fn is_settable(bits: &mut Bits, tile: TileAt, function: &Function, number: usize) -> bool {
+    let before = bits.get_function(tile, function, number);
+    bits.set_function(tile, function, number, true);
+    !before && bits.get_function(tile, function, number)
+}
+
+// A number of a bit of the first logic cell, a column, and whether the bit stands in the tile there: in the tile of logic, and not in
+// those of other kinds, where no tile is or past the last bit.
+const PLACES: [(usize, u16, bool); 7] = [
+    (0, 1, true),
+    (19, 1, true),
+    (20, 1, false),
+    (0, 0, false),
+    (0, 2, false),
+    (0, 3, false),
+    (0, 4, false),
+];
+
+// Fails where a bit of the first logic cell can be set at a place where it doesn't stand, or can't be where it does.
+fn expect_places(rt: &impl Abort, chip: &Chip, bits: &mut Bits, places: &[(usize, u16, bool)]) {
+    let cell = chip.function(TileKind::Logic, b"LC_0").expect(rt, "a cell");
+    for place in places {
+        let (number, x, stands) = *place;
+        let tile = TileAt { x, y: 0 };
+        assert!(rt;
+            is_settable(bits, tile, cell, number) == stands,
+            "{number} at {x}"
+        );
+    }
+}
+
+// Fails unless the bits of the first logic cell stand in tiles of its kind alone.
+fn expect_function(rt: &impl Abort, alloc: Global, chip: &Chip) -> Result<(), Fail> {
+    let mut bits = blank(alloc, chip)?;
+    expect_places(rt, chip, &mut bits, &PLACES);
+    Ok(())
+}
+
+#[test]
+fn a_function_has_bits_in_tiles_of_its_kind_alone(rt: HostRuntime) -> Result<(), Fail> {
+    let text = text_with(rt.alloc(), Sample::FourKinds, &[])?;
+    match read_chip(rt.alloc(), &text) {
+        Ok(chip) => expect_function(&rt, rt.alloc(), &chip),
+        Err(fault) => panic!(&rt; "{fault}"),
+    }
 }

@@ -19,7 +19,9 @@ fn small_desk(
 }
 
 #[test]
-fn what_is_written_is_read(rt: HostRuntime) -> std::result::Result<(), AllocError> {
+fn what_is_written_is_read_within_the_limit(
+    rt: HostRuntime,
+) -> std::result::Result<(), AllocError> {
     let alloc = rt.alloc();
     let mut desk = small_desk(alloc, Vec::new(alloc))?;
     assert!(rt; write_whole(&mut desk, "new", b"seven bytes") == Ok(()));
@@ -30,13 +32,6 @@ fn what_is_written_is_read(rt: HostRuntime) -> std::result::Result<(), AllocErro
     }
     assert!(rt; desk.file("old") == Some(b"hello".as_slice()));
     assert!(rt; desk.file("absent").is_none());
-    Ok(())
-}
-
-#[test]
-fn a_limit_holds_to_the_byte(rt: HostRuntime) -> std::result::Result<(), AllocError> {
-    let alloc = rt.alloc();
-    let mut desk = small_desk(alloc, Vec::new(alloc))?;
     assert!(rt; read_whole(alloc, &mut desk, "old", 5).is_ok());
     assert!(rt; read_whole(alloc, &mut desk, "old", 4) == Err(ReadStop::TooLong { limit: 4 }));
     assert!(rt; read_whole(alloc, &mut desk, "absent", 4) == Err(ReadStop::Failed));
@@ -94,20 +89,16 @@ fn real_files_are_written_and_read(rt: HostRuntime) {
 }
 
 #[test]
-fn two_threads_meet(rt: HostRuntime) {
+fn two_threads_meet_and_one_meets_nobody(rt: HostRuntime) {
     OpenGate.pass(0, NetNo(0));
     let gate = MeetGate::new();
     thread::join(&rt, || gate.pass(0, NetNo(0)), || gate.pass(1, NetNo(1)));
     gate.pass(1, NetNo(2));
     assert!(rt; gate.met());
     assert_eq!(rt; gate.passes(), 3);
-}
-
-#[test]
-fn one_thread_meets_nobody(rt: HostRuntime) {
-    let gate = MeetGate::new();
-    gate.pass(0, NetNo(0));
-    gate.pass(1, NetNo(1));
-    assert!(rt; !gate.met());
-    assert_eq!(rt; gate.passes(), 2);
+    let lone = MeetGate::new();
+    lone.pass(0, NetNo(0));
+    lone.pass(1, NetNo(1));
+    assert!(rt; !lone.met());
+    assert_eq!(rt; lone.passes(), 2);
 }

@@ -14,10 +14,7 @@ fn names_are_numbered_as_they_are_met(rt: HostRuntime) -> Result<(), Fail> {
         (b"a", 1),
     ] {
         assert!(rt; netlist.has_room_for_name());
-        assert!(rt;
-            netlist.signal(rt.alloc(), name)? == SignalNo(number),
-            "of {name:?}"
-        );
+        assert!(rt; netlist.signal(name)? == SignalNo(number), "of {name:?}");
     }
     assert_eq!(rt; netlist.signals(), 3);
     assert!(rt; netlist.name(SignalNo(1)) == b"a".as_slice());
@@ -30,7 +27,7 @@ fn names_are_numbered_as_they_are_met(rt: HostRuntime) -> Result<(), Fail> {
 fn ports_and_cells_stand_in_order(rt: HostRuntime) -> Result<(), Fail> {
     let mut netlist = Netlist::new(rt.alloc());
     assert!(rt; netlist.has_room_for_name());
-    let signal = netlist.signal(rt.alloc(), b"pin")?;
+    let signal = netlist.signal(b"pin")?;
     netlist.port(signal, Way::Output)?;
     assert!(rt; netlist.way_of(signal) == Some(Way::Output));
     netlist.port(signal, Way::Input)?;

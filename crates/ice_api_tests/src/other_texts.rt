@@ -28,7 +28,7 @@ fn expect_constraints(rt: &impl Abort, pcf: &Pcf, expected: &[Expected<'_>]) {
 }
 
 #[test]
-fn the_counter(rt: HostRuntime) -> Result<(), Fail> {
+fn constraints_are_read_in_their_order(rt: HostRuntime) -> Result<(), Fail> {
     let text = b"set_frequency clk 12\nset_io --warn-no-port spare 9\nset_io -pullup yes clk 1\n";
     let pcf = read_pcf(rt.alloc(), text)?;
     expect_constraints(
@@ -39,11 +39,7 @@ fn the_counter(rt: HostRuntime) -> Result<(), Fail> {
             (3, b"clk", b"1", false, Some(true)),
         ],
     );
-    Ok(())
-}
 
-#[test]
-fn options_repeat_and_the_last_pullup_counts(rt: HostRuntime) -> Result<(), Fail> {
     let text =
         b"set_io -nowarn -pullup yes -nowarn -pullup no a 1\nset_io -pullup no -pullup yes b 2\nset_io c 3";
     let pcf = read_pcf(rt.alloc(), text)?;
@@ -56,11 +52,7 @@ fn options_repeat_and_the_last_pullup_counts(rt: HostRuntime) -> Result<(), Fail
             (3, b"c", b"3", false, None),
         ],
     );
-    Ok(())
-}
 
-#[test]
-fn any_word_behind_the_name_is_a_pin(rt: HostRuntime) -> Result<(), Fail> {
     let text =
         b"set_io a -x\nset_io b -pullup\nset_io -pullup no set_io --warn-no-port\nset_io yes no";
     let pcf = read_pcf(rt.alloc(), text)?;
@@ -74,11 +66,7 @@ fn any_word_behind_the_name_is_a_pin(rt: HostRuntime) -> Result<(), Fail> {
             (4, b"yes", b"no", false, None),
         ],
     );
-    Ok(())
-}
 
-#[test]
-fn comments_blanks_and_frequencies_are_read_over(rt: HostRuntime) -> Result<(), Fail> {
     let text =
         b"# pins\r\n\r\n\tset_io  a\t1 # b 2\r\n set_frequency\n#set_io\nset_frequency a -x b\nset_io b#c 2";
     let pcf = read_pcf(rt.alloc(), text)?;

@@ -25,7 +25,7 @@ fn fault_of(words: &[u8]) -> ChipFault {
 fn expect_fault(rt: &impl Abort, alloc: Global, text: &[u8], words: &[u8]) {
     match read_chip(alloc, text) {
         Ok(_) => panic!(rt; "no fault {words:?}"),
-        Err(fault) => assert!(rt; fault == fault_of(words), "{fault:?} for {words:?}"),
+        Err(fault) => assert!(rt; fault == fault_of(words), "{fault} for {words:?}"),
     }
 }
 

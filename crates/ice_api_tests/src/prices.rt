@@ -19,41 +19,24 @@ fn prices_rise_with_history_round_and_others(rt: HostRuntime) {
     assert_eq!(rt; prices.of(WireNo(0)), 5);
     assert_eq!(rt; prices.of(WireNo(1)), 4);
     assert_eq!(rt; prices.of(WireNo(2)), 45415766);
-}
-
-#[test]
-fn others_weigh_from_the_second_round_on(rt: HostRuntime) {
-    let alloc = rt.alloc();
-    let mut prices = Prices {
+    let mut early = Prices {
         round: 1,
         history: vec![in alloc; 1, 0, 1].expect(&rt, "memory"),
         others: vec![in alloc; 1, 1, 0].expect(&rt, "memory"),
     };
-    assert_eq!(rt; prices.of(WireNo(0)), 2);
-    assert_eq!(rt; prices.of(WireNo(1)), 1);
-    assert_eq!(rt; prices.of(WireNo(2)), 2);
-    prices.round = 2;
-    assert_eq!(rt; prices.of(WireNo(0)), 4);
-    assert_eq!(rt; prices.of(WireNo(1)), 2);
-    assert_eq!(rt; prices.of(WireNo(2)), 2);
-}
-
-#[test]
-fn the_highest_price(rt: HostRuntime) {
-    let alloc = rt.alloc();
-    let prices = Prices {
+    assert_eq!(rt; early.of(WireNo(0)), 2);
+    assert_eq!(rt; early.of(WireNo(1)), 1);
+    assert_eq!(rt; early.of(WireNo(2)), 2);
+    early.round = 2;
+    assert_eq!(rt; early.of(WireNo(0)), 4);
+    assert_eq!(rt; early.of(WireNo(1)), 2);
+    assert_eq!(rt; early.of(WireNo(2)), 2);
+    let highest = Prices {
         round: 64,
         history: vec![in alloc; 4128705].expect(&rt, "memory"),
         others: vec![in alloc; 65535].expect(&rt, "memory"),
     };
-    assert_eq!(rt; prices.of(WireNo(0)), 17046213234436);
-}
-
-#[test]
-fn history_rises_by_the_nets_beyond_one(rt: HostRuntime) {
-    let mut history = [0, 2, 5];
-    raise(&mut history, &[0, 3, 1]);
-    assert_eq!(rt; history, [0, 4, 5]);
+    assert_eq!(rt; highest.of(WireNo(0)), 17046213234436);
 }
 
 // A tree of these wires.
@@ -67,24 +50,22 @@ fn tree(rt: &impl Abort, alloc: Global, wires: &[WireNo]) -> Tree
 }
 
 #[test]
-fn each_tree_counts_once_on_a_wire(rt: HostRuntime) {
+fn history_holders_and_movers_are_counted(rt: HostRuntime) {
     let alloc = rt.alloc();
+    let mut history = [0, 2, 5];
+    raise(&mut history, &[0, 3, 1]);
+    assert_eq!(rt; history, [0, 4, 5]);
     let trees = [
         tree(&rt, alloc, &[WireNo(0), WireNo(2)]),
         tree(&rt, alloc, &[WireNo(2), WireNo(2)]),
     ];
     let counts = holders(alloc, 4, &trees).expect(&rt, "memory");
     assert_eq!(rt; counts.as_slice(), [1, 0, 2, 0].as_slice());
-}
-
-#[test]
-fn all_but_the_stayer_move(rt: HostRuntime) {
-    let alloc = rt.alloc();
-    let trees = [
+    let pair = [
         tree(&rt, alloc, &[WireNo(0)]),
         tree(&rt, alloc, &[WireNo(0)]),
     ];
-    let nets = movers(alloc, 1, &[2], &trees).expect(&rt, "memory");
+    let nets = movers(alloc, 1, &[2], &pair).expect(&rt, "memory");
     assert_eq!(rt; nets.len(), 1);
     assert_eq!(rt; nets[0].0, 0);
 }
