@@ -1,8 +1,0 @@
-use Rattle.std.proofs.Common.{◌≡◌, map, length}
-use Rattle.std.specs.List.{range_with_len}
-use Rattle.ice_cells.specs.Homes.{openers_before}
-use Rattle.ice_pack.specs.Views.{known_facts}
-use Rattle.ice_pack.proofs.homes.find_openers.Given as goal
-
-abbrev pub invariant-loop-j : goal.invariant-loop-j
-invariant-loop-j l = (l.found.items ≡ openers_before (known_facts l.known) l.j) × (l.counted.items ≡ map (λ i. length (openers_before (known_facts l.known) i)) (range_with_len 0 l.j))

@@ -1,4 +1,0 @@
-pub mod Sweeps
-pub mod Turns
-pub mod Views
-pub mod Marks
