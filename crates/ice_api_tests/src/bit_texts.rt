@@ -1,7 +1,7 @@
 //! Texts of bits that are read and written again, on a chip with a tile of each kind.
 use crate::small_chips::{Sample, count_words, number_at, text_with};
 use ice_asc::{read_asc, write_asc};
-use ice_base::{BitAt, Line, TileAt, lines_of};
+use ice_base::{BitAt, Line, NoMemory, RowNo, TileAt, lines_of};
 use ice_bits::{Bits, blank};
 use ice_chip::{Chip, Function, TileKind};
 use ice_chip_read::read_chip;
@@ -274,4 +274,50 @@ fn a_function_has_bits_in_tiles_of_its_kind_alone(rt: HostRuntime) -> Result<(),
         Ok(chip) => expect_function(&rt, rt.alloc(), &chip),
         Err(fault) => panic!(&rt; "{fault}"),
     }
+}
+
+// ---- rows
+
+// Turns each row of a chip on, one after another.
+fn turn_on(chip: &Chip, bits: &mut Bits) {
+    for number in 0..chip.rows() {
+        bits.set_row(chip, RowNo(number));
+    }
+}
+
+// Fails unless the bits of the chip of two tiles are those of its rows.
+fn expect_on(rt: &impl Abort, bits: &Bits) {
+    for (x, row, wanted) in [
+        (0, 0, true),
+        (0, 1, false),
+        (1, 0, true),
+        (1, 1, false),
+        (1, 2, true),
+    ] {
+        let tile = TileAt { x, y: 0 };
+        let found = bits.get(tile, BitAt { row, col: 0 });
+        assert!(rt; found == wanted, "row {row} of {tile:?}");
+    }
+    let right = TileAt { x: 1, y: 0 };
+    assert!(rt; bits.kind(right) == Some(TileKind::Io));
+    assert!(rt; bits.has(right, BitAt { row: 15, col: 17 }));
+    assert!(rt; !bits.has(right, BitAt { row: 15, col: 18 }));
+}
+
+// Fails unless rows are turned on in bits that are copied.
+fn expect_rows(rt: &impl Abort, alloc: Global, chip: &Chip) -> Result<(), NoMemory> {
+    let mut bits = blank(alloc, chip)?.copy(alloc)?;
+    turn_on(chip, &mut bits);
+    expect_on(rt, &bits);
+    Ok(())
+}
+
+#[test]
+fn rows_are_turned_on(rt: HostRuntime) -> Result<(), Fail> {
+    let text = text_with(rt.alloc(), Sample::TwoTiles, &[])?;
+    match read_chip(rt.alloc(), &text) {
+        Ok(chip) => expect_rows(&rt, rt.alloc(), &chip)?,
+        Err(fault) => panic!(&rt; "{fault}"),
+    }
+    Ok(())
 }
