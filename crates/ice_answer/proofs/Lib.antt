@@ -1,2 +1,6 @@
-pub mod Saying
 pub mod ReadStops
+pub mod TextFacts
+pub mod Commanding
+pub mod Standings
+pub mod CommandRows
+mod PieceTexts

@@ -6,7 +6,7 @@ use Rattle.ice_desk.specs.Desk.{Meaning, SameButReading, SameButSaying, Rose, af
 use Rattle.ice_answer.specs.declared.cause.Cause.{Cause}
 use Rattle.ice_answer.specs.declared.cause.Cause.TheVariants.{Good, Usage, BadBlif, BadPcf, BadChip, BadNet, BadPin, Unreachable, ReadFault, WriteFault, NoMemory, BadAsc, BadBits, TooLong, BadLevels, NotBuilt}
 use Rattle.ice_answer.specs.declared.cause.FileRole.{FileRole}
-use Rattle.ice_answer.specs.Reading.{most_bytes, Files, IsTextOf, FitBefore, IsLastRead, IsReadFault, IsTooLong, IsUnread, IsFirstTooLong, IsReadStop, IsLong, TellsLong}
+use Rattle.ice_answer.specs.Reading.{most_bytes, Files, role_at, name_at, IsTextOf, FitBefore, IsLastRead, IsReadFault, IsTooLong, IsUnread, IsFirstTooLong, IsReadStop, IsLong, TellsLong}
 
 pub next_place : (old mid new place : ℕ) → mid ≡ after_more old place → new ≡ after_one mid → new ≡ after_more old (place + 1)
 next_place old mid new place m n = omega (arith, m, n)
@@ -26,9 +26,9 @@ at_or_later : (m n : ℕ) → m ≤ n → (m ≡ n) ⊎ (m < n)
 at_or_later m n le = eq-or-lt_of_le le
 
 -- one file more that is not too long
-pub one_more : (files : Files) (old : Meaning) (place : ℕ) (text : List ℕ) → FitBefore files old place → IsTextOf old (files.name place) text → length text ≤ most_bytes → FitBefore files old (place + 1)
+pub one_more : (files : Files) (old : Meaning) (place : ℕ) (text : List ℕ) → FitBefore files old place → IsTextOf old (name_at files place) text → length text ≤ most_bytes → FitBefore files old (place + 1)
 one_more files old place text before is le n bytes some few t e = elim (at_or_later n place (omega arith)) [
-  | inl same ↦ fits old (files.name place) text bytes is le t (subst (λ m. old.files (files.name m) ≡ Some bytes) same e)
+  | inl same ↦ fits old (name_at files place) text bytes is le t (subst (λ m. old.files (name_at files m) ≡ Some bytes) same e)
   | inr lower ↦ before n bytes some lower t e
 ]
 
@@ -38,8 +38,8 @@ text_before old mid name text same is t = subst (λ (f : List ℕ → Option (Li
 
 -- the reading that stopped is the one of this place; before it, the desk was read to `mid`
 pub stopped_at : (files : Files) (old mid new : Meaning) (place : ℕ) (cause : Cause) → SameButReading old mid → SameButReading mid new
-    → new.begins ≡ after_more old.begins place → 0 < place → place ≤ files.count → FitBefore files old place
-    → IsReadStop (files.name place) (files.role place) mid new cause → IsUnread files old new cause
+    → new.begins ≡ after_more old.begins place → 0 < place → place ≤ length files → FitBefore files old place
+    → IsReadStop (name_at files place) (role_at files place) mid new cause → IsUnread files old new cause
 stopped_at files old mid new place (ReadFault of_role) p q n some few before stop = record {
   rose = (let f : Rose mid.read_faults new.read_faults = stop.1 in let g : old.read_faults ≤ mid.read_faults = p.read_faults in omega arith);
   last = record { place = place; some = some; few = few; begun = n; is_role = stop.0; before = before };
@@ -48,7 +48,7 @@ stopped_at files old mid new place (TooLong of_role limit) p q n some few before
   is_limit = stop.1;
   given = stop.2;
   last = record { place = place; some = some; few = few; begun = n; is_role = stop.0; before = before };
-  longer = λ bytes t e. stop.3 bytes (p.tells ∙ t) (subst (λ (f : List ℕ → Option (List ℕ)). f (files.name place) ≡ Some bytes) (sym p.files) e);
+  longer = λ bytes t e. stop.3 bytes (p.tells ∙ t) (subst (λ (f : List ℕ → Option (List ℕ)). f (name_at files place) ≡ Some bytes) (sym p.files) e);
 }
 stopped_at files old mid new place NoMemory p q n some few before stop = q.makes ∙ p.makes
 stopped_at files old mid new place (Good placement) p q n some few before stop = absurd stop
@@ -92,14 +92,14 @@ long_said files old mid new role limit same is = record {
 -- ---- the first file that is too long
 
 -- where all files were read and fit, none is too long
-pub all_fit_not_long : (files : Files) (desk : Meaning) (place : ℕ) → desk.tells ≡ true → FitBefore files desk (files.count + 1) → IsFirstTooLong files desk place → ⊥
+pub all_fit_not_long : (files : Files) (desk : Meaning) (place : ℕ) → desk.tells ≡ true → FitBefore files desk (length files + 1) → IsFirstTooLong files desk place → ⊥
 all_fit_not_long files desk place t fit first =
-    let le : length first.bytes ≤ most_bytes = fit place first.bytes first.some (let few : place ≤ files.count = first.few in omega arith) t first.holds in
+    let le : length first.bytes ≤ most_bytes = fit place first.bytes first.some (let few : place ≤ length files = first.few in omega arith) t first.holds in
     let more : most_bytes < length first.bytes = first.longer in
     omega arith
 
 -- the reading stopped at the first file that is too long
-pub stops_at_first : (files : Files) (old new : Meaning) (role : FileRole) (limit place : ℕ) → old.tells ≡ true → IsTooLong files old new role limit → IsFirstTooLong files old place → role ≡ files.role place
+pub stops_at_first : (files : Files) (old new : Meaning) (role : FileRole) (limit place : ℕ) → old.tells ≡ true → IsTooLong files old new role limit → IsFirstTooLong files old place → role ≡ role_at files place
 stops_at_first files old new role limit place t is first = elim (cases_lt is.last.place place) [
   | inl earlier ↦
       let e = first.before is.last.place is.last.some earlier in
@@ -108,7 +108,7 @@ stops_at_first files old new role limit place t is first = elim (cases_lt is.las
       let le : length e.0 ≤ most_bytes = e.2 in
       absurd (omega arith)
   | inr le ↦ elim (at_or_later place is.last.place le) [
-    | inl same ↦ is.last.is_role ∙ sym (ap files.role same)
+    | inl same ↦ is.last.is_role ∙ sym (ap (role_at files) same)
     | inr later ↦
         let fit : length first.bytes ≤ most_bytes = is.last.before place first.bytes first.some later t first.holds in
         let more : most_bytes < length first.bytes = first.longer in

@@ -3,3 +3,7 @@ pub mod Says
 pub mod Pieces
 pub mod Reading
 pub mod Refusals
+pub mod TextLists
+pub mod Texts
+pub mod Commands
+pub mod Rows

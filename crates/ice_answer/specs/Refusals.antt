@@ -6,6 +6,7 @@ use Rattle.ice_asc.specs.declared.fault.AscFault.{AscFault}
 use Rattle.ice_asc.specs.declared.fault.AscFault.TheVariants as asc_fault
 use Rattle.ice_blif.specs.declared.fault.BlifFault.{BlifFault}
 use Rattle.ice_blif.specs.declared.fault.BlifFault.TheVariants as blif_fault
+use Rattle.ice_check.specs.declared.fault.NetFault.{NetFault}
 use Rattle.ice_check.specs.declared.fault.NetFault.TheVariants as net_fault
 use Rattle.ice_chip.specs.declared.fault.ChipFault.{ChipFault}
 use Rattle.ice_chip.specs.declared.fault.ChipFault.TheVariants as chip_fault
@@ -33,6 +34,10 @@ IsAscRefusal fault cause = ((cause ≡ NoMemory) × (fault ≡ asc_fault.NoMemor
 -- the cause of bits that have no circuit, in the same way
 abbrev pub IsBitsRefusal : DecodeFault → Cause → Type 0
 IsBitsRefusal fault cause = ((cause ≡ NoMemory) × (fault ≡ decode_fault.NoMemory)) ⊎ ((cause ≡ BadBits fault) × (fault ≢ decode_fault.NoMemory))
+
+-- the cause of a netlist that isn't sound, in the same way
+abbrev pub IsNetRefusal : NetFault → Cause → Type 0
+IsNetRefusal fault cause = ((cause ≡ NoMemory) × (fault ≡ net_fault.NoMemory)) ⊎ ((cause ≡ BadNet fault) × (fault ≢ net_fault.NoMemory))
 
 -- Want of memory is an answer of its own: the fault that a refusal tells is another one.
 abbrev pub IsKnown : Cause → Type 0

@@ -2,7 +2,7 @@
 ghost use Rattle.std.specs.Prelude.{◌≡◌, map, decimal, codes, ◌∷◌, []};
 ghost use Rattle.ice_desk.specs.Desk.{SameButSaying, SameTest};
 ghost use Rattle.ice_answer.specs.Causes.{joined, spaced, names_line, numbers_line, wire_text, bits_line};
-ghost use Rattle.ice_answer.specs.Says.{IsSaid};
+ghost use Rattle.ice_desk.specs.Said.{IsSaid};
 ghost use Rattle.ice_answer.specs.Pieces.{piece_text, IsLoopless};
 
 use crate::say::{Piece, say_all, say_pieces};
@@ -108,7 +108,7 @@ fn say_wire<D: Desk>(desk: &mut D, wire: WireNo) -> bool
 }
 
 // Says the numbers of wires, each after a blank.
-#[tactic(auto, using(crate::proofs::Saying::saying_trans, ice_desk::proofs::Desks::same_test_trans))]
+#[tactic(auto, using(ice_desk::proofs::Saying::saying_trans, ice_desk::proofs::Desks::same_test_trans))]
 fn say_each<D: Desk>(desk: &mut D, wires: &[WireNo]) -> bool
     ensures same { SameButSaying (D.seen desk.old) (D.seen desk.new) }
     ensures names_read { SameTest (D.may_read desk.old) (D.may_read desk.new) }

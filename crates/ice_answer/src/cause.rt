@@ -12,9 +12,10 @@ use ice_decode::DecodeFault;
 use ice_pcf::PcfFault;
 use std::alloc::Global;
 use std::marker::Model;
+use thiserror::Error;
 
 /// What a file is to the command.
-#[derive(Clone, Copy, Debug, PartialEq, Eq)]
+#[derive(Clone, Copy)]
 pub enum FileRole {
     /// The text of a chip database.
     Chip,
@@ -35,16 +36,18 @@ pub enum FileRole {
 }
 
 /// Why no pads were given to the ports.
-#[derive(Clone, Copy, Debug, PartialEq, Eq)]
+#[derive(Clone, Copy, Debug, Error)]
 pub enum PinFault {
     /// The package has no pin of the name that the constraint at this line gives.
+    #[error("line {line}: the package has no such pin")]
     UnknownPin { line: u32 },
     /// The database has no package of the name.
+    #[error("no such package")]
     NoPackage,
 }
 
 /// The places of the clusters of logic cells, in their order: one tile for each.
-#[derive(Debug, Drop)]
+#[derive(Drop)]
 pub struct Places {
     tiles: Vec<TileAt>,
 }
@@ -70,14 +73,14 @@ impl Places {
 }
 
 /// Where the clusters of a design stand.
-#[derive(Debug, Drop)]
+#[derive(Drop)]
 pub struct Placement {
     /// The tile of each cluster.
     pub at: Places,
 }
 
 /// The answer of a command with what it is about. The number of each is its status.
-#[derive(Debug, Drop)]
+#[derive(Drop)]
 pub enum Cause {
     /// 0: the work is done and every file is written.
     Good {
@@ -132,7 +135,7 @@ pub enum Cause {
 }
 
 /// The end of a command: its status and its cause.
-#[derive(Debug, Drop)]
+#[derive(Drop)]
 pub struct Done {
     /// The number of the cause, with which the program ends.
     pub status: u8,

@@ -2,7 +2,8 @@
 ghost use Rattle.std.specs.Prelude.{◌≡◌, ◌↔◌, IsTrue, true};
 ghost use Rattle.ice_desk.specs.Desk.{SameButSaying, SameTest};
 ghost use Rattle.ice_answer.specs.Causes.{status_of, line_of};
-ghost use Rattle.ice_answer.specs.Says.{SaidRow, IsWorkDone, SilentWhereDone};
+ghost use Rattle.ice_answer.specs.Says.{IsWorkDone, SilentWhereDone};
+ghost use Rattle.ice_desk.specs.Said.{SaidRow};
 
 use crate::cause::{Cause, Done};
 use crate::say::say_line;

@@ -1,16 +1,21 @@
-//! The answers of the program with their causes: the statuses, the line that each refusal says, and the reading of a command's
-//! files. Each command of the flow stands on it.
+//! The answers of the program with their causes: the statuses, and the line that each refusal says; and the frame of commands: files are
+//! read, something is made of their texts, and it is said or written, with a row for each answer.
 #![tactic(auto)]
 
 mod bits_say;
 mod cause;
 mod end;
+mod files;
+mod making;
 mod reading;
 mod refusal;
 mod say;
 
 pub use cause::{Cause, Done, FileRole, PinFault, Placement, Places, no_placement};
 pub use end::{done, finish};
-pub use reading::read_text;
-pub use refusal::{asc_refusal, bits_refusal, blif_refusal, chip_refusal, pcf_refusal};
-pub use say::{say_line, say_text};
+pub use files::{InputFile, Texts};
+pub use making::{Making, say_made, write_made};
+pub use refusal::{
+    asc_refusal, bits_refusal, blif_refusal, chip_refusal, net_refusal, pcf_refusal,
+};
+pub use say::say_line;

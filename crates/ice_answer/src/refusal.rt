@@ -1,9 +1,10 @@
 //! From the faults of readers, and of bits, to causes.
-ghost use Rattle.ice_answer.specs.Refusals.{IsBlifRefusal, IsPcfRefusal, IsChipRefusal, IsAscRefusal, IsBitsRefusal};
+ghost use Rattle.ice_answer.specs.Refusals.{IsBlifRefusal, IsPcfRefusal, IsChipRefusal, IsAscRefusal, IsBitsRefusal, IsNetRefusal};
 
 use crate::cause::Cause;
 use ice_asc::AscFault;
 use ice_blif::BlifFault;
+use ice_check::NetFault;
 use ice_chip::ChipFault;
 use ice_decode::DecodeFault;
 use ice_pcf::PcfFault;
@@ -55,5 +56,15 @@ pub fn bits_refusal(fault: DecodeFault) -> Cause
     match fault {
         DecodeFault::NoMemory => Cause::NoMemory,
         fault => Cause::BadBits(fault),
+    }
+}
+
+/// Why a netlist has no meaning: its fault, or want of memory.
+pub fn net_refusal(fault: NetFault) -> Cause
+    ensures { IsNetRefusal fault result }
+{
+    match fault {
+        NetFault::NoMemory => Cause::NoMemory,
+        fault => Cause::BadNet(fault),
     }
 }

@@ -2,7 +2,7 @@
 ghost use Rattle.std.specs.Prelude.{◌≡◌, map, decimal, codes, ◌∷◌, []};
 ghost use Rattle.ice_desk.specs.Desk.{SameButSaying, SameTest};
 ghost use Rattle.ice_answer.specs.Causes.{no_places, joined, faulty_line, named_line, names_line, spaced, line_of, role_name, blif_line, pcf_line, chip_line, net_line, pin_line, asc_line};
-ghost use Rattle.ice_answer.specs.Says.{IsSaid, IsTextSaid};
+ghost use Rattle.ice_desk.specs.Said.{IsSaid};
 ghost use Rattle.ice_answer.specs.Pieces.{piece_text, IsPlain, IsNameless};
 
 use crate::bits_say::say_bits_fault;
@@ -12,31 +12,9 @@ use ice_base::{Name, NetNo, WireNo};
 use ice_blif::BlifFault;
 use ice_check::{Names, NetFault};
 use ice_chip::ChipFault;
-use ice_desk::Desk;
+use ice_desk::{Desk, say_text};
 use ice_pcf::PcfFault;
 use itoa::Buffer;
-
-/// Says a text. After a failed say nothing more is said.
-///
-/// # Errors
-/// The number of the say that failed, from 1.
-pub fn say_text<D: Desk>(desk: &mut D, text: &[u8]) -> Result<(), u64>
-    ensures same { SameButSaying (D.seen desk.old) (D.seen desk.new) }
-    ensures names_read { SameTest (D.may_read desk.old) (D.may_read desk.new) }
-    ensures names_written { SameTest (D.may_write desk.old) (D.may_write desk.new) }
-    ensures said { IsTextSaid (D.seen desk.old) (D.seen desk.new) text.now result }
-{
-    let mut at = 0;
-    let mut says = 0u64;
-    while at < text.len() {
-        says += 1;
-        match desk.say(&text[at..]) {
-            Ok(count) => at += count,
-            Err(_) => return Err(says),
-        }
-    }
-    Ok(())
-}
 
 // Says a text. Whether no say failed.
 pub(crate) fn say_all<D: Desk>(desk: &mut D, text: &[u8]) -> bool
@@ -75,7 +53,7 @@ fn say_piece<D: Desk>(desk: &mut D, piece: Piece) -> bool
 }
 
 // Says pieces, one after another.
-#[tactic(auto, using(crate::proofs::Saying::saying_trans, ice_desk::proofs::Desks::same_test_trans))]
+#[tactic(auto, using(ice_desk::proofs::Saying::saying_trans, ice_desk::proofs::Desks::same_test_trans))]
 pub(crate) fn say_pieces<D: Desk>(desk: &mut D, pieces: &[Piece]) -> bool
     ensures same { SameButSaying (D.seen desk.old) (D.seen desk.new) }
     ensures names_read { SameTest (D.may_read desk.old) (D.may_read desk.new) }

@@ -10,12 +10,12 @@ use Rattle.ice_chip.specs.Database.{Parts}
 use Rattle.ice_chip.specs.Database as chip
 use Rattle.ice_chip.specs.Whole.{whole_fault}
 use Rattle.ice_chip.specs.declared.fault.ChipFault.{ChipFault}
-use Rattle.ice_chip_read.specs.Bits as general
+use Rattle.ice_base.specs.BitNames as general
 use Rattle.ice_chip_read.specs.Faults.{◌>>=◌}
 use Rattle.ice_chip_read.specs.Headings.{heading_of}
 use Rattle.ice_chip_read.specs.Lines as reader
 use Rattle.ice_chip_read.specs.Lines.{line_says, lines_say, plain_says, text_says, switches_heading, switch_row}
-use Rattle.ice_chip_read.specs.PlainLines as general_lines
+use Rattle.ice_base.specs.PlainLines as general_lines
 use Rattle.ice_chip_read.specs.Reading.{Reading, closed, no_group, no_package}
 use Rattle.ice_chip_read.specs.Whole.{chip_says}
 use Rattle.ice_chip_read.specs.declared.section.Section.TheVariants.{Rowless, Switches}
@@ -71,7 +71,7 @@ below_is n limit lt = search (rules, tests)
 
 -- the words of a heading whose numbers and bits are in range
 words_say : (before : List chip.SwitchGroup) (rows line a b c : ℕ) (x y wire : List ℕ) (names : List (List ℕ)) (bits : List BitAt) → (number_in x ≡ Some a) × (a < 2) → (number_in y ≡ Some b) × (b < 1)
-    → (number_in wire ≡ Some c) × (c < 4) → (general.bits_in 54 names ≡ Some bits) × ((length bits == 0) ≡ false)
+    → (number_in wire ≡ Some c) × (c < 4) → (general.bits_named 54 names ≡ Some bits) × ((length bits == 0) ≡ false)
     → switches_heading (reading_between before rows) line (x ∷ y ∷ wire ∷ names) ≡ Ok (reading_with before (record { tile = tile_at a b; wire = c; bits = bits; first = rows; rows = []; line = line }) rows)
 words_say before rows line a b c x y wire names bits ea eb ec ed =
     rw ea.0 (rw eb.0 (rw ec.0 (rw (below_is a 2 ea.1) (rw (below_is b 1 eb.1) (rw (below_is c 4 ec.1) (rw ed.0 (rw ed.1 refl)))))))

@@ -2,7 +2,7 @@
 use Rattle.std.proofs.Common.{◌≡◌, ℕ, List, [], ◌∷◌, refl, Ok}
 use Rattle.ice_base.specs.Text.{numbered, words, pieces}
 use Rattle.ice_base.specs.Numbers.{number_in}
-use Rattle.ice_chip_read.specs.PlainLines.{plain_lines}
+use Rattle.ice_base.specs.PlainLines.{plain_lines}
 use Rattle.ice_chip_read.specs.Reading.{Reading, no_group, no_package}
 use Rattle.ice_chip_read.specs.Lines.{plain_says}
 use Rattle.ice_chip_read.specs.declared.section.Section.TheVariants.{Names}

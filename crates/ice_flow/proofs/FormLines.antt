@@ -7,10 +7,12 @@ use Rattle.ice_base.specs.Numbers.{number_in}
 use Rattle.ice_base.specs.Text.{words, numbered, next_number}
 use Rattle.ice_base.specs.declared.number.BitAt.{BitAt}
 use Rattle.ice_chip.specs.declared.fault.ChipFault.{ChipFault}
-use Rattle.ice_chip_read.specs.Bits as general
+use Rattle.ice_base.specs.BitNames as general
+use Rattle.ice_base.specs.Lists as general_lists
+use Rattle.ice_base.specs.Numbers as general_numbers
 use Rattle.ice_chip_read.specs.Faults.{◌>>=◌}
 use Rattle.ice_chip_read.specs.Lines.{line_says, lines_say, first_says, plain_says}
-use Rattle.ice_chip_read.specs.PlainLines as general_lines
+use Rattle.ice_base.specs.PlainLines as general_lines
 use Rattle.ice_chip_read.specs.Reading.{Reading}
 use Rattle.ice_flow.specs.Lists.{all_known}
 use Rattle.ice_flow.specs.ChipText.{number_below, onto_front, cut_at, place, column_in, place_in, bit_in, bits_in, digit_value, lines_behind}
@@ -33,7 +35,7 @@ known_number limit word n e =
     (a.1 ∙ b.1, subst (λ m. m < limit) same lt)
 
 -- it is below a greater limit too
-wider_number : (limit wider : ℕ) (word : List ℕ) (n : ℕ) → limit ≤ wider → number_below limit word ≡ Some n → general.number_below wider word ≡ Some n
+wider_number : (limit wider : ℕ) (word : List ℕ) (n : ℕ) → limit ≤ wider → number_below limit word ≡ Some n → general_numbers.number_below wider word ≡ Some n
 wider_number limit wider word n le e =
     let k = known_number limit word n e in
     let lt : n < wider = (let below = k.1 in omega arith) in
@@ -46,29 +48,29 @@ same_cut b [] = refl
 same_cut b (c ∷ bytes) = ap (λ o. if c == b then Some ([], bytes) else option_map (onto_front c) o) (same_cut b bytes)
 
 -- a column of 17 is one of 54
-wider_column : (column rest : List ℕ) (n : ℕ) → column_in column rest ≡ Some n → general.column_in 54 column rest ≡ Some n
+wider_column : (column rest : List ℕ) (n : ℕ) → column_in column rest ≡ Some n → general.column_named 54 column rest ≡ Some n
 wider_column column [] n e = wider_number 17 54 column n (omega arith) e
 wider_column column (b ∷ rest) n e = absurd (cc)
 
 -- a place among 17 columns is one among 54
-wider_place : (row rest : List ℕ) (b : BitAt) → place_in row rest ≡ Some b → general.place_in 54 row rest ≡ Some b
+wider_place : (row rest : List ℕ) (b : BitAt) → place_in row rest ≡ Some b → general.place_named 54 row rest ≡ Some b
 wider_place row rest b e =
     let r = chained (λ (row : ℕ). option_map (place row) (option_and_then (λ cut. column_in cut.0 cut.1) (cut_at 93 rest))) (number_below 16 row) b e in
     let c = mapped (place r.0) (option_and_then (λ cut. column_in cut.0 cut.1) (cut_at 93 rest)) b r.2 in
     let k = chained (λ (cut : List ℕ × List ℕ). column_in cut.0 cut.1) (cut_at 93 rest) c.0 c.1 in
-    ap (option_and_then (λ row. option_map (place row) (option_and_then (λ cut. general.column_in 54 cut.0 cut.1) (general.cut_at 93 rest)))) (wider_number 16 16 row r.0 (omega arith) r.1)
-    ∙ ap (λ cut. option_map (place r.0) (option_and_then (λ cut. general.column_in 54 cut.0 cut.1) cut)) (sym (same_cut 93 rest) ∙ k.1)
+    ap (option_and_then (λ row. option_map (place row) (option_and_then (λ cut. general.column_named 54 cut.0 cut.1) (general.cut_at 93 rest)))) (wider_number 16 16 row r.0 (omega arith) r.1)
+    ∙ ap (λ cut. option_map (place r.0) (option_and_then (λ cut. general.column_named 54 cut.0 cut.1) cut)) (sym (same_cut 93 rest) ∙ k.1)
     ∙ ap (option_map (place r.0)) (wider_column k.0.0 k.0.1 c.0 k.2)
     ∙ ap Some c.2
 
 -- the name of a bit among 17 columns is one among 54
-wider_bit : (word : List ℕ) (b : BitAt) → bit_in word ≡ Some b → general.bit_in 54 word ≡ Some b
+wider_bit : (word : List ℕ) (b : BitAt) → bit_in word ≡ Some b → general.bit_named 54 word ≡ Some b
 wider_bit [] b e = absurd (cc)
 wider_bit (c ∷ bytes) b e =
     let named = passes (c == 66) (option_and_then (λ cut. place_in cut.0 cut.1) (cut_at 91 bytes)) b e in
     let k = chained (λ (cut : List ℕ × List ℕ). place_in cut.0 cut.1) (cut_at 91 bytes) b named.1 in
-    ap (λ t. if t then option_and_then (λ cut. general.place_in 54 cut.0 cut.1) (general.cut_at 91 bytes) else None) named.0
-    ∙ ap (option_and_then (λ cut. general.place_in 54 cut.0 cut.1)) (sym (same_cut 91 bytes) ∙ k.1)
+    ap (λ t. if t then option_and_then (λ cut. general.place_named 54 cut.0 cut.1) (general.cut_at 91 bytes) else None) named.0
+    ∙ ap (option_and_then (λ cut. general.place_named 54 cut.0 cut.1)) (sym (same_cut 91 bytes) ∙ k.1)
     ∙ wider_place k.0.0 k.0.1 b k.2
 
 -- the first of values that are all known, and the others
@@ -79,19 +81,19 @@ known_first (Some x) os ys e = let m = mapped (λ xs. x ∷ xs) (all_known os) y
 
 -- values that one test knows are known by a wider one
 wider_values : {A B : Type 0} (f g : A → Option B) → ((x : A) (y : B) → f x ≡ Some y → g x ≡ Some y) → (xs : List A) (ys : List B)
-    → all_known (map f xs) ≡ Some ys → general.all_known (map g xs) ≡ Some ys
+    → all_known (map f xs) ≡ Some ys → general_lists.all_known (map g xs) ≡ Some ys
 wider_values f g wider [] ys e = e
 wider_values f g wider (x ∷ xs) ys e =
     let k = known_first (f x) (map f xs) ys e in
-    ap (λ o. general.all_known (o ∷ map g xs)) (wider x k.0 k.2) ∙ ap (option_map (λ xs. k.0 ∷ xs)) (wider_values f g wider xs k.1 k.3) ∙ ap Some k.4
+    ap (λ o. general_lists.all_known (o ∷ map g xs)) (wider x k.0 k.2) ∙ ap (option_map (λ xs. k.0 ∷ xs)) (wider_values f g wider xs k.1 k.3) ∙ ap Some k.4
 
 -- the bits of a heading, of which there are some
-pub bits_are_read : (names : List (List ℕ)) (bits : List BitAt) → bits_in names ≡ Some bits → (general.bits_in 54 names ≡ Some bits) × ((length bits == 0) ≡ false)
+pub bits_are_read : (names : List (List ℕ)) (bits : List BitAt) → bits_in names ≡ Some bits → (general.bits_named 54 names ≡ Some bits) × ((length bits == 0) ≡ false)
 bits_are_read names bits e =
     let k = chained (λ (bits : List BitAt). if length bits == 0 then None else Some bits) (all_known (map bit_in names)) bits e in
     let n = fails (length k.0 == 0) (Some k.0) bits k.2 in
     let same : k.0 ≡ bits = (let two : Some k.0 ≡ Some bits = n.1 in cc) in
-    (wider_values bit_in (general.bit_in 54) wider_bit names bits (k.1 ∙ n.1), subst (λ (bits : List BitAt). (length bits == 0) ≡ false) same n.0)
+    (wider_values bit_in (general.bit_named 54) wider_bit names bits (k.1 ∙ n.1), subst (λ (bits : List BitAt). (length bits == 0) ≡ false) same n.0)
 
 -- the values of a row
 pub values_are_read : (digits : List ℕ) (values : List Bool) → all_known (map digit_value digits) ≡ Some values → general.values_in digits ≡ Some values

@@ -29,7 +29,6 @@ pub mod AloneRows
 pub mod WireNames
 pub mod UsableSteps
 pub mod WaySteps
-pub mod Builds
 pub mod RowLaws
 pub mod BufferBits
 pub mod FormDrivers

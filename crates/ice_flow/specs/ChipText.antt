@@ -114,7 +114,7 @@ pub record Groups : Type 0 where
 
 -- a text has no more rows
 abbrev pub most_rows : ℕ
-most_rows = 4194304
+most_rows = 16777216
 
 -- a heading begins the next group
 abbrev pub with_heading : Groups → SwitchGroup → Groups

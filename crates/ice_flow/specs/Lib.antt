@@ -27,8 +27,8 @@ pub mod Answers
 pub mod Built
 pub mod Requests
 pub mod Rows
-pub mod Building
 pub mod FormChip
 pub mod Writing
 pub mod Shown
 pub mod PortPads
+pub mod Run

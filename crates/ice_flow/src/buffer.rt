@@ -8,7 +8,7 @@ use ice_base::SignalNo;
 use ice_net::{Cell, CellKind, Netlist, Way};
 
 /// A netlist of one buffer, by the names of its two ports.
-#[derive(Clone, Copy, Debug)]
+#[derive(Clone, Copy)]
 pub struct Buffer<'a> {
     pub input: &'a [u8],
     pub output: &'a [u8],

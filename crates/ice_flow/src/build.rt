@@ -1,74 +1,58 @@
 //! The command `build`: three texts are read, and the text of the bits is written.
-ghost use Rattle.std.specs.Prelude.{◌≡◌, IfOk, IfErr};
-ghost use Rattle.ice_desk.specs.Desk.{SameTest};
+ghost use Rattle.std.specs.Prelude.{◌≡◌, true};
+ghost use Rattle.ice_answer.specs.declared.cause.FileRole.TheVariants.{Asc};
+ghost use Rattle.ice_answer.specs.Causes.{status_of};
+ghost use Rattle.ice_answer.specs.Commands.{InFile, IsTrueOf};
 ghost use Rattle.ice_answer.specs.Reading.{TellsLong};
-ghost use Rattle.ice_flow.specs.Standing.{standing_of};
-ghost use Rattle.ice_flow.specs.Answers.{IsTrueOf};
+ghost use Rattle.ice_answer.specs.Rows.{SaidBy, KeptRow, MadeRow, SilentRow};
+ghost use Rattle.ice_flow.specs.Answers.{standing_at, IsAnswerOf, IsMade, build};
 ghost use Rattle.ice_flow.specs.Requests.{build_view};
-ghost use Rattle.ice_flow.specs.Building.{SameButBuilding, KeepsFiles, IsWritten};
-ghost use Rattle.ice_flow.specs.Built.{IsBuilt, IsRefusal};
 
 use crate::compile::compile;
 use crate::request::BuildRequest;
-use crate::texts::{Texts, read_texts};
-use ice_answer::{Cause, FileRole, no_placement};
-use ice_desk::{Desk, WriteStop, write_whole};
+use ice_answer::{Cause, Done, FileRole, InputFile, Making, Texts, write_made};
+use ice_desk::Desk;
 use std::alloc::Global;
 
-// Writes the text of the bits. Each memory was taken before.
-fn write_text<D: Desk>(alloc: Global, desk: &mut D, name: &str, text: &[u8]) -> Cause
-    requires { D.may_write desk.old name.now }
-    ensures same { SameButBuilding name.now (D.seen desk.old) (D.seen desk.new) }
-    ensures names_read { SameTest (D.may_read desk.old) (D.may_read desk.new) }
-    ensures names_written { SameTest (D.may_write desk.old) (D.may_write desk.new) }
-    ensures written { IsWritten name.now text.now (D.seen desk.old) (D.seen desk.new) result }
-    ensures given { (D.seen desk.new).given ≡ (D.seen desk.old).given }
-{
-    match write_whole(desk, name, text) {
-        Ok(()) => Cause::Good {
-            placement: no_placement(alloc),
-        },
-        Err(WriteStop::Failed { put }) => Cause::WriteFault {
-            role: FileRole::Asc,
-            put,
-        },
+impl<'a> Making for BuildRequest<'a> {
+    ghost stands = { λ request texts cause. IsAnswerOf (standing_at request.package_name.now texts) cause };
+
+    ghost gives = { λ request texts text. IsMade request.package_name.now texts text };
+
+    #[tactic(auto, using(crate::proofs::RowLaws::refused_so))]
+    fn make(&self, alloc: Global, texts: &Texts) -> Result<Vec<u8>, Cause> {
+        let package = self.package_name.as_bytes();
+        compile(alloc, package, texts.at(1), texts.at(2), texts.at(3))
     }
 }
 
-// The text of the bits of the texts that were read.
-fn compile_texts(alloc: Global, request: &BuildRequest<'_>, texts: &Texts) -> Result<Vec<u8>, Cause>
-    ensures built { IfOk result (λ text. IsBuilt (standing_of request.now.package_name.now texts.now.chip.items texts.now.pcf.items texts.now.blif.items) request.now.package_name.now texts.now.chip.items texts.now.pcf.items texts.now.blif.items text.items) }
-    ensures refused { IfErr result (λ cause. IsRefusal (standing_of request.now.package_name.now texts.now.chip.items texts.now.pcf.items texts.now.blif.items) cause) }
-{
-    compile(
-        alloc,
-        request.package_name.as_bytes(),
-        &texts.chip,
-        &texts.pcf,
-        &texts.blif,
-    )
-}
-
-/// Builds what is asked for: reads the texts, makes the text of the bits, and only then writes it.
-pub fn build<D: Desk>(alloc: Global, desk: &mut D, request: &BuildRequest<'_>) -> Cause
+/// Builds what is asked for: reads the texts, makes the text of the bits, and only then writes it. A refusal says its line.
+pub fn build<D: Desk>(alloc: Global, desk: &mut D, request: &BuildRequest<'_>) -> Done
     requires chip { D.may_read desk.old request.now.chip.now }
     requires pcf { D.may_read desk.old request.now.pcf.now }
     requires blif { D.may_read desk.old request.now.blif.now }
     requires asc { D.may_write desk.old request.now.asc.now }
-    ensures same { SameButBuilding request.now.asc.now (D.seen desk.old) (D.seen desk.new) }
-    ensures names_read { SameTest (D.may_read desk.old) (D.may_read desk.new) }
-    ensures names_written { SameTest (D.may_write desk.old) (D.may_write desk.new) }
-    ensures cause { IsTrueOf (build_view request.now) (D.seen desk.old) (D.seen desk.new) result }
-    ensures kept { KeepsFiles (D.seen desk.old) (D.seen desk.new) result }
-    ensures given { TellsLong (D.seen desk.new) result }
+    ensures status { result.status ≡ status_of result.cause }
+    ensures cause { IsTrueOf (build (build_view request.now)) (D.seen desk.old) (D.seen desk.new) result.cause }
+    ensures said { (D.seen desk.old).tells ≡ true → SaidBy (InFile Asc request.now.asc.now) (D.seen desk.old) (D.seen desk.new) result.cause }
+    ensures kept { (D.seen desk.old).tells ≡ true → KeptRow (InFile Asc request.now.asc.now) (D.seen desk.old) (D.seen desk.new) result.cause }
+    ensures made { MadeRow (InFile Asc request.now.asc.now) (D.seen desk.old) (D.seen desk.new) result.cause }
+    ensures silent { SilentRow (InFile Asc request.now.asc.now) (D.seen desk.old) (D.seen desk.new) result.cause }
+    ensures given { TellsLong (D.seen desk.new) result.cause }
 {
-    let texts = match read_texts(alloc, desk, request) {
-        Ok(texts) => texts,
-        Err(cause) => return cause,
-    };
-    let text = match compile_texts(alloc, request, &texts) {
-        Ok(text) => text,
-        Err(cause) => return cause,
-    };
-    write_text(alloc, desk, request.asc, &text)
+    let files = [
+        InputFile {
+            role: FileRole::Chip,
+            name: request.chip,
+        },
+        InputFile {
+            role: FileRole::Pcf,
+            name: request.pcf,
+        },
+        InputFile {
+            role: FileRole::Blif,
+            name: request.blif,
+        },
+    ];
+    write_made(alloc, desk, &files, request, FileRole::Asc, request.asc)
 }

@@ -31,7 +31,7 @@ use std::alloc::{AllocError, AllocFailed, Global};
 use std::mem;
 
 /// Why a chip text gives no groups.
-#[derive(Clone, Copy, Debug, PartialEq, Eq)]
+#[derive(Clone, Copy)]
 pub enum ChipStop {
     /// Want of memory.
     NoMemory,
@@ -56,7 +56,7 @@ impl<T: Drop> From<AllocFailed<T>> for ChipStop {
 }
 
 // The most rows of a chip text.
-const MOST_ROWS: u32 = 4_194_304;
+const MOST_ROWS: u32 = 16_777_216;
 
 // The lines up to the first switch.
 const HEADER: &[u8] = b".device 1k 2 1 4
@@ -243,7 +243,7 @@ fn row(
 
 // The groups that are read so far: those that are whole, the one that the next rows join, and the number of rows
 // in all.
-#[derive(Debug, Drop)]
+#[derive(Drop)]
 struct Reading {
     before: Vec<Group>,
     last: Group,

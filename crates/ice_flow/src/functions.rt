@@ -19,8 +19,9 @@ use crate::functions::Function::{InputEnable, PinType, PullUpEnable};
 use crate::pad::{Pad, PortPad};
 use ice_base::TileAt;
 use ice_bits::Bits;
-use ice_chip::{Chip, Function as ChipFunction, TileKind};
-use ice_decode::{input_enable_function, pin_type_function};
+use ice_chip::{
+    Chip, Function as ChipFunction, TileKind, input_enable_function, pin_type_function,
+};
 
 /// The left IO tile.
 const LEFT_TILE: TileAt = TileAt { x: 0, y: 0 };
@@ -29,7 +30,7 @@ const LEFT_TILE: TileAt = TileAt { x: 0, y: 0 };
 const RIGHT_TILE: TileAt = TileAt { x: 1, y: 0 };
 
 /// What a bit of an IO tile does for one of its pads, which is named by its number in the tile, 0 or 1.
-#[derive(Clone, Copy, Debug, PartialEq, Eq)]
+#[derive(Clone, Copy)]
 pub enum Function {
     /// A digit of the pad's pin type, counted from the least.
     PinType(u8, u8),

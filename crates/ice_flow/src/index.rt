@@ -20,7 +20,7 @@ use std::alloc::Global;
 use std::collections::{HashMap, HashSet};
 
 /// The rows with the same values in the same bits: the place of the first of them in the list, and whether there are more.
-#[derive(Clone, Copy, Debug, PartialEq, Eq)]
+#[derive(Clone, Copy)]
 pub struct Holder {
     pub first: usize,
     pub several: bool,

@@ -25,7 +25,7 @@ fn number_of(bit: BitAt) -> usize
 }
 
 /// A level for each bit of a tile that a switch may have: row below 16, column below 17.
-#[derive(Clone, Copy, Debug)]
+#[derive(Clone, Copy)]
 pub struct Levels {
     levels: [bool; BITS],
 }

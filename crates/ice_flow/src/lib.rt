@@ -20,7 +20,6 @@ mod request;
 mod route;
 mod rows;
 mod search;
-mod texts;
 mod top_call;
 mod usable;
 

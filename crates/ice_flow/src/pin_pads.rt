@@ -14,14 +14,14 @@ use ice_base::TileAt;
 use ice_pcf::Constraint;
 
 /// The pads of a buffer's two ports.
-#[derive(Clone, Copy, Debug, PartialEq, Eq)]
+#[derive(Clone, Copy)]
 pub struct PortPads {
     pub input: Pad,
     pub output: Pad,
 }
 
 /// Why pin constraints give no pads.
-#[derive(Clone, Copy, Debug, PartialEq, Eq)]
+#[derive(Clone, Copy)]
 pub enum PinsStop {
     /// The constraints, the package or the pads are of another form than the one that is built so far.
     OtherForm,
@@ -30,7 +30,7 @@ pub enum PinsStop {
 }
 
 // The constraints of the two ports, in the order of their lines.
-#[derive(Clone, Copy, Debug)]
+#[derive(Clone, Copy)]
 enum Matched<'a> {
     InputFirst(&'a Constraint, &'a Constraint),
     OutputFirst(&'a Constraint, &'a Constraint),

@@ -7,7 +7,7 @@ use crate::chip::Group;
 use ice_base::{BitAt, TileAt, WireNo};
 
 /// The place of a row: its group, its place in the group, and its number over all groups, each counted from 0.
-#[derive(Clone, Copy, Debug, PartialEq, Eq)]
+#[derive(Clone, Copy)]
 pub struct Place {
     pub group: usize,
     pub row: usize,

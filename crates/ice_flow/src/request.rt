@@ -10,7 +10,7 @@ use ice_play::NetRequest;
 use ice_play_bits::BitsRequest;
 
 /// What a build is asked for: the text of bits at `asc` from the texts of three files, for a package.
-#[derive(Clone, Copy, Debug)]
+#[derive(Clone, Copy)]
 pub struct BuildRequest<'a> {
     /// The name of the file of the chip database.
     pub chip: &'a str,
@@ -25,7 +25,7 @@ pub struct BuildRequest<'a> {
 }
 
 /// What the words ask for.
-#[derive(Clone, Copy, Debug)]
+#[derive(Clone, Copy)]
 pub enum Request<'a> {
     /// `build CHIP PACKAGE PCF BLIF ASC`.
     Build(BuildRequest<'a>),

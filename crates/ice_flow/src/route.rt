@@ -3,7 +3,7 @@
 use ice_base::{BitAt, RowNo, TileAt, WireNo};
 
 /// A row of a route, with all that its group says of it.
-#[derive(Debug, Drop)]
+#[derive(Drop)]
 pub struct RouteRow {
     pub number: RowNo,
     pub tile: TileAt,

@@ -1,2 +1,1 @@
 pub mod PlayLaws
-pub mod Playing

@@ -1,5 +1,3 @@
 pub mod Played
-pub mod Requests
-pub mod Playing
-pub mod Refusals
 pub mod PlayRows
+pub mod Requests

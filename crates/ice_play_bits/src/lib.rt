@@ -2,8 +2,5 @@
 #![tactic(auto)]
 
 mod play;
-mod request;
-mod texts;
 
-pub use play::play_bits;
-pub use request::BitsRequest;
+pub use play::{BitsRequest, play_bits};

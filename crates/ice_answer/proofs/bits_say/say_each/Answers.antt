@@ -2,8 +2,9 @@ use Rattle.std.proofs.Common.{Bool, true, false, List, ◌++◌, ℕ, map, take,
 use Rattle.ice_desk.proofs.Desks.{same_test_trans}
 use Rattle.ice_base.specs.declared.number.WireNo.{WireNo}
 use Rattle.ice_answer.specs.Causes.{joined, wire_text}
-use Rattle.ice_answer.specs.Says.{IsSaid}
-use Rattle.ice_answer.proofs.Saying.{saying_trans, said_then, cut_stays, joined_more, joined_all}
+use Rattle.ice_desk.specs.Said.{IsSaid}
+use Rattle.ice_desk.proofs.Saying.{saying_trans, said_then, cut_stays}
+use Rattle.ice_answer.proofs.PieceTexts.{joined_more, joined_all}
 use Rattle.ice_answer.proofs.bits_say.say_each.Goals as goal
 
 -- what stands past the end of the wires

@@ -1,7 +1,7 @@
 use Rattle.std.proofs.Common.{map, take, true}
 use Rattle.ice_desk.specs.Desk.{SameButSaying, SameTest}
 use Rattle.ice_answer.specs.Causes.{joined, wire_text}
-use Rattle.ice_answer.specs.Says.{IsSaid}
+use Rattle.ice_desk.specs.Said.{IsSaid}
 use Rattle.ice_answer.proofs.bits_say.say_each.Given as goal
 
 abbrev pub invariant-loop-wire : goal.invariant-loop-wire

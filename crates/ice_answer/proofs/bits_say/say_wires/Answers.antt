@@ -1,8 +1,8 @@
 use Rattle.std.specs.Prelude.{decimal}
 use Rattle.std.proofs.Common.{List, ℕ, map, ap, subst, ◌∙◌}
 use Rattle.ice_answer.specs.Causes.{spaced}
-use Rattle.ice_answer.specs.Says.{IsSaid}
-use Rattle.ice_answer.proofs.Saying.{wires_spaced}
+use Rattle.ice_desk.specs.Said.{IsSaid}
+use Rattle.ice_answer.proofs.PieceTexts.{wires_spaced}
 use Rattle.ice_answer.proofs.bits_say.say_wires.Goals as goal
 
 pub returns-clause-said : goal.returns-clause-said

@@ -1,7 +1,8 @@
 use Rattle.std.specs.Prelude.{decimal}
 use Rattle.std.proofs.Common.{codes, map, [], ◌∷◌, ◌∙◌, true, false}
 use Rattle.ice_answer.specs.Causes.{joined, spaced, names_line}
-use Rattle.ice_answer.proofs.Saying.{said_both, cut_first, whole, cut, joined_pair, joined_third}
+use Rattle.ice_desk.proofs.Saying.{said_both, cut_first, whole, cut}
+use Rattle.ice_answer.proofs.PieceTexts.{joined_pair, joined_third}
 use Rattle.ice_answer.proofs.bits_say.say_wires_line.Goals as goal
 
 pub returns-then-not-say_wires-clause-said : goal.returns-then-not-say_wires-clause-said

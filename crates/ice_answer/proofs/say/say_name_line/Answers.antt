@@ -1,6 +1,7 @@
 use Rattle.std.proofs.Common.{codes, [], ◌∷◌}
 use Rattle.ice_answer.specs.Causes.{joined, named_line}
-use Rattle.ice_answer.proofs.Saying.{said_both, whole, joined_third}
+use Rattle.ice_desk.proofs.Saying.{said_both, whole}
+use Rattle.ice_answer.proofs.PieceTexts.{joined_third}
 use Rattle.ice_answer.proofs.say.say_name_line.Goals as goal
 
 pub returns-clause-said : goal.returns-clause-said

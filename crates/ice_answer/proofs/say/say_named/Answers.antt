@@ -1,7 +1,8 @@
 use Rattle.std.proofs.Common.{List, [], ◌∷◌, ℕ, subst}
-use Rattle.ice_answer.specs.Says.{IsSaid}
+use Rattle.ice_desk.specs.Said.{IsSaid}
 use Rattle.ice_answer.specs.Causes.{joined}
-use Rattle.ice_answer.proofs.Saying.{said_both, whole, joined_pair}
+use Rattle.ice_desk.proofs.Saying.{said_both, whole}
+use Rattle.ice_answer.proofs.PieceTexts.{joined_pair}
 use Rattle.ice_answer.proofs.say.say_named.Goals as goal
 
 pub returns-clause-said : goal.returns-clause-said

@@ -1,8 +1,9 @@
 use Rattle.std.proofs.Common.{true, false, List, ◌++◌, ℕ, take, drop, get_or, refl, sym, subst, suc, ◌+◌}
 use Rattle.ice_desk.proofs.Desks.{same_test_trans}
 use Rattle.ice_answer.specs.Causes.{after_blank, spaced}
-use Rattle.ice_answer.specs.Says.{IsSaid}
-use Rattle.ice_answer.proofs.Saying.{saying_trans, said_both, cut_first, whole, cut, joined_more, joined_all}
+use Rattle.ice_desk.specs.Said.{IsSaid}
+use Rattle.ice_desk.proofs.Saying.{saying_trans, said_both, cut_first, whole, cut}
+use Rattle.ice_answer.proofs.PieceTexts.{joined_more, joined_all}
 use Rattle.ice_answer.proofs.say.say_names.Goals as goal
 
 pub returns-then-not-say_named-clause-said : goal.returns-then-not-say_named-clause-said

@@ -1,7 +1,7 @@
 use Rattle.std.proofs.Common.{take, true}
 use Rattle.ice_desk.specs.Desk.{SameButSaying, SameTest}
 use Rattle.ice_answer.specs.Causes.{spaced}
-use Rattle.ice_answer.specs.Says.{IsSaid}
+use Rattle.ice_desk.specs.Said.{IsSaid}
 use Rattle.ice_answer.proofs.say.say_names.Given as goal
 
 abbrev pub invariant-loop-name : goal.invariant-loop-name

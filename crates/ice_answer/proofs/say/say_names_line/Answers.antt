@@ -1,6 +1,7 @@
 use Rattle.std.proofs.Common.{codes, [], ◌∷◌, ◌∙◌, true, false}
 use Rattle.ice_answer.specs.Causes.{joined, spaced, names_line}
-use Rattle.ice_answer.proofs.Saying.{said_both, cut_first, whole, cut, joined_pair, joined_third}
+use Rattle.ice_desk.proofs.Saying.{said_both, cut_first, whole, cut}
+use Rattle.ice_answer.proofs.PieceTexts.{joined_pair, joined_third}
 use Rattle.ice_answer.proofs.say.say_names_line.Goals as goal
 
 pub returns-then-not-say_names-clause-said : goal.returns-then-not-say_names-clause-said

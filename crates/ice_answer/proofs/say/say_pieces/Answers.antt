@@ -2,8 +2,9 @@ use Rattle.std.proofs.Common.{Bool, true, false, List, [], ◌++◌, ℕ, map, t
 use Rattle.ice_desk.proofs.Desks.{same_test_trans}
 use Rattle.ice_answer.specs.Causes.{joined}
 use Rattle.ice_answer.specs.Pieces.{piece_text}
-use Rattle.ice_answer.specs.Says.{IsSaid}
-use Rattle.ice_answer.proofs.Saying.{saying_trans, said_then, cut_stays, joined_more, joined_all}
+use Rattle.ice_desk.specs.Said.{IsSaid}
+use Rattle.ice_desk.proofs.Saying.{saying_trans, said_then, cut_stays}
+use Rattle.ice_answer.proofs.PieceTexts.{joined_more, joined_all}
 use Rattle.ice_answer.specs.declared.say.Piece.{Piece}
 use Rattle.ice_answer.specs.declared.say.Piece.TheVariants.{Text}
 use Rattle.ice_answer.proofs.say.say_pieces.Goals as goal

@@ -2,7 +2,7 @@ use Rattle.std.proofs.Common.{map, take, true}
 use Rattle.ice_desk.specs.Desk.{SameButSaying, SameTest}
 use Rattle.ice_answer.specs.Causes.{joined}
 use Rattle.ice_answer.specs.Pieces.{piece_text}
-use Rattle.ice_answer.specs.Says.{IsSaid}
+use Rattle.ice_desk.specs.Said.{IsSaid}
 use Rattle.ice_answer.proofs.say.say_pieces.Given as goal
 
 abbrev pub invariant-loop-piece : goal.invariant-loop-piece

@@ -26,7 +26,7 @@ loop-k-init c = record {
 
 pub overflow_add-place : goal.overflow_add-place
 overflow_add-place c =
-    let few : length (rows_from 0 (groups_view c.args.groups.now)) ≤ 4194304 = c.requires.form.few in
+    let few : length (rows_from 0 (groups_view c.args.groups.now)) ≤ 16777216 = c.requires.form.few in
     let le : rows_before (groups_view c.args.groups.now) (c.args.i + 1) ≤ length (rows_from 0 (groups_view c.args.groups.now)) = before-le 0 (groups_view c.args.groups.now) (c.args.i + 1) in
     let e = before_next_view c.args.groups.now c.args.i c.index-groups-i.result c.requires.within c.index-groups-i.is in
     let l = c.index-groups-i.result.rows.ok.0 in

@@ -28,7 +28,7 @@ add_group-requires c = record {
 
 pub overflow_add-number : goal.overflow_add-number
 overflow_add-number c =
-    let few : length (rows_from 0 (groups_view c.args.groups.now)) ≤ 4194304 = c.requires.few in
+    let few : length (rows_from 0 (groups_view c.args.groups.now)) ≤ 16777216 = c.requires.few in
     let le : rows_before (groups_view c.args.groups.now) (c.loop-i.i + 1) ≤ length (rows_from 0 (groups_view c.args.groups.now)) = before-le 0 (groups_view c.args.groups.now) (c.loop-i.i + 1) in
     let e = before_next_view c.args.groups.now c.loop-i.i c.index-groups-i.result (omega arith) c.index-groups-i.is in
     let l = c.index-groups-i.result.rows.ok.0 in

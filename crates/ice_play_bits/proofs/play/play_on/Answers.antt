@@ -1,10 +1,9 @@
-use Rattle.ice_play_bits.specs.Requests.{texts_view}
-use Rattle.ice_play_bits.proofs.Truths.{asc_refused}
+use Rattle.ice_play_bits.proofs.Standing.{asc_refused}
 use Rattle.ice_play_bits.proofs.play.play_on.Goals as goal
 
 pub returns-in-Err-clause-refused : goal.returns-in-Err-clause-refused
 returns-in-Err-clause-refused c =
-    asc_refused c.args.package_name.now (texts_view c.args.texts.now) c.args.chip.now c.in-Err.fault c.asc_refusal.result c.requires (rw c.deref.ensures.value at c.in-Err.ensures.answers) c.asc_refusal.ensures
+    asc_refused c.args.package_name.now c.args.texts.now c.args.chip.now c.in-Err.fault c.asc_refusal.result c.requires (rw c.at.ensures at c.in-Err.ensures.answers) c.asc_refusal.ensures
 
 pub returns-in-Ok-clause-played : goal.returns-in-Ok-clause-played
 returns-in-Ok-clause-played c = c.play_read.ensures.played
