@@ -8,6 +8,7 @@ mod lines;
 mod memory;
 mod name;
 mod number;
+mod sink;
 mod words;
 
 pub use comments::{PlainWords, begins_with, plain_words_of};
@@ -16,6 +17,7 @@ pub use lines::{Line, LineIter, lines_of};
 pub use memory::NoMemory;
 pub use name::{Name, name_of};
 pub use number::{BitAt, NetNo, RowNo, SignalNo, TileAt, WireNo};
+pub use sink::Sink;
 pub use words::{WordIter, no_words, words_of};
 
 #[cfg(test)]
