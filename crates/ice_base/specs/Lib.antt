@@ -2,3 +2,8 @@ pub mod Text
 pub mod Comments
 pub mod Cursors
 pub mod Numbers
+pub mod Places
+pub mod Lists
+pub mod Names
+pub mod BitNames
+pub mod PlainLines

@@ -1,5 +1,6 @@
 -- Numbers as words of a text.
 use Rattle.std.specs.Prelude.{ℕ, ◌+◌, ◌-◌, ◌*◌, ◌^◌, Bool, ◌&&◌, List, [], ◌∷◌, length, nat_lt, nat_le, Option, Some, None, if◌then◌else◌}
+use Rattle.std.specs.Option.{option_and_then}
 use Rattle.std.specs.Str.{all_ascii_digits}
 
 -- the number that n's digits and one more digit write; 48 is `0`
@@ -22,3 +23,7 @@ is_number word = nat_le 1 (length word) && nat_le (length word) 10 && all_ascii_
 -- the value of a word that is a number, and none of any other word
 unfoldable pub number_in : List ℕ → Option ℕ
 number_in word = if is_number word then Some (decimal_value word) else None
+
+-- a number below a limit
+abbrev pub number_below : ℕ → List ℕ → Option ℕ
+number_below limit word = option_and_then (λ n. if nat_lt n limit then Some n else None) (number_in word)

@@ -1,7 +1,7 @@
 //! Numbers as words of a text.
-ghost use Rattle.std.specs.Prelude.{◌≡◌, ◌^◌, ◌≤◌, ◌<◌, ◌&&◌, nat_lt, Some, None, if◌then◌else◌};
+ghost use Rattle.std.specs.Prelude.{◌≡◌, ◌^◌, ◌≤◌, ◌<◌, ◌&&◌, nat_lt, Some, None, IfSome, if◌then◌else◌};
 ghost use Rattle.std.specs.Char.{is_ascii_digit};
-ghost use Rattle.ice_base.specs.Numbers.{number_in, with_digit};
+ghost use Rattle.ice_base.specs.Numbers.{number_in, number_below, with_digit};
 
 // The number that a number's digits and one more write, where that is a digit and the number fits.
 fn appended(number: u32, digit: u8) -> Option<u32>
@@ -27,4 +27,12 @@ pub fn number_of(word: &[u8]) -> Option<u32>
         number = appended(number, *digit)?;
     }
     Some(number)
+}
+
+/// The value of a word that is a number below a limit, and None for any other word.
+pub fn number_below(limit: u32, word: &[u8]) -> Option<u32>
+    ensures value { result ≡ number_below limit word.now }
+    ensures below { IfSome result (λ number. number < limit) }
+{
+    number_of(word).filter(|number| *number < limit)
 }

@@ -8,9 +8,13 @@ mod NamedRows
 mod Numbering
 mod Readers
 mod RowPlaces
+pub mod Prefixes
+mod WireNamesRead
+mod FunctionNamesRead
 mod JoinedTests
 mod DerivedEquality
 mod SharedLaws
 mod FirstOfAll
+mod EachNumber
 mod NeededNames
 mod LackingLaws

@@ -1,44 +1,17 @@
 -- A kind has all functions that it needs exactly where it has one of each name that it needs.
-use Rattle.std.proofs.Common.{◌≡◌, ℕ, Bool, true, false, not, List, [], ◌∷◌, ◌++◌, refl, sym, ap, ◌∙◌, true≢false, inl, inr, ◌&&◌, ◌||◌, codes, bytes_eq}
-use Rattle.std.specs.Prelude.{◌⊎◌}
-use Rattle.std.proofs.lemmas.Slice.Eq.{bytes_eq-Decides}
+use Rattle.std.proofs.Common.{◌≡◌, ℕ, ◌<◌, ◌≤◌, Bool, true, false, not, List, [], ◌∷◌, ◌++◌, refl, sym, ap, ◌∙◌, true≢false, inl, inr, arith, ◌&&◌, ◌||◌, codes, bytes_eq, is_some}
 use Rattle.ice_chip.specs.Database.{FunctionRow}
+use Rattle.ice_chip.specs.Digits.{digit, number_behind}
 use Rattle.ice_chip.specs.FirstLacking.{needs_buffers, is_needed}
-use Rattle.ice_chip.specs.Functions.{is_read, is_column_buffer}
-use Rattle.ice_chip.specs.LacksFunction.{has_function, has_needed}
+use Rattle.ice_chip.specs.FunctionNames.{cell_function, falling_clock_function, carry_set_function, pin_type_function, input_enable_function, pull_up_function, column_buffer_function}
+use Rattle.ice_chip.specs.Functions.{is_read, is_column_buffer, is_logic_cell, is_first_pin_type, is_second_pin_type, is_pad_enable}
+use Rattle.ice_chip.specs.LacksFunction.{has_function, has_each, has_needed, has_logic, has_pin_types, has_pad_enables, has_column_buffers}
 use Rattle.ice_chip.specs.declared.rows.TileKind.{TileKind}
 use Rattle.ice_chip.specs.declared.rows.TileKind.TheVariants.{Io, Logic, RamBottom, RamTop}
-use Rattle.ice_chip.proofs.JoinedTests.{or_assoc, and_assoc, or_true, and_true, either_true, both_true, either_false, implied, not_implied}
-
--- ---- tests over names, the last one first, as chains of tests are read
-abbrev pub one_of : List (List ℕ) → List ℕ → Bool
-one_of [] name = false
-one_of (n ∷ []) name = bytes_eq name n
-one_of (n ∷ m ∷ ns) name = one_of (m ∷ ns) name || bytes_eq name n
-
-abbrev pub has_each : TileKind → List FunctionRow → List (List ℕ) → Bool
-has_each kind fs [] = true
-has_each kind fs (n ∷ []) = has_function kind n fs
-has_each kind fs (n ∷ m ∷ ns) = has_each kind fs (m ∷ ns) && has_function kind n fs
-
-one_of-append : (m : List ℕ) (ms : List (List ℕ)) (n : List ℕ) (ns : List (List ℕ)) (name : List ℕ) → one_of (m ∷ ms ++ n ∷ ns) name ≡ (one_of (n ∷ ns) name || one_of (m ∷ ms) name)
-one_of-append m [] n ns name = refl
-one_of-append m (k ∷ ms) n ns name = ap (λ t. t || bytes_eq name m) (one_of-append k ms n ns name) ∙ or_assoc (one_of (n ∷ ns) name) (one_of (k ∷ ms) name) (bytes_eq name m)
-
-has_each-append : (kind : TileKind) (fs : List FunctionRow) (m : List ℕ) (ms : List (List ℕ)) (n : List ℕ) (ns : List (List ℕ)) → has_each kind fs (m ∷ ms ++ n ∷ ns) ≡ (has_each kind fs (n ∷ ns) && has_each kind fs (m ∷ ms))
-has_each-append kind fs m [] n ns = refl
-has_each-append kind fs m (k ∷ ms) n ns = ap (λ t. t && has_function kind m fs) (has_each-append kind fs k ms n ns) ∙ and_assoc (has_each kind fs (n ∷ ns)) (has_each kind fs (k ∷ ms)) (has_function kind m fs)
-
--- a name is one of these, and the kind has each of them
-present : (kind : TileKind) (fs : List FunctionRow) (ns : List (List ℕ)) (name : List ℕ) → has_each kind fs ns ≡ true → one_of ns name ≡ true → has_function kind name fs ≡ true
-present kind fs [] name all is = absurd (true≢false (sym is))
-present kind fs (n ∷ []) name all is = ap (λ m. has_function kind m fs) ((bytes_eq-Decides name n).0 is) ∙ all
-present kind fs (n ∷ m ∷ ns) name all is = by_name (either_true (one_of (m ∷ ns) name) (bytes_eq name n) is) (both_true (has_each kind fs (m ∷ ns)) (has_function kind n fs) all) (present kind fs (m ∷ ns) name)
-  where
-    by_name : (one_of (m ∷ ns) name ≡ true) ⊎ (bytes_eq name n ≡ true) → (has_each kind fs (m ∷ ns) ≡ true) × (has_function kind n fs ≡ true)
-        → (has_each kind fs (m ∷ ns) ≡ true → one_of (m ∷ ns) name ≡ true → has_function kind name fs ≡ true) → has_function kind name fs ≡ true
-    by_name (inl before) has more = more has.0 before
-    by_name (inr here) has more = ap (λ k. has_function kind k fs) ((bytes_eq-Decides name n).0 here) ∙ has.1
+use Rattle.ice_chip.proofs.EachNumber.{has_one, lacking_number}
+use Rattle.ice_chip.proofs.JoinedTests.{and_true, or_true, either_true, both_true, either_false, implied, not_implied}
+use Rattle.ice_chip.proofs.Keys.{bytes_same}
+use Rattle.ice_chip.proofs.Prefixes.{number_behind_read, set_number}
 
 -- a name that passes a test and that the kind has no function of
 pub record Missing (kind : TileKind) (fs : List FunctionRow) (test : List ℕ → Bool) : Type 0 where
@@ -46,133 +19,145 @@ pub record Missing (kind : TileKind) (fs : List FunctionRow) (test : List ℕ �
   pub passes : test name ≡ true
   pub lacking : has_function kind name fs ≡ false
 
-self : (n : List ℕ) → bytes_eq n n ≡ true
-self n = (bytes_eq-Decides n n).1 refl
-
-missing : (kind : TileKind) (fs : List FunctionRow) (ns : List (List ℕ)) → has_each kind fs ns ≡ false → Missing kind fs (one_of ns)
-missing kind fs [] none = absurd (true≢false none)
-missing kind fs (n ∷ []) none = record { name = n; passes = self n; lacking = none }
-missing kind fs (n ∷ m ∷ ns) none = by_place (either_false (has_each kind fs (m ∷ ns)) (has_function kind n fs) none) (missing kind fs (m ∷ ns))
-  where
-    by_place : (has_each kind fs (m ∷ ns) ≡ false) ⊎ (has_function kind n fs ≡ false) → (has_each kind fs (m ∷ ns) ≡ false → Missing kind fs (one_of (m ∷ ns))) → Missing kind fs (one_of (n ∷ m ∷ ns))
-    by_place (inl before) more =
-        let found = more before in
-        record { name = found.name; passes = ap (λ t. t || bytes_eq found.name n) found.passes; lacking = found.lacking }
-    by_place (inr here) more = record { name = n; passes = ap (λ t. one_of (m ∷ ns) n || t) (self n) ∙ or_true (one_of (m ∷ ns) n); lacking = here }
-
--- ---- the names of each kind, the last one first
-abbrev pub buffers : List (List ℕ)
-buffers =
-    codes "ColBufCtrl.glb_netwk_7" ∷ codes "ColBufCtrl.glb_netwk_6" ∷ codes "ColBufCtrl.glb_netwk_5" ∷ codes "ColBufCtrl.glb_netwk_4"
-    ∷ codes "ColBufCtrl.glb_netwk_3" ∷ codes "ColBufCtrl.glb_netwk_2" ∷ codes "ColBufCtrl.glb_netwk_1" ∷ codes "ColBufCtrl.glb_netwk_0" ∷ []
-
-abbrev pub first_types : List (List ℕ)
-first_types =
-    codes "IOB_0.PINTYPE_5" ∷ codes "IOB_0.PINTYPE_4" ∷ codes "IOB_0.PINTYPE_3" ∷ codes "IOB_0.PINTYPE_2" ∷ codes "IOB_0.PINTYPE_1" ∷ codes "IOB_0.PINTYPE_0" ∷ []
-
-abbrev pub lower_second_types : List (List ℕ)
-lower_second_types = codes "IOB_1.PINTYPE_4" ∷ codes "IOB_1.PINTYPE_3" ∷ codes "IOB_1.PINTYPE_2" ∷ codes "IOB_1.PINTYPE_1" ∷ codes "IOB_1.PINTYPE_0" ∷ []
-
-abbrev pub second_types : List (List ℕ)
-second_types = codes "IOB_1.PINTYPE_5" ∷ lower_second_types
-
-abbrev pub other_enables : List (List ℕ)
-other_enables = codes "IoCtrl.IE_1" ∷ codes "IoCtrl.REN_0" ∷ codes "IoCtrl.IE_0" ∷ []
-
-abbrev pub enables : List (List ℕ)
-enables = codes "IoCtrl.REN_1" ∷ other_enables
-
-abbrev pub cells : List (List ℕ)
-cells = codes "LC_7" ∷ codes "LC_6" ∷ codes "LC_5" ∷ codes "LC_4" ∷ codes "LC_3" ∷ codes "LC_2" ∷ codes "LC_1" ∷ codes "LC_0" ∷ []
-
 -- the names that are read and are no column buffers
-abbrev pub own : TileKind → List (List ℕ)
-own Io = enables ++ second_types ++ first_types
-own Logic = codes "CarryInSet" ∷ codes "NegClk" ∷ cells
-own RamBottom = []
-own RamTop = []
+abbrev is_own : TileKind → List ℕ → Bool
+is_own Io name = is_first_pin_type name || is_second_pin_type name || is_pad_enable name
+is_own Logic name = is_logic_cell name || bytes_eq name (codes "NegClk") || bytes_eq name (codes "CarryInSet")
+is_own RamBottom name = false
+is_own RamTop name = false
 
-reads_own : (kind : TileKind) (name : List ℕ) → is_read kind name ≡ (one_of (own kind) name || one_of buffers name)
-reads_own Io name =
-    let enables_last : one_of (own Io) name ≡ (one_of (second_types ++ first_types) name || one_of enables name) =
-    one_of-append (codes "IoCtrl.REN_1") other_enables (codes "IOB_1.PINTYPE_5") (lower_second_types ++ first_types) name in
-    let types : one_of (second_types ++ first_types) name ≡ (one_of first_types name || one_of second_types name) =
-    one_of-append (codes "IOB_1.PINTYPE_5") lower_second_types (codes "IOB_0.PINTYPE_5")
-    (codes "IOB_0.PINTYPE_4" ∷ codes "IOB_0.PINTYPE_3" ∷ codes "IOB_0.PINTYPE_2" ∷ codes "IOB_0.PINTYPE_1" ∷ codes "IOB_0.PINTYPE_0" ∷ []) name in
-    sym (ap (λ t. t || one_of buffers name) (enables_last ∙ ap (λ t. t || one_of enables name) types))
+abbrev has_own : TileKind → List FunctionRow → Bool
+has_own Io fs = has_pin_types fs && has_pad_enables fs
+has_own Logic fs = has_logic fs
+has_own RamBottom fs = true
+has_own RamTop fs = true
+
+reads_own : (kind : TileKind) (name : List ℕ) → is_read kind name ≡ (is_own kind name || is_column_buffer name)
+reads_own Io name = refl
 reads_own Logic name = refl
 reads_own RamBottom name = refl
 reads_own RamTop name = refl
 
-buffers_are : (name : List ℕ) → is_column_buffer name ≡ one_of buffers name
-buffers_are name = refl
-
-needs_own : (is_source : Bool) (kind : TileKind) (fs : List FunctionRow) → has_needed is_source kind fs ≡ (has_each kind fs (own kind) && (not (needs_buffers is_source kind) || has_each kind fs buffers))
-needs_own is_source Io fs =
-    sym (has_each-append Io fs (codes "IoCtrl.REN_1") other_enables (codes "IOB_1.PINTYPE_5") (lower_second_types ++ first_types))
-    ∙ sym (and_true (has_each Io fs (own Io)))
+needs_own : (is_source : Bool) (kind : TileKind) (fs : List FunctionRow) → has_needed is_source kind fs ≡ (has_own kind fs && (not (needs_buffers is_source kind) || has_column_buffers kind fs))
+needs_own is_source Io fs = sym (and_true (has_own Io fs))
 needs_own is_source Logic fs = refl
 needs_own is_source RamBottom fs = refl
 needs_own is_source RamTop fs = refl
 
--- none of the other names is a column buffer's
-abbrev pub all_apart : List (List ℕ) → Bool
-all_apart [] = true
-all_apart (n ∷ ns) = not (one_of buffers n) && all_apart ns
+-- ---- what is there
+-- a name of a set of numbered names
+there : (kind : TileKind) (fs : List FunctionRow) (made : ℕ → List ℕ) (limit : ℕ) (prefix name : List ℕ) → limit ≤ 10 → ((n : ℕ) → prefix ++ digit n ∷ [] ≡ made n)
+    → has_each kind made limit fs ≡ true → is_some (number_behind limit prefix name) ≡ true → has_function kind name fs ≡ true
+there kind fs made limit prefix name le made_is all is =
+    let number = set_number limit prefix name le is in
+    ap (λ k. has_function kind k fs) (number.2 ∙ made_is number.0) ∙ has_one kind made number.0 limit fs number.1 all
 
-own_apart : (kind : TileKind) → all_apart (own kind) ≡ true
-own_apart Io = refl
-own_apart Logic = refl
-own_apart RamBottom = refl
-own_apart RamTop = refl
+own_there : (kind : TileKind) (fs : List FunctionRow) (name : List ℕ) → has_own kind fs ≡ true → is_own kind name ≡ true → has_function kind name fs ≡ true
+own_there Io fs name all is =
+    let has = both_true (has_pin_types fs) (has_pad_enables fs) all in
+    let types = both_true (has_each Io (pin_type_function 0) 6 fs) (has_each Io (pin_type_function 1) 6 fs) has.0 in
+    let enables = both_true (has_each Io input_enable_function 2 fs) (has_each Io pull_up_function 2 fs) has.1 in
+    elim (either_true (is_first_pin_type name || is_second_pin_type name) (is_pad_enable name) is) [
+      | inl typed ↦ elim (either_true (is_first_pin_type name) (is_second_pin_type name) typed) [
+        | inl first ↦ there Io fs (pin_type_function 0) 6 (codes "IOB_0.PINTYPE_") name (omega arith) (λ n. refl) types.0 first
+        | inr second ↦ there Io fs (pin_type_function 1) 6 (codes "IOB_1.PINTYPE_") name (omega arith) (λ n. refl) types.1 second
+      ]
+      | inr enable ↦ elim (either_true (is_some (number_behind 2 (codes "IoCtrl.IE_") name)) (is_some (number_behind 2 (codes "IoCtrl.REN_") name)) enable) [
+        | inl input ↦ there Io fs input_enable_function 2 (codes "IoCtrl.IE_") name (omega arith) (λ n. refl) enables.0 input
+        | inr pull_up ↦ there Io fs pull_up_function 2 (codes "IoCtrl.REN_") name (omega arith) (λ n. refl) enables.1 pull_up
+      ]
+    ]
+own_there Logic fs name all is =
+    let last = both_true (has_each Logic cell_function 8 fs && has_function Logic falling_clock_function fs) (has_function Logic carry_set_function fs) all in
+    let first = both_true (has_each Logic cell_function 8 fs) (has_function Logic falling_clock_function fs) last.0 in
+    elim (either_true (is_logic_cell name || bytes_eq name (codes "NegClk")) (bytes_eq name (codes "CarryInSet")) is) [
+      | inr carry ↦ ap (λ k. has_function Logic k fs) (bytes_same name (codes "CarryInSet") carry) ∙ last.1
+      | inl others ↦ elim (either_true (is_logic_cell name) (bytes_eq name (codes "NegClk")) others) [
+        | inl cell ↦ there Logic fs cell_function 8 (codes "LC_") name (omega arith) (λ n. refl) first.0 cell
+        | inr edge ↦ ap (λ k. has_function Logic k fs) (bytes_same name (codes "NegClk") edge) ∙ first.1
+      ]
+    ]
+own_there RamBottom fs name all is = absurd (true≢false (sym is))
+own_there RamTop fs name all is = absurd (true≢false (sym is))
 
-apart : (ns : List (List ℕ)) (name : List ℕ) → all_apart ns ≡ true → one_of ns name ≡ true → not (one_of buffers name) ≡ true
-apart [] name all is = absurd (true≢false (sym is))
-apart (n ∷ []) name all is = ap (λ m. not (one_of buffers m)) ((bytes_eq-Decides name n).0 is) ∙ (both_true (not (one_of buffers n)) true all).0
-apart (n ∷ m ∷ ns) name all is = by_name (either_true (one_of (m ∷ ns) name) (bytes_eq name n) is) (both_true (not (one_of buffers n)) (all_apart (m ∷ ns)) all) (apart (m ∷ ns) name)
-  where
-    by_name : (one_of (m ∷ ns) name ≡ true) ⊎ (bytes_eq name n ≡ true) → (not (one_of buffers n) ≡ true) × (all_apart (m ∷ ns) ≡ true)
-        → (all_apart (m ∷ ns) ≡ true → one_of (m ∷ ns) name ≡ true → not (one_of buffers name) ≡ true) → not (one_of buffers name) ≡ true
-    by_name (inl before) all more = more all.1 before
-    by_name (inr here) all more = ap (λ k. not (one_of buffers k)) ((bytes_eq-Decides name n).0 here) ∙ all.0
+buffer_there : (kind : TileKind) (fs : List FunctionRow) (name : List ℕ) → has_column_buffers kind fs ≡ true → is_column_buffer name ≡ true → has_function kind name fs ≡ true
+buffer_there kind fs name all is = there kind fs column_buffer_function 8 (codes "ColBufCtrl.glb_netwk_") name (omega arith) (λ n. refl) all is
 
--- ---- what is needed
 pub has_what_it_needs : (is_source : Bool) (kind : TileKind) (fs : List FunctionRow) (name : List ℕ) → has_needed is_source kind fs ≡ true → is_needed is_source kind name ≡ true → has_function kind name fs ≡ true
 has_what_it_needs is_source kind fs name all needed =
-    let has = both_true (has_each kind fs (own kind)) (not (needs_buffers is_source kind) || has_each kind fs buffers) (sym (needs_own is_source kind fs) ∙ all) in
-    let tests = both_true (is_read kind name) (not (is_column_buffer name) || needs_buffers is_source kind) needed in
-    by_list has.0 has.1 tests.1 (either_true (one_of (own kind) name) (one_of buffers name) (sym (reads_own kind name) ∙ tests.0))
-  where
-    by_list : has_each kind fs (own kind) ≡ true → (not (needs_buffers is_source kind) || has_each kind fs buffers) ≡ true → (not (is_column_buffer name) || needs_buffers is_source kind) ≡ true
-        → (one_of (own kind) name ≡ true) ⊎ (one_of buffers name ≡ true) → has_function kind name fs ≡ true
-    by_list own_all buffers_all needs (inl is_own) = present kind fs (own kind) name own_all is_own
-    by_list own_all buffers_all needs (inr is_buffer) =
-        let wanted : needs_buffers is_source kind ≡ true = implied (one_of buffers name) (needs_buffers is_source kind) needs is_buffer in
-        present kind fs buffers name (implied (needs_buffers is_source kind) (has_each kind fs buffers) buffers_all wanted) is_buffer
+    let has = both_true (has_own kind fs) (not (needs_buffers is_source kind) || has_column_buffers kind fs) (sym (needs_own is_source kind fs) ∙ all) in
+    let asked = both_true (is_read kind name) (not (is_column_buffer name) || needs_buffers is_source kind) needed in
+    elim (either_true (is_own kind name) (is_column_buffer name) (sym (reads_own kind name) ∙ asked.0)) [
+      | inl own ↦ own_there kind fs name has.0 own
+      | inr buffer ↦ buffer_there kind fs name (implied (needs_buffers is_source kind) (has_column_buffers kind fs) has.1 (implied (is_column_buffer name) (needs_buffers is_source kind) asked.1 buffer)) buffer
+    ]
+
+-- ---- what is lacking
+-- a number of a set of names
+of_set : (kind : TileKind) (fs : List FunctionRow) (made : ℕ → List ℕ) (limit : ℕ) (test : List ℕ → Bool) → ((n : ℕ) → n < limit → test (made n) ≡ true) → has_each kind made limit fs ≡ false → Missing kind fs test
+of_set kind fs made limit test passes none = let found = lacking_number kind made limit fs none in record { name = made found.0; passes = passes found.0 found.1; lacking = found.2 }
+
+-- a name that is read in the kind and is no column buffer
+abbrev is_apart : TileKind → List ℕ → Bool
+is_apart kind name = is_own kind name && not (is_column_buffer name)
+
+read_so : (limit : ℕ) (prefix : List ℕ) (n : ℕ) → n < limit → limit ≤ 10 → is_some (number_behind limit prefix (prefix ++ digit n ∷ [])) ≡ true
+read_so limit prefix n lt le = ap is_some (number_behind_read limit prefix n lt le)
+
+first_apart : (n : ℕ) → n < 6 → is_apart Io (pin_type_function 0 n) ≡ true
+first_apart n lt = ap (λ b. (b || is_second_pin_type (pin_type_function 0 n) || is_pad_enable (pin_type_function 0 n)) && true) (read_so 6 (codes "IOB_0.PINTYPE_") n lt (omega arith))
+
+second_apart : (n : ℕ) → n < 6 → is_apart Io (pin_type_function 1 n) ≡ true
+second_apart n lt = ap (λ b. (b || is_pad_enable (pin_type_function 1 n)) && true) (read_so 6 (codes "IOB_1.PINTYPE_") n lt (omega arith))
+
+input_apart : (n : ℕ) → n < 2 → is_apart Io (input_enable_function n) ≡ true
+input_apart n lt = ap (λ b. (b || is_some (number_behind 2 (codes "IoCtrl.REN_") (input_enable_function n))) && true) (read_so 2 (codes "IoCtrl.IE_") n lt (omega arith))
+
+pull_up_apart : (n : ℕ) → n < 2 → is_apart Io (pull_up_function n) ≡ true
+pull_up_apart n lt = ap (λ b. b && true) (read_so 2 (codes "IoCtrl.REN_") n lt (omega arith))
+
+cell_apart : (n : ℕ) → n < 8 → is_apart Logic (cell_function n) ≡ true
+cell_apart n lt = ap (λ b. (b || bytes_eq (cell_function n) (codes "NegClk") || bytes_eq (cell_function n) (codes "CarryInSet")) && true) (read_so 8 (codes "LC_") n lt (omega arith))
+
+own_lacking : (kind : TileKind) (fs : List FunctionRow) → has_own kind fs ≡ false → Missing kind fs (is_apart kind)
+own_lacking Io fs none = elim (either_false (has_pin_types fs) (has_pad_enables fs) none) [
+  | inl types ↦ elim (either_false (has_each Io (pin_type_function 0) 6 fs) (has_each Io (pin_type_function 1) 6 fs) types) [
+    | inl first ↦ of_set Io fs (pin_type_function 0) 6 (is_apart Io) first_apart first
+    | inr second ↦ of_set Io fs (pin_type_function 1) 6 (is_apart Io) second_apart second
+  ]
+  | inr enables ↦ elim (either_false (has_each Io input_enable_function 2 fs) (has_each Io pull_up_function 2 fs) enables) [
+    | inl input ↦ of_set Io fs input_enable_function 2 (is_apart Io) input_apart input
+    | inr pull_up ↦ of_set Io fs pull_up_function 2 (is_apart Io) pull_up_apart pull_up
+  ]
+]
+own_lacking Logic fs none = elim (either_false (has_each Logic cell_function 8 fs && has_function Logic falling_clock_function fs) (has_function Logic carry_set_function fs) none) [
+  | inr carry ↦ record { name = carry_set_function; passes = refl; lacking = carry }
+  | inl others ↦ elim (either_false (has_each Logic cell_function 8 fs) (has_function Logic falling_clock_function fs) others) [
+    | inl cell ↦ of_set Logic fs cell_function 8 (is_apart Logic) cell_apart cell
+    | inr edge ↦ record { name = falling_clock_function; passes = refl; lacking = edge }
+  ]
+]
+own_lacking RamBottom fs none = absurd (true≢false none)
+own_lacking RamTop fs none = absurd (true≢false none)
+
+buffer_needed : (is_source : Bool) (kind : TileKind) → needs_buffers is_source kind ≡ true → (n : ℕ) → n < 8 → is_needed is_source kind (column_buffer_function n) ≡ true
+buffer_needed is_source kind wanted n lt =
+    let name = column_buffer_function n in
+    let read : is_column_buffer name ≡ true = read_so 8 (codes "ColBufCtrl.glb_netwk_") n lt (omega arith) in
+    ap (λ t. t && (not (is_column_buffer name) || needs_buffers is_source kind))
+    (reads_own kind name ∙ ap (λ t. is_own kind name || t) read ∙ or_true (is_own kind name))
+    ∙ ap (λ t. not (is_column_buffer name) || t) wanted ∙ or_true (not (is_column_buffer name))
+
+own_needed : (is_source : Bool) (kind : TileKind) (name : List ℕ) → is_apart kind name ≡ true → is_needed is_source kind name ≡ true
+own_needed is_source kind name apart =
+    let parts = both_true (is_own kind name) (not (is_column_buffer name)) apart in
+    ap (λ t. t && (not (is_column_buffer name) || needs_buffers is_source kind)) (reads_own kind name ∙ ap (λ t. t || is_column_buffer name) parts.0)
+    ∙ ap (λ t. t || needs_buffers is_source kind) parts.1
 
 pub lacks_what_it_needs : (is_source : Bool) (kind : TileKind) (fs : List FunctionRow) → has_needed is_source kind fs ≡ false → Missing kind fs (is_needed is_source kind)
-lacks_what_it_needs is_source kind fs none = by_list (either_false (has_each kind fs (own kind)) (not (needs_buffers is_source kind) || has_each kind fs buffers) (sym (needs_own is_source kind fs) ∙ none))
-  where
-    of_own : Missing kind fs (one_of (own kind)) → Missing kind fs (is_needed is_source kind)
-    of_own m = record {
-      name = m.name;
-      passes =
-          ap (λ t. t && (not (one_of buffers m.name) || needs_buffers is_source kind)) (reads_own kind m.name ∙ ap (λ t. t || one_of buffers m.name) m.passes)
-          ∙ ap (λ t. t || needs_buffers is_source kind) (apart (own kind) m.name (own_apart kind) m.passes);
-      lacking = m.lacking;
-    }
-
-    of_buffers : needs_buffers is_source kind ≡ true → Missing kind fs (one_of buffers) → Missing kind fs (is_needed is_source kind)
-    of_buffers wanted m = record {
-      name = m.name;
-      passes =
-          ap (λ t. t && (not (one_of buffers m.name) || needs_buffers is_source kind)) (reads_own kind m.name ∙ ap (λ t. one_of (own kind) m.name || t) m.passes ∙ or_true (one_of (own kind) m.name))
-          ∙ ap (λ t. not (one_of buffers m.name) || t) wanted ∙ or_true (not (one_of buffers m.name));
-      lacking = m.lacking;
-    }
-
-    by_list : (has_each kind fs (own kind) ≡ false) ⊎ ((not (needs_buffers is_source kind) || has_each kind fs buffers) ≡ false) → Missing kind fs (is_needed is_source kind)
-    by_list (inl no_own) = of_own (missing kind fs (own kind) no_own)
-    by_list (inr no_buffers) =
-        let parted = not_implied (needs_buffers is_source kind) (has_each kind fs buffers) no_buffers in
-        of_buffers parted.0 (missing kind fs buffers parted.1)
+lacks_what_it_needs is_source kind fs none = elim (either_false (has_own kind fs) (not (needs_buffers is_source kind) || has_column_buffers kind fs) (sym (needs_own is_source kind fs) ∙ none)) [
+  | inl no_own ↦ let m = own_lacking kind fs no_own in record { name = m.name; passes = own_needed is_source kind m.name m.passes; lacking = m.lacking }
+  | inr no_buffers ↦
+      let parted = not_implied (needs_buffers is_source kind) (has_column_buffers kind fs) no_buffers in
+      of_set kind fs column_buffer_function 8 (is_needed is_source kind) (buffer_needed is_source kind parted.0) parted.1
+]

@@ -1,39 +1,29 @@
 -- Which functions of a kind of tile are read or kept.
-use Rattle.std.specs.Prelude.{ℕ, ◌==◌, Bool, ◌||◌, ◌&&◌, true, false, Option, Some, None, List, [], ◌∷◌, codes, bytes_eq, if◌then◌else◌}
+use Rattle.std.specs.Prelude.{ℕ, ◌==◌, Bool, ◌||◌, ◌&&◌, true, false, Option, Some, None, is_some, List, [], ◌∷◌, codes, bytes_eq, if◌then◌else◌}
 use Rattle.ice_chip.specs.declared.rows.TileKind.{TileKind}
 use Rattle.ice_chip.specs.declared.rows.TileKind.TheVariants.{Io, Logic, RamBottom, RamTop}
 use Rattle.ice_chip.specs.Database.{FunctionRow}
+use Rattle.ice_chip.specs.Digits.{number_behind}
 
--- the bits of the eight logic cells
+-- the bits of the eight logic cells, `LC_I`
 abbrev pub is_logic_cell : List ℕ → Bool
-is_logic_cell name =
-    bytes_eq name (codes "LC_0") || bytes_eq name (codes "LC_1") || bytes_eq name (codes "LC_2") || bytes_eq name (codes "LC_3")
-    || bytes_eq name (codes "LC_4") || bytes_eq name (codes "LC_5") || bytes_eq name (codes "LC_6") || bytes_eq name (codes "LC_7")
+is_logic_cell name = is_some (number_behind 8 (codes "LC_") name)
 
--- the column buffers of the eight globals
+-- the column buffers of the eight globals, `ColBufCtrl.glb_netwk_N`
 abbrev pub is_column_buffer : List ℕ → Bool
-is_column_buffer name =
-    bytes_eq name (codes "ColBufCtrl.glb_netwk_0") || bytes_eq name (codes "ColBufCtrl.glb_netwk_1")
-    || bytes_eq name (codes "ColBufCtrl.glb_netwk_2") || bytes_eq name (codes "ColBufCtrl.glb_netwk_3")
-    || bytes_eq name (codes "ColBufCtrl.glb_netwk_4") || bytes_eq name (codes "ColBufCtrl.glb_netwk_5")
-    || bytes_eq name (codes "ColBufCtrl.glb_netwk_6") || bytes_eq name (codes "ColBufCtrl.glb_netwk_7")
+is_column_buffer name = is_some (number_behind 8 (codes "ColBufCtrl.glb_netwk_") name)
 
--- the six bits of the pin type of pad 0
+-- the six bits of the pin type of pad 0, `IOB_0.PINTYPE_K`
 abbrev pub is_first_pin_type : List ℕ → Bool
-is_first_pin_type name =
-    bytes_eq name (codes "IOB_0.PINTYPE_0") || bytes_eq name (codes "IOB_0.PINTYPE_1") || bytes_eq name (codes "IOB_0.PINTYPE_2")
-    || bytes_eq name (codes "IOB_0.PINTYPE_3") || bytes_eq name (codes "IOB_0.PINTYPE_4") || bytes_eq name (codes "IOB_0.PINTYPE_5")
+is_first_pin_type name = is_some (number_behind 6 (codes "IOB_0.PINTYPE_") name)
 
--- the six bits of the pin type of pad 1
+-- the six bits of the pin type of pad 1, `IOB_1.PINTYPE_K`
 abbrev pub is_second_pin_type : List ℕ → Bool
-is_second_pin_type name =
-    bytes_eq name (codes "IOB_1.PINTYPE_0") || bytes_eq name (codes "IOB_1.PINTYPE_1") || bytes_eq name (codes "IOB_1.PINTYPE_2")
-    || bytes_eq name (codes "IOB_1.PINTYPE_3") || bytes_eq name (codes "IOB_1.PINTYPE_4") || bytes_eq name (codes "IOB_1.PINTYPE_5")
+is_second_pin_type name = is_some (number_behind 6 (codes "IOB_1.PINTYPE_") name)
 
--- the input enables and pull-ups of the two pads
+-- the input enables and pull-ups of the two pads, `IoCtrl.IE_P` and `IoCtrl.REN_P`
 abbrev pub is_pad_enable : List ℕ → Bool
-is_pad_enable name =
-    bytes_eq name (codes "IoCtrl.IE_0") || bytes_eq name (codes "IoCtrl.REN_0") || bytes_eq name (codes "IoCtrl.IE_1") || bytes_eq name (codes "IoCtrl.REN_1")
+is_pad_enable name = is_some (number_behind 2 (codes "IoCtrl.IE_") name) || is_some (number_behind 2 (codes "IoCtrl.REN_") name)
 
 -- the functions that are read
 abbrev pub is_read : TileKind → List ℕ → Bool

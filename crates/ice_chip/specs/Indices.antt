@@ -1,13 +1,14 @@
 -- The maps and lists by which a chip answers at once, as what its rows make of them.
-use Rattle.std.specs.Prelude.{ℕ, zero, suc, ◌==◌, ◌&&◌, Bool, Option, None, Some, List, [], ◌∷◌, ◌++◌, map, slice_get, slice_set, slice_index_or, option_map, bytes_eq, if◌then◌else◌, Vec}
+use Rattle.std.specs.Prelude.{ℕ, zero, suc, ◌==◌, ◌&&◌, Bool, Option, None, Some, List, [], ◌∷◌, ◌++◌, map, filter, slice_get, slice_set, slice_index_or, option_map, bytes_eq, if◌then◌else◌, Vec}
 use Rattle.std.specs.List.{list_any, position_or_len}
 use Rattle.std.specs.Map.{lookup}
 use Rattle.std.specs.Option.{option_and_then}
 use Rattle.std.specs.declared.alloc.Global.{Global}
-use Rattle.ice_chip.specs.Database.{WireName, SwitchGroup, SwitchRow}
-use Rattle.ice_chip.specs.Places.{same_tile}
+use Rattle.ice_chip.specs.Database.{Parts, WireName, SwitchGroup, SwitchRow}
+use Rattle.ice_chip.specs.Places.{same_tile, same_pad}
 use Rattle.ice_chip.specs.WholeFaults.{placed}
-use Rattle.ice_chip.specs.Lookups.{in_group}
+use Rattle.ice_chip.specs.Lookups.{in_group, enable_counts}
+use Rattle.ice_chip.specs.declared.rows.Pad.{Pad}
 use Rattle.ice_chip.specs.declared.whole.PlacedName.{PlacedName}
 use Rattle.ice_chip.specs.declared.index.NumberedName.{NumberedName}
 use Rattle.ice_chip.specs.declared.index.RowPlace.{RowPlace}
@@ -23,6 +24,10 @@ with_first eq entries row = put_first entries row (lookup (eq row.0) entries)
 abbrev pub firsts : {K V : Type 0} → (K → K → Bool) → List (K × V) → List (K × V) → List (K × V)
 firsts eq entries [] = entries
 firsts eq entries (row ∷ rows) = firsts eq (with_first eq entries row) rows
+
+-- the pads with an input enable by a row that counts, each with its enable, in the order of the text
+abbrev pub enables_of : Parts → List (Pad × Pad)
+enables_of parts = firsts same_pad [] (filter (enable_counts parts.tiles) parts.ieren)
 
 -- ---- wires by names: each different name has a number, and each number at a place a wire
 pub record Numbered : Type 0 where

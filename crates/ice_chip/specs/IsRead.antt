@@ -3,6 +3,7 @@ use Rattle.std.specs.Prelude.{◌≡◌, ℕ, ◌+◌, ◌<◌, ◌≤◌, List,
 use Rattle.std.specs.List.{IsDistinct}
 use Rattle.std.specs.Map.{keys_of}
 use Rattle.ice_chip.specs.Database.{Parts, SwitchGroup}
+use Rattle.ice_chip.specs.Limits.{most_places, most_wires, most_rows}
 use Rattle.ice_chip.specs.Lookups.{rows_of}
 use Rattle.ice_chip.specs.Places.{same_tile}
 use Rattle.ice_chip.specs.Whole.{whole_fault}
@@ -21,10 +22,10 @@ AreNumbered n (g ∷ gs) = (g.first ≡ n) × AreNumbered (n + length g.rows) gs
 -- no line has a fault, and the rows are numbered
 pub record IsRead (parts : Parts) : Type 0 where
   -- the limits
-  pub narrow : parts.width ≤ 256
-  pub low : parts.height ≤ 256
-  pub few_wires : parts.wires ≤ 262144
-  pub few_rows : length (rows_of parts.groups) ≤ 4194304
+  pub narrow : parts.width ≤ most_places
+  pub low : parts.height ≤ most_places
+  pub few_wires : parts.wires ≤ most_wires
+  pub few_rows : length (rows_of parts.groups) ≤ most_rows
   -- a tile stands once
   pub tiles_once : IsDistinct same_tile (keys_of parts.tiles)
   pub tile_places : All (IsPlace parts.width parts.height) (keys_of parts.tiles)

@@ -1,8 +1,9 @@
 -- Kinds of tiles that lack a function, or have one with another number of bits.
-use Rattle.std.specs.Prelude.{ℕ, ◌==◌, ◌&&◌, ◌||◌, not, Bool, true, false, Option, None, Some, is_some, List, [], ◌∷◌, length, codes, if◌then◌else◌}
+use Rattle.std.specs.Prelude.{ℕ, zero, suc, ◌==◌, ◌&&◌, ◌||◌, not, Bool, true, false, Option, None, Some, is_some, List, [], ◌∷◌, length, if◌then◌else◌}
 use Rattle.std.specs.Map.{values_of}
 use Rattle.ice_base.specs.declared.number.TileAt.{TileAt}
 use Rattle.ice_chip.specs.Database.{Parts, FunctionRow}
+use Rattle.ice_chip.specs.FunctionNames.{cell_function, falling_clock_function, carry_set_function, pin_type_function, input_enable_function, pull_up_function, column_buffer_function}
 use Rattle.ice_chip.specs.Functions.{is_read, is_logic_cell, same_kind, function_line}
 use Rattle.ice_chip.specs.LeastLine.{least_of}
 use Rattle.ice_chip.specs.Places.{tile_known}
@@ -32,32 +33,26 @@ is_buffer_source kind tiles (row ∷ rows) = if is_of_kind kind (tile_known tile
 abbrev pub has_function : TileKind → List ℕ → List FunctionRow → Bool
 has_function kind name fs = is_some (function_line kind name fs)
 
+-- the kind has the functions of all numbers below a number
+abbrev pub has_each : TileKind → (ℕ → List ℕ) → ℕ → List FunctionRow → Bool
+has_each kind name zero fs = true
+has_each kind name (suc n) fs = has_each kind name n fs && has_function kind (name n) fs
+
+-- the column buffers of the eight globals
 abbrev pub has_column_buffers : TileKind → List FunctionRow → Bool
-has_column_buffers kind fs =
-    has_function kind (codes "ColBufCtrl.glb_netwk_0") fs && has_function kind (codes "ColBufCtrl.glb_netwk_1") fs
-    && has_function kind (codes "ColBufCtrl.glb_netwk_2") fs && has_function kind (codes "ColBufCtrl.glb_netwk_3") fs
-    && has_function kind (codes "ColBufCtrl.glb_netwk_4") fs && has_function kind (codes "ColBufCtrl.glb_netwk_5") fs
-    && has_function kind (codes "ColBufCtrl.glb_netwk_6") fs && has_function kind (codes "ColBufCtrl.glb_netwk_7") fs
+has_column_buffers kind fs = has_each kind column_buffer_function 8 fs
 
--- the logic cells, the inverted clock and the first carry
+-- the eight logic cells, the inverted clock and the first carry
 abbrev pub has_logic : List FunctionRow → Bool
-has_logic fs =
-    has_function Logic (codes "LC_0") fs && has_function Logic (codes "LC_1") fs && has_function Logic (codes "LC_2") fs
-    && has_function Logic (codes "LC_3") fs && has_function Logic (codes "LC_4") fs && has_function Logic (codes "LC_5") fs
-    && has_function Logic (codes "LC_6") fs && has_function Logic (codes "LC_7") fs && has_function Logic (codes "NegClk") fs
-    && has_function Logic (codes "CarryInSet") fs
+has_logic fs = has_each Logic cell_function 8 fs && has_function Logic falling_clock_function fs && has_function Logic carry_set_function fs
 
+-- the six digits of the pin types of both pads
 abbrev pub has_pin_types : List FunctionRow → Bool
-has_pin_types fs =
-    has_function Io (codes "IOB_0.PINTYPE_0") fs && has_function Io (codes "IOB_0.PINTYPE_1") fs && has_function Io (codes "IOB_0.PINTYPE_2") fs
-    && has_function Io (codes "IOB_0.PINTYPE_3") fs && has_function Io (codes "IOB_0.PINTYPE_4") fs && has_function Io (codes "IOB_0.PINTYPE_5") fs
-    && has_function Io (codes "IOB_1.PINTYPE_0") fs && has_function Io (codes "IOB_1.PINTYPE_1") fs && has_function Io (codes "IOB_1.PINTYPE_2") fs
-    && has_function Io (codes "IOB_1.PINTYPE_3") fs && has_function Io (codes "IOB_1.PINTYPE_4") fs && has_function Io (codes "IOB_1.PINTYPE_5") fs
+has_pin_types fs = has_each Io (pin_type_function 0) 6 fs && has_each Io (pin_type_function 1) 6 fs
 
+-- the input enables and pull-ups of both pads
 abbrev pub has_pad_enables : List FunctionRow → Bool
-has_pad_enables fs =
-    has_function Io (codes "IoCtrl.IE_0") fs && has_function Io (codes "IoCtrl.REN_0") fs && has_function Io (codes "IoCtrl.IE_1") fs
-    && has_function Io (codes "IoCtrl.REN_1") fs
+has_pad_enables fs = has_each Io input_enable_function 2 fs && has_each Io pull_up_function 2 fs
 
 -- all functions that the kind needs; logic and memory need column buffers where they are a source of them
 abbrev pub has_needed : Bool → TileKind → List FunctionRow → Bool

@@ -2,8 +2,13 @@ pub mod Answers
 pub mod BufferKinds
 pub mod ChipForm
 pub mod Database
+pub mod Digits
+pub mod WireNames
+pub mod FunctionNames
 pub mod Functions
 pub mod Indices
+pub mod IndexForms
+pub mod Limits
 pub mod IsRead
 pub mod Lookups
 pub mod NameIndex

@@ -1,17 +1,17 @@
 //! A chip: the rows of a database in which no fault is, each found at once.
 ghost use Rattle.std.specs.Prelude.{◌≡◌, ◌<◌, None, Some, IsSome, IfOk, map, length, slice_get, option_map};
+ghost use Rattle.std.specs.Map.{lookup};
 ghost use Rattle.ice_chip.specs.Answers.{Answers, chip_of};
 ghost use Rattle.ice_chip.specs.IsRead.{IsRead, IsChip};
 ghost use Rattle.ice_chip.specs.Whole.{whole_fault};
-ghost use Rattle.ice_chip.specs.Indices.{row_at};
+ghost use Rattle.ice_chip.specs.Indices.{row_at, enables_of};
+ghost use Rattle.ice_chip.specs.Places.{same_pad};
 ghost use Rattle.ice_chip.specs.Lookups.{tile_of, kind_at, names_of, wire_named, rows_of, package_of, global_of, ieren_of, colbuf_of, function_of};
 ghost use Rattle.ice_chip.specs.Views.{function_view, row_view, group_view, package_view, parts_view};
 
-use crate::index::{RowPlace, column_buffers, globals, input_enables, tiles};
-use crate::lists::names_by_wire;
-use crate::name_places::{FunctionPlaces, place_of, places_of_packages};
-use crate::names::NameIndex;
-use crate::places::row_places;
+use crate::index::RowPlace;
+use crate::indices::{PlaceIndex, ServerIndex, WireIndex};
+use crate::name_places::place_of;
 use crate::{ChipFault, ChipParts, Function, Group, Package, Pad, PlacedName, Row, Tile, TileKind};
 use ice_base::{NoMemory, RowNo, TileAt, WireNo};
 use indexmap::IndexMap;
@@ -23,24 +23,12 @@ use std::marker::Model;
 pub struct Chip {
     // The rows.
     parts: ChipParts,
-    // The tiles in the order of the text.
-    tiles: Vec<Tile>,
-    // The names of each wire.
-    lists: Vec<Vec<PlacedName>>,
-    // The wires by their names at places.
-    names: NameIndex,
-    // Where each switch row stands.
-    places: Vec<RowPlace>,
-    // The tile that feeds each global.
-    globals: IndexMap<u8, TileAt>,
-    // The input enable of each pad.
-    enables: IndexMap<Pad, Pad>,
-    // The tile that holds the column buffers of each tile.
-    buffers: IndexMap<TileAt, TileAt>,
-    // Where the first function of each kind and name stands.
-    function_places: FunctionPlaces,
-    // Where the first package of each name stands.
-    package_places: IndexMap<Vec<u8>, usize>,
+    // The tiles, and the wires with their names.
+    wires: WireIndex,
+    // What serves each global, pad and tile.
+    servers: ServerIndex,
+    // Where rows, functions and packages stand.
+    places: PlaceIndex,
 }
 
 impl Model for Chip {
@@ -60,7 +48,7 @@ impl Chip {
     pub fn tiles(&self) -> &[Tile]
         ensures { result.now ≡ map tile_of self.now.tiles }
     {
-        &self.tiles
+        &self.wires.tiles
     }
 
     /// The groups of switches in the order of the text.
@@ -89,7 +77,7 @@ impl Chip {
     pub fn rows(&self) -> u32
         ensures { result ≡ length (rows_of self.now.groups) }
     {
-        self.places.len() as u32
+        self.places.rows.len() as u32
     }
 
     /// A switch row with its group. The number is in range.
@@ -98,7 +86,7 @@ impl Chip {
         requires { row.0 < length (rows_of self.now.groups) }
         ensures { slice_get (rows_of self.now.groups) row.0 ≡ Some (group_view result.0.now, row_view result.1.now) }
     {
-        row_in(&self.parts.groups, self.places[row.0 as usize])
+        row_in(&self.parts.groups, self.places.rows[row.0 as usize])
     }
 
     /// The names of a wire at places with a tile, in the order of the text. The wire is one of the chip.
@@ -107,7 +95,7 @@ impl Chip {
         requires { wire.0 < self.now.wires }
         ensures { result.now ≡ names_of self.now wire.0 }
     {
-        &self.lists[wire.0 as usize]
+        &self.wires.lists[wire.0 as usize]
     }
 
     /// The kind of the tile at a place, or None exactly where no tile stands there.
@@ -122,14 +110,14 @@ impl Chip {
     pub fn wire_named(&self, tile: TileAt, name: &[u8]) -> Option<WireNo>
         ensures { option_map (λ wire. wire.0) result ≡ wire_named self.now tile name.now }
     {
-        self.names.wire(tile, name).map(WireNo)
+        self.wires.names.wire(tile, name).map(WireNo)
     }
 
     /// The first package of the name, or None exactly where there is none.
     pub fn package(&self, name: &[u8]) -> Option<&Package>
         ensures { option_map (λ p. package_view p.now) result ≡ package_of self.now name.now }
     {
-        let place = place_of(&self.package_places, name)?;
+        let place = place_of(&self.places.packages, name)?;
         self.parts.packages.get(place)
     }
 
@@ -138,7 +126,16 @@ impl Chip {
     pub fn ieren_of(&self, pad: Pad) -> Option<Pad>
         ensures { result ≡ ieren_of self.now pad }
     {
-        self.enables.get(&pad).copied()
+        self.servers.enables.get(&pad).copied()
+    }
+
+    /// The pads with an input enable by a row that counts, each with the pad whose enable and pull-up serve it, in the
+    /// order of the text. Of the rows of one pad the first counts, as in `ieren_of`.
+    pub fn enables(&self) -> &IndexMap<Pad, Pad>
+        ensures enables { result.now.entries ≡ enables_of self.now }
+        ensures found { (pad : Pad) → lookup (same_pad pad) result.now.entries ≡ ieren_of self.now pad }
+    {
+        &self.servers.enables
     }
 
     /// The tile that holds the column buffers of a tile, or None exactly where no row that counts says so.
@@ -146,14 +143,14 @@ impl Chip {
     pub fn colbuf_of(&self, tile: TileAt) -> Option<TileAt>
         ensures { result ≡ colbuf_of self.now tile }
     {
-        self.buffers.get(&tile).copied()
+        self.servers.buffers.get(&tile).copied()
     }
 
     /// The first function of the kind and name, or None exactly where there is none.
     pub fn function(&self, kind: TileKind, name: &[u8]) -> Option<&Function>
         ensures { option_map (λ f. function_view f.now) result ≡ function_of self.now kind name.now }
     {
-        let place = self.function_places.find(kind, name)?;
+        let place = self.places.functions.find(kind, name)?;
         self.parts.functions.get(place)
     }
 
@@ -162,7 +159,7 @@ impl Chip {
     pub fn global_of(&self, n: u8) -> Option<TileAt>
         ensures { result ≡ global_of self.now n }
     {
-        self.globals.get(&n).copied()
+        self.servers.globals.get(&n).copied()
     }
 }
 
@@ -200,16 +197,13 @@ fn indexed(alloc: Global, parts: ChipParts) -> Result<Chip, NoMemory>
     requires faultless { whole_fault (parts_view parts) ≡ None }
     ensures { IfOk result (λ chip. chip ≡ parts_view parts) }
 {
+    let wires = WireIndex::new(alloc, &parts)?;
+    let servers = ServerIndex::new(alloc, &parts)?;
+    let places = PlaceIndex::new(alloc, &parts)?;
     Ok(Chip {
-        tiles: tiles(alloc, &parts)?,
-        lists: names_by_wire(alloc, &parts)?,
-        names: NameIndex::new(alloc, &parts)?,
-        places: row_places(alloc, &parts.groups)?,
-        globals: globals(alloc, &parts)?,
-        enables: input_enables(alloc, &parts)?,
-        buffers: column_buffers(alloc, &parts)?,
-        function_places: FunctionPlaces::new(alloc, &parts.functions)?,
-        package_places: places_of_packages(alloc, &parts.packages)?,
         parts,
+        wires,
+        servers,
+        places,
     })
 }

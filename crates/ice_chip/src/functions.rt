@@ -14,68 +14,42 @@ ghost use Rattle.ice_chip.specs.Functions.{
   function_line,
 };
 
-use crate::{Function, TileKind};
+use crate::{Function, TileKind, number_behind};
 
 /// Whether the name is that of a logic cell's bits.
 pub fn is_logic_cell(name: &[u8]) -> bool
     ensures { result ≡ is_logic_cell name.now }
 {
-    name == b"LC_0".as_slice()
-        || name == b"LC_1".as_slice()
-        || name == b"LC_2".as_slice()
-        || name == b"LC_3".as_slice()
-        || name == b"LC_4".as_slice()
-        || name == b"LC_5".as_slice()
-        || name == b"LC_6".as_slice()
-        || name == b"LC_7".as_slice()
+    number_behind(8, b"LC_", name).is_some()
 }
 
 // The column buffers of the eight globals.
 fn is_column_buffer(name: &[u8]) -> bool
     ensures { result ≡ is_column_buffer name.now }
 {
-    name == b"ColBufCtrl.glb_netwk_0".as_slice()
-        || name == b"ColBufCtrl.glb_netwk_1".as_slice()
-        || name == b"ColBufCtrl.glb_netwk_2".as_slice()
-        || name == b"ColBufCtrl.glb_netwk_3".as_slice()
-        || name == b"ColBufCtrl.glb_netwk_4".as_slice()
-        || name == b"ColBufCtrl.glb_netwk_5".as_slice()
-        || name == b"ColBufCtrl.glb_netwk_6".as_slice()
-        || name == b"ColBufCtrl.glb_netwk_7".as_slice()
+    number_behind(8, b"ColBufCtrl.glb_netwk_", name).is_some()
 }
 
 // The pin type of pad 0.
 fn is_first_pin_type(name: &[u8]) -> bool
     ensures { result ≡ is_first_pin_type name.now }
 {
-    name == b"IOB_0.PINTYPE_0".as_slice()
-        || name == b"IOB_0.PINTYPE_1".as_slice()
-        || name == b"IOB_0.PINTYPE_2".as_slice()
-        || name == b"IOB_0.PINTYPE_3".as_slice()
-        || name == b"IOB_0.PINTYPE_4".as_slice()
-        || name == b"IOB_0.PINTYPE_5".as_slice()
+    number_behind(6, b"IOB_0.PINTYPE_", name).is_some()
 }
 
 // The pin type of pad 1.
 fn is_second_pin_type(name: &[u8]) -> bool
     ensures { result ≡ is_second_pin_type name.now }
 {
-    name == b"IOB_1.PINTYPE_0".as_slice()
-        || name == b"IOB_1.PINTYPE_1".as_slice()
-        || name == b"IOB_1.PINTYPE_2".as_slice()
-        || name == b"IOB_1.PINTYPE_3".as_slice()
-        || name == b"IOB_1.PINTYPE_4".as_slice()
-        || name == b"IOB_1.PINTYPE_5".as_slice()
+    number_behind(6, b"IOB_1.PINTYPE_", name).is_some()
 }
 
 // The input enables and pull-ups of the two pads.
 fn is_pad_enable(name: &[u8]) -> bool
     ensures { result ≡ is_pad_enable name.now }
 {
-    name == b"IoCtrl.IE_0".as_slice()
-        || name == b"IoCtrl.REN_0".as_slice()
-        || name == b"IoCtrl.IE_1".as_slice()
-        || name == b"IoCtrl.REN_1".as_slice()
+    number_behind(2, b"IoCtrl.IE_", name).is_some()
+        || number_behind(2, b"IoCtrl.REN_", name).is_some()
 }
 
 /// Whether the function of this name is read in tiles of the kind.

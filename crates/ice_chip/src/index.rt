@@ -1,8 +1,8 @@
 //! The maps and lists by which a chip answers at once.
 ghost use Rattle.std.specs.Prelude.{◌≡◌, [], map, filter, IfOk, OnOk, nat_eq};
-ghost use Rattle.ice_chip.specs.Places.{same_tile, same_pad, tile_known};
-ghost use Rattle.ice_chip.specs.Lookups.{tile_of, global_tile, is_io, enable_counts, holds_buffers, buffer_counts, served_tile};
-ghost use Rattle.ice_chip.specs.Indices.{with_first, firsts};
+ghost use Rattle.ice_chip.specs.Places.{same_tile, tile_known};
+ghost use Rattle.ice_chip.specs.Lookups.{tile_of, global_tile, is_io, holds_buffers, buffer_counts, served_tile};
+ghost use Rattle.ice_chip.specs.Indices.{with_first, firsts, enables_of};
 ghost use Rattle.ice_chip.specs.Views.{function_view, parts_view};
 ghost use Rattle.ice_chip.specs.BufferKinds.{IsOfKinds};
 
@@ -14,7 +14,7 @@ use std::alloc::Global;
 use std::hash::Hash;
 
 /// The number of a name, at a place.
-#[derive(Clone, Copy, Debug, PartialEq, Eq, Hash)]
+#[derive(Clone, Copy, PartialEq, Eq, Hash)]
 pub struct NumberedName {
     /// The place.
     pub tile: TileAt,
@@ -23,7 +23,7 @@ pub struct NumberedName {
 }
 
 /// Where a switch row stands.
-#[derive(Clone, Copy, Debug, PartialEq, Eq)]
+#[derive(Clone, Copy)]
 pub struct RowPlace {
     /// The number of its group.
     pub group: usize,
@@ -82,7 +82,7 @@ fn is_io(tile: Option<TileLine>) -> bool
 
 /// The input enable of each pad.
 pub fn input_enables(alloc: Global, parts: &ChipParts) -> Result<IndexMap<Pad, Pad>, NoMemory>
-    ensures { IfOk result (λ enables. enables.entries ≡ firsts same_pad [] (filter (enable_counts (parts_view parts.now).tiles) (parts_view parts.now).ieren)) }
+    ensures { IfOk result (λ enables. enables.entries ≡ enables_of (parts_view parts.now)) }
 {
     let mut enables = IndexMap::new(alloc);
     for row in &parts.ieren {

@@ -1,8 +1,14 @@
 //! Functions that a kind of tile lacks, or has with another number of bits.
 ghost use Rattle.std.specs.Prelude.{◌≡◌, map};
-ghost use Rattle.ice_chip.specs.LacksFunction.{is_of_kind, has_kind, has_tile, is_buffer_source, has_function, has_column_buffers, has_logic, has_pin_types, has_pad_enables, has_needed, lacks_needed, bits_needed, has_wrong_bits, wrong_bits, lacks_function};
+ghost use Rattle.ice_chip.specs.LacksFunction.{is_of_kind, has_kind, has_tile, is_buffer_source, has_function, has_each, has_column_buffers, has_logic, has_pin_types, has_pad_enables, has_needed, lacks_needed, bits_needed, has_wrong_bits, wrong_bits, lacks_function};
+ghost use Rattle.ice_chip.specs.FunctionNames.{cell_function, pin_type_function, input_enable_function, pull_up_function};
+ghost use Rattle.ice_chip.specs.declared.rows.TileKind.TheVariants.{Io, Logic};
 ghost use Rattle.ice_chip.specs.Views.{function_view, parts_view};
 
+use crate::function_names::{
+    carry_set_function, cell_function, column_buffer_function, falling_clock_function,
+    input_enable_function, pin_type_function, pull_up_function,
+};
 use crate::functions::{is_logic_cell, same_kind};
 use crate::least::least_of;
 use crate::{ChipParts, Function, TileKind, TileLine, function_line, is_read};
@@ -28,58 +34,75 @@ fn has_function(kind: TileKind, name: &[u8], functions: &[Function]) -> bool
 pub fn has_column_buffers(kind: TileKind, functions: &[Function]) -> bool
     ensures { result ≡ has_column_buffers kind (map function_view functions.now) }
 {
-    has_function(kind, b"ColBufCtrl.glb_netwk_0", functions)
-        && has_function(kind, b"ColBufCtrl.glb_netwk_1", functions)
-        && has_function(kind, b"ColBufCtrl.glb_netwk_2", functions)
-        && has_function(kind, b"ColBufCtrl.glb_netwk_3", functions)
-        && has_function(kind, b"ColBufCtrl.glb_netwk_4", functions)
-        && has_function(kind, b"ColBufCtrl.glb_netwk_5", functions)
-        && has_function(kind, b"ColBufCtrl.glb_netwk_6", functions)
-        && has_function(kind, b"ColBufCtrl.glb_netwk_7", functions)
+    for n in 0..8u8 {
+        if !has_function(kind, &column_buffer_function(n), functions) {
+            return false;
+        }
+    }
+    true
+}
+
+// Whether there are the functions of the eight logic cells.
+fn has_cells(functions: &[Function]) -> bool
+    ensures { result ≡ has_each Logic cell_function 8 (map function_view functions.now) }
+{
+    for cell in 0..8u8 {
+        if !has_function(TileKind::Logic, &cell_function(cell), functions) {
+            return false;
+        }
+    }
+    true
 }
 
 // Whether there are the functions of logic cells, of their clock and of their first carry.
 fn has_logic(functions: &[Function]) -> bool
     ensures { result ≡ has_logic (map function_view functions.now) }
 {
-    has_function(TileKind::Logic, b"LC_0", functions)
-        && has_function(TileKind::Logic, b"LC_1", functions)
-        && has_function(TileKind::Logic, b"LC_2", functions)
-        && has_function(TileKind::Logic, b"LC_3", functions)
-        && has_function(TileKind::Logic, b"LC_4", functions)
-        && has_function(TileKind::Logic, b"LC_5", functions)
-        && has_function(TileKind::Logic, b"LC_6", functions)
-        && has_function(TileKind::Logic, b"LC_7", functions)
-        && has_function(TileKind::Logic, b"NegClk", functions)
-        && has_function(TileKind::Logic, b"CarryInSet", functions)
+    has_cells(functions)
+        && has_function(TileKind::Logic, &falling_clock_function(), functions)
+        && has_function(TileKind::Logic, &carry_set_function(), functions)
 }
 
-// Whether there are all bits of the pin types of both pads.
-fn has_pin_types(functions: &[Function]) -> bool
-    ensures { result ≡ has_pin_types (map function_view functions.now) }
+// Whether there are all digits of the pin type of a pad.
+fn has_pin_type(pio: u8, functions: &[Function]) -> bool
+    ensures { result ≡ has_each Io (pin_type_function pio) 6 (map function_view functions.now) }
 {
-    has_function(TileKind::Io, b"IOB_0.PINTYPE_0", functions)
-        && has_function(TileKind::Io, b"IOB_0.PINTYPE_1", functions)
-        && has_function(TileKind::Io, b"IOB_0.PINTYPE_2", functions)
-        && has_function(TileKind::Io, b"IOB_0.PINTYPE_3", functions)
-        && has_function(TileKind::Io, b"IOB_0.PINTYPE_4", functions)
-        && has_function(TileKind::Io, b"IOB_0.PINTYPE_5", functions)
-        && has_function(TileKind::Io, b"IOB_1.PINTYPE_0", functions)
-        && has_function(TileKind::Io, b"IOB_1.PINTYPE_1", functions)
-        && has_function(TileKind::Io, b"IOB_1.PINTYPE_2", functions)
-        && has_function(TileKind::Io, b"IOB_1.PINTYPE_3", functions)
-        && has_function(TileKind::Io, b"IOB_1.PINTYPE_4", functions)
-        && has_function(TileKind::Io, b"IOB_1.PINTYPE_5", functions)
+    for place in 0..6u8 {
+        if !has_function(TileKind::Io, &pin_type_function(pio, place), functions) {
+            return false;
+        }
+    }
+    true
+}
+
+// Whether there are the input enables of both pads.
+fn has_input_enables(functions: &[Function]) -> bool
+    ensures { result ≡ has_each Io input_enable_function 2 (map function_view functions.now) }
+{
+    has_function(TileKind::Io, &input_enable_function(0), functions)
+        && has_function(TileKind::Io, &input_enable_function(1), functions)
+}
+
+// Whether there are the pull-ups of both pads.
+fn has_pull_ups(functions: &[Function]) -> bool
+    ensures { result ≡ has_each Io pull_up_function 2 (map function_view functions.now) }
+{
+    has_function(TileKind::Io, &pull_up_function(0), functions)
+        && has_function(TileKind::Io, &pull_up_function(1), functions)
 }
 
 // Whether there are the input enables and pull-ups of both pads.
 fn has_pad_enables(functions: &[Function]) -> bool
     ensures { result ≡ has_pad_enables (map function_view functions.now) }
 {
-    has_function(TileKind::Io, b"IoCtrl.IE_0", functions)
-        && has_function(TileKind::Io, b"IoCtrl.REN_0", functions)
-        && has_function(TileKind::Io, b"IoCtrl.IE_1", functions)
-        && has_function(TileKind::Io, b"IoCtrl.REN_1", functions)
+    has_input_enables(functions) && has_pull_ups(functions)
+}
+
+// Whether there are all digits of the pin types of both pads.
+fn has_pin_types(functions: &[Function]) -> bool
+    ensures { result ≡ has_pin_types (map function_view functions.now) }
+{
+    has_pin_type(0, functions) && has_pin_type(1, functions)
 }
 
 // Whether the kind has all functions that it needs.

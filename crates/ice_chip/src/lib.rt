@@ -3,11 +3,14 @@
 #![tactic(auto)]
 
 mod chip;
+mod digits;
 mod fault;
 mod faults;
 mod function_laws;
+mod function_names;
 mod functions;
 mod index;
+mod indices;
 mod lacking;
 mod least;
 mod lists;
@@ -21,10 +24,17 @@ mod rows;
 mod shared;
 mod tile;
 mod whole;
+mod wire_names;
 
 pub use chip::{Chip, build};
+pub use digits::{digit, number_behind, number_within};
 pub use fault::ChipFault;
 pub use function_laws::{lacks_function_is_first, shared_function_is_first};
+pub use function_names::{
+    TileFunction, carry_set_function, cell_function, column_buffer_function,
+    falling_clock_function, function_names_are_read, input_enable_function, pin_type_function,
+    pull_up_function, tile_function,
+};
 pub use functions::{function_line, is_foreign, is_read, same_kind};
 pub use parts::{ChipParts, Package, TileLine};
 pub use pin_names::{cell_pin, is_global_name, is_input_name, is_output_name};
@@ -33,3 +43,8 @@ pub use rows::{Function, Group, NameRow, Pad, Row, TileKind};
 pub use shared::{BitUse, KindBit};
 pub use tile::Tile;
 pub use whole::{PlacedName, WireLine};
+pub use wire_names::{
+    TileWire, carry_in_name, carry_out_name, clock_enable_name, clock_name, fabout_name,
+    first_carry_name, global_name, input_name, look_up_name, output_enable_name, output_name,
+    pad_input_name, pad_output_name, set_reset_name, tile_wire, wire_names_are_read,
+};

@@ -14,7 +14,7 @@ use indexmap::{IndexMap, IndexSet};
 use std::alloc::Global;
 
 /// The different names in the order of the text, and the wire that has the name of a number at a place.
-#[derive(Debug, Drop)]
+#[derive(Drop)]
 pub struct NameIndex {
     /// The names.
     pub texts: IndexSet<Vec<u8>>,

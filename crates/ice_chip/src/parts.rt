@@ -10,7 +10,7 @@ use indexmap::{IndexMap, IndexSet};
 use std::alloc::Global;
 
 /// What is known of the tile at a place.
-#[derive(Clone, Copy, Debug, PartialEq, Eq)]
+#[derive(Clone, Copy)]
 pub struct TileLine {
     /// The kind of the tile.
     pub kind: TileKind,
@@ -19,7 +19,7 @@ pub struct TileLine {
 }
 
 /// The pins and pads of a package.
-#[derive(Debug, Drop)]
+#[derive(Drop)]
 pub struct Package {
     /// The name of the package.
     pub name: Name,
@@ -30,7 +30,7 @@ pub struct Package {
 }
 
 /// The rows of a chip database.
-#[derive(Debug, Drop)]
+#[derive(Drop)]
 pub struct ChipParts {
     /// The number of columns of places.
     pub width: u16,

@@ -1,21 +1,14 @@
 //! Names of wires that lead into the cells or pads of a tile, or out of them.
 ghost use Rattle.std.specs.Prelude.{◌≡◌};
-ghost use Rattle.ice_chip.specs.PinNames.{is_global_name, cell_pin, is_cell_input, is_cell_output, is_input_name, is_output_name};
+ghost use Rattle.ice_chip.specs.PinNames.{is_global_name, cell_pin, is_input_of, is_output_of, is_input_name, is_output_name};
 
-use crate::TileKind;
+use crate::{TileKind, TileWire, number_behind, tile_wire};
 
 /// Whether this is the name of a global, `glb_netwk_0` to `glb_netwk_7`.
 pub fn is_global_name(name: &[u8]) -> bool
     ensures { result ≡ is_global_name name.now }
 {
-    name == b"glb_netwk_0".as_slice()
-        || name == b"glb_netwk_1".as_slice()
-        || name == b"glb_netwk_2".as_slice()
-        || name == b"glb_netwk_3".as_slice()
-        || name == b"glb_netwk_4".as_slice()
-        || name == b"glb_netwk_5".as_slice()
-        || name == b"glb_netwk_6".as_slice()
-        || name == b"glb_netwk_7".as_slice()
+    number_behind(8, b"glb_netwk_", name).is_some()
 }
 
 /// The pin that `lutff_I/PIN` names, where I is from 0 to 7; no byte for every other name.
@@ -38,44 +31,46 @@ pub fn cell_pin(name: &[u8]) -> &[u8]
     }
 }
 
-// Whether a logic cell reads at this pin.
-fn is_cell_input(pin: &[u8]) -> bool
-    ensures { result ≡ is_cell_input pin.now }
-{
-    pin == b"in_0".as_slice()
-        || pin == b"in_1".as_slice()
-        || pin == b"in_2".as_slice()
-        || pin == b"in_3".as_slice()
-}
+impl TileWire {
+    // Whether the cells or pads of such a tile read the wire.
+    fn is_input_of(self, kind: TileKind) -> bool
+        ensures { result ≡ is_input_of kind self }
+    {
+        match (kind, self) {
+            (TileKind::Io, TileWire::PadOutput(_)) => true,
+            (TileKind::Io, TileWire::OutputEnable(_)) => true,
+            (TileKind::Io, TileWire::Fabout) => true,
+            (TileKind::Logic, TileWire::CellInput(_, _)) => true,
+            (TileKind::Logic, TileWire::Clock) => true,
+            (TileKind::Logic, TileWire::ClockEnable) => true,
+            (TileKind::Logic, TileWire::SetReset) => true,
+            (TileKind::Logic, TileWire::FirstCarry) => true,
+            _ => false,
+        }
+    }
 
-// Whether a logic cell drives at this pin.
-fn is_cell_output(pin: &[u8]) -> bool
-    ensures { result ≡ is_cell_output pin.now }
-{
-    pin == b"out".as_slice() || pin == b"lout".as_slice() || pin == b"cout".as_slice()
+    // Whether the cells or pads of such a tile, or a global, drive the wire.
+    fn is_output_of(self, kind: TileKind) -> bool
+        ensures { result ≡ is_output_of kind self }
+    {
+        match (kind, self) {
+            (_, TileWire::Global(_)) => true,
+            (TileKind::Io, TileWire::PadInput(_)) => true,
+            (TileKind::Logic, TileWire::CellOutput(_)) => true,
+            (TileKind::Logic, TileWire::CarryOut(_)) => true,
+            (TileKind::Logic, TileWire::LookUp(_)) => true,
+            _ => false,
+        }
+    }
 }
 
 /// Whether the cells or pads of such a tile read the wire of this name.
 pub fn is_input_name(kind: TileKind, name: &[u8]) -> bool
     ensures { result ≡ is_input_name kind name.now }
 {
-    match kind {
-        TileKind::Io => {
-            name == b"io_0/D_OUT_0".as_slice()
-                || name == b"io_0/OUT_ENB".as_slice()
-                || name == b"io_1/D_OUT_0".as_slice()
-                || name == b"io_1/OUT_ENB".as_slice()
-                || name == b"fabout".as_slice()
-        }
-        TileKind::Logic => {
-            is_cell_input(cell_pin(name))
-                || name == b"lutff_global/clk".as_slice()
-                || name == b"lutff_global/cen".as_slice()
-                || name == b"lutff_global/s_r".as_slice()
-                || name == b"carry_in_mux".as_slice()
-        }
-        TileKind::RamBottom => false,
-        TileKind::RamTop => false,
+    match tile_wire(name) {
+        Some(wire) => wire.is_input_of(kind),
+        None => false,
     }
 }
 
@@ -83,14 +78,8 @@ pub fn is_input_name(kind: TileKind, name: &[u8]) -> bool
 pub fn is_output_name(kind: TileKind, name: &[u8]) -> bool
     ensures { result ≡ is_output_name kind name.now }
 {
-    match kind {
-        TileKind::Io => {
-            name == b"io_0/D_IN_0".as_slice()
-                || name == b"io_1/D_IN_0".as_slice()
-                || is_global_name(name)
-        }
-        TileKind::Logic => is_cell_output(cell_pin(name)) || is_global_name(name),
-        TileKind::RamBottom => is_global_name(name),
-        TileKind::RamTop => is_global_name(name),
+    match tile_wire(name) {
+        Some(wire) => wire.is_output_of(kind),
+        None => false,
     }
 }

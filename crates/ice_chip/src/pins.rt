@@ -13,7 +13,7 @@ use indexmap::IndexMap;
 use std::alloc::Global;
 
 /// A pin, and the line that names a wire as it.
-#[derive(Debug, Drop)]
+#[derive(Drop)]
 pub struct PinLine {
     /// The pin.
     pub pin: PlacedName,

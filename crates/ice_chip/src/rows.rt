@@ -25,7 +25,7 @@ pub struct Pad {
 }
 
 /// A function of the tiles of one kind: a name for configuration bits.
-#[derive(Debug, Drop)]
+#[derive(Drop)]
 pub struct Function {
     /// The kind of tile.
     pub kind: TileKind,
@@ -38,7 +38,7 @@ pub struct Function {
 }
 
 /// A name of a wire at a place.
-#[derive(Debug, Drop)]
+#[derive(Drop)]
 pub struct NameRow {
     /// The wire.
     pub wire: WireNo,
@@ -51,7 +51,7 @@ pub struct NameRow {
 }
 
 /// A row of a group: where the group's bits have these values, the group's wire takes the value of the source.
-#[derive(Debug, Drop)]
+#[derive(Drop)]
 pub struct Row {
     /// One value for each bit of the group.
     pub values: Vec<bool>,
@@ -62,7 +62,7 @@ pub struct Row {
 }
 
 /// A group of switches in a tile into one wire: one section of the database.
-#[derive(Debug, Drop)]
+#[derive(Drop)]
 pub struct Group {
     /// The place of the group.
     pub tile: TileAt,

@@ -13,7 +13,7 @@ use indexmap::IndexMap;
 use std::alloc::Global;
 
 /// A bit of the tiles of a kind.
-#[derive(Clone, Copy, Debug, PartialEq, Eq, Hash)]
+#[derive(Clone, Copy, PartialEq, Eq, Hash)]
 pub struct KindBit {
     /// The kind of tile.
     pub kind: TileKind,
@@ -22,7 +22,7 @@ pub struct KindBit {
 }
 
 /// One use of a bit, by a function or a group.
-#[derive(Clone, Copy, Debug, PartialEq, Eq)]
+#[derive(Clone, Copy)]
 pub struct BitUse {
     /// The bit.
     pub place: KindBit,
@@ -33,7 +33,7 @@ pub struct BitUse {
 }
 
 /// What is known of the uses of bits so far.
-#[derive(Debug, Drop)]
+#[derive(Drop)]
 pub struct UsedBits {
     /// The least line of the uses of each bit.
     pub any: IndexMap<KindBit, u32>,

@@ -4,7 +4,7 @@ use crate::TileKind;
 use ice_base::TileAt;
 
 /// A tile of the chip.
-#[derive(Clone, Copy, Debug, PartialEq, Eq)]
+#[derive(Clone, Copy)]
 pub struct Tile {
     /// Its place.
     pub at: TileAt,

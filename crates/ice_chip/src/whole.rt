@@ -11,7 +11,7 @@ use indexmap::IndexMap;
 use std::alloc::Global;
 
 /// A name at a place.
-#[derive(Debug, Drop, PartialEq, Eq, Hash)]
+#[derive(Drop, PartialEq, Eq, Hash)]
 pub struct PlacedName {
     /// The place.
     pub tile: TileAt,
@@ -20,7 +20,7 @@ pub struct PlacedName {
 }
 
 /// A wire and the line of one of its names.
-#[derive(Clone, Copy, Debug, PartialEq, Eq)]
+#[derive(Clone, Copy)]
 pub struct WireLine {
     /// The wire.
     pub wire: u32,

@@ -10,6 +10,7 @@ use Rattle.ice_base.specs.declared.number.BitAt.{BitAt}
 use Rattle.ice_chip.specs.Database.{FunctionRow, WireName, SwitchGroup, SwitchRow}
 use Rattle.ice_chip.specs.Functions.{is_read, is_foreign, same_kind}
 use Rattle.ice_chip.specs.IsRead.{HasWiresBelow, IsRead, IsChip}
+use Rattle.ice_chip.specs.Limits.{most_rows}
 use Rattle.ice_chip.specs.Lookups.{rows_of}
 use Rattle.ice_chip.specs.Places.{same_tile, columns}
 use Rattle.ice_chip.specs.Within.{IsPlace, IsPad, FeedsGlobal, PadFeedsGlobal, ArePads, ArePlaces, IsBit, IsKept, is_again, IsGroup, IsPackage}
@@ -133,7 +134,7 @@ places_are width height row e =
     record { holder = place_is width height row.0 both.0; served = place_is width height row.1 both.1 }
 
 -- ---- the chip
-few : (n k : ℕ) → n ≡ k → k ≤ 100 → n ≤ 4194304
+few : (n k : ℕ) → n ≡ k → k ≤ 100 → n ≤ most_rows
 few n k e le = omega arith
 
 example_is_read : IsRead example

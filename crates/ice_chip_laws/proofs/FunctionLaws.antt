@@ -184,7 +184,7 @@ module _ (parts : Parts) (chip : IsChip parts) (first : LacksFunctionIsFirst) wh
 
   pub held_buffers : (t : TileAt) (kind : TileKind) → kind_at parts t ≡ Some kind → has_column_buffers kind parts.functions ≡ true → HasColumnBuffers parts kind
   held_buffers t kind at all = λ name buffer.
-      let has : has_function kind name parts.functions ≡ true = passes (λ n. has_function kind n parts.functions) buffers name all buffer in
+      let has : has_function kind name parts.functions ≡ true = passes (λ n. has_function kind n parts.functions) buffers name (omega arith) all buffer in
       one_bit t kind name at buffer (function_there parts kind name (λ none. true≢false (sym has ∙ ap is_some none)))
 
   pub source_buffers : (t s : TileAt) (kind : TileKind) → Has parts.colbuf (s, t) → kind_at parts s ≡ Some kind → (kind ≡ Io → ⊥) → HasColumnBuffers parts kind

@@ -20,7 +20,7 @@ use Rattle.ice_chip_laws.specs.Bits.{function_place, IsReadAt, read_bits, is_the
 use Rattle.ice_chip_laws.specs.Members.{Has}
 use Rattle.ice_chip_laws.proofs.FunctionLaws.{size_of}
 use Rattle.ice_chip_laws.proofs.ListMembers.{has_cases, has_none, has_tail, find_at, has_find}
-use Rattle.ice_chip_laws.proofs.NameTests.{passes, cells, buffers, first_types, second_types, enables}
+use Rattle.ice_chip_laws.proofs.NameTests.{passes, enables_pass, cells, buffers, first_types, second_types}
 use Rattle.ice_chip_laws.proofs.SameKeys.{nat_same, nat_self, bytes_same}
 
 -- ---- items that pass tests
@@ -54,17 +54,17 @@ abbrev are_listed : TileKind → List ℕ → Bool
 are_listed kind name = list_all (is_listed kind name) (range_with_len 0 (bits_needed name))
 
 buffers_listed : (kind : TileKind) (name : List ℕ) → is_column_buffer name ≡ true → are_listed kind name ≡ true
-buffers_listed Io name is = passes (are_listed Io) buffers name refl is
-buffers_listed Logic name is = passes (are_listed Logic) buffers name refl is
-buffers_listed RamBottom name is = passes (are_listed RamBottom) buffers name refl is
-buffers_listed RamTop name is = passes (are_listed RamTop) buffers name refl is
+buffers_listed Io name is = passes (are_listed Io) buffers name (omega arith) refl is
+buffers_listed Logic name is = passes (are_listed Logic) buffers name (omega arith) refl is
+buffers_listed RamBottom name is = passes (are_listed RamBottom) buffers name (omega arith) refl is
+buffers_listed RamTop name is = passes (are_listed RamTop) buffers name (omega arith) refl is
 
 pad_listed : (name : List ℕ) → (is_first_pin_type name || is_second_pin_type name || is_pad_enable name) ≡ true → are_listed Io name ≡ true
 pad_listed name is = elim (or_cases (is_first_pin_type name || is_second_pin_type name) (is_pad_enable name) is) [
-  | inr enable ↦ passes (are_listed Io) enables name refl enable
+  | inr enable ↦ enables_pass (are_listed Io) name refl refl enable
   | inl types ↦ elim (or_cases (is_first_pin_type name) (is_second_pin_type name) types) [
-    | inl first ↦ passes (are_listed Io) first_types name refl first
-    | inr second ↦ passes (are_listed Io) second_types name refl second
+    | inl first ↦ passes (are_listed Io) first_types name (omega arith) refl first
+    | inr second ↦ passes (are_listed Io) second_types name (omega arith) refl second
   ]
 ]
 
@@ -72,7 +72,7 @@ logic_listed : (name : List ℕ) → (is_logic_cell name || bytes_eq name (codes
 logic_listed name is = elim (or_cases (is_logic_cell name || bytes_eq name (codes "NegClk")) (bytes_eq name (codes "CarryInSet")) is) [
   | inr carry ↦ ap (are_listed Logic) (bytes_same name (codes "CarryInSet") carry)
   | inl others ↦ elim (or_cases (is_logic_cell name) (bytes_eq name (codes "NegClk")) others) [
-    | inl cell ↦ passes (are_listed Logic) cells name refl cell
+    | inl cell ↦ passes (are_listed Logic) cells name (omega arith) refl cell
     | inr edge ↦ ap (are_listed Logic) (bytes_same name (codes "NegClk") edge)
   ]
 ]

@@ -1,10 +1,11 @@
 -- The bits of functions.
-use Rattle.std.specs.Prelude.{◌≡◌, ◌==◌, ◌&&◌, ℕ, ◌+◌, ◌<◌, Bool, true, false, Option, None, Some, List, [], ◌∷◌, ◌++◌, map, find, slice_get, codes}
+use Rattle.std.specs.Prelude.{◌≡◌, ◌==◌, ◌&&◌, ℕ, ◌<◌, Bool, true, false, Option, None, Some, List, [], ◌∷◌, ◌++◌, map, find, slice_get}
 use Rattle.std.specs.List.{flat_map, range_with_len}
 use Rattle.std.specs.Option.{option_and_then}
 use Rattle.ice_base.specs.declared.number.TileAt.{TileAt}
 use Rattle.ice_base.specs.declared.number.BitAt.{BitAt}
 use Rattle.ice_chip.specs.Database.{Parts, FunctionRow, SwitchGroup}
+use Rattle.ice_chip.specs.FunctionNames.{cell_function, falling_clock_function, carry_set_function, pin_type_function, input_enable_function, pull_up_function, column_buffer_function}
 use Rattle.ice_chip.specs.Functions.{is_read, is_foreign}
 use Rattle.ice_chip.specs.Lookups.{kind_at, function_of}
 use Rattle.ice_chip.specs.Places.{columns}
@@ -22,21 +23,19 @@ IsReadAt parts kind name k b = (is_read kind name ≡ true) × (function_place p
 
 -- ---- the function at a place
 abbrev pub buffer_bits : List (List ℕ × ℕ)
-buffer_bits = map (λ n. (codes "ColBufCtrl.glb_netwk_" ++ (48 + n) ∷ [], 0)) (range_with_len 0 8)
+buffer_bits = map (λ n. (column_buffer_function n, 0)) (range_with_len 0 8)
 
--- the bits of the functions of pad p of an IO tile: 48 is `0`
+-- the bits of the functions of a pad of an IO tile
 abbrev pub pad_bits : ℕ → List (List ℕ × ℕ)
-pad_bits p =
-    map (λ k. (codes "IOB_" ++ (48 + p) ∷ (codes ".PINTYPE_" ++ (48 + k) ∷ []), 0)) (range_with_len 0 6)
-    ++ (codes "IoCtrl.IE_" ++ (48 + p) ∷ [], 0) ∷ (codes "IoCtrl.REN_" ++ (48 + p) ∷ [], 0) ∷ []
+pad_bits pio = map (λ place. (pin_type_function pio place, 0)) (range_with_len 0 6) ++ (input_enable_function pio, 0) ∷ (pull_up_function pio, 0) ∷ []
 
 abbrev pub cell_bits : ℕ → List (List ℕ × ℕ)
-cell_bits i = map (λ k. (codes "LC_" ++ (48 + i) ∷ [], k)) (range_with_len 0 20)
+cell_bits cell = map (λ k. (cell_function cell, k)) (range_with_len 0 20)
 
 -- the bits of the functions that are read in tiles of a kind, each by the function's name and its own number
 abbrev pub read_bits : TileKind → List (List ℕ × ℕ)
 read_bits Io = pad_bits 0 ++ pad_bits 1 ++ buffer_bits
-read_bits Logic = flat_map cell_bits (range_with_len 0 8) ++ (codes "NegClk", 0) ∷ (codes "CarryInSet", 0) ∷ buffer_bits
+read_bits Logic = flat_map cell_bits (range_with_len 0 8) ++ (falling_clock_function, 0) ∷ (carry_set_function, 0) ∷ buffer_bits
 read_bits RamBottom = buffer_bits
 read_bits RamTop = buffer_bits
 

@@ -2,7 +2,6 @@ pub mod Members
 pub mod Tiles
 pub mod Names
 pub mod Pins
-pub mod Cells
 pub mod Functions
 pub mod Bits
 pub mod Groups

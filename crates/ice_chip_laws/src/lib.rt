@@ -2,13 +2,11 @@
 //! rows the faults of names and pins tell.
 #![tactic(auto)]
 
-mod cells;
 mod example;
 mod fault_laws;
 mod laws;
 mod pins;
 
-pub use cells::{CellInput, cell_input};
 pub use example::worked_example;
 pub use fault_laws::{name_of_two_wires_is_first, shared_pin_is_first};
 pub use laws::{chip_is_lawful, lookups_are_lawful};

@@ -2,8 +2,11 @@
 ghost use Rattle.std.specs.Prelude.{◌≡◌, ℕ, ◌<◌, ◌≤◌, ◌++◌, List, [], length, take, true, false, Some, None, IfOk, OnOk, OnErr, is_ok};
 ghost use Rattle.ice_desk.specs.Desk.{Meaning, SameButReading, SameButWriting, SameButPutting, SameButSaying, SameTest, IsKeptOrEmpty, after_one, after_more, Rose};
 
+use thiserror::Error;
+
 /// A call of a desk failed. Its fault is counted.
-#[derive(Clone, Copy, Debug, PartialEq, Eq)]
+#[derive(Clone, Copy, Debug, PartialEq, Eq, Error)]
+#[error("a call of the desk failed")]
 pub struct Failed;
 
 /// The files and the standard output of a program. What a call is not said to change stays as it was.

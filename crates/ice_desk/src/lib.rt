@@ -16,6 +16,3 @@ pub use gate::{Gate, MeetGate, OpenGate};
 pub use host::HostDesk;
 pub use memory::MemoryDesk;
 pub use whole::{ReadStop, WriteStop, read_whole, write_whole};
-
-#[cfg(test)]
-mod tests;

@@ -5,15 +5,19 @@ ghost use Rattle.ice_desk.specs.Desk.{SameButReading, SameButWriting, SameTest, 
 
 use crate::{Desk, Failed};
 use std::alloc::{AllocError, Global};
+use thiserror::Error;
 
 /// Why a file was not read whole.
-#[derive(Clone, Copy, Debug, PartialEq, Eq)]
+#[derive(Clone, Copy, Debug, PartialEq, Eq, Error)]
 pub enum ReadStop {
     /// A call of the desk failed.
+    #[error("a call of the desk failed")]
     Failed,
     /// The desk gave more bytes than the limit.
+    #[error("more than {limit} bytes")]
     TooLong { limit: usize },
     /// There was no memory for the bytes.
+    #[error("want of memory")]
     NoMemory,
 }
 
@@ -71,9 +75,10 @@ pub fn read_whole<D: Desk>(
 }
 
 /// Why a file was not written whole.
-#[derive(Clone, Copy, Debug, PartialEq, Eq)]
+#[derive(Clone, Copy, Debug, PartialEq, Eq, Error)]
 pub enum WriteStop {
     /// A call of the desk failed: the put of this number from 1, or 0 for the make.
+    #[error("a call of the desk failed at put {put}")]
     Failed { put: u64 },
 }
 

@@ -1,4 +1,3 @@
-pub mod NameLists
 pub mod NetlistLaws
 pub mod PortPlaces
 pub mod SignalLists

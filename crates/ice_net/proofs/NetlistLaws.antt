@@ -7,15 +7,16 @@ use Rattle.ice_net.specs.declared.cell.Cell.{Cell}
 use Rattle.ice_net.specs.declared.port.Port.{Port}
 use Rattle.ice_net.specs.declared.kind.CellKind.{CellKind}
 use Rattle.ice_net.specs.declared.kind.CellKind.TheVariants.{Lut, Cover, Carry, Flop, PadCell, Global}
-use Rattle.ice_net.specs.NetlistData.{NetlistData, with_name}
+use Rattle.ice_base.specs.Names.{with_name}
+use Rattle.ice_net.specs.NetlistData.{NetlistData}
 use Rattle.ice_net.specs.Formed.{IsFormed, IsIndexed, IsFormedCell, IsPortBelow, IsBelow, IsPresent, IsFormedKind}
 
 -- ---- more signals
-below_more : (m n : ℕ) → m ≤ n → (s : Option SignalNo) → IsBelow m s → IsBelow n s
+pub below_more : (m n : ℕ) → m ≤ n → (s : Option SignalNo) → IsBelow m s → IsBelow n s
 below_more m n le None h = tt
 below_more m n le (Some s) h = omega arith
 
-present_more : (m n : ℕ) → m ≤ n → (s : Option SignalNo) → IsPresent m s → IsPresent n s
+pub present_more : (m n : ℕ) → m ≤ n → (s : Option SignalNo) → IsPresent m s → IsPresent n s
 present_more m n le None h = h
 present_more m n le (Some s) h = omega arith
 

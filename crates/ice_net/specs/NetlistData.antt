@@ -1,7 +1,5 @@
 -- A netlist: the names of its signals in the order of their numbers, its ports and its cells.
-use Rattle.std.specs.Prelude.{◌≡◌, ℕ, Bool, ◌==◌, List, [], ◌∷◌, ◌++◌, map, Option, Some, None, if◌then◌else◌, slice_get, slice_index_or, slice_set, position, bytes_eq, Vec}
-use Rattle.std.specs.List.{list_any, position_or_len}
-use Rattle.std.specs.declared.alloc.Global.{Global}
+use Rattle.std.specs.Prelude.{◌≡◌, ℕ, Bool, ◌==◌, List, [], ◌∷◌, ◌++◌, Option, Some, None, slice_get, slice_index_or, slice_set, position}
 use Rattle.ice_base.specs.declared.number.SignalNo.{SignalNo}
 use Rattle.ice_net.specs.declared.cell.Cell.{Cell}
 use Rattle.ice_net.specs.declared.port.Port.{Port}
@@ -16,18 +14,6 @@ pub record NetlistData : Type 0 where
 -- no signals, no ports and no cells
 abbrev pub empty_netlist : NetlistData
 empty_netlist = record { names = []; ports = []; cells = [] }
-
--- the names after one more appears: a new name goes last
-abbrev pub with_name : List (List ℕ) → List ℕ → List (List ℕ)
-with_name names name = if list_any (bytes_eq name) names then names else names ++ name ∷ []
-
--- the number of a name: its place, which for a new name is behind all others
-abbrev pub number_of_name : List (List ℕ) → List ℕ → ℕ
-number_of_name names name = position_or_len (bytes_eq name) names
-
--- names without where they lie in memory
-abbrev pub texts : List (Vec ℕ Global) → List (List ℕ)
-texts keys = map (λ key. key.items) keys
 
 -- the way of a port that is named as a port once more
 abbrev pub merged : Way → Way → Way

@@ -6,7 +6,7 @@ use crate::{CellKind, Signals};
 use ice_base::SignalNo;
 
 /// A cell, and the signals at its ports.
-#[derive(Debug, Drop)]
+#[derive(Drop)]
 pub struct Cell {
     /// What the cell is.
     pub kind: CellKind,

@@ -1,7 +1,7 @@
 //! What a port drives its pad with.
 
 /// What a port drives its pad with.
-#[derive(Clone, Copy, Debug, PartialEq, Eq)]
+#[derive(Clone, Copy, PartialEq, Eq)]
 pub enum Drive {
     /// It drives nothing: the pad is left to others.
     Off,

@@ -1,7 +1,7 @@
 //! What drives a signal.
 
 /// What drives a signal.
-#[derive(Clone, Copy, Debug, PartialEq, Eq)]
+#[derive(Clone, Copy, PartialEq, Eq)]
 pub enum Driver {
     /// Nothing does.
     Nothing,

@@ -20,7 +20,7 @@ pub enum Reset {
 }
 
 /// What a cell is.
-#[derive(Clone, Copy, Debug, PartialEq, Eq)]
+#[derive(Clone, Copy, PartialEq, Eq)]
 pub enum CellKind {
     /// A look-up table of four inputs (SB_LUT4): bit j of `table` with j = I0 + 2 I1 + 4 I2 + 8 I3.
     Lut {

@@ -18,6 +18,3 @@ pub use kind::{CellKind, Reset, kind_named};
 pub use netlist::{MOST_CELLS, MOST_NAMES, Netlist};
 pub use port::{Port, Way, merged};
 pub use signals::Signals;
-
-#[cfg(test)]
-mod tests;

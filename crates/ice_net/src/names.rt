@@ -1,13 +1,13 @@
 //! Names in the order in which they are first met.
 ghost use Rattle.std.specs.Prelude.{◌≡◌, ◌<◌, ◌≤◌, length, position, bytes_eq, IfOk, IfSome, OnOk, OnErr};
-ghost use Rattle.ice_net.specs.NetlistData.{texts, with_name, number_of_name};
+ghost use Rattle.ice_base.specs.Names.{texts, with_name, number_of_name};
 
 use ice_base::NoMemory;
 use indexmap::IndexSet;
 use std::alloc::Global;
 
 // The number of a name; a new name goes last.
-#[tactic(auto, using(crate::proofs::NameLists::found_names, crate::proofs::NameLists::found_within, crate::proofs::NameLists::new_within))]
+#[tactic(auto, using(ice_base::proofs::NameLists::found_names, ice_base::proofs::NameLists::found_within, ice_base::proofs::NameLists::new_within))]
 pub(crate) fn number_of(
     alloc: Global,
     names: &mut IndexSet<Vec<u8>>,
@@ -27,7 +27,7 @@ pub(crate) fn number_of(
 }
 
 // The number of a name that is there.
-#[tactic(auto, using(crate::proofs::NameLists::place_among_texts))]
+#[tactic(auto, using(ice_base::proofs::NameLists::place_among_texts))]
 pub(crate) fn find(names: &IndexSet<Vec<u8>>, name: &[u8]) -> Option<usize>
     ensures place { result ≡ position (bytes_eq name.now) (texts names.now.keys) }
     ensures within { IfSome result (λ n. n < length (texts names.now.keys)) }

@@ -1,6 +1,7 @@
 //! Netlists as they are built.
 ghost use Rattle.std.specs.Prelude.{◌≡◌, ◌↔◌, ◌++◌, ◌∷◌, [], ◌<◌, ◌≤◌, length, slice_index_or, Some, None, option_map, position, bytes_eq, IfOk, IfSome, OnOk, OnErr, IsTrue};
-ghost use Rattle.ice_net.specs.NetlistData.{empty_netlist, with_name, number_of_name, with_port, port_at, way_of};
+ghost use Rattle.ice_base.specs.Names.{with_name, number_of_name};
+ghost use Rattle.ice_net.specs.NetlistData.{empty_netlist, with_port, port_at, way_of};
 ghost use Rattle.ice_net.specs.Formed.{IsFormed, IsFormedCell};
 
 use crate::names::{find, number_of};
@@ -29,7 +30,8 @@ pub struct Netlist {
 }
 
 impl Model for Netlist {
-    ghost use Rattle.ice_net.specs.NetlistData.{NetlistData, texts};
+    ghost use Rattle.ice_base.specs.Names.{texts};
+    ghost use Rattle.ice_net.specs.NetlistData.{NetlistData};
     ghost use Rattle.ice_net.specs.Formed.{IsIndexed};
 
     ghost Value = { NetlistData };
@@ -76,7 +78,7 @@ impl Netlist {
 
     /// The number of a name; a new name goes last. After want of memory the netlist is as before.
     #[tactic(auto, using(crate::proofs::NetlistLaws::named_still_indexed))]
-    pub fn signal(&mut self, alloc: Global, name: &[u8]) -> Result<SignalNo, NoMemory>
+    pub fn signal(&mut self, name: &[u8]) -> Result<SignalNo, NoMemory>
         requires { length self.old.names < MOST_NAMES }
         ensures number { IfOk result (λ signal. signal.0 ≡ number_of_name self.old.names name.now) }
         ensures appended { OnOk result (self.new ≡ record self.old { names = with_name self.old.names name.now }) }
@@ -84,6 +86,7 @@ impl Netlist {
         ensures kept { length self.old.names ≤ length self.new.names }
         ensures refused { OnErr result (self.new ≡ self.old) }
     {
+        let alloc = *self.ports.allocator();
         let number = number_of(alloc, &mut self.names, name)?;
         Ok(SignalNo(number as u32))
     }

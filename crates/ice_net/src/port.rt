@@ -5,7 +5,7 @@ ghost use Rattle.ice_net.specs.NetlistData.{merged};
 use ice_base::SignalNo;
 
 /// The way of a port, as seen from outside.
-#[derive(Clone, Copy, Debug, PartialEq, Eq)]
+#[derive(Clone, Copy, PartialEq, Eq)]
 pub enum Way {
     /// The signal comes in.
     Input,
@@ -16,7 +16,7 @@ pub enum Way {
 }
 
 /// A port: a signal that is seen outside.
-#[derive(Clone, Copy, Debug, PartialEq, Eq)]
+#[derive(Clone, Copy, PartialEq, Eq)]
 pub struct Port {
     /// The port's signal, whose name is the port's.
     pub signal: SignalNo,

@@ -6,7 +6,7 @@ use std::marker::Model;
 
 /// The signals at the inputs or at the outputs of a cell, in the order of its ports; None at a port that is not
 /// connected. Contracts see it as a list.
-#[derive(Debug, Drop)]
+#[derive(Drop)]
 pub struct Signals {
     items: Vec<Option<SignalNo>>,
 }

@@ -13,6 +13,3 @@ pub use fault::PcfFault;
 pub use laws::says_constraints_or_first_fault;
 pub use pcf::Pcf;
 pub use reading::read_pcf;
-
-#[cfg(test)]
-mod tests;

@@ -1,7 +1,7 @@
 //! What the options of a line say.
 
 /// What the options of a line say.
-#[derive(Clone, Copy, Debug)]
+#[derive(Clone, Copy)]
 pub struct Options {
     /// Whether the port may be missing.
     pub lenient: bool,

@@ -5,7 +5,7 @@ use crate::Constraint;
 use std::marker::Model;
 
 /// The constraints of a text in the order of its lines. Contracts see it as the list of them.
-#[derive(Debug, Drop)]
+#[derive(Drop)]
 pub struct Pcf {
     constraints: Vec<Constraint>,
 }

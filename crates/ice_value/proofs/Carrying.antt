@@ -1,7 +1,8 @@
 -- Points of one system that carry the nodes of another have the nodes' values. In the lemmas p is a point and q a node, d a
 -- depth, K a number above all depths, and n a number of steps.
 use Rattle.std.proofs.Common.{◌≡◌, ℕ, zero, suc, ◌+◌, ◌*◌, ◌<◌, ◌≤◌, Option, None, Some, List, [], ◌∷◌, map, inl, inr, refl, ap, sym, ◌∙◌, subst, arith}
-use Rattle.ice_value.specs.System.{together, value}
+use Rattle.ice_base.specs.Lists.{all_known}
+use Rattle.ice_value.specs.System.{value}
 use Rattle.ice_value.specs.Order.{Has}
 use Rattle.ice_value.specs.Inputs.{reading, try_reading, gapped}
 use Rattle.ice_value.specs.Carrying.{Pairs, Moves, level}
@@ -17,7 +18,7 @@ module _ {P Q A : Type 0} (inputs : P → List (Option P)) (outer : Q → List (
   -- what a point's inputs read is what the node's inputs read
   pairs_read : (v : Q → A) (w : P → Option A) (ps : List (Option P)) (qs : List (Option Q)) → Pairs M ps qs
       → ((e : ℕ) (p : P) (q : Option Q) → Has qs q → M e p q → w p ≡ Some (reading bare v q))
-      → together (map (try_reading bare w) ps) ≡ Some (map (reading bare v) qs)
+      → all_known (map (try_reading bare w) ps) ≡ Some (map (reading bare v) qs)
   pairs_read v w [] [] pairs are = refl
   pairs_read v w [] (q ∷ qs) pairs are = absurd pairs
   pairs_read v w (None ∷ ps) qs pairs are = absurd pairs
@@ -25,7 +26,7 @@ module _ {P Q A : Type 0} (inputs : P → List (Option P)) (outer : Q → List (
   pairs_read v w (Some p ∷ ps) (q ∷ qs) pairs are =
       rw (are pairs.0.0 p q (Has_head q qs) pairs.0.1, pairs_read v w ps qs pairs.1 (λ e o r has. are e o r (Has_tail q r qs has)))
 
-  -- A point that carries a node has the node's value, with more steps than the node's rank and the point's depth make together.
+  -- A point that carries a node has the node's value, with more steps than the node's rank and the point's depth make all_known.
   -- The nodes have no loop, since ranks fall along their inputs; v meets the nodes' equations; and each point that carries
   -- anything moves in one of the three ways. No rank of the points is asked for, and that they have values follows.
   pub value_carried : (v : Q → A) (rank : Q → ℕ) (K : ℕ)

@@ -1,13 +1,17 @@
 -- As many steps as there are points, and one more, are always enough: more steps give a value to no point that has none with
 -- these. The least number of steps with which a point has a value falls along dependences, so the number of listed points that
 -- need fewer is a rank, and it is below the number of points.
-use Rattle.std.proofs.Common.{◌≡◌, ◌⊎◌, ℕ, zero, suc, ◌+◌, ◌<◌, ◌≤◌, Bool, true, false, cond, leb, Option, None, Some, List, [], ◌∷◌, map, length, refl, ap, sym, ◌∙◌, subst, inl, inr, arith}
+use Rattle.std.proofs.Common.{◌≡◌, ◌⊎◌, ℕ, zero, suc, ◌+◌, ◌<◌, ◌≤◌, cond, leb, Option, None, Some, List, [], ◌∷◌, map, length, refl, sym, ◌∙◌, subst, inl, inr, arith}
 use Rattle.std.proofs.lemmas.Bool.{cases_lt}
 use Rattle.std.proofs.lemmas.Bool.Decides.{leb_tells}
 use Rattle.std.proofs.lemmas.List.{length-map}
-use Rattle.ice_value.specs.System.{System, together, value}
+use Rattle.ice_base.specs.Lists.{all_known}
+use Rattle.ice_value.specs.System.{System, value}
 use Rattle.ice_value.specs.Order.{At, Has, Descends}
-use Rattle.ice_value.proofs.Together.{option_map_some, together_parts}
+use Rattle.ice_base.proofs.Booleans.{one_bound}
+use Rattle.ice_base.proofs.Options.{option_map_some}
+use Rattle.ice_value.proofs.Members.{At_map}
+use Rattle.ice_value.proofs.Together.{together_parts}
 use Rattle.ice_value.proofs.Values.{value_suc, value_at_more, value_there}
 
 -- how many of the numbers are below another
@@ -38,16 +42,12 @@ below_strictly (b ∷ ranks) zero a s at lt =
 below_strictly (b ∷ ranks) (suc k) a s at lt =
     let first = below_one b a s (omega arith) in let rest = below_strictly ranks k a s at lt in omega (arith, first, rest)
 
-one_bound : (b : Bool) → cond b 1 0 ≤ 1
-one_bound true = omega arith
-one_bound false = omega arith
-
 pub below_length : (ranks : List ℕ) (r : ℕ) → below ranks r ≤ length ranks
 below_length [] r = omega arith
 below_length (a ∷ ranks) r = let first = one_bound (leb (suc a) r) in let rest = below_length ranks r in omega (arith, first, rest)
 
 -- one of a list whose values are all there
-pub together_at : {P A : Type 0} (w : P → Option A) (qs : List P) (xs : List A) (i : ℕ) (q : P) → together (map w qs) ≡ Some xs → At qs i q → (x : A) × (w q ≡ Some x)
+pub together_at : {P A : Type 0} (w : P → Option A) (qs : List P) (xs : List A) (i : ℕ) (q : P) → all_known (map w qs) ≡ Some xs → At qs i q → (x : A) × (w q ≡ Some x)
 together_at w [] xs i q h at = cc
 together_at w (p ∷ qs) xs zero q h at = let got = together_parts (w p) (map w qs) xs h in let same : p ≡ q = cc in (got.0, rw (← same) got.2)
 together_at w (p ∷ qs) xs (suc i) q h at = let got = together_parts (w p) (map w qs) xs h in together_at w qs got.1 i q got.3 at
@@ -96,14 +96,9 @@ module _ {P A : Type 0} (s : System P A) where
   value_back : (f : ℕ) (p q : P) (x : A) → value s f p ≡ Some x → Has (s.depends p) q → (k : ℕ) × (y : A) × (f ≡ suc k) × (value s k q ≡ Some y)
   value_back zero p q x h has = cc
   value_back (suc f) p q x h has =
-      let got = option_map_some (s.local p) (together (map (λ r. value s f r) (s.depends p))) x h in
+      let got = option_map_some (s.local p) (all_known (map (λ r. value s f r) (s.depends p))) x h in
       let there = together_at (λ r. value s f r) (s.depends p) got.0 has.0 q got.1 has.1 in
       (f, there.0, refl, there.1)
-
-  At_map : {X Y : Type 0} (g : X → Y) (xs : List X) (k : ℕ) (x : X) → At xs k x → At (map g xs) k (g x)
-  At_map g [] k x at = cc
-  At_map g (y ∷ xs) zero x at = let same : y ≡ x = cc in ap (λ z. Some (g z)) same
-  At_map g (y ∷ xs) (suc k) x at = At_map g xs k x at
 
   module _ (points : List P) (closed : (p q : P) → Has points p → Has (s.depends p) q → Has points q ⊎ (s.depends q ≡ [])) (f : ℕ) where
     abbrev ranks : List ℕ

@@ -1,4 +1,5 @@
 pub mod Together
+pub mod Members
 pub mod Gaps
 pub mod Values
 pub mod Cycles

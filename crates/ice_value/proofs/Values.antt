@@ -3,15 +3,17 @@
 use Rattle.std.proofs.Common.{◌≡◌, ℕ, zero, suc, ◌+◌, ◌-◌, ◌<◌, ◌≤◌, Some, List, map, refl, ap, sym, ◌∙◌, subst, length, arith, add-suc, add-zero}
 use Rattle.std.specs.Prelude.{option_map}
 use Rattle.std.proofs.lemmas.Option.{slice_get_within}
-use Rattle.ice_value.specs.System.{System, together, value, MeetsEquation}
+use Rattle.ice_base.specs.Lists.{all_known}
+use Rattle.ice_value.specs.System.{System, value, MeetsEquation}
 use Rattle.ice_value.specs.Order.{At, Has, Descends, IsOrder}
-use Rattle.ice_value.proofs.Together.{option_map_some, option_map_same, map_along, together_more, together_are, together_there}
+use Rattle.ice_base.proofs.Options.{option_map_some, option_map_same}
+use Rattle.ice_value.proofs.Together.{map_along, together_more, together_are, together_there}
 
 -- one more step changes no value that is there
 pub value_suc : {P A : Type 0} (s : System P A) (f : ℕ) (p : P) (x : A) → value s f p ≡ Some x → value s (suc f) p ≡ Some x
 value_suc s zero p x h = cc
 value_suc s (suc f) p x h =
-    let got = option_map_some (s.local p) (together (map (λ q. value s f q) (s.depends p))) x h in
+    let got = option_map_some (s.local p) (all_known (map (λ q. value s f q) (s.depends p))) x h in
     rw (together_more (λ q. value s f q) (λ q. value s (suc f) q) (λ q y e. value_suc s f q y e) (s.depends p) got.0 got.1) (ap Some got.2)
 
 -- more steps change no value that is there
@@ -77,7 +79,7 @@ order_same n d e order same o = record {
   after = λ i p q at has. o.after i p q at (has.0, subst (λ (row : List ℕ). At row has.0 q) (sym (same p (o.within i p at))) has.1);
 }
 
--- points of one system that go together with points of another have the same values: e leads from the one to the other
+-- points of one system that go all_known with points of another have the same values: e leads from the one to the other
 pub value_along : {P Q A : Type 0} (s : System P A) (t : System Q A) (e : P → Q) (C : P → Type 0)
     → ((p : P) → C p → (q : P) → Has (s.depends p) q → C q)
     → ((p : P) → C p → t.depends (e p) ≡ map e (s.depends p))
@@ -85,7 +87,7 @@ pub value_along : {P Q A : Type 0} (s : System P A) (t : System Q A) (e : P → 
     → (f : ℕ) (p : P) → C p → value t f (e p) ≡ value s f p
 value_along s t e C closed depends local zero p c = refl
 value_along s t e C closed depends local (suc f) p c =
-    ap (λ ds. option_map (t.local (e p)) (together (map (λ q. value t f q) ds))) (depends p c)
-    ∙ ap (option_map (t.local (e p))) (ap together (map_along (λ q. value t f q) (λ q. value s f q) e (s.depends p)
+    ap (λ ds. option_map (t.local (e p)) (all_known (map (λ q. value t f q) ds))) (depends p c)
+    ∙ ap (option_map (t.local (e p))) (ap all_known (map_along (λ q. value t f q) (λ q. value s f q) e (s.depends p)
     (λ q has. value_along s t e C closed depends local f q (closed p c q has))))
-    ∙ option_map_same (t.local (e p)) (s.local p) (λ xs. local p xs c) (together (map (λ q. value s f q) (s.depends p)))
+    ∙ option_map_same (t.local (e p)) (s.local p) (λ xs. local p xs c) (all_known (map (λ q. value s f q) (s.depends p)))

@@ -2,7 +2,8 @@
 use Rattle.std.specs.Prelude.{◌≡◌, ℕ, ◌+◌, ◌*◌, ◌<◌, Bool, true, None, Some, Option, List, [], length, map, option_map}
 use Rattle.std.specs.List.{AllByRecursion}
 use Rattle.std.proofs.Common.{◌⊎◌, suc}
-use Rattle.ice_value.specs.System.{System, together, value, MeetsEquation}
+use Rattle.ice_base.specs.Lists.{all_known}
+use Rattle.ice_value.specs.System.{System, value, MeetsEquation}
 use Rattle.ice_value.specs.Inputs.{reading, try_reading, gapped}
 use Rattle.ice_value.specs.Carrying.{Moves, level}
 use Rattle.ice_value.specs.Machine.{shows, Simulates}
@@ -44,7 +45,7 @@ OrdersHaveNoCycle = (points : ℕ) (depends : ℕ → List ℕ) (order cycle : L
 abbrev pub BareInputsReadBare : Type 0 → Type 0 → Type 0
 BareInputsReadBare P A = (inputs : P → List (Option P)) (bare : A) (local : P → List A → A) (steps : ℕ) (point : P)
     → value (gapped inputs bare local) (suc steps) point
-    ≡ option_map (local point) (together (map (try_reading bare (λ read. value (gapped inputs bare local) steps read)) (inputs point)))
+    ≡ option_map (local point) (all_known (map (try_reading bare (λ read. value (gapped inputs bare local) steps read)) (inputs point)))
 
 -- Points that carry the nodes of another system have the nodes' values. `carries` tells what carries what and at which depth,
 -- which is below `depths`. The other system has no loop, since ranks fall along its inputs, and v meets its equations.

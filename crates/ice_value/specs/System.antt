@@ -1,7 +1,9 @@
 -- Systems of points that depend on one another, and the value of a point. A point is what carries a level or a number
 -- at one moment: a signal of a netlist, the output of a cell of a design, a wire of a chip, a carry between two cells.
-use Rattle.std.specs.Prelude.{◌≡◌, ℕ, Option, None, Some, List, [], ◌∷◌, map, option_map}
+use Rattle.std.specs.Prelude.{◌≡◌, ℕ, Option, None, List, map, option_map}
 use Rattle.std.proofs.Common.{zero, suc}
+use Rattle.ice_base.specs.Lists.{all_known}
+pub use Rattle.ice_base.specs.Lists.{all_known as together}
 
 -- What the points of a circuit read, and what they make of it. P names the points, A is what a point has for a value: a
 -- level, or the time at which it arrives. A source, as a pad, a constant or the output of a flip-flop, depends on nothing.
@@ -11,17 +13,11 @@ pub record System (P A : Type 0) : Type 0 where
   -- the local function of a point: the value that it makes of the values that it reads
   pub local : P → List A → A
 
--- the values of a list of points, where each of them has one
-abbrev pub together : {A : Type 0} → List (Option A) → Option (List A)
-together [] = Some []
-together (None ∷ others) = None
-together (Some x ∷ others) = option_map (λ xs. x ∷ xs) (together others)
-
 -- The value of a point, found by walking back over at most `steps` points, itself included. It is `None` where the walk would
 -- be longer, so a point on a loop, or behind one, has no value for any number of steps.
 abbrev pub value : {P A : Type 0} → System P A → ℕ → P → Option A
 value system zero point = None
-value system (suc steps) point = option_map (system.local point) (together (map (λ read. value system steps read) (system.depends point)))
+value system (suc steps) point = option_map (system.local point) (all_known (map (λ read. value system steps read) (system.depends point)))
 
 -- each point has the value that its local function makes of the values that it reads
 abbrev pub MeetsEquation : {P A : Type 0} → System P A → (P → A) → P → Type 0

@@ -9,7 +9,7 @@ use crate::graph::Graph;
 use std::alloc::{AllocError, Global};
 
 /// What the search for an order finds in a graph.
-#[derive(Debug, Drop)]
+#[derive(Drop)]
 pub enum Outcome {
     /// All points of the graph, each once, and after all the points that it depends on.
     Order(Vec<usize>),

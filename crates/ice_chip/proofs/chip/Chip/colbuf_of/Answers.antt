@@ -8,6 +8,6 @@ use Rattle.ice_chip.proofs.chip.Chip.colbuf_of.Goals as goal
 
 pub returns : goal.returns
 returns c =
-    let found : c.copied.result ≡ lookup (same_tile c.args.tile) c.self.inside.buffers.entries = search rules in
-    found ∙ buffer_found (parts_view c.self.inside.parts) c.self.inside.buffers.entries c.args.tile c.self.invariant.buffers
+    let found : c.copied.result ≡ lookup (same_tile c.args.tile) c.self.inside.servers.buffers.entries = search rules in
+    found ∙ buffer_found (parts_view c.self.inside.parts) c.self.inside.servers.buffers.entries c.args.tile c.self.invariant.servers.buffers
     ∙ ap (λ parts. colbuf_of parts c.args.tile) c.self.view_is

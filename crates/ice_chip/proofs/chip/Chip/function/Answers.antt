@@ -13,7 +13,7 @@ returns-in_err-place c =
     let answer : c.from_residual.result ≡ None = search rules in
     ap (option_map (λ found. function_view found.now)) answer
     ∙ ap (option_and_then (slice_get parts.functions)) (sym none ∙ c.find.ensures)
-    ∙ function_found parts (by_kind c.self.inside.function_places) c.args.kind c.args.name.now c.self.invariant.functions
+    ∙ function_found parts (by_kind c.self.inside.places.functions) c.args.kind c.args.name.now c.self.invariant.places.functions
     ∙ ap (λ rows. function_of rows c.args.kind c.args.name.now) c.self.view_is
 
 pub returns : goal.returns
@@ -24,5 +24,5 @@ returns c =
     item_found c.deref.result.now c.in_ok-place.place c.get.result (c.get.ensures.lookup.0) (c.get.ensures.lookup.1) ∙ ap (λ xs. slice_get xs c.in_ok-place.place) c.deref.ensures.value in
     seen_at function_view c.get.result c.self.inside.parts.functions.items c.in_ok-place.place got
     ∙ ap (option_and_then (slice_get parts.functions)) (sym some ∙ c.find.ensures)
-    ∙ function_found parts (by_kind c.self.inside.function_places) c.args.kind c.args.name.now c.self.invariant.functions
+    ∙ function_found parts (by_kind c.self.inside.places.functions) c.args.kind c.args.name.now c.self.invariant.places.functions
     ∙ ap (λ rows. function_of rows c.args.kind c.args.name.now) c.self.view_is

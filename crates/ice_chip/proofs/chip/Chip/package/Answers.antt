@@ -13,7 +13,7 @@ returns-in_err-place c =
     let answer : c.from_residual.result ≡ None = search rules in
     ap (option_map (λ found. package_view found.now)) answer
     ∙ ap (option_and_then (slice_get parts.packages)) (sym none ∙ c.place_of.ensures)
-    ∙ package_found parts (by_text c.self.inside.package_places.entries) c.args.name.now c.self.invariant.packages
+    ∙ package_found parts (by_text c.self.inside.places.packages.entries) c.args.name.now c.self.invariant.places.packages
     ∙ ap (λ rows. package_of rows c.args.name.now) c.self.view_is
 
 pub returns : goal.returns
@@ -24,5 +24,5 @@ returns c =
     item_found c.deref.result.now c.in_ok-place.place c.get.result (c.get.ensures.lookup.0) (c.get.ensures.lookup.1) ∙ ap (λ xs. slice_get xs c.in_ok-place.place) c.deref.ensures.value in
     seen_at package_view c.get.result c.self.inside.parts.packages.items c.in_ok-place.place got
     ∙ ap (option_and_then (slice_get parts.packages)) (sym some ∙ c.place_of.ensures)
-    ∙ package_found parts (by_text c.self.inside.package_places.entries) c.args.name.now c.self.invariant.packages
+    ∙ package_found parts (by_text c.self.inside.places.packages.entries) c.args.name.now c.self.invariant.places.packages
     ∙ ap (λ rows. package_of rows c.args.name.now) c.self.view_is

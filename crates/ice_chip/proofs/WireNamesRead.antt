@@ -1,0 +1,74 @@
+-- The names of the wires of a tile are read as these wires, and no other names are.
+use Rattle.std.proofs.Common.{◌≡◌, ℕ, ◌<◌, None, Some, List, [], ◌∷◌, ◌++◌, codes, bytes_eq, refl, sym, ap, ◌∙◌, subst, arith, option_map, IfSome}
+use Rattle.ice_chip.specs.Digits.{digit, number_behind, number_or, numbered_or}
+use Rattle.ice_chip.specs.WireNames.{wire_name, IsTileWire, IsNamedWire, WireNamesAreRead, cell_wire, pad_wire, lone_wire, global_wire, outer_wire, tile_wire, global_name}
+use Rattle.ice_chip.specs.declared.wire_names.TileWire.{TileWire}
+use Rattle.ice_chip.specs.declared.wire_names.TileWire.TheVariants.{CellInput, CellOutput, CarryOut, LookUp, Clock, ClockEnable, SetReset, CarryIn, FirstCarry, PadInput, PadOutput, OutputEnable, Fabout, Global}
+use Rattle.ice_chip.proofs.Keys.{bytes_same}
+use Rattle.ice_chip.proofs.Prefixes.{number_behind_read, number_within_read, if_meets, number_meets, number_or_meets, numbered_or_meets}
+
+-- ---- each name is read
+of_cell : (cell : ℕ) (pin : List ℕ) → cell < 8 → tile_wire (codes "lutff_" ++ digit cell ∷ pin) ≡ cell_wire cell pin
+of_cell cell pin lt = ap (λ o. numbered_or cell_wire o (outer_wire (codes "lutff_" ++ digit cell ∷ pin))) (number_within_read 8 (codes "lutff_") cell pin lt (omega arith))
+
+of_pad : (pio : ℕ) (pin : List ℕ) → pio < 2 → tile_wire (codes "io_" ++ digit pio ∷ pin) ≡ pad_wire pio pin
+of_pad pio pin lt = ap (λ o. numbered_or pad_wire o (global_wire (codes "io_" ++ digit pio ∷ pin))) (number_within_read 2 (codes "io_") pio pin lt (omega arith))
+
+names_read : (wire : TileWire) → IsTileWire wire → tile_wire (wire_name wire) ≡ Some wire
+names_read (CellInput cell input) within =
+    of_cell cell (codes "/in_" ++ digit input ∷ []) within.0
+    ∙ ap (option_map (CellInput cell)) (number_behind_read 4 (codes "/in_") input within.1 (omega arith))
+names_read (CellOutput cell) within = of_cell cell (codes "/out") within
+names_read (CarryOut cell) within = of_cell cell (codes "/cout") within
+names_read (LookUp cell) within = of_cell cell (codes "/lout") within
+names_read Clock within = refl
+names_read ClockEnable within = refl
+names_read SetReset within = refl
+names_read CarryIn within = refl
+names_read FirstCarry within = refl
+names_read (PadInput pio) within = of_pad pio (codes "/D_IN_0") within
+names_read (PadOutput pio) within = of_pad pio (codes "/D_OUT_0") within
+names_read (OutputEnable pio) within = of_pad pio (codes "/OUT_ENB") within
+names_read Fabout within = refl
+names_read (Global n) within = ap (λ o. number_or Global o (lone_wire (global_name n))) (number_behind_read 8 (codes "glb_netwk_") n within (omega arith))
+
+-- ---- what is read is a name
+cell_told : (cell : ℕ) (pin : List ℕ) → cell < 8 → IfSome (cell_wire cell pin) (IsNamedWire (codes "lutff_" ++ digit cell ∷ pin))
+cell_told cell pin lt =
+    let P = IsNamedWire (codes "lutff_" ++ digit cell ∷ pin) in
+    let input : IfSome (option_map (CellInput cell) (number_behind 4 (codes "/in_") pin)) P =
+    number_meets P 4 (omega arith) (codes "/in_") pin (CellInput cell) (λ n few e. record { within = (lt, few); named = ap (λ p. codes "lutff_" ++ digit cell ∷ p) e }) in
+    if_meets P (bytes_eq pin (codes "/out")) (Some (CellOutput cell)) _ (λ is. record { within = lt; named = ap (λ p. codes "lutff_" ++ digit cell ∷ p) (bytes_same pin (codes "/out") is) })
+    (if_meets P (bytes_eq pin (codes "/cout")) (Some (CarryOut cell)) _ (λ is. record { within = lt; named = ap (λ p. codes "lutff_" ++ digit cell ∷ p) (bytes_same pin (codes "/cout") is) })
+    (if_meets P (bytes_eq pin (codes "/lout")) (Some (LookUp cell)) _ (λ is. record { within = lt; named = ap (λ p. codes "lutff_" ++ digit cell ∷ p) (bytes_same pin (codes "/lout") is) })
+    input))
+
+pad_told : (pio : ℕ) (pin : List ℕ) → pio < 2 → IfSome (pad_wire pio pin) (IsNamedWire (codes "io_" ++ digit pio ∷ pin))
+pad_told pio pin lt =
+    let P = IsNamedWire (codes "io_" ++ digit pio ∷ pin) in
+    if_meets P (bytes_eq pin (codes "/D_IN_0")) (Some (PadInput pio)) _ (λ is. record { within = lt; named = ap (λ p. codes "io_" ++ digit pio ∷ p) (bytes_same pin (codes "/D_IN_0") is) })
+    (if_meets P (bytes_eq pin (codes "/D_OUT_0")) (Some (PadOutput pio)) _ (λ is. record { within = lt; named = ap (λ p. codes "io_" ++ digit pio ∷ p) (bytes_same pin (codes "/D_OUT_0") is) })
+    (if_meets P (bytes_eq pin (codes "/OUT_ENB")) (Some (OutputEnable pio)) None (λ is. record { within = lt; named = ap (λ p. codes "io_" ++ digit pio ∷ p) (bytes_same pin (codes "/OUT_ENB") is) })
+    tt))
+
+lone_told : (name : List ℕ) → IfSome (lone_wire name) (IsNamedWire name)
+lone_told name =
+    let P = IsNamedWire name in
+    if_meets P (bytes_eq name (codes "lutff_global/clk")) (Some Clock) _ (λ is. record { within = tt; named = bytes_same name (codes "lutff_global/clk") is })
+    (if_meets P (bytes_eq name (codes "lutff_global/cen")) (Some ClockEnable) _ (λ is. record { within = tt; named = bytes_same name (codes "lutff_global/cen") is })
+    (if_meets P (bytes_eq name (codes "lutff_global/s_r")) (Some SetReset) _ (λ is. record { within = tt; named = bytes_same name (codes "lutff_global/s_r") is })
+    (if_meets P (bytes_eq name (codes "carry_in")) (Some CarryIn) _ (λ is. record { within = tt; named = bytes_same name (codes "carry_in") is })
+    (if_meets P (bytes_eq name (codes "carry_in_mux")) (Some FirstCarry) _ (λ is. record { within = tt; named = bytes_same name (codes "carry_in_mux") is })
+    (if_meets P (bytes_eq name (codes "fabout")) (Some Fabout) None (λ is. record { within = tt; named = bytes_same name (codes "fabout") is })
+    tt)))))
+
+told : (name : List ℕ) → IfSome (tile_wire name) (IsNamedWire name)
+told name =
+    let P = IsNamedWire name in
+    numbered_or_meets P 8 (omega arith) (codes "lutff_") name cell_wire (outer_wire name) (λ n pin lt e. subst (λ k. IfSome (cell_wire n pin) (IsNamedWire k)) (sym e) (cell_told n pin lt))
+    (numbered_or_meets P 2 (omega arith) (codes "io_") name pad_wire (global_wire name) (λ n pin lt e. subst (λ k. IfSome (pad_wire n pin) (IsNamedWire k)) (sym e) (pad_told n pin lt))
+    (number_or_meets P 8 (omega arith) (codes "glb_netwk_") name Global (lone_wire name) (λ n lt e. record { within = lt; named = e })
+    (lone_told name)))
+
+pub wire_names_read : WireNamesAreRead
+wire_names_read = record { read = names_read; told = told }

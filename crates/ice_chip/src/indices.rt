@@ -1,0 +1,96 @@
+//! The maps and lists by which a chip answers at once, in three groups.
+ghost use Rattle.std.specs.Prelude.{◌<◌, All, IfOk};
+ghost use Rattle.ice_chip.specs.IndexForms.{IsWireIndex, IsServerIndex, IsPlaceIndex};
+ghost use Rattle.ice_chip.specs.Views.{parts_view};
+
+use crate::index::{RowPlace, column_buffers, globals, input_enables, tiles};
+use crate::lists::names_by_wire;
+use crate::name_places::{FunctionPlaces, places_of_packages};
+use crate::names::NameIndex;
+use crate::places::row_places;
+use crate::{ChipParts, Pad, PlacedName, Tile};
+use ice_base::{NoMemory, TileAt};
+use indexmap::IndexMap;
+use std::alloc::Global;
+
+/// The tiles, and the wires with their names.
+#[derive(Drop)]
+pub struct WireIndex {
+    /// The tiles in the order of the text.
+    pub tiles: Vec<Tile>,
+    /// The names of each wire.
+    pub lists: Vec<Vec<PlacedName>>,
+    /// The wires by their names at places.
+    pub names: NameIndex,
+}
+
+/// What serves each global, pad and tile.
+#[derive(Drop)]
+pub struct ServerIndex {
+    /// The tile that feeds each global.
+    pub globals: IndexMap<u8, TileAt>,
+    /// The input enable of each pad.
+    pub enables: IndexMap<Pad, Pad>,
+    /// The tile that holds the column buffers of each tile.
+    pub buffers: IndexMap<TileAt, TileAt>,
+}
+
+/// Where rows, functions and packages stand.
+#[derive(Drop)]
+pub struct PlaceIndex {
+    /// Where each switch row stands.
+    pub rows: Vec<RowPlace>,
+    /// Where the first function of each kind and name stands.
+    pub functions: FunctionPlaces,
+    /// Where the first package of each name stands.
+    pub packages: IndexMap<Vec<u8>, usize>,
+}
+
+impl WireIndex {
+    /// The tiles and wires of these rows.
+    pub fn new(alloc: Global, parts: &ChipParts) -> Result<WireIndex, NoMemory>
+        requires { All (λ n. n.wire < parts.now.wires) (parts_view parts.now).names }
+        ensures { IfOk result (IsWireIndex (parts_view parts.now)) }
+    {
+        let tiles = tiles(alloc, parts)?;
+        let lists = names_by_wire(alloc, parts)?;
+        let names = NameIndex::new(alloc, parts)?;
+        Ok(WireIndex {
+            tiles,
+            lists,
+            names,
+        })
+    }
+}
+
+impl ServerIndex {
+    /// What serves the globals, pads and tiles of these rows.
+    pub fn new(alloc: Global, parts: &ChipParts) -> Result<ServerIndex, NoMemory>
+        ensures { IfOk result (IsServerIndex (parts_view parts.now)) }
+    {
+        let globals = globals(alloc, parts)?;
+        let enables = input_enables(alloc, parts)?;
+        let buffers = column_buffers(alloc, parts)?;
+        Ok(ServerIndex {
+            globals,
+            enables,
+            buffers,
+        })
+    }
+}
+
+impl PlaceIndex {
+    /// Where these rows, functions and packages stand.
+    pub fn new(alloc: Global, parts: &ChipParts) -> Result<PlaceIndex, NoMemory>
+        ensures { IfOk result (IsPlaceIndex (parts_view parts.now)) }
+    {
+        let rows = row_places(alloc, &parts.groups)?;
+        let functions = FunctionPlaces::new(alloc, &parts.functions)?;
+        let packages = places_of_packages(alloc, &parts.packages)?;
+        Ok(PlaceIndex {
+            rows,
+            functions,
+            packages,
+        })
+    }
+}
