@@ -1,18 +1,16 @@
 -- Where a line ends in a backslash before blanks.
 use Rattle.std.proofs.Common.{◌≡◌, ◌≢◌, ℕ, ◌-◌, ◌<◌, ◌≤◌, ◌==◌, Bool, true, false, ◌&&◌, List, [], ◌∷◌, length, take, drop, get_or, zero, suc, refl, sym, ap, ◌∙◌, arith, rules, tests, if◌then◌else◌, Option, Some, None}
 use Rattle.std.specs.List.{list_all}
+use Rattle.std.proofs.lemmas.Bool.{and_parts}
+use Rattle.ice_base.proofs.Booleans.{and_false}
 use Rattle.ice_base.specs.Text.{is_blank}
 use Rattle.ice_blif.specs.JoinedLines.{before_backslash, in_front_of}
 
 -- a line of blanks
-blank_first : (b : ℕ) (line : List ℕ) (t : Bool) → is_blank b ≡ t → (is_blank b && list_all is_blank line) ≡ true → (is_blank b ≡ true) × (list_all is_blank line ≡ true)
-blank_first b line true e h = (e, sym (ap (λ t. t && list_all is_blank line) e) ∙ h)
-blank_first b line false e h = let never : false ≡ true = sym (ap (λ t. t && list_all is_blank line) e) ∙ h in absurd (cc)
-
 all_blank : (line : List ℕ) → list_all is_blank line ≡ true → before_backslash line ≡ None
 all_blank [] h = refl
 all_blank (b ∷ line) h =
-    let both = blank_first b line (is_blank b) refl h in
+    let both = and_parts (is_blank b) (list_all is_blank line) h in
     let blank : is_blank b ≡ true = both.0 in
     let other : (b == 92) ≡ false = search (rules, tests) in
     ap (in_front_of b (list_all is_blank line)) (all_blank line both.1) ∙ rw other refl
@@ -21,11 +19,7 @@ all_blank (b ∷ line) h =
 some_byte : (line : List ℕ) (i : ℕ) → i < length line → is_blank (get_or line i 0) ≡ false → list_all is_blank line ≡ false
 some_byte [] i lt h = absurd (omega arith)
 some_byte (b ∷ line) zero lt h = rw h refl
-some_byte (b ∷ line) (suc i) lt h = ap (λ t. is_blank b && t) (some_byte line i (omega arith) h) ∙ by (is_blank b)
-  where
-    by : (t : Bool) → (t && false) ≡ false
-    by true = refl
-    by false = refl
+some_byte (b ∷ line) (suc i) lt h = ap (λ t. is_blank b && t) (some_byte line i (omega arith) h) ∙ and_false (is_blank b)
 
 -- only blanks stand behind the backslash
 found_at : (line : List ℕ) (i : ℕ) → i < length line → list_all is_blank (drop (suc i) line) ≡ true → get_or line i 0 ≡ 92

@@ -1,14 +1,11 @@
 -- The signals of a cover.
-use Rattle.std.proofs.Common.{ℕ, ◌-◌, ◌<◌, ◌≤◌, List, [], ◌∷◌, ◌++◌, length, length-take, length-drop, Option, Some, None, All, ◌∙◌, arith}
+use Rattle.std.proofs.Common.{ℕ, ◌-◌, ◌<◌, ◌≤◌, List, [], ◌∷◌, ◌++◌, length, length-take, length-drop, Option, Some, All, ◌∙◌, arith}
 use Rattle.std.proofs.lemmas.List.Elements.{All-weaker, All-push, All-nil, All-take, All-drop}
 use Rattle.ice_base.specs.declared.number.SignalNo.{SignalNo}
 use Rattle.ice_net.specs.Formed.{IsPresent}
+use Rattle.ice_net.proofs.NetlistLaws.{present_more}
 use Rattle.ice_blif.specs.Grammar.{new_cover}
 use Rattle.ice_blif.specs.Cells.{IsOpenCover}
-
-present_more : (m n : ℕ) → m ≤ n → (s : Option SignalNo) → IsPresent m s → IsPresent n s
-present_more m n le None h = h
-present_more m n le (Some s) h = omega arith
 
 pub none_yet : (n : ℕ) → All (IsPresent n) []
 none_yet n = All-nil (IsPresent n)

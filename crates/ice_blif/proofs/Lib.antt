@@ -4,5 +4,8 @@ pub mod Wirings
 pub mod OpenCells
 pub mod CoverSignals
 pub mod KindForms
+pub mod Kept
 pub mod Limits
+pub mod Growing
+pub mod FaultLaws
 pub mod PortNames

@@ -1,42 +1,33 @@
 -- The limits of a netlist text, apart from the rest of its grammar.
-use Rattle.std.proofs.Common.{◌≡◌, ℕ, ◌+◌, Bool, true, false, List, [], ◌∷◌, length, nat_lt, Result, Ok, Err, IfOk, if◌then◌else◌, codes, bytes_eq, refl, ap, ◌∙◌}
+use Rattle.std.proofs.Common.{◌≡◌, ℕ, ◌+◌, Bool, true, false, List, [], ◌∷◌, length, nat_lt, Result, Ok, Err, IfOk, if◌then◌else◌, codes, bytes_eq, ap, ◌∙◌}
 use Rattle.ice_net.specs.NetlistData.{NetlistData}
 use Rattle.ice_blif.specs.declared.fault.BlifFault.{BlifFault}
 use Rattle.ice_blif.specs.declared.fault.BlifFault.TheVariants.{TooMany, NoModel}
-use Rattle.ice_blif.specs.declared.reader.Reader.{Reader}
+use Rattle.ice_blif.specs.State.{State}
 use Rattle.ice_base.specs.Text.{lines, numbered}
 use Rattle.ice_blif.specs.JoinedLines.{FilledLine, joined, filled, last_number}
 use Rattle.ice_blif.specs.Answers.{Gives}
 use Rattle.ice_blif.specs.Cells.{◌>>=◌, count_of}
 use Rattle.ice_blif.specs.Grammar.{within_limits, no_limits, line_says, model_says, lines_say, netlist_of, HasNetlist, ended, empty_reader}
+use Rattle.ice_blif.proofs.Kept.{bound}
 
--- what a value that goes on was made of
-pub record Bound {A B : Type 0} (x : Result A BlifFault) (f : A → Result B BlifFault) (b : B) : Type 0 where
-  pub value : A
-  pub made : x ≡ Ok value
-  pub goes_on : f value ≡ Ok b
-
-bound : {A B : Type 0} (x : Result A BlifFault) (f : A → Result B BlifFault) (b : B) → (x >>= f) ≡ Ok b → Bound x f b
-bound (Ok a) f b h = record { value = a; made = refl; goes_on = h }
-bound (Err e) f b h = absurd (cc)
-
-within_by : (line : ℕ) (r s : Reader) (b c : Bool)
-    → (let said : Result Reader BlifFault = if b then Err (TooMany line 65534) else (if c then Err (TooMany line 1048576) else Ok r) in said) ≡ Ok s → r ≡ s
+within_by : (line : ℕ) (r s : State) (b c : Bool)
+    → (let said : Result State BlifFault = if b then Err (TooMany line 65534) else (if c then Err (TooMany line 1048576) else Ok r) in said) ≡ Ok s → r ≡ s
 within_by line r s true c h = absurd (cc)
 within_by line r s false true h = absurd (cc)
 within_by line r s false false h = cc
 
-within_same : (line : ℕ) (r s : Reader) → within_limits line r ≡ Ok s → r ≡ s
+within_same : (line : ℕ) (r s : State) → within_limits line r ≡ Ok s → r ≡ s
 within_same line r s h = within_by line r s (nat_lt 65534 (length r.netlist.names)) (nat_lt 1048576 (length r.netlist.cells + count_of r.last)) h
 
 -- a line within the limits says the same without them
-line_has : (l : FilledLine) (r s : Reader) → line_says within_limits l r ≡ Ok s → line_says no_limits l r ≡ Ok s
+line_has : (l : FilledLine) (r s : State) → line_says within_limits l r ≡ Ok s → line_says no_limits l r ≡ Ok s
 line_has l r s h =
     let parts = bound _ (within_limits l.number) s h in
     ap (λ x. x >>= no_limits l.number) parts.made ∙ ap Ok (within_same l.number parts.value s parts.goes_on)
 
-model_step : (last : ℕ) (l : FilledLine) (ls : List FilledLine) (r : Reader) (n : NetlistData) (b : Bool)
-    → ((s : Reader) → model_says within_limits last s ls ≡ Ok n → model_says no_limits last s ls ≡ Ok n)
+model_step : (last : ℕ) (l : FilledLine) (ls : List FilledLine) (r : State) (n : NetlistData) (b : Bool)
+    → ((s : State) → model_says within_limits last s ls ≡ Ok n → model_says no_limits last s ls ≡ Ok n)
     → (if b then ended r ls else line_says within_limits l r >>= (λ s. model_says within_limits last s ls)) ≡ Ok n
     → (if b then ended r ls else line_says no_limits l r >>= (λ s. model_says no_limits last s ls)) ≡ Ok n
 model_step last l ls r n true rest h = h
@@ -44,7 +35,7 @@ model_step last l ls r n false rest h =
     let parts = bound (line_says within_limits l r) (λ s. model_says within_limits last s ls) n h in
     ap (λ x. x >>= (λ s. model_says no_limits last s ls)) (line_has l r parts.value parts.made) ∙ rest parts.value parts.goes_on
 
-model_has : (last : ℕ) (ls : List FilledLine) (r : Reader) (n : NetlistData) → model_says within_limits last r ls ≡ Ok n → model_says no_limits last r ls ≡ Ok n
+model_has : (last : ℕ) (ls : List FilledLine) (r : State) (n : NetlistData) → model_says within_limits last r ls ≡ Ok n → model_says no_limits last r ls ≡ Ok n
 model_has last [] r n h = absurd (cc)
 model_has last (l ∷ ls) r n h = model_step last l ls r n (bytes_eq l.first (codes ".end")) (λ s. model_has last ls s n) h
 

@@ -5,13 +5,10 @@ use Rattle.std.proofs.Math.Nat.{mod-lt}
 use Rattle.std.proofs.lemmas.List.Elements.{All-weaker}
 use Rattle.ice_base.specs.declared.number.SignalNo.{SignalNo}
 use Rattle.ice_net.specs.Formed.{IsBelow, IsPresent, IsFormedCell}
-use Rattle.ice_blif.specs.declared.reader.Cover.{Cover}
+use Rattle.ice_blif.specs.State.{OpenCover, LastCell, State, Nothing, Gate, Rows}
 use Rattle.ice_blif.specs.Covers.{table_of}
 use Rattle.ice_net.specs.NetlistData.{NetlistData}
-use Rattle.ice_blif.specs.declared.reader.Last.{Last}
-use Rattle.ice_blif.specs.declared.reader.Last.TheVariants.{Nothing, Gate, Rows}
 use Rattle.ice_blif.specs.Cells.{cover_cell, finished, IsOpenCover, IsFormedLast, IsReady, IsWithin, IsWithinLimits, count_of}
-use Rattle.ice_blif.specs.declared.reader.Reader.{Reader}
 use Rattle.ice_blif.specs.Grammar.{with_last}
 
 some_tables : (width : ℕ) → 0 < 2 ^ (2 ^ width)
@@ -42,7 +39,7 @@ present_below n None h = tt
 present_below n (Some s) h = h
 
 -- the cell of a cover is well formed
-pub cover_formed : (signals : ℕ) (c : Cover) → IsOpenCover signals c → IsFormedCell signals (cover_cell c)
+pub cover_formed : (signals : ℕ) (c : OpenCover) → IsOpenCover signals c → IsFormedCell signals (cover_cell c)
 cover_formed signals c h = record {
   ins_long = refl;
   outs_long = h.single;
@@ -56,31 +53,31 @@ cover_formed signals c h = record {
   };
 }
 
-finished_names : (n : NetlistData) (last : Last) → (finished n last).names ≡ n.names
+pub finished_names : (n : NetlistData) (last : LastCell) → (finished n last).names ≡ n.names
 finished_names n Nothing = refl
 finished_names n (Gate cell) = refl
 finished_names n (Rows cover) = refl
 
-finished_few : (n : NetlistData) (last : Last) → length (finished n last).cells ≤ length n.cells + 1
+finished_few : (n : NetlistData) (last : LastCell) → length (finished n last).cells ≤ length n.cells + 1
 finished_few n Nothing = omega arith
 finished_few n (Gate cell) = omega (arith, length-append n.cells (cell ∷ []))
 finished_few n (Rows cover) = omega (arith, length-append n.cells (cover_cell cover ∷ []))
 
 -- a reader with a new last cell is ready, with one cell more
-pub last_ready : (n : NetlistData) (before now : Last) (rows : Bool) → length n.cells ≤ 1048576 → IsFormedLast (length n.names) now
+pub last_ready : (n : NetlistData) (before now : LastCell) (rows : Bool) → length n.cells ≤ 1048576 → IsFormedLast (length n.names) now
     → IsReady 1048577 (with_last n before now rows)
 last_ready n before now rows few formed = record {
   few = omega (arith, finished_few n before, few);
   formed = subst (λ names. IsFormedLast (length names) now) (sym (finished_names n before)) formed;
 }
 
-finished_count : (n : NetlistData) (last : Last) → length (finished n last).cells ≡ length n.cells + count_of last
+pub finished_count : (n : NetlistData) (last : LastCell) → length (finished n last).cells ≡ length n.cells + count_of last
 finished_count n Nothing = omega arith
 finished_count n (Gate cell) = length-append n.cells (cell ∷ [])
 finished_count n (Rows cover) = length-append n.cells (cover_cell cover ∷ [])
 
 -- the netlist with the last cell is within the limits
-pub finished_within : (r : Reader) → IsWithin r → IsWithinLimits (finished r.netlist r.last)
+pub finished_within : (r : State) → IsWithin r → IsWithinLimits (finished r.netlist r.last)
 finished_within r h = record {
   signals = rw (finished_names r.netlist r.last) h.signals;
   cells = omega (arith, finished_count r.netlist r.last, h.cells);

@@ -6,22 +6,21 @@ use Rattle.std.proofs.lemmas.Cmp.{nat_eq_equiv, nat_list_eq_equiv}
 use Rattle.std.proofs.lemmas.Map.Keys.{IsDistinct-push, apart_from_distinct}
 use Rattle.ice_base.specs.Text.{lines, numbered}
 use Rattle.ice_base.specs.Comments.{begins_with}
+use Rattle.ice_base.specs.Names.{with_name, number_of_name}
 use Rattle.ice_base.specs.declared.number.SignalNo.{SignalNo}
 use Rattle.ice_net.specs.declared.kind.CellKind.{CellKind}
 use Rattle.ice_net.specs.declared.port.Port.{Port}
 use Rattle.ice_net.specs.declared.port.Way.{Way}
 use Rattle.ice_net.specs.declared.port.Way.TheVariants.{Input, Output}
 use Rattle.ice_net.specs.Kinds.{kind_of, port_place, ins_count}
-use Rattle.ice_net.specs.NetlistData.{NetlistData, empty_netlist, with_name, number_of_name, port_by, port_again, port_at, is_at, way_of, merged}
+use Rattle.ice_net.specs.NetlistData.{NetlistData, empty_netlist, port_by, port_again, port_at, is_at, way_of, merged}
 use Rattle.ice_blif.specs.declared.fault.BlifFault.{BlifFault}
 use Rattle.ice_blif.specs.declared.fault.BlifFault.TheVariants.{NoModel, SecondModel, UnknownDirective, PortTwice, TooWide, TooMany}
-use Rattle.ice_blif.specs.declared.reader.Last.{Last}
-use Rattle.ice_blif.specs.declared.reader.Last.TheVariants.{Nothing, Gate, Rows}
-use Rattle.ice_blif.specs.declared.reader.Reader.{Reader}
-use Rattle.ice_blif.specs.declared.wiring.Wiring.{Wiring}
+use Rattle.ice_blif.specs.State.{LastCell, State, Connections, Nothing, Gate, Rows}
 use Rattle.ice_blif.specs.JoinedLines.{FilledLine, joined, filled, last_number}
 use Rattle.ice_blif.specs.Cells.{◌>>=◌, row_says, param_says, finished, count_of}
 use Rattle.ice_blif.specs.Grammar.{named, signal_of, was_named, with_named_port, port_says, ports_say, no_wiring, is_missing, after_actual, connect_at, connect_by, equals_at, connection_says, connections_say, cell_of, with_last, without_rows, gate_of_kind, gate_says, cover_signals, cover_of, names_say, row_line, row_or_fault, port_directive_says, param_directive_says, directive_says, within_limits, line_says, after_end, ended, model_says, empty_reader, lines_say, netlist_of}
+use Rattle.ice_blif.proofs.Kept.{bind_keeps, either, any_ok}
 
 -- the numbers of the ports' signals
 abbrev port_numbers : List Port → List ℕ
@@ -93,19 +92,6 @@ with_port_single n way name single = record {
 }
 
 -- ---- what is read keeps it
--- an answer that goes on from what is kept
-bind_keeps : {A B : Type 0} (P : A → Type 0) (Q : B → Type 0) (x : Result A BlifFault) (f : A → Result B BlifFault) → IfOk x P → ((a : A) → P a → IfOk (f a) Q) → IfOk (x >>= f) Q
-bind_keeps P Q (Ok a) f kept on = on a kept
-bind_keeps P Q (Err fault) f kept on = tt
-
-either : {A : Type 0} (P : A → Type 0) (b : Bool) (x y : Result A BlifFault) → IfOk x P → IfOk y P → IfOk (if b then x else y) P
-either P true x y p q = p
-either P false x y p q = q
-
-any_ok : {A : Type 0} (x : Result A BlifFault) → IfOk x (λ a. Unit {0})
-any_ok (Ok a) = tt
-any_ok (Err fault) = tt
-
 port_keeps : (line : ℕ) (way : Way) (n : NetlistData) (name : List ℕ) → IsSingle n → IfOk (port_says line way n name) IsSingle
 port_keeps line way n name single =
     either IsSingle (was_named way (way_of n.ports (number_of_name n.names name))) (Err (PortTwice line)) (Ok (with_named_port n way name)) tt (with_port_single n way name single)
@@ -116,13 +102,13 @@ ports_keep line way n (name ∷ names) single =
     bind_keeps IsSingle IsSingle (port_says line way n name) (λ m. ports_say line way m names) (port_keeps line way n name single) (λ m kept. ports_keep line way m names kept)
 
 -- what is read beside a netlist
-abbrev WithWiring : NetlistData × Wiring → Type 0
+abbrev WithWiring : NetlistData × Connections → Type 0
 WithWiring c = IsSingle c.0
 
 abbrev WithSignals : NetlistData × List (Option SignalNo) → Type 0
 WithSignals c = IsSingle c.0
 
-abbrev InReader : Reader → Type 0
+abbrev InReader : State → Type 0
 InReader r = IsSingle r.netlist
 
 actual_single : (n : NetlistData) (output : Bool) (actual : List ℕ) → IsSingle n → IsSingle (after_actual n output actual)
@@ -132,32 +118,32 @@ actual_single n output actual single = by (is_missing output actual)
     by true = single
     by false = named_single n actual single
 
-connect_at_keeps : (line : ℕ) (kind : CellKind) (n : NetlistData) (wiring : Wiring) (actual : List ℕ) (place : Option ℕ) → IsSingle n → IfOk (connect_at line kind n wiring actual place) WithWiring
+connect_at_keeps : (line : ℕ) (kind : CellKind) (n : NetlistData) (wiring : Connections) (actual : List ℕ) (place : Option ℕ) → IsSingle n → IfOk (connect_at line kind n wiring actual place) WithWiring
 connect_at_keeps line kind n wiring actual None single = tt
 connect_at_keeps line kind n wiring actual (Some place) single = actual_single n (nat_le (ins_count kind) place) actual single
 
-connect_keeps : (line : ℕ) (kind : CellKind) (n : NetlistData) (wiring : Wiring) (word : List ℕ) (at : Option ℕ) → IsSingle n → IfOk (connect_by line kind n wiring word at) WithWiring
+connect_keeps : (line : ℕ) (kind : CellKind) (n : NetlistData) (wiring : Connections) (word : List ℕ) (at : Option ℕ) → IsSingle n → IfOk (connect_by line kind n wiring word at) WithWiring
 connect_keeps line kind n wiring word None single = tt
 connect_keeps line kind n wiring word (Some at) single = connect_at_keeps line kind n wiring (drop (at + 1) word) (port_place kind (take at word)) single
 
-connections_keep : (line : ℕ) (kind : CellKind) (n : NetlistData) (wiring : Wiring) (words : List (List ℕ)) → IsSingle n → IfOk (connections_say line kind n wiring words) WithWiring
+connections_keep : (line : ℕ) (kind : CellKind) (n : NetlistData) (wiring : Connections) (words : List (List ℕ)) → IsSingle n → IfOk (connections_say line kind n wiring words) WithWiring
 connections_keep line kind n wiring [] single = either WithWiring wiring.twice (Err (PortTwice line)) (Ok (n, wiring)) tt single
 connections_keep line kind n wiring (w ∷ ws) single =
     bind_keeps WithWiring WithWiring (connection_says line kind n wiring w) (λ c. connections_say line kind c.0 c.1 ws) (connect_keeps line kind n wiring w (equals_at w) single)
     (λ c kept. connections_keep line kind c.0 c.1 ws kept)
 
-finished_single : (n : NetlistData) (last : Last) → IsSingle n → IsSingle (finished n last)
+finished_single : (n : NetlistData) (last : LastCell) → IsSingle n → IsSingle (finished n last)
 finished_single n Nothing single = single
 finished_single n (Gate cell) single = record { names = single.names; ports = single.ports }
 finished_single n (Rows cover) single = record { names = single.names; ports = single.ports }
 
-gate_of_kind_keeps : (line : ℕ) (r : Reader) (words : List (List ℕ)) (kind : Option CellKind) → InReader r → IfOk (gate_of_kind line r words kind) InReader
+gate_of_kind_keeps : (line : ℕ) (r : State) (words : List (List ℕ)) (kind : Option CellKind) → InReader r → IfOk (gate_of_kind line r words kind) InReader
 gate_of_kind_keeps line r words None single = tt
 gate_of_kind_keeps line r words (Some kind) single =
     bind_keeps WithWiring InReader (connections_say line kind r.netlist no_wiring words) (λ c. Ok (with_last c.0 r.last (Gate (cell_of line kind c.1)) false)) (connections_keep line kind r.netlist no_wiring words single)
     (λ c kept. finished_single c.0 r.last kept)
 
-gate_keeps : (line : ℕ) (r : Reader) (words : List (List ℕ)) → InReader r → IfOk (gate_says line r words) InReader
+gate_keeps : (line : ℕ) (r : State) (words : List (List ℕ)) → InReader r → IfOk (gate_says line r words) InReader
 gate_keeps line r [] single = tt
 gate_keeps line r (w ∷ ws) single = gate_of_kind_keeps line r ws (kind_of w) single
 
@@ -167,32 +153,32 @@ cover_signals_keep line n signals (w ∷ ws) single =
     either WithSignals (nat_lt 4 (length signals)) (Err (TooWide line)) (cover_signals line (named n w) (signals ++ Some (signal_of n w) ∷ []) ws) tt
     (cover_signals_keep line (named n w) (signals ++ Some (signal_of n w) ∷ []) ws (named_single n w single))
 
-cover_keeps : (line : ℕ) (r : Reader) (n : NetlistData) (signals : List (Option SignalNo)) → IsSingle n → IfOk (cover_of line r n signals) InReader
+cover_keeps : (line : ℕ) (r : State) (n : NetlistData) (signals : List (Option SignalNo)) → IsSingle n → IfOk (cover_of line r n signals) InReader
 cover_keeps line r n [] single = tt
 cover_keeps line r n (s ∷ signals) single = finished_single n r.last single
 
-names_keep : (line : ℕ) (r : Reader) (words : List (List ℕ)) → InReader r → IfOk (names_say line r words) InReader
+names_keep : (line : ℕ) (r : State) (words : List (List ℕ)) → InReader r → IfOk (names_say line r words) InReader
 names_keep line r words single =
     bind_keeps WithSignals InReader (cover_signals line r.netlist [] words) (λ c. cover_of line r c.0 c.1) (cover_signals_keep line r.netlist [] words single) (λ c kept. cover_keeps line r c.0 c.1 kept)
 
-row_line_keeps : (line : ℕ) (r : Reader) (last : Last) (first : List ℕ) (others : List (List ℕ)) → InReader r → IfOk (row_line line r last first others) InReader
+row_line_keeps : (line : ℕ) (r : State) (last : LastCell) (first : List ℕ) (others : List (List ℕ)) → InReader r → IfOk (row_line line r last first others) InReader
 row_line_keeps line r Nothing first others single = tt
 row_line_keeps line r (Gate cell) first others single = tt
 row_line_keeps line r (Rows cover) first others single =
     bind_keeps (λ c. Unit {0}) InReader (row_says line cover first others) (λ c. Ok (record { netlist = r.netlist; last = Rows c; rows = true })) (any_ok (row_says line cover first others)) (λ c kept. single)
 
-row_keeps : (line : ℕ) (r : Reader) (first : List ℕ) (others : List (List ℕ)) → InReader r → IfOk (row_or_fault line r first others) InReader
+row_keeps : (line : ℕ) (r : State) (first : List ℕ) (others : List (List ℕ)) → InReader r → IfOk (row_or_fault line r first others) InReader
 row_keeps line r first others single = either InReader r.rows (row_line line r r.last first others) (Err (UnknownDirective line)) (row_line_keeps line r r.last first others single) tt
 
-port_directive_keeps : (line : ℕ) (way : Way) (r : Reader) (names : List (List ℕ)) → InReader r → IfOk (port_directive_says line way r names) InReader
+port_directive_keeps : (line : ℕ) (way : Way) (r : State) (names : List (List ℕ)) → InReader r → IfOk (port_directive_says line way r names) InReader
 port_directive_keeps line way r names single =
     bind_keeps IsSingle InReader (ports_say line way r.netlist names) (λ n. Ok (without_rows n r.last)) (ports_keep line way r.netlist names single) (λ n kept. kept)
 
-param_directive_keeps : (line : ℕ) (r : Reader) (words : List (List ℕ)) → InReader r → IfOk (param_directive_says line r words) InReader
+param_directive_keeps : (line : ℕ) (r : State) (words : List (List ℕ)) → InReader r → IfOk (param_directive_says line r words) InReader
 param_directive_keeps line r words single =
     bind_keeps (λ last. Unit {0}) InReader (param_says line r.last words) (λ last. Ok (without_rows r.netlist last)) (any_ok (param_says line r.last words)) (λ last kept. single)
 
-directive_keeps : (line : ℕ) (r : Reader) (first : List ℕ) (others : List (List ℕ)) → InReader r → IfOk (directive_says line r first others) InReader
+directive_keeps : (line : ℕ) (r : State) (first : List ℕ) (others : List (List ℕ)) → InReader r → IfOk (directive_says line r first others) InReader
 directive_keeps line r first others single =
     either InReader (bytes_eq first (codes ".gate") || bytes_eq first (codes ".subckt")) (gate_says line r others) _ (gate_keeps line r others single)
     (either InReader (bytes_eq first (codes ".names")) (names_say line r others) _ (names_keep line r others single)
@@ -202,21 +188,21 @@ directive_keeps line r first others single =
     (either InReader (bytes_eq first (codes ".outputs")) (port_directive_says line Output r others) _ (port_directive_keeps line Output r others single)
     (either InReader (bytes_eq first (codes ".model")) (Err (SecondModel line)) (Err (UnknownDirective line)) tt tt))))))
 
-limits_keep : (line : ℕ) (r : Reader) → InReader r → IfOk (within_limits line r) InReader
+limits_keep : (line : ℕ) (r : State) → InReader r → IfOk (within_limits line r) InReader
 limits_keep line r single =
     either InReader (nat_lt 65534 (length r.netlist.names)) (Err (TooMany line 65534)) _ tt
     (either InReader (nat_lt 1048576 (length r.netlist.cells + count_of r.last)) (Err (TooMany line 1048576)) (Ok r) tt single)
 
-line_keeps : (l : FilledLine) (r : Reader) → InReader r → IfOk (line_says within_limits l r) InReader
+line_keeps : (l : FilledLine) (r : State) → InReader r → IfOk (line_says within_limits l r) InReader
 line_keeps l r single =
     bind_keeps InReader InReader (if begins_with 46 l.first then directive_says l.number r l.first l.others else row_or_fault l.number r l.first l.others) (within_limits l.number)
     (either InReader (begins_with 46 l.first) (directive_says l.number r l.first l.others) (row_or_fault l.number r l.first l.others) (directive_keeps l.number r l.first l.others single) (row_keeps l.number r l.first l.others single))
     (λ s kept. limits_keep l.number s kept)
 
-ended_keeps : (r : Reader) (ls : List FilledLine) → InReader r → IfOk (ended r ls) IsSingle
+ended_keeps : (r : State) (ls : List FilledLine) → InReader r → IfOk (ended r ls) IsSingle
 ended_keeps r ls single = bind_keeps (λ u. Unit {0}) IsSingle (after_end ls) (λ u. Ok (finished r.netlist r.last)) (any_ok (after_end ls)) (λ u kept. finished_single r.netlist r.last single)
 
-model_keeps : (last : ℕ) (r : Reader) (ls : List FilledLine) → InReader r → IfOk (model_says within_limits last r ls) IsSingle
+model_keeps : (last : ℕ) (r : State) (ls : List FilledLine) → InReader r → IfOk (model_says within_limits last r ls) IsSingle
 model_keeps last r [] single = tt
 model_keeps last r (l ∷ ls) single =
     either IsSingle (bytes_eq l.first (codes ".end")) (ended r ls) (line_says within_limits l r >>= (λ s. model_says within_limits last s ls)) (ended_keeps r ls single)

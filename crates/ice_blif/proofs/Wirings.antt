@@ -1,5 +1,5 @@
 -- The signals of cells, as they are connected.
-use Rattle.std.proofs.Common.{◌≡◌, ℕ, ◌+◌, ◌≤◌, Bool, true, false, List, length, length-take, length-drop, drop, Option, Some, None, All, slice_set, ◌∙◌, arith}
+use Rattle.std.proofs.Common.{◌≡◌, ℕ, ◌+◌, ◌≤◌, Bool, true, false, List, length, length-take, length-drop, drop, Option, All, slice_set, ◌∙◌, arith}
 use Rattle.std.proofs.lemmas.List.Elements.{All-weaker, All-set, All-take, All-drop}
 use Rattle.ice_base.specs.declared.number.SignalNo.{SignalNo}
 use Rattle.ice_net.specs.declared.kind.Reset.{Reset}
@@ -8,20 +8,10 @@ use Rattle.ice_net.specs.declared.kind.CellKind.{CellKind}
 use Rattle.ice_net.specs.declared.kind.CellKind.TheVariants.{Lut, Cover, Carry, Flop, PadCell, Global}
 use Rattle.ice_net.specs.Kinds.{enable_names, reset_names, ins_count, outs_count, IsGateKind}
 use Rattle.ice_net.specs.Formed.{IsBelow, IsPresent, IsFormedCell, IsFormedKind}
-use Rattle.ice_net.proofs.NetlistLaws.{formed_more}
-use Rattle.ice_blif.specs.declared.wiring.Wiring.{Wiring}
-use Rattle.ice_blif.specs.declared.reader.Last.{Last}
-use Rattle.ice_blif.specs.declared.reader.Last.TheVariants.{Nothing as nothing_last, Gate, Rows}
+use Rattle.ice_net.proofs.NetlistLaws.{below_more, present_more, formed_more}
+use Rattle.ice_blif.specs.State.{LastCell, Connections, Nothing as nothing_last, Gate, Rows}
 use Rattle.ice_blif.specs.Grammar.{cell_of}
 use Rattle.ice_blif.specs.Cells.{IsFormedLast}
-
-below_more : (m n : ℕ) → m ≤ n → (s : Option SignalNo) → IsBelow m s → IsBelow n s
-below_more m n le None h = tt
-below_more m n le (Some s) h = omega arith
-
-present_more : (m n : ℕ) → m ≤ n → (s : Option SignalNo) → IsPresent m s → IsPresent n s
-present_more m n le None h = h
-present_more m n le (Some s) h = omega arith
 
 pub all_below_more : (m n : ℕ) (signals : List (Option SignalNo)) → m ≤ n → All (IsBelow m) signals → All (IsBelow n) signals
 all_below_more m n signals le h = All-weaker (IsBelow m) (IsBelow n) (below_more m n le) signals h
@@ -60,7 +50,7 @@ gate_kind signals (PadCell pin_type pullup) ins outs h = h
 gate_kind signals Global ins outs h = tt
 
 -- the cell of a kind with its connections is well formed
-pub gate_formed : (signals line : ℕ) (kind : CellKind) (wiring : Wiring) → IsGateKind kind → length wiring.signals ≡ 10 → All (IsBelow signals) wiring.signals
+pub gate_formed : (signals line : ℕ) (kind : CellKind) (wiring : Connections) → IsGateKind kind → length wiring.signals ≡ 10 → All (IsBelow signals) wiring.signals
     → IsFormedCell signals (cell_of line kind wiring)
 gate_formed signals line kind wiring h long below =
     let fits = gate_fits kind h in
@@ -73,7 +63,7 @@ gate_formed signals line kind wiring h long below =
     }
 
 -- the cell made last stays well formed where there are more signals
-pub last_formed_more : (m n : ℕ) (last : Last) → m ≤ n → IsFormedLast m last → IsFormedLast n last
+pub last_formed_more : (m n : ℕ) (last : LastCell) → m ≤ n → IsFormedLast m last → IsFormedLast n last
 last_formed_more m n nothing_last le h = tt
 last_formed_more m n (Gate cell) le h = formed_more m n le cell h
 last_formed_more m n (Rows c) le h = record {

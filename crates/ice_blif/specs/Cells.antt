@@ -8,10 +8,7 @@ use Rattle.ice_net.specs.NetlistData.{NetlistData}
 use Rattle.ice_net.specs.Formed.{IsFormedCell, IsPresent}
 use Rattle.ice_blif.specs.declared.fault.BlifFault.{BlifFault}
 use Rattle.ice_blif.specs.declared.fault.BlifFault.TheVariants.{BadCover}
-use Rattle.ice_blif.specs.declared.reader.Cover.{Cover}
-use Rattle.ice_blif.specs.declared.reader.Last.{Last}
-use Rattle.ice_blif.specs.declared.reader.Last.TheVariants.{Nothing, Gate, Rows}
-use Rattle.ice_blif.specs.declared.reader.Reader.{Reader}
+use Rattle.ice_blif.specs.State.{OpenCover, LastCell, State, Nothing, Gate, Rows}
 use Rattle.ice_blif.specs.Covers.{row_table, is_row, level_of, agrees, table_of}
 use Rattle.ice_blif.specs.Parameters.{bits_say, standard_says}
 
@@ -36,23 +33,23 @@ abbrev pub row_parts : ℕ → List ℕ → List (List ℕ) → Option (List ℕ
 row_parts width first others = if width == 0 then level_alone first others else row_and_level first others
 
 -- a cover with one row more
-abbrev pub with_row : Cover → List ℕ → Bool → Cover
+abbrev pub with_row : OpenCover → List ℕ → Bool → OpenCover
 with_row c row level = record { line = c.line; ins = c.ins; outs = c.outs; covered = bit_or c.covered (row_table row); level = Some level }
 
-abbrev pub row_of_level : ℕ → Cover → List ℕ → Option Bool → Result Cover BlifFault
+abbrev pub row_of_level : ℕ → OpenCover → List ℕ → Option Bool → Result OpenCover BlifFault
 row_of_level line c row None = Err (BadCover line)
 row_of_level line c row (Some level) = if agrees c.level level then Ok (with_row c row level) else Err (BadCover line)
 
-abbrev pub row_of : ℕ → Cover → Option (List ℕ × List ℕ) → Result Cover BlifFault
+abbrev pub row_of : ℕ → OpenCover → Option (List ℕ × List ℕ) → Result OpenCover BlifFault
 row_of line c None = Err (BadCover line)
 row_of line c (Some parts) = if is_row (length c.ins) parts.0 then row_of_level line c parts.0 (level_of parts.1) else Err (BadCover line)
 
 -- the cover with the row of a line's words
-abbrev pub row_says : ℕ → Cover → List ℕ → List (List ℕ) → Result Cover BlifFault
+abbrev pub row_says : ℕ → OpenCover → List ℕ → List (List ℕ) → Result OpenCover BlifFault
 row_says line c first others = row_of line c (row_parts (length c.ins) first others)
 
 -- the cell of a cover with all its rows
-abbrev pub cover_cell : Cover → Cell
+abbrev pub cover_cell : OpenCover → Cell
 cover_cell c = record { kind = kinds.TheVariants.Cover (table_of (length c.ins) c.level c.covered) (length c.ins); line = c.line; ins = c.ins; outs = c.outs }
 
 -- ---- parameters
@@ -80,7 +77,7 @@ abbrev pub with_kind : Cell → CellKind → Cell
 with_kind cell kind = record { kind = kind; line = cell.line; ins = cell.ins; outs = cell.outs }
 
 -- the cell made last with the parameter of a line; parameters of covers, and before any cell, are read over
-abbrev pub param_says : ℕ → Last → List (List ℕ) → Result Last BlifFault
+abbrev pub param_says : ℕ → LastCell → List (List ℕ) → Result LastCell BlifFault
 param_says line last [] = Ok last
 param_says line Nothing (name ∷ values) = Ok Nothing
 param_says line (Gate cell) (name ∷ values) = kind_says line cell.kind name values >>= (λ kind. Ok (Gate (with_kind cell kind)))
@@ -90,32 +87,32 @@ param_says line (Rows cover) (name ∷ values) = Ok (Rows cover)
 abbrev pub with_cell : NetlistData → Cell → NetlistData
 with_cell n cell = record { names = n.names; ports = n.ports; cells = n.cells ++ cell ∷ [] }
 
-abbrev pub finished : NetlistData → Last → NetlistData
+abbrev pub finished : NetlistData → LastCell → NetlistData
 finished n Nothing = n
 finished n (Gate cell) = with_cell n cell
 finished n (Rows cover) = with_cell n (cover_cell cover)
 
 -- how many cells the last is
-abbrev pub count_of : Last → ℕ
+abbrev pub count_of : LastCell → ℕ
 count_of Nothing = 0
 count_of (Gate cell) = 1
 count_of (Rows cover) = 1
 
 -- a cover over so many signals
-pub record IsOpenCover (signals : ℕ) (c : Cover) : Type 0 where
+pub record IsOpenCover (signals : ℕ) (c : OpenCover) : Type 0 where
   pub narrow : length c.ins ≤ 4
   pub single : length c.outs ≡ 1
   pub ins_present : All (IsPresent signals) c.ins
   pub outs_present : All (IsPresent signals) c.outs
 
 -- the cell made last is well formed over so many signals
-abbrev pub IsFormedLast : ℕ → Last → Type 0
+abbrev pub IsFormedLast : ℕ → LastCell → Type 0
 IsFormedLast signals Nothing = Unit {0}
 IsFormedLast signals (Gate cell) = IsFormedCell signals cell
 IsFormedLast signals (Rows cover) = IsOpenCover signals cover
 
 -- at most 65,534 signals, and 1,048,576 cells with the last
-pub record IsWithin (r : Reader) : Type 0 where
+pub record IsWithin (r : State) : Type 0 where
   pub signals : length r.netlist.names ≤ 65534
   pub cells : length r.netlist.cells + count_of r.last ≤ 1048576
 
@@ -125,6 +122,6 @@ pub record IsWithinLimits (n : NetlistData) : Type 0 where
   pub cells : length n.cells ≤ 1048576
 
 -- what a reader keeps: at most so many cells before the last, which is well formed
-pub record IsReady (most : ℕ) (r : Reader) : Type 0 where
+pub record IsReady (most : ℕ) (r : State) : Type 0 where
   pub few : length r.netlist.cells ≤ most
   pub formed : IsFormedLast (length r.netlist.names) r.last

@@ -2,20 +2,17 @@
 use Rattle.std.specs.Prelude.{◌≡◌, ℕ, ◌+◌, ◌-◌, Bool, true, false, ◌||◌, ◌==◌, List, [], ◌∷◌, ◌++◌, length, take, drop, position, nat_le, nat_lt, slice_set, slice_index_or, Option, Some, None, Result, Ok, Err, if◌then◌else◌, codes, bytes_eq}
 use Rattle.ice_base.specs.Text.{lines, numbered}
 use Rattle.ice_base.specs.Comments.{begins_with}
+use Rattle.ice_base.specs.Names.{with_name, number_of_name}
 use Rattle.ice_base.specs.declared.number.SignalNo.{SignalNo}
 use Rattle.ice_net.specs.declared.cell.Cell.{Cell}
 use Rattle.ice_net.specs.declared.kind.CellKind.{CellKind}
 use Rattle.ice_net.specs.declared.port.Way.{Way}
 use Rattle.ice_net.specs.declared.port.Way.TheVariants.{Input, Output, Both}
 use Rattle.ice_net.specs.Kinds.{kind_of, port_place, ins_count, outs_count}
-use Rattle.ice_net.specs.NetlistData.{NetlistData, empty_netlist, with_name, number_of_name, with_port, way_of}
+use Rattle.ice_net.specs.NetlistData.{NetlistData, empty_netlist, with_port, way_of}
 use Rattle.ice_blif.specs.declared.fault.BlifFault.{BlifFault}
 use Rattle.ice_blif.specs.declared.fault.BlifFault.TheVariants.{NoModel, SecondModel, UnknownDirective, UnknownCell, UnknownPort, PortTwice, BadCover, TooWide, NoEnd, TooMany}
-use Rattle.ice_blif.specs.declared.reader.Cover.{Cover}
-use Rattle.ice_blif.specs.declared.reader.Last.{Last}
-use Rattle.ice_blif.specs.declared.reader.Last.TheVariants.{Nothing, Gate, Rows}
-use Rattle.ice_blif.specs.declared.reader.Reader.{Reader}
-use Rattle.ice_blif.specs.declared.wiring.Wiring.{Wiring}
+use Rattle.ice_blif.specs.State.{OpenCover, LastCell, State, Connections, Nothing, Gate, Rows}
 use Rattle.ice_blif.specs.JoinedLines.{FilledLine, joined, filled, last_number}
 use Rattle.ice_blif.specs.Cells.{◌>>=◌, row_says, param_says, finished, count_of}
 
@@ -55,7 +52,7 @@ ports_say line way n (name ∷ names) = port_says line way n name >>= (λ m. por
 
 -- ---- gates
 -- no port is connected
-abbrev pub no_wiring : Wiring
+abbrev pub no_wiring : Connections
 no_wiring = record {
   taken = false ∷ false ∷ false ∷ false ∷ false ∷ false ∷ false ∷ false ∷ false ∷ false ∷ [];
   signals = None ∷ None ∷ None ∷ None ∷ None ∷ None ∷ None ∷ None ∷ None ∷ None ∷ [];
@@ -63,7 +60,7 @@ no_wiring = record {
 }
 
 -- the port of that place is connected
-abbrev pub wired : Wiring → ℕ → Option SignalNo → Wiring
+abbrev pub wired : Connections → ℕ → Option SignalNo → Connections
 wired wiring place signal = record {
   taken = slice_set wiring.taken place true;
   signals = slice_set wiring.signals place signal;
@@ -81,14 +78,14 @@ after_actual n output actual = if is_missing output actual then n else named n a
 abbrev pub actual_signal : NetlistData → Bool → List ℕ → Option SignalNo
 actual_signal n output actual = if is_missing output actual then None else Some (signal_of n actual)
 
-abbrev pub connect : NetlistData → Wiring → ℕ → Bool → List ℕ → NetlistData × Wiring
+abbrev pub connect : NetlistData → Connections → ℕ → Bool → List ℕ → NetlistData × Connections
 connect n wiring place output actual = (after_actual n output actual, wired wiring place (actual_signal n output actual))
 
-abbrev pub connect_at : ℕ → CellKind → NetlistData → Wiring → List ℕ → Option ℕ → Result (NetlistData × Wiring) BlifFault
+abbrev pub connect_at : ℕ → CellKind → NetlistData → Connections → List ℕ → Option ℕ → Result (NetlistData × Connections) BlifFault
 connect_at line kind n wiring actual None = Err (UnknownPort line)
 connect_at line kind n wiring actual (Some place) = Ok (connect n wiring place (nat_le (ins_count kind) place) actual)
 
-abbrev pub connect_by : ℕ → CellKind → NetlistData → Wiring → List ℕ → Option ℕ → Result (NetlistData × Wiring) BlifFault
+abbrev pub connect_by : ℕ → CellKind → NetlistData → Connections → List ℕ → Option ℕ → Result (NetlistData × Connections) BlifFault
 connect_by line kind n wiring word None = Err (UnknownPort line)
 connect_by line kind n wiring word (Some at) = connect_at line kind n wiring (drop (at + 1) word) (port_place kind (take at word))
 
@@ -97,16 +94,16 @@ unfoldable pub equals_at : List ℕ → Option ℕ
 equals_at word = position (λ b. b == 61) word
 
 -- one connection, FORMAL=ACTUAL; the formal ends at the first `=`
-abbrev pub connection_says : ℕ → CellKind → NetlistData → Wiring → List ℕ → Result (NetlistData × Wiring) BlifFault
+abbrev pub connection_says : ℕ → CellKind → NetlistData → Connections → List ℕ → Result (NetlistData × Connections) BlifFault
 connection_says line kind n wiring word = connect_by line kind n wiring word (equals_at word)
 
 -- all connections of a line. That a port is named twice is found after its unknown ports
-abbrev pub connections_say : ℕ → CellKind → NetlistData → Wiring → List (List ℕ) → Result (NetlistData × Wiring) BlifFault
+abbrev pub connections_say : ℕ → CellKind → NetlistData → Connections → List (List ℕ) → Result (NetlistData × Connections) BlifFault
 connections_say line kind n wiring [] = if wiring.twice then Err (PortTwice line) else Ok (n, wiring)
 connections_say line kind n wiring (w ∷ ws) = connection_says line kind n wiring w >>= (λ c. connections_say line kind c.0 c.1 ws)
 
 -- the cell of a kind with its connections
-abbrev pub cell_of : ℕ → CellKind → Wiring → Cell
+abbrev pub cell_of : ℕ → CellKind → Connections → Cell
 cell_of line kind wiring = record {
   kind = kind;
   line = line;
@@ -115,15 +112,15 @@ cell_of line kind wiring = record {
 }
 
 -- a reader with a new last cell
-abbrev pub with_last : NetlistData → Last → Last → Bool → Reader
+abbrev pub with_last : NetlistData → LastCell → LastCell → Bool → State
 with_last n before now rows = record { netlist = finished n before; last = now; rows = rows }
 
-abbrev pub gate_of_kind : ℕ → Reader → List (List ℕ) → Option CellKind → Result Reader BlifFault
+abbrev pub gate_of_kind : ℕ → State → List (List ℕ) → Option CellKind → Result State BlifFault
 gate_of_kind line r ws None = Err (UnknownCell line)
 gate_of_kind line r ws (Some kind) = connections_say line kind r.netlist no_wiring ws >>= (λ c. Ok (with_last c.0 r.last (Gate (cell_of line kind c.1)) false))
 
 -- `.gate KIND F=A ..` and `.subckt KIND F=A ..`
-abbrev pub gate_says : ℕ → Reader → List (List ℕ) → Result Reader BlifFault
+abbrev pub gate_says : ℕ → State → List (List ℕ) → Result State BlifFault
 gate_says line r [] = Err (UnknownCell line)
 gate_says line r (w ∷ ws) = gate_of_kind line r ws (kind_of w)
 
@@ -135,41 +132,41 @@ cover_signals line n signals (w ∷ ws) =
     if nat_lt 4 (length signals) then Err (TooWide line) else cover_signals line (named n w) (signals ++ Some (signal_of n w) ∷ []) ws
 
 -- a cover without rows: the last signal is its output
-abbrev pub new_cover : ℕ → List (Option SignalNo) → Cover
+abbrev pub new_cover : ℕ → List (Option SignalNo) → OpenCover
 new_cover line signals = record { line = line; ins = take (length signals - 1) signals; outs = drop (length signals - 1) signals; covered = 0; level = None }
 
-abbrev pub cover_of : ℕ → Reader → NetlistData → List (Option SignalNo) → Result Reader BlifFault
+abbrev pub cover_of : ℕ → State → NetlistData → List (Option SignalNo) → Result State BlifFault
 cover_of line r n [] = Err (BadCover line)
 cover_of line r n (s ∷ signals) = Ok (with_last n r.last (Rows (new_cover line (s ∷ signals))) true)
 
 -- `.names I.. O`
-abbrev pub names_say : ℕ → Reader → List (List ℕ) → Result Reader BlifFault
+abbrev pub names_say : ℕ → State → List (List ℕ) → Result State BlifFault
 names_say line r ws = cover_signals line r.netlist [] ws >>= (λ c. cover_of line r c.0 c.1)
 
 -- ---- lines
 -- a reader that takes no rows
-abbrev pub without_rows : NetlistData → Last → Reader
+abbrev pub without_rows : NetlistData → LastCell → State
 without_rows n last = record { netlist = n; last = last; rows = false }
 
-abbrev pub row_line : ℕ → Reader → Last → List ℕ → List (List ℕ) → Result Reader BlifFault
+abbrev pub row_line : ℕ → State → LastCell → List ℕ → List (List ℕ) → Result State BlifFault
 row_line line r Nothing first others = Err (UnknownDirective line)
 row_line line r (Gate cell) first others = Err (UnknownDirective line)
 row_line line r (Rows cover) first others = row_says line cover first others >>= (λ c. Ok (record { netlist = r.netlist; last = Rows c; rows = true }))
 
 -- a line whose first word begins with no dot: a row, where one may stand
-abbrev pub row_or_fault : ℕ → Reader → List ℕ → List (List ℕ) → Result Reader BlifFault
+abbrev pub row_or_fault : ℕ → State → List ℕ → List (List ℕ) → Result State BlifFault
 row_or_fault line r first others = if r.rows then row_line line r r.last first others else Err (UnknownDirective line)
 
 -- `.inputs NAME ..` and `.outputs NAME ..`
-abbrev pub port_directive_says : ℕ → Way → Reader → List (List ℕ) → Result Reader BlifFault
+abbrev pub port_directive_says : ℕ → Way → State → List (List ℕ) → Result State BlifFault
 port_directive_says line way r names = ports_say line way r.netlist names >>= (λ n. Ok (without_rows n r.last))
 
 -- `.param NAME VALUE`
-abbrev pub param_directive_says : ℕ → Reader → List (List ℕ) → Result Reader BlifFault
+abbrev pub param_directive_says : ℕ → State → List (List ℕ) → Result State BlifFault
 param_directive_says line r ws = param_says line r.last ws >>= (λ last. Ok (without_rows r.netlist last))
 
 -- a line whose first word begins with a dot, and is not `.end`
-abbrev pub directive_says : ℕ → Reader → List ℕ → List (List ℕ) → Result Reader BlifFault
+abbrev pub directive_says : ℕ → State → List ℕ → List (List ℕ) → Result State BlifFault
 directive_says line r first others =
     if bytes_eq first (codes ".gate") || bytes_eq first (codes ".subckt") then gate_says line r others
     else (if bytes_eq first (codes ".names") then names_say line r others
@@ -181,18 +178,18 @@ directive_says line r first others =
     else Err (UnknownDirective line)))))))
 
 -- at most 65,534 signals, and 1,048,576 lines that make a cell
-abbrev pub within_limits : ℕ → Reader → Result Reader BlifFault
+abbrev pub within_limits : ℕ → State → Result State BlifFault
 within_limits line r =
     if nat_lt 65534 (length r.netlist.names) then Err (TooMany line 65534)
     else (if nat_lt 1048576 (length r.netlist.cells + count_of r.last) then Err (TooMany line 1048576)
     else Ok r)
 
 -- no limits
-abbrev pub no_limits : ℕ → Reader → Result Reader BlifFault
+abbrev pub no_limits : ℕ → State → Result State BlifFault
 no_limits line r = Ok r
 
 -- a line of the model; `.` is 46. That a line goes beyond the limits is found after its other faults
-abbrev pub line_says : (ℕ → Reader → Result Reader BlifFault) → FilledLine → Reader → Result Reader BlifFault
+abbrev pub line_says : (ℕ → State → Result State BlifFault) → FilledLine → State → Result State BlifFault
 line_says limits l r = (if begins_with 46 l.first then directive_says l.number r l.first l.others else row_or_fault l.number r l.first l.others) >>= limits l.number
 
 -- ---- the text
@@ -202,24 +199,24 @@ after_end [] = Ok tt
 after_end (l ∷ ls) = if bytes_eq l.first (codes ".model") then Err (SecondModel l.number) else after_end ls
 
 -- the netlist of a reader that came to `.end`
-abbrev pub ended : Reader → List FilledLine → Result NetlistData BlifFault
+abbrev pub ended : State → List FilledLine → Result NetlistData BlifFault
 ended r ls = after_end ls >>= (λ u. Ok (finished r.netlist r.last))
 
 -- the lines behind `.model`; `last` is the number of the text's last line
-abbrev pub model_says : (ℕ → Reader → Result Reader BlifFault) → ℕ → Reader → List FilledLine → Result NetlistData BlifFault
+abbrev pub model_says : (ℕ → State → Result State BlifFault) → ℕ → State → List FilledLine → Result NetlistData BlifFault
 model_says limits last r [] = Err (NoEnd last)
 model_says limits last r (l ∷ ls) =
     if bytes_eq l.first (codes ".end") then ended r ls else line_says limits l r >>= (λ s. model_says limits last s ls)
 
-abbrev pub empty_reader : Reader
+abbrev pub empty_reader : State
 empty_reader = record { netlist = empty_netlist; last = Nothing; rows = false }
 
 -- the lines of a text: `.model` comes first
-abbrev pub lines_say : (ℕ → Reader → Result Reader BlifFault) → ℕ → List FilledLine → Result NetlistData BlifFault
+abbrev pub lines_say : (ℕ → State → Result State BlifFault) → ℕ → List FilledLine → Result NetlistData BlifFault
 lines_say limits last [] = Err (NoModel 0)
 lines_say limits last (l ∷ ls) = if bytes_eq l.first (codes ".model") then model_says limits last empty_reader ls else Err (NoModel l.number)
 
-abbrev pub text_says : (ℕ → Reader → Result Reader BlifFault) → List ℕ → Result NetlistData BlifFault
+abbrev pub text_says : (ℕ → State → Result State BlifFault) → List ℕ → Result NetlistData BlifFault
 text_says limits text = lines_say limits (last_number 0 (numbered 1 (lines text))) (filled (joined (numbered 1 (lines text))))
 
 -- the text has this netlist, whatever its size

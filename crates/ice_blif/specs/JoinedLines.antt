@@ -1,11 +1,8 @@
 -- Joined lines: a line whose last byte before blanks is a backslash outside a comment goes on in the next line.
-use Rattle.std.specs.Prelude.{◌≡◌, ℕ, Bool, true, false, ◌&&◌, ◌==◌, List, [], ◌∷◌, ◌++◌, Option, Some, None, if◌then◌else◌}
-use Rattle.std.specs.Borrow.{Bor}
+use Rattle.std.specs.Prelude.{ℕ, Bool, true, false, ◌&&◌, ◌==◌, List, [], ◌∷◌, ◌++◌, Option, Some, None, if◌then◌else◌}
 use Rattle.std.specs.List.{list_all, list_any}
 use Rattle.ice_base.specs.Text.{words, is_blank}
 use Rattle.ice_base.specs.Comments.{begins_with, uncommented}
-use Rattle.ice_blif.specs.declared.cursor.Cursor.{Cursor}
-use Rattle.ice_blif.specs.declared.cursor.FirstWord.{FirstWord}
 
 -- the byte stands in front; 92 is the backslash
 abbrev pub in_front_of : ℕ → Bool → Option (List ℕ) → Option (List ℕ)
@@ -80,35 +77,7 @@ abbrev pub filled : List (ℕ × List (List ℕ)) → List FilledLine
 filled [] = []
 filled (l ∷ ls) = fill l.0 l.1 (filled ls)
 
--- the words that are left of a joined line
-abbrev pub words_left : Cursor → List (List ℕ)
-words_left c = with_next c.goes_on c.words (joined c.lines)
-
--- the joined lines behind it
-abbrev pub lines_left : Cursor → List (ℕ × List (List ℕ))
-lines_left c = behind c.goes_on (joined c.lines)
-
 -- the number of the last of some lines, or n without any
 abbrev pub last_number : ℕ → List (ℕ × List ℕ) → ℕ
 last_number n [] = n
 last_number n (l ∷ ls) = last_number l.0 ls
-
--- a slice is these bytes, where there are any
-abbrev pub IsContinued : Option (Bor (List ℕ)) → Option (List ℕ) → Type 0
-IsContinued None said = said ≡ None
-IsContinued (Some front) said = said ≡ Some front.now
-
--- a first word begins the first of the lines that have one, whose other words and whose lines behind are left
-abbrev pub IsFirstOf : List FilledLine → Option FirstWord → List (List ℕ) → List FilledLine → Type 0
-IsFirstOf ls None ws rest = ls ≡ []
-IsFirstOf ls (Some first) ws rest = ls ≡ (record { number = first.line; first = first.word.now; others = ws }) ∷ rest
-
--- the first of some words, and the others
-abbrev pub IsNextWord : List (List ℕ) → Option (Bor (List ℕ)) → List (List ℕ) → Type 0
-IsNextWord ws None rest = (ws ≡ []) × (rest ≡ [])
-IsNextWord ws (Some w) rest = ws ≡ w.now ∷ rest
-
--- the number of the first of some lines, its words, and the other lines
-abbrev pub IsNextLine : List (ℕ × List (List ℕ)) → Option ℕ → List (List ℕ) → List (ℕ × List (List ℕ)) → Type 0
-IsNextLine ls None ws rest = ls ≡ []
-IsNextLine ls (Some n) ws rest = ls ≡ (n, ws) ∷ rest

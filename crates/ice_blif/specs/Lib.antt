@@ -1,6 +1,9 @@
 pub mod JoinedLines
+pub mod State
 pub mod Covers
 pub mod Parameters
 pub mod Cells
 pub mod Grammar
+pub mod FirstFault
+pub mod Views
 pub mod Answers

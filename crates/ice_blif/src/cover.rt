@@ -7,7 +7,7 @@ ghost use Rattle.ice_blif.specs.Covers.{covers, bit, four_bits, row_table, is_ro
 ghost use Rattle.ice_net.specs.Formed.{IsPresent};
 ghost use Rattle.ice_blif.specs.Cells.{row_parts, row_of_level, row_says, IsReady};
 ghost use Rattle.ice_blif.specs.Grammar.{cover_signals, new_cover, names_say};
-ghost use Rattle.ice_blif.specs.JoinedLines.{words_left, lines_left};
+ghost use Rattle.ice_blif.specs.Views.{cover_view, reader_view, words_left, lines_left};
 
 use crate::BlifFault;
 use crate::cursor::Cursor;
@@ -154,7 +154,7 @@ fn row_parts<'a>(
 
 // Adds a row that gives this level.
 fn add_row(cover: &mut Cover, line: u32, row: &[u8], level: Option<bool>) -> Result<(), BlifFault>
-    ensures cover { Gives (λ _. cover.new) result (row_of_level line cover.old row.now level) }
+    ensures cover { Gives (λ _. cover_view cover.new) result (row_of_level line (cover_view cover.old) row.now level) }
     ensures shape { (cover.new.ins ≡ cover.old.ins) × (cover.new.outs ≡ cover.old.outs) }
 {
     let Some(level) = level else {
@@ -175,7 +175,7 @@ pub(crate) fn row<'a>(
     first: &'a [u8],
     words: &mut Cursor<'a>,
 ) -> Result<(), BlifFault>
-    ensures cover { Gives (λ _. cover.new) result (row_says line cover.old first.now (words_left words.old)) }
+    ensures cover { Gives (λ _. cover_view cover.new) result (row_says line (cover_view cover.old) first.now (words_left words.old)) }
     ensures shape { (cover.new.ins ≡ cover.old.ins) × (cover.new.outs ≡ cover.old.outs) }
     ensures lines { lines_left words.new ≡ lines_left words.old }
 {
@@ -209,7 +209,7 @@ fn cover_signals(
         if signals.len() > 4 {
             return Err(BlifFault::TooWide { line });
         }
-        let signal = number(alloc, netlist, word)?;
+        let signal = number(netlist, word)?;
         signals.push(Some(signal))?;
     }
     Ok(signals)
@@ -218,7 +218,7 @@ fn cover_signals(
 // A cover without rows.
 fn new_cover(alloc: Global, line: u32, signals: &[Option<SignalNo>]) -> Result<Cover, BlifFault>
     requires { 0 < length signals.now }
-    ensures cover { IfOk result (λ cover. cover ≡ new_cover line signals.now) }
+    ensures cover { IfOk result (λ cover. cover_view cover ≡ new_cover line signals.now) }
     ensures memory { IfErr result (λ e. e ≡ out_of_memory) }
 {
     let width = signals.len() - 1;
@@ -241,9 +241,9 @@ pub(crate) fn names(
     line: u32,
     words: &mut Cursor<'_>,
 ) -> Result<(), BlifFault>
-    requires { IsReady 1048576 reader.old }
-    ensures names { Gives (λ _. reader.new) result (names_say line reader.old (words_left words.old)) }
-    ensures ready { OnOk result (IsReady 1048577 reader.new) }
+    requires { IsReady 1048576 (reader_view reader.old) }
+    ensures names { Gives (λ _. reader_view reader.new) result (names_say line (reader_view reader.old) (words_left words.old)) }
+    ensures ready { OnOk result (IsReady 1048577 (reader_view reader.new)) }
     ensures lines { lines_left words.new ≡ lines_left words.old }
 {
     let signals = cover_signals(alloc, &mut reader.netlist, line, words)?;

@@ -3,7 +3,8 @@ ghost use Rattle.std.specs.Prelude.{◌≡◌, ◌<◌, [], ◌∷◌, length, d
 ghost use Rattle.std.specs.List.{list_any};
 ghost use Rattle.ice_base.specs.Text.{lines, numbered, words, is_blank};
 ghost use Rattle.ice_base.specs.Comments.{begins_with};
-ghost use Rattle.ice_blif.specs.JoinedLines.{before_backslash, continued, goes_on, plain, joined, filled, words_left, lines_left, last_number, IsFirstOf, IsContinued, IsNextWord, IsNextLine};
+ghost use Rattle.ice_blif.specs.JoinedLines.{before_backslash, continued, goes_on, plain, joined, filled, last_number};
+ghost use Rattle.ice_blif.specs.Views.{words_left, lines_left, IsContinued, IsFirstOf, IsNextWord, IsNextLine};
 
 use ice_base::{LineIter, PlainWords, begins_with, lines_of, plain_words_of, words_of};
 

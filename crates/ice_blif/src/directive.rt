@@ -3,7 +3,7 @@ ghost use Rattle.std.specs.Prelude.{◌≡◌, ◌<◌, ◌≤◌, length, OnOk,
 ghost use Rattle.ice_blif.specs.Answers.{Gives};
 ghost use Rattle.ice_blif.specs.Cells.{IsReady, IsWithin};
 ghost use Rattle.ice_blif.specs.Grammar.{directive_says, row_or_fault, within_limits, line_says, port_directive_says, param_directive_says};
-ghost use Rattle.ice_blif.specs.JoinedLines.{words_left, lines_left};
+ghost use Rattle.ice_blif.specs.Views.{reader_view, words_left, lines_left};
 
 use crate::BlifFault;
 use crate::cover::{names, row};
@@ -25,27 +25,26 @@ const MOST_CELL_LINES: u32 = 1_048_576;
 // Names the ports of a line.
 #[tactic(auto, using(crate::proofs::Wirings::last_formed_more))]
 fn port_directive(
-    alloc: Global,
     reader: &mut Reader,
     line: u32,
     way: Way,
     words: &mut Cursor<'_>,
 ) -> Result<(), BlifFault>
-    requires { IsReady 1048576 reader.old }
-    ensures reader { Gives (λ _. reader.new) result (port_directive_says line way reader.old (words_left words.old)) }
-    ensures ready { OnOk result (IsReady 1048577 reader.new) }
+    requires { IsReady 1048576 (reader_view reader.old) }
+    ensures reader { Gives (λ _. reader_view reader.new) result (port_directive_says line way (reader_view reader.old) (words_left words.old)) }
+    ensures ready { OnOk result (IsReady 1048577 (reader_view reader.new)) }
     ensures lines { lines_left words.new ≡ lines_left words.old }
 {
-    ports(alloc, &mut reader.netlist, line, way, words)?;
+    ports(&mut reader.netlist, line, way, words)?;
     reader.rows = false;
     Ok(())
 }
 
 // Reads a parameter of the last cell.
 fn param_directive(reader: &mut Reader, line: u32, words: &mut Cursor<'_>) -> Result<(), BlifFault>
-    requires { IsReady 1048576 reader.old }
-    ensures reader { Gives (λ _. reader.new) result (param_directive_says line reader.old (words_left words.old)) }
-    ensures ready { OnOk result (IsReady 1048577 reader.new) }
+    requires { IsReady 1048576 (reader_view reader.old) }
+    ensures reader { Gives (λ _. reader_view reader.new) result (param_directive_says line (reader_view reader.old) (words_left words.old)) }
+    ensures ready { OnOk result (IsReady 1048577 (reader_view reader.new)) }
     ensures lines { lines_left words.new ≡ lines_left words.old }
 {
     param(&mut reader.last, line, words)?;
@@ -60,9 +59,9 @@ fn directive(
     first: FirstWord<'_>,
     words: &mut Cursor<'_>,
 ) -> Result<(), BlifFault>
-    requires { IsReady 1048576 reader.old }
-    ensures reader { Gives (λ _. reader.new) result (directive_says first.entry.line reader.old first.entry.word.now (words_left words.old)) }
-    ensures ready { OnOk result (IsReady 1048577 reader.new) }
+    requires { IsReady 1048576 (reader_view reader.old) }
+    ensures reader { Gives (λ _. reader_view reader.new) result (directive_says first.entry.line (reader_view reader.old) first.entry.word.now (words_left words.old)) }
+    ensures ready { OnOk result (IsReady 1048577 (reader_view reader.new)) }
     ensures lines { lines_left words.new ≡ lines_left words.old }
 {
     let word = first.word;
@@ -81,10 +80,10 @@ fn directive(
         return Ok(());
     }
     if word == b".inputs".as_slice() {
-        return port_directive(alloc, reader, line, Way::Input, words);
+        return port_directive(reader, line, Way::Input, words);
     }
     if word == b".outputs".as_slice() {
-        return port_directive(alloc, reader, line, Way::Output, words);
+        return port_directive(reader, line, Way::Output, words);
     }
     if word == b".model".as_slice() {
         return Err(BlifFault::SecondModel { line });
@@ -98,9 +97,9 @@ fn row_line<'a>(
     first: FirstWord<'a>,
     words: &mut Cursor<'a>,
 ) -> Result<(), BlifFault>
-    requires { IsReady 1048576 reader.old }
-    ensures reader { Gives (λ _. reader.new) result (row_or_fault first.entry.line reader.old first.entry.word.now (words_left words.old)) }
-    ensures ready { OnOk result (IsReady 1048577 reader.new) }
+    requires { IsReady 1048576 (reader_view reader.old) }
+    ensures reader { Gives (λ _. reader_view reader.new) result (row_or_fault first.entry.line (reader_view reader.old) first.entry.word.now (words_left words.old)) }
+    ensures ready { OnOk result (IsReady 1048577 (reader_view reader.new)) }
     ensures lines { lines_left words.new ≡ lines_left words.old }
 {
     if !reader.rows {
@@ -114,8 +113,8 @@ fn row_line<'a>(
 
 // Finds that there are too many signals, or too many lines that make a cell.
 fn check_limits(reader: &Reader, line: u32) -> Result<(), BlifFault>
-    ensures limits { Gives (λ _. reader.now) result (within_limits line reader.now) }
-    ensures within { OnOk result (IsWithin reader.now) }
+    ensures limits { Gives (λ _. reader_view reader.now) result (within_limits line (reader_view reader.now)) }
+    ensures within { OnOk result (IsWithin (reader_view reader.now)) }
 {
     if reader.netlist.signals() > MOST_SIGNALS {
         return Err(BlifFault::TooMany {
@@ -144,10 +143,10 @@ pub(crate) fn line<'a>(
     first: FirstWord<'a>,
     words: &mut Cursor<'a>,
 ) -> Result<(), BlifFault>
-    requires { IsReady 1048576 reader.old }
-    ensures reader { Gives (λ _. reader.new) result (line_says within_limits (record { number = first.entry.line; first = first.entry.word.now; others = words_left words.old }) reader.old) }
-    ensures ready { OnOk result (IsReady 1048576 reader.new) }
-    ensures within { OnOk result (IsWithin reader.new) }
+    requires { IsReady 1048576 (reader_view reader.old) }
+    ensures reader { Gives (λ _. reader_view reader.new) result (line_says within_limits (record { number = first.entry.line; first = first.entry.word.now; others = words_left words.old }) (reader_view reader.old)) }
+    ensures ready { OnOk result (IsReady 1048576 (reader_view reader.new)) }
+    ensures within { OnOk result (IsWithin (reader_view reader.new)) }
     ensures lines { lines_left words.new ≡ lines_left words.old }
 {
     if begins_with(b'.', first.word) {

@@ -6,7 +6,7 @@ ghost use Rattle.ice_blif.specs.declared.fault.BlifFault.TheVariants.{NoMemory a
 ghost use Rattle.ice_blif.specs.Answers.{Gives};
 ghost use Rattle.ice_blif.specs.Cells.{IsReady};
 ghost use Rattle.ice_blif.specs.Grammar.{equals_at, is_missing, actual_signal, after_actual, connection_says, connections_say, no_wiring, cell_of, gate_says};
-ghost use Rattle.ice_blif.specs.JoinedLines.{words_left, lines_left};
+ghost use Rattle.ice_blif.specs.Views.{reader_view, wiring_view, words_left, lines_left};
 
 use crate::BlifFault;
 use crate::cursor::Cursor;
@@ -26,7 +26,6 @@ fn is_missing(output: bool, actual: &[u8]) -> bool
 
 // The signal of an actual.
 fn actual_signal(
-    alloc: Global,
     netlist: &mut Netlist,
     output: bool,
     actual: &[u8],
@@ -40,7 +39,7 @@ fn actual_signal(
     if is_missing(output, actual) {
         return Ok(None);
     }
-    let signal = number(alloc, netlist, actual)?;
+    let signal = number(netlist, actual)?;
     Ok(Some(signal))
 }
 
@@ -56,7 +55,6 @@ fn equals_at(word: &[u8]) -> Option<usize>
 // Reads one connection.
 #[tactic(auto, using(crate::proofs::Wirings::wired_below))]
 fn connection(
-    alloc: Global,
     netlist: &mut Netlist,
     wiring: &mut Wiring,
     line: u32,
@@ -64,7 +62,7 @@ fn connection(
     word: &[u8],
 ) -> Result<(), BlifFault>
     requires { All (IsBelow (length netlist.old.names)) wiring.old.signals }
-    ensures connection { Gives (λ _. (netlist.new, wiring.new)) result (connection_says line kind netlist.old wiring.old word.now) }
+    ensures connection { Gives (λ _. (netlist.new, wiring_view wiring.new)) result (connection_says line kind netlist.old (wiring_view wiring.old) word.now) }
     ensures below { OnOk result (All (IsBelow (length netlist.new.names)) wiring.new.signals) }
     ensures kept { OnOk result (length netlist.old.names ≤ length netlist.new.names) }
     ensures cells { OnOk result (netlist.new.cells ≡ netlist.old.cells) }
@@ -76,20 +74,19 @@ fn connection(
         return Err(BlifFault::UnknownPort { line });
     };
     let output = place >= kind.ins_count();
-    let signal = actual_signal(alloc, netlist, output, &word[at + 1..])?;
+    let signal = actual_signal(netlist, output, &word[at + 1..])?;
     wiring.connect(place, signal);
     Ok(())
 }
 
 // Reads the connections of a line.
 fn connections(
-    alloc: Global,
     netlist: &mut Netlist,
     line: u32,
     kind: CellKind,
     words: &mut Cursor<'_>,
 ) -> Result<Wiring, BlifFault>
-    ensures connections { Gives (λ wiring. (netlist.new, wiring)) result (connections_say line kind netlist.old no_wiring (words_left words.old)) }
+    ensures connections { Gives (λ wiring. (netlist.new, wiring_view wiring)) result (connections_say line kind netlist.old no_wiring (words_left words.old)) }
     ensures below { IfOk result (λ wiring. All (IsBelow (length netlist.new.names)) wiring.signals) }
     ensures kept { OnOk result (length netlist.old.names ≤ length netlist.new.names) }
     ensures cells { OnOk result (netlist.new.cells ≡ netlist.old.cells) }
@@ -97,7 +94,7 @@ fn connections(
 {
     let mut wiring = Wiring::new();
     while let Some(word) = words.next_word() {
-        connection(alloc, netlist, &mut wiring, line, kind, word)?;
+        connection(netlist, &mut wiring, line, kind, word)?;
     }
     if wiring.twice {
         return Err(BlifFault::PortTwice { line });
@@ -109,7 +106,7 @@ fn connections(
 #[tactic(auto, using(crate::proofs::Wirings::gate_fits, crate::proofs::Wirings::gate_formed))]
 fn cell(alloc: Global, line: u32, kind: CellKind, wiring: &Wiring) -> Result<Cell, BlifFault>
     requires { IsGateKind kind }
-    ensures cell { IfOk result (λ cell. cell ≡ cell_of line kind wiring.now) }
+    ensures cell { IfOk result (λ cell. cell ≡ cell_of line kind (wiring_view wiring.now)) }
     ensures formed { IfOk result (λ cell. (signals : ℕ) → All (IsBelow signals) wiring.now.signals → IsFormedCell signals cell) }
     ensures memory { IfErr result (λ e. e ≡ out_of_memory) }
 {
@@ -134,9 +131,9 @@ pub(crate) fn gate(
     line: u32,
     words: &mut Cursor<'_>,
 ) -> Result<(), BlifFault>
-    requires { IsReady 1048576 reader.old }
-    ensures gate { Gives (λ _. reader.new) result (gate_says line reader.old (words_left words.old)) }
-    ensures ready { OnOk result (IsReady 1048577 reader.new) }
+    requires { IsReady 1048576 (reader_view reader.old) }
+    ensures gate { Gives (λ _. reader_view reader.new) result (gate_says line (reader_view reader.old) (words_left words.old)) }
+    ensures ready { OnOk result (IsReady 1048577 (reader_view reader.new)) }
     ensures lines { lines_left words.new ≡ lines_left words.old }
 {
     let Some(word) = words.next_word() else {
@@ -145,7 +142,7 @@ pub(crate) fn gate(
     let Some(kind) = kind_named(word) else {
         return Err(BlifFault::UnknownCell { line });
     };
-    let wiring = connections(alloc, &mut reader.netlist, line, kind, words)?;
+    let wiring = connections(&mut reader.netlist, line, kind, words)?;
     let cell = cell(alloc, line, kind, &wiring)?;
     join(reader, Last::Gate(cell), false)
 }

@@ -6,6 +6,7 @@ mod cursor;
 mod directive;
 mod fault;
 mod gate;
+mod laws;
 mod model;
 mod parameter;
 mod reader;
@@ -13,7 +14,5 @@ mod signal;
 mod wiring;
 
 pub use fault::BlifFault;
+pub use laws::says_netlist_or_first_fault;
 pub use model::read_blif;
-
-#[cfg(test)]
-mod tests;

@@ -4,7 +4,8 @@ ghost use Rattle.ice_base.specs.Text.{lines, numbered};
 ghost use Rattle.ice_blif.specs.Answers.{Gives};
 ghost use Rattle.ice_blif.specs.Cells.{IsReady, IsWithin, IsWithinLimits};
 ghost use Rattle.ice_blif.specs.Grammar.{after_end, ended, model_says, empty_reader, within_limits, netlist_of, HasNetlist};
-ghost use Rattle.ice_blif.specs.JoinedLines.{filled, lines_left, last_number};
+ghost use Rattle.ice_blif.specs.JoinedLines.{filled, last_number};
+ghost use Rattle.ice_blif.specs.Views.{reader_view, lines_left};
 
 use crate::BlifFault;
 use crate::cursor::{Cursor, last_line};
@@ -28,9 +29,9 @@ fn after_end(words: &mut Cursor<'_>) -> Result<(), BlifFault>
 // The netlist of a reader that came to `.end`.
 #[tactic(auto, using(crate::proofs::OpenCells::finished_within))]
 fn ended(reader: Reader, words: &mut Cursor<'_>) -> Result<Netlist, BlifFault>
-    requires ready { IsReady 1048576 reader }
-    requires within { IsWithin reader }
-    ensures netlist { Gives (λ n. n) result (ended reader (filled (lines_left words.old))) }
+    requires ready { IsReady 1048576 (reader_view reader) }
+    requires within { IsWithin (reader_view reader) }
+    ensures netlist { Gives (λ n. n) result (ended (reader_view reader) (filled (lines_left words.old))) }
     ensures limits { IfOk result IsWithinLimits }
 {
     let mut netlist = reader.netlist;

@@ -3,7 +3,7 @@ ghost use Rattle.std.specs.Prelude.{◌≡◌, ℕ, ◌<◌, ◌≤◌, ◌&&◌
 ghost use Rattle.ice_blif.specs.Answers.{Gives};
 ghost use Rattle.ice_blif.specs.Parameters.{is_digit, with_digit, bits_from, bits_in, bits_say, standard_says, KeepsForm};
 ghost use Rattle.ice_blif.specs.Cells.{lut_says, pad_says, kind_says, param_says, IsFormedLast};
-ghost use Rattle.ice_blif.specs.JoinedLines.{words_left, lines_left};
+ghost use Rattle.ice_blif.specs.Views.{last_view, words_left, lines_left};
 
 use crate::BlifFault;
 use crate::cursor::Cursor;
@@ -161,8 +161,8 @@ fn kind(
 /// Reads the words behind `.param`, for the cell that was made last.
 #[tactic(auto, using(crate::proofs::KindForms::with_kind_formed))]
 pub(crate) fn param(last: &mut Last, line: u32, words: &mut Cursor<'_>) -> Result<(), BlifFault>
-    ensures last { Gives (λ _. last.new) result (param_says line last.old (words_left words.old)) }
-    ensures formed { OnOk result ((signals : ℕ) → IsFormedLast signals last.old → IsFormedLast signals last.new) }
+    ensures last { Gives (λ _. last_view last.new) result (param_says line (last_view last.old) (words_left words.old)) }
+    ensures formed { OnOk result ((signals : ℕ) → IsFormedLast signals (last_view last.old) → IsFormedLast signals (last_view last.new)) }
     ensures lines { lines_left words.new ≡ lines_left words.old }
 {
     let Some(name) = words.next_word() else {

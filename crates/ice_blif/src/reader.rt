@@ -3,6 +3,7 @@ ghost use Rattle.std.specs.Prelude.{◌≡◌, ◌≤◌, length, OnOk, IfErr};
 ghost use Rattle.ice_blif.specs.declared.fault.BlifFault.TheVariants.{NoMemory as out_of_memory};
 ghost use Rattle.ice_blif.specs.Cells.{finished, cover_cell, IsFormedLast, IsReady};
 ghost use Rattle.ice_blif.specs.Grammar.{with_last};
+ghost use Rattle.ice_blif.specs.Views.{cover_view, last_view, reader_view};
 
 use crate::BlifFault;
 use crate::cover::table_of;
@@ -50,7 +51,7 @@ pub(crate) struct Reader {
 #[tactic(auto, using(crate::proofs::OpenCells::cover_formed))]
 fn cover_cell(cover: Cover) -> Cell
     requires { length cover.ins ≤ 4 }
-    ensures { result ≡ cover_cell cover }
+    ensures { result ≡ cover_cell (cover_view cover) }
 {
     let width = cover.ins.as_slice().len() as u8;
     Cell {
@@ -68,8 +69,8 @@ fn cover_cell(cover: Cover) -> Cell
 #[tactic(auto, using(crate::proofs::OpenCells::cover_formed))]
 pub(crate) fn finish(netlist: &mut Netlist, last: Last) -> Result<(), BlifFault>
     requires few { length netlist.old.cells ≤ 1048576 }
-    requires formed { IsFormedLast (length netlist.old.names) last }
-    ensures netlist { OnOk result (netlist.new ≡ finished netlist.old last) }
+    requires formed { IsFormedLast (length netlist.old.names) (last_view last) }
+    ensures netlist { OnOk result (netlist.new ≡ finished netlist.old (last_view last)) }
     ensures memory { IfErr result (λ e. e ≡ out_of_memory) }
 {
     match last {
@@ -83,10 +84,10 @@ pub(crate) fn finish(netlist: &mut Netlist, last: Last) -> Result<(), BlifFault>
 #[tactic(auto, using(crate::proofs::OpenCells::last_ready))]
 pub(crate) fn join(reader: &mut Reader, now: Last, rows: bool) -> Result<(), BlifFault>
     requires few { length reader.old.netlist.cells ≤ 1048576 }
-    requires formed { IsFormedLast (length reader.old.netlist.names) reader.old.last }
-    requires now { IsFormedLast (length reader.old.netlist.names) now }
-    ensures reader { OnOk result (reader.new ≡ with_last reader.old.netlist reader.old.last now rows) }
-    ensures ready { OnOk result (IsReady 1048577 reader.new) }
+    requires formed { IsFormedLast (length reader.old.netlist.names) (last_view reader.old.last) }
+    requires now { IsFormedLast (length reader.old.netlist.names) (last_view now) }
+    ensures reader { OnOk result (reader_view reader.new ≡ with_last reader.old.netlist (last_view reader.old.last) (last_view now) rows) }
+    ensures ready { OnOk result (IsReady 1048577 (reader_view reader.new)) }
     ensures memory { IfErr result (λ e. e ≡ out_of_memory) }
 {
     let before = replace(&mut reader.last, now);

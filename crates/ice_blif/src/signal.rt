@@ -3,20 +3,15 @@ ghost use Rattle.std.specs.Prelude.{◌≡◌, ◌<◌, ◌≤◌, length, OnOk,
 ghost use Rattle.ice_blif.specs.declared.fault.BlifFault.TheVariants.{NoMemory as out_of_memory};
 ghost use Rattle.ice_blif.specs.Answers.{Gives};
 ghost use Rattle.ice_blif.specs.Grammar.{named, signal_of, was_named, port_says, ports_say};
-ghost use Rattle.ice_blif.specs.JoinedLines.{words_left, lines_left};
+ghost use Rattle.ice_blif.specs.Views.{words_left, lines_left};
 
 use crate::BlifFault;
 use crate::cursor::Cursor;
 use ice_base::SignalNo;
 use ice_net::{Netlist, Way};
-use std::alloc::Global;
 
 // The signal of a name that appears.
-pub(crate) fn number(
-    alloc: Global,
-    netlist: &mut Netlist,
-    name: &[u8],
-) -> Result<SignalNo, BlifFault>
+pub(crate) fn number(netlist: &mut Netlist, name: &[u8]) -> Result<SignalNo, BlifFault>
     ensures signal { IfOk result (λ signal. signal ≡ signal_of netlist.old name.now) }
     ensures named { OnOk result (netlist.new ≡ named netlist.old name.now) }
     ensures within { IfOk result (λ signal. signal.0 < length netlist.new.names) }
@@ -26,7 +21,7 @@ pub(crate) fn number(
     if !netlist.has_room_for_name() {
         return Err(BlifFault::NoMemory);
     }
-    let signal = netlist.signal(alloc, name)?;
+    let signal = netlist.signal(name)?;
     Ok(signal)
 }
 
@@ -41,18 +36,12 @@ fn was_named(way: Way, port: Option<Way>) -> bool
 }
 
 // Names a port.
-fn port(
-    alloc: Global,
-    netlist: &mut Netlist,
-    line: u32,
-    way: Way,
-    name: &[u8],
-) -> Result<(), BlifFault>
+fn port(netlist: &mut Netlist, line: u32, way: Way, name: &[u8]) -> Result<(), BlifFault>
     ensures port { Gives (λ _. netlist.new) result (port_says line way netlist.old name.now) }
     ensures kept { OnOk result (length netlist.old.names ≤ length netlist.new.names) }
     ensures cells { OnOk result (netlist.new.cells ≡ netlist.old.cells) }
 {
-    let signal = number(alloc, netlist, name)?;
+    let signal = number(netlist, name)?;
     if was_named(way, netlist.way_of(signal)) {
         return Err(BlifFault::PortTwice { line });
     }
@@ -62,7 +51,6 @@ fn port(
 
 // Names the ports of a line.
 pub(crate) fn ports(
-    alloc: Global,
     netlist: &mut Netlist,
     line: u32,
     way: Way,
@@ -74,7 +62,7 @@ pub(crate) fn ports(
     ensures lines { lines_left words.new ≡ lines_left words.old }
 {
     while let Some(name) = words.next_word() {
-        port(alloc, netlist, line, way, name)?;
+        port(netlist, line, way, name)?;
     }
     Ok(())
 }

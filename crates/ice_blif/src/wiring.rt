@@ -17,10 +17,11 @@ pub(crate) struct Wiring {
 
 impl Wiring {
     ghost use Rattle.ice_blif.specs.Grammar.{no_wiring, wired};
+    ghost use Rattle.ice_blif.specs.Views.{wiring_view};
 
     /// No port is connected.
     pub(crate) fn new() -> Wiring
-        ensures wiring { result ≡ no_wiring }
+        ensures wiring { wiring_view result ≡ no_wiring }
         ensures below { All (IsBelow 0) result.signals }
     {
         Wiring {
@@ -33,7 +34,7 @@ impl Wiring {
     /// Connects the port of that place.
     pub(crate) fn connect(&mut self, place: usize, signal: Option<SignalNo>)
         requires { place < 10 }
-        ensures { self.new ≡ wired self.old place signal }
+        ensures { wiring_view self.new ≡ wired (wiring_view self.old) place signal }
     {
         let taken = self.taken[place];
         self.twice = self.twice || taken;

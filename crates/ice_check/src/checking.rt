@@ -4,17 +4,19 @@ ghost use Rattle.ice_value.specs.Order.{IsOrder};
 ghost use Rattle.ice_net.specs.Formed.{IsFormed};
 ghost use Rattle.ice_net.specs.Meaning.{depends_on};
 ghost use Rattle.ice_check.specs.Tables.{AreDrivers};
+ghost use Rattle.ice_check.specs.Loops.{cells_before};
 ghost use Rattle.ice_check.specs.Faults.{undriven, driven_twice};
 ghost use Rattle.ice_check.specs.Sound.{IsSound, AreSignalsSound, ArePadsSound};
 ghost use Rattle.ice_check.specs.Refusals.{IsFaultOf, pin_type_by};
 
 use crate::cells::{pin_not_port, pin_type_out};
-use crate::drivers::{buffers, drivers};
+use crate::drivers::signal_tables;
 use crate::loops::search_signals;
 use crate::naming::{names_of, port_name, signal_name};
 use crate::order::order_of_cells;
 use crate::ports::{inout_bare, pad_shared};
 use crate::signals::{driven_twice, undriven};
+use crate::sound::Orders;
 use crate::{NetFault, Sound};
 use ice_net::{CellKind, Driver, Netlist};
 use ice_value::Outcome;
@@ -108,6 +110,20 @@ fn check_pads(alloc: Global, netlist: &Netlist) -> Result<(), NetFault>
     Ok(())
 }
 
+// Looks for the faults of signals, and gives orders of evaluation of the cells and of the signals.
+fn orders(alloc: Global, netlist: &Netlist, drivers: &[Driver]) -> Result<Orders, NetFault>
+    requires formed { IsFormed netlist.now }
+    requires drivers { AreDrivers netlist.now drivers.now }
+    ensures cells { IfOk result (λ orders. IsOrder (length netlist.now.cells) (cells_before netlist.now) orders.cells.items) }
+    ensures signals { IfOk result (λ orders. IsOrder (length netlist.now.names) (depends_on netlist.now) orders.signals.items) }
+    ensures sound { OnOk result (AreSignalsSound netlist.now) }
+    ensures fault { IfErr result (IsFaultOf netlist.now) }
+{
+    let signals = check_signals(alloc, netlist, drivers)?;
+    let cells = order_of_cells(alloc, netlist, drivers)?;
+    Ok(Orders { cells, signals })
+}
+
 /// The netlist with all that is known of it, where it is sound. A netlist that is refused is dropped.
 ///
 /// # Errors
@@ -118,10 +134,8 @@ pub fn check(alloc: Global, netlist: Netlist) -> Result<Sound, NetFault>
     ensures sound { OnOk result (IsSound netlist) }
     ensures fault { IfErr result (IsFaultOf netlist) }
 {
-    let buffers = buffers(alloc, &netlist)?;
-    let drivers = drivers(alloc, &netlist)?;
-    let signal_order = check_signals(alloc, &netlist, &drivers)?;
+    let tables = signal_tables(alloc, &netlist)?;
+    let orders = orders(alloc, &netlist, &tables.drivers)?;
     check_pads(alloc, &netlist)?;
-    let order = order_of_cells(alloc, &netlist, &drivers)?;
-    Ok(Sound::of(netlist, order, signal_order, drivers, buffers))
+    Ok(Sound::of(netlist, orders, tables))
 }

@@ -7,8 +7,6 @@ mod cells;
 mod checking;
 mod drivers;
 mod fault;
-#[cfg(test)]
-mod fault_tests;
 pub mod laws;
 mod lists;
 mod loops;
@@ -24,6 +22,3 @@ pub use checking::check;
 pub use fault::NetFault;
 pub use names::Names;
 pub use sound::Sound;
-
-#[cfg(test)]
-mod tests;

@@ -171,20 +171,36 @@ fn first_twice(netlist: &Netlist, pad_counts: &[usize], output_counts: &[usize])
     None
 }
 
+// How often each signal is driven by a pad.
+#[tactic(auto, using(crate::proofs::ListsBelow::pads_below))]
+fn pad_counts(alloc: Global, netlist: &Netlist) -> Result<Vec<usize>, NoMemory>
+    ensures { IfOk result (λ table. AreTimes (length netlist.now.names) (pads netlist.now) table.items) }
+{
+    let buffers = buffers(alloc, netlist)?;
+    let pads = pads(alloc, netlist, &buffers)?;
+    let table = counts(alloc, netlist.signals() as usize, &pads)?;
+    Ok(table)
+}
+
+// How often each signal is driven by an output.
+#[tactic(auto, using(crate::proofs::ListsBelow::outputs_below))]
+fn output_counts(alloc: Global, netlist: &Netlist) -> Result<Vec<usize>, NoMemory>
+    ensures { IfOk result (λ table. AreTimes (length netlist.now.names) (outputs netlist.now) table.items) }
+{
+    let outputs = outputs(alloc, netlist.cells())?;
+    let table = counts(alloc, netlist.signals() as usize, &outputs)?;
+    Ok(table)
+}
+
 /// The number of the first signal with two drivers among the pads and the connected outputs.
 ///
 /// # Errors
 /// Want of memory alone.
-#[tactic(auto, using(crate::proofs::ListsBelow::pads_below, crate::proofs::ListsBelow::outputs_below))]
 pub(crate) fn driven_twice(alloc: Global, netlist: &Netlist) -> Result<Option<usize>, NoMemory>
     ensures { IfOk result (λ signal. signal ≡ driven_twice netlist.now) }
 {
-    let count = netlist.signals() as usize;
-    let buffers = buffers(alloc, netlist)?;
-    let outputs = outputs(alloc, netlist.cells())?;
-    let pads = pads(alloc, netlist, &buffers)?;
-    let output_counts = counts(alloc, count, &outputs)?;
-    let pad_counts = counts(alloc, count, &pads)?;
-    let signal = first_twice(netlist, &pad_counts, &output_counts);
+    let pads = pad_counts(alloc, netlist)?;
+    let outputs = output_counts(alloc, netlist)?;
+    let signal = first_twice(netlist, &pads, &outputs);
     Ok(signal)
 }

@@ -6,18 +6,26 @@ ghost use Rattle.ice_check.specs.Tables.{AreDrivers};
 ghost use Rattle.ice_check.specs.Loops.{cells_before};
 ghost use Rattle.ice_check.specs.Sound.{IsSound, IsChecked, AreBuffers};
 
+use crate::drivers::SignalTables;
 use ice_net::{Driver, Netlist};
 use std::marker::Model;
+
+/// Orders of evaluation of a netlist.
+#[derive(Drop)]
+pub(crate) struct Orders {
+    /// Its cells: each after the cells whose outputs its own output depends on.
+    pub(crate) cells: Vec<u32>,
+    /// Its signals: each after the signals that it depends on.
+    pub(crate) signals: Vec<usize>,
+}
 
 /// A sound netlist, with what is known of it: an order of its cells and one of its signals, what drives each signal, and where
 /// its SB_IO is. Contracts see the netlist.
 #[derive(Drop)]
 pub struct Sound {
     netlist: Netlist,
-    order: Vec<u32>,
-    signal_order: Vec<usize>,
-    drivers: Vec<Driver>,
-    buffers: Vec<Option<usize>>,
+    orders: Orders,
+    tables: SignalTables,
 }
 
 impl Model for Sound {
@@ -28,7 +36,7 @@ impl Model for Sound {
 
     ghost view = { λ s. s.netlist };
 
-    ghost invariant = { λ s. IsChecked s.netlist s.order.items s.signal_order.items s.drivers.items s.buffers.items };
+    ghost invariant = { λ s. IsChecked s.netlist s.orders.cells.items s.orders.signals.items s.tables.drivers.items s.tables.buffers.items };
 }
 
 impl Sound {
@@ -44,47 +52,39 @@ impl Sound {
     pub fn order(&self) -> &[u32]
         ensures { IsOrder (length self.now.cells) (cells_before self.now) result.now }
     {
-        self.order.as_slice()
+        self.orders.cells.as_slice()
     }
 
     /// The signals in an order of evaluation: each after the signals that it depends on.
     pub fn signal_order(&self) -> &[usize]
         ensures { IsOrder (length self.now.names) (depends_on self.now) result.now }
     {
-        self.signal_order.as_slice()
+        self.orders.signals.as_slice()
     }
 
     /// What drives each signal, by its number.
     pub fn drivers(&self) -> &[Driver]
         ensures { AreDrivers self.now result.now }
     {
-        self.drivers.as_slice()
+        self.tables.drivers.as_slice()
     }
 
     /// The place of the first SB_IO at each signal in the list of cells, by the signal's number.
     pub fn buffers(&self) -> &[Option<usize>]
         ensures { AreBuffers self.now result.now }
     {
-        self.buffers.as_slice()
+        self.tables.buffers.as_slice()
     }
 
     // A sound netlist with what was found of it.
-    pub(crate) fn of(
-        netlist: Netlist,
-        order: Vec<u32>,
-        signal_order: Vec<usize>,
-        drivers: Vec<Driver>,
-        buffers: Vec<Option<usize>>,
-    ) -> Sound
-        requires { IsChecked netlist order.items signal_order.items drivers.items buffers.items }
+    pub(crate) fn of(netlist: Netlist, orders: Orders, tables: SignalTables) -> Sound
+        requires { IsChecked netlist orders.cells.items orders.signals.items tables.drivers.items tables.buffers.items }
         ensures { result ≡ netlist }
     {
         Sound {
             netlist,
-            order,
-            signal_order,
-            drivers,
-            buffers,
+            orders,
+            tables,
         }
     }
 }

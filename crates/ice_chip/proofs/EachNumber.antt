@@ -3,7 +3,7 @@ use Rattle.std.proofs.Common.{◌≡◌, add-one, ℕ, zero, suc, ◌+◌, ◌<�
 use Rattle.ice_chip.specs.Database.{FunctionRow}
 use Rattle.ice_chip.specs.LacksFunction.{has_function, has_each}
 use Rattle.ice_chip.specs.declared.rows.TileKind.{TileKind}
-use Rattle.ice_chip.proofs.JoinedTests.{both_true, either_false}
+use Rattle.std.proofs.lemmas.Bool.{and_parts, and_cases}
 use Rattle.ice_chip.proofs.Prefixes.{below_or_last}
 
 and_false : (a b : Bool) → b ≡ false → (a && b) ≡ false
@@ -30,7 +30,7 @@ one_more kind name n fs all here = rw add-one (ap (λ b. b && has_function kind 
 pub has_one : (kind : TileKind) (name : ℕ → List ℕ) (n m : ℕ) (fs : List FunctionRow) → n < m → has_each kind name m fs ≡ true → has_function kind (name n) fs ≡ true
 has_one kind name n zero fs lt all = absurd (omega arith)
 has_one kind name n (suc m) fs lt all =
-    let both = both_true (has_each kind name m fs) (has_function kind (name m) fs) all in
+    let both = and_parts (has_each kind name m fs) (has_function kind (name m) fs) all in
     elim (below_or_last n m (omega arith)) [
       | inl below ↦ has_one kind name n m fs below both.0
       | inr last ↦ subst (λ k. has_function kind (name k) fs ≡ true) (sym last) both.1
@@ -39,7 +39,7 @@ has_one kind name n (suc m) fs lt all =
 -- which one is lacking
 pub lacking_number : (kind : TileKind) (name : ℕ → List ℕ) (m : ℕ) (fs : List FunctionRow) → has_each kind name m fs ≡ false → (n : ℕ) × (n < m) × (has_function kind (name n) fs ≡ false)
 lacking_number kind name zero fs none = absurd (true≢false none)
-lacking_number kind name (suc m) fs none = elim (either_false (has_each kind name m fs) (has_function kind (name m) fs) none) [
+lacking_number kind name (suc m) fs none = elim (and_cases (has_each kind name m fs) (has_function kind (name m) fs) none) [
   | inl before ↦ let found = lacking_number kind name m fs before in (found.0, omega arith, found.2)
   | inr here ↦ (m, omega arith, here)
 ]

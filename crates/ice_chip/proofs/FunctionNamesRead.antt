@@ -4,7 +4,7 @@ use Rattle.ice_chip.specs.Digits.{digit, number_behind, number_or, numbered_or}
 use Rattle.ice_chip.specs.FunctionNames.{function_name, IsTileFunction, IsNamedFunction, FunctionNamesAreRead, pad_function, lone_function, buffer_function, enable_function, outer_function, tile_function, cell_function, pin_type_function, input_enable_function, pull_up_function, column_buffer_function}
 use Rattle.ice_chip.specs.declared.function_names.TileFunction.{TileFunction}
 use Rattle.ice_chip.specs.declared.function_names.TileFunction.TheVariants.{Cell, FallingClock, CarrySet, PinType, InputEnable, PullUp, ColumnBuffer}
-use Rattle.ice_chip.proofs.Keys.{bytes_same}
+use Rattle.ice_base.proofs.Keys.{bytes_same}
 use Rattle.ice_chip.proofs.Prefixes.{number_behind_read, number_within_read, if_meets, number_meets, number_or_meets, numbered_or_meets}
 
 names_read : (function : TileFunction) → IsTileFunction function → tile_function (function_name function) ≡ Some function

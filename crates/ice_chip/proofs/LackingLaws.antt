@@ -10,7 +10,8 @@ use Rattle.ice_chip.specs.LacksFunction.{has_tile, is_buffer_source, has_needed,
 use Rattle.ice_chip.specs.declared.parts.TileLine.{TileLine}
 use Rattle.ice_chip.specs.declared.rows.TileKind.{TileKind}
 use Rattle.ice_chip.specs.declared.rows.TileKind.TheVariants.{Io, Logic, RamBottom, RamTop}
-use Rattle.ice_chip.proofs.JoinedTests.{or_true, both_true, either_true}
+use Rattle.std.proofs.lemmas.Bool.{and_parts, or_cases}
+use Rattle.ice_base.proofs.Booleans.{or_true}
 use Rattle.ice_chip.proofs.NeededNames.{Missing, has_what_it_needs, lacks_what_it_needs}
 
 -- ---- lacking functions
@@ -24,7 +25,7 @@ not_true false e = refl
 
 lacks_from : (parts : Parts) (kind : TileKind) → lacks_needed parts kind ≡ true → Lacks parts
 lacks_from parts kind lacks =
-    of_name (both_true (has_tile kind parts.tiles) (not (has_needed is_source kind parts.functions)) lacks)
+    of_name (and_parts (has_tile kind parts.tiles) (not (has_needed is_source kind parts.functions)) lacks)
   where
     is_source : Bool
     is_source = is_buffer_source kind parts.tiles parts.colbuf
@@ -148,11 +149,11 @@ any_kind parts RamTop is =
     ap (λ t. lacks_needed parts Io || lacks_needed parts Logic || lacks_needed parts RamBottom || t) is ∙ or_true (lacks_needed parts Io || lacks_needed parts Logic || lacks_needed parts RamBottom)
 
 some_kind : (parts : Parts) → (lacks_needed parts Io || lacks_needed parts Logic || lacks_needed parts RamBottom || lacks_needed parts RamTop) ≡ true → Lacks parts
-some_kind parts is = elim (either_true (lacks_needed parts Io || lacks_needed parts Logic || lacks_needed parts RamBottom) (lacks_needed parts RamTop) is) [
+some_kind parts is = elim (or_cases (lacks_needed parts Io || lacks_needed parts Logic || lacks_needed parts RamBottom) (lacks_needed parts RamTop) is) [
   | inr top ↦ lacks_from parts RamTop top
-  | inl others ↦ elim (either_true (lacks_needed parts Io || lacks_needed parts Logic) (lacks_needed parts RamBottom) others) [
+  | inl others ↦ elim (or_cases (lacks_needed parts Io || lacks_needed parts Logic) (lacks_needed parts RamBottom) others) [
     | inr bottom ↦ lacks_from parts RamBottom bottom
-    | inl first ↦ elim (either_true (lacks_needed parts Io) (lacks_needed parts Logic) first) [
+    | inl first ↦ elim (or_cases (lacks_needed parts Io) (lacks_needed parts Logic) first) [
       | inl io ↦ lacks_from parts Io io
       | inr logic ↦ lacks_from parts Logic logic
     ]

@@ -1,8 +1,8 @@
-mod Entries
+pub mod Entries
+pub mod GroupRows
 mod Firsts
-mod Keys
+pub mod Keys
 mod Listing
-mod NameLists
 mod NamePlaces
 mod NamedRows
 mod Numbering
@@ -11,7 +11,6 @@ mod RowPlaces
 pub mod Prefixes
 mod WireNamesRead
 mod FunctionNamesRead
-mod JoinedTests
 mod DerivedEquality
 mod SharedLaws
 mod FirstOfAll

@@ -18,7 +18,7 @@ use Rattle.ice_chip.specs.declared.rows.TileKind.{TileKind}
 use Rattle.ice_chip.specs.declared.rows.TileKind.TheVariants.{Io, Logic, RamBottom, RamTop}
 use Rattle.ice_chip.specs.declared.parts.Package.{Package}
 use Rattle.ice_chip.proofs.Firsts.{lookup-firsts}
-use Rattle.ice_chip.proofs.Keys.{bytes_same, bytes_self}
+use Rattle.ice_base.proofs.Keys.{bytes_same, bytes_self}
 
 -- ---- names in memory
 pub lookup_text : (name : List ℕ) (entries : List (Vec ℕ Global × ℕ)) → lookup (λ key. bytes_eq name key.items) entries ≡ lookup (bytes_eq name) (by_text entries)

@@ -9,8 +9,9 @@ use Rattle.ice_chip.specs.LacksFunction.{has_function, has_each, has_needed, has
 use Rattle.ice_chip.specs.declared.rows.TileKind.{TileKind}
 use Rattle.ice_chip.specs.declared.rows.TileKind.TheVariants.{Io, Logic, RamBottom, RamTop}
 use Rattle.ice_chip.proofs.EachNumber.{has_one, lacking_number}
-use Rattle.ice_chip.proofs.JoinedTests.{and_true, or_true, either_true, both_true, either_false, implied, not_implied}
-use Rattle.ice_chip.proofs.Keys.{bytes_same}
+use Rattle.std.proofs.lemmas.Bool.{or_cases, and_parts, and_cases}
+use Rattle.ice_base.proofs.Booleans.{and_true, or_true, implied, not_implied}
+use Rattle.ice_base.proofs.Keys.{bytes_same}
 use Rattle.ice_chip.proofs.Prefixes.{number_behind_read, set_number}
 
 -- a name that passes a test and that the kind has no function of
@@ -54,25 +55,25 @@ there kind fs made limit prefix name le made_is all is =
 
 own_there : (kind : TileKind) (fs : List FunctionRow) (name : List ℕ) → has_own kind fs ≡ true → is_own kind name ≡ true → has_function kind name fs ≡ true
 own_there Io fs name all is =
-    let has = both_true (has_pin_types fs) (has_pad_enables fs) all in
-    let types = both_true (has_each Io (pin_type_function 0) 6 fs) (has_each Io (pin_type_function 1) 6 fs) has.0 in
-    let enables = both_true (has_each Io input_enable_function 2 fs) (has_each Io pull_up_function 2 fs) has.1 in
-    elim (either_true (is_first_pin_type name || is_second_pin_type name) (is_pad_enable name) is) [
-      | inl typed ↦ elim (either_true (is_first_pin_type name) (is_second_pin_type name) typed) [
+    let has = and_parts (has_pin_types fs) (has_pad_enables fs) all in
+    let types = and_parts (has_each Io (pin_type_function 0) 6 fs) (has_each Io (pin_type_function 1) 6 fs) has.0 in
+    let enables = and_parts (has_each Io input_enable_function 2 fs) (has_each Io pull_up_function 2 fs) has.1 in
+    elim (or_cases (is_first_pin_type name || is_second_pin_type name) (is_pad_enable name) is) [
+      | inl typed ↦ elim (or_cases (is_first_pin_type name) (is_second_pin_type name) typed) [
         | inl first ↦ there Io fs (pin_type_function 0) 6 (codes "IOB_0.PINTYPE_") name (omega arith) (λ n. refl) types.0 first
         | inr second ↦ there Io fs (pin_type_function 1) 6 (codes "IOB_1.PINTYPE_") name (omega arith) (λ n. refl) types.1 second
       ]
-      | inr enable ↦ elim (either_true (is_some (number_behind 2 (codes "IoCtrl.IE_") name)) (is_some (number_behind 2 (codes "IoCtrl.REN_") name)) enable) [
+      | inr enable ↦ elim (or_cases (is_some (number_behind 2 (codes "IoCtrl.IE_") name)) (is_some (number_behind 2 (codes "IoCtrl.REN_") name)) enable) [
         | inl input ↦ there Io fs input_enable_function 2 (codes "IoCtrl.IE_") name (omega arith) (λ n. refl) enables.0 input
         | inr pull_up ↦ there Io fs pull_up_function 2 (codes "IoCtrl.REN_") name (omega arith) (λ n. refl) enables.1 pull_up
       ]
     ]
 own_there Logic fs name all is =
-    let last = both_true (has_each Logic cell_function 8 fs && has_function Logic falling_clock_function fs) (has_function Logic carry_set_function fs) all in
-    let first = both_true (has_each Logic cell_function 8 fs) (has_function Logic falling_clock_function fs) last.0 in
-    elim (either_true (is_logic_cell name || bytes_eq name (codes "NegClk")) (bytes_eq name (codes "CarryInSet")) is) [
+    let last = and_parts (has_each Logic cell_function 8 fs && has_function Logic falling_clock_function fs) (has_function Logic carry_set_function fs) all in
+    let first = and_parts (has_each Logic cell_function 8 fs) (has_function Logic falling_clock_function fs) last.0 in
+    elim (or_cases (is_logic_cell name || bytes_eq name (codes "NegClk")) (bytes_eq name (codes "CarryInSet")) is) [
       | inr carry ↦ ap (λ k. has_function Logic k fs) (bytes_same name (codes "CarryInSet") carry) ∙ last.1
-      | inl others ↦ elim (either_true (is_logic_cell name) (bytes_eq name (codes "NegClk")) others) [
+      | inl others ↦ elim (or_cases (is_logic_cell name) (bytes_eq name (codes "NegClk")) others) [
         | inl cell ↦ there Logic fs cell_function 8 (codes "LC_") name (omega arith) (λ n. refl) first.0 cell
         | inr edge ↦ ap (λ k. has_function Logic k fs) (bytes_same name (codes "NegClk") edge) ∙ first.1
       ]
@@ -85,9 +86,9 @@ buffer_there kind fs name all is = there kind fs column_buffer_function 8 (codes
 
 pub has_what_it_needs : (is_source : Bool) (kind : TileKind) (fs : List FunctionRow) (name : List ℕ) → has_needed is_source kind fs ≡ true → is_needed is_source kind name ≡ true → has_function kind name fs ≡ true
 has_what_it_needs is_source kind fs name all needed =
-    let has = both_true (has_own kind fs) (not (needs_buffers is_source kind) || has_column_buffers kind fs) (sym (needs_own is_source kind fs) ∙ all) in
-    let asked = both_true (is_read kind name) (not (is_column_buffer name) || needs_buffers is_source kind) needed in
-    elim (either_true (is_own kind name) (is_column_buffer name) (sym (reads_own kind name) ∙ asked.0)) [
+    let has = and_parts (has_own kind fs) (not (needs_buffers is_source kind) || has_column_buffers kind fs) (sym (needs_own is_source kind fs) ∙ all) in
+    let asked = and_parts (is_read kind name) (not (is_column_buffer name) || needs_buffers is_source kind) needed in
+    elim (or_cases (is_own kind name) (is_column_buffer name) (sym (reads_own kind name) ∙ asked.0)) [
       | inl own ↦ own_there kind fs name has.0 own
       | inr buffer ↦ buffer_there kind fs name (implied (needs_buffers is_source kind) (has_column_buffers kind fs) has.1 (implied (is_column_buffer name) (needs_buffers is_source kind) asked.1 buffer)) buffer
     ]
@@ -120,19 +121,19 @@ cell_apart : (n : ℕ) → n < 8 → is_apart Logic (cell_function n) ≡ true
 cell_apart n lt = ap (λ b. (b || bytes_eq (cell_function n) (codes "NegClk") || bytes_eq (cell_function n) (codes "CarryInSet")) && true) (read_so 8 (codes "LC_") n lt (omega arith))
 
 own_lacking : (kind : TileKind) (fs : List FunctionRow) → has_own kind fs ≡ false → Missing kind fs (is_apart kind)
-own_lacking Io fs none = elim (either_false (has_pin_types fs) (has_pad_enables fs) none) [
-  | inl types ↦ elim (either_false (has_each Io (pin_type_function 0) 6 fs) (has_each Io (pin_type_function 1) 6 fs) types) [
+own_lacking Io fs none = elim (and_cases (has_pin_types fs) (has_pad_enables fs) none) [
+  | inl types ↦ elim (and_cases (has_each Io (pin_type_function 0) 6 fs) (has_each Io (pin_type_function 1) 6 fs) types) [
     | inl first ↦ of_set Io fs (pin_type_function 0) 6 (is_apart Io) first_apart first
     | inr second ↦ of_set Io fs (pin_type_function 1) 6 (is_apart Io) second_apart second
   ]
-  | inr enables ↦ elim (either_false (has_each Io input_enable_function 2 fs) (has_each Io pull_up_function 2 fs) enables) [
+  | inr enables ↦ elim (and_cases (has_each Io input_enable_function 2 fs) (has_each Io pull_up_function 2 fs) enables) [
     | inl input ↦ of_set Io fs input_enable_function 2 (is_apart Io) input_apart input
     | inr pull_up ↦ of_set Io fs pull_up_function 2 (is_apart Io) pull_up_apart pull_up
   ]
 ]
-own_lacking Logic fs none = elim (either_false (has_each Logic cell_function 8 fs && has_function Logic falling_clock_function fs) (has_function Logic carry_set_function fs) none) [
+own_lacking Logic fs none = elim (and_cases (has_each Logic cell_function 8 fs && has_function Logic falling_clock_function fs) (has_function Logic carry_set_function fs) none) [
   | inr carry ↦ record { name = carry_set_function; passes = refl; lacking = carry }
-  | inl others ↦ elim (either_false (has_each Logic cell_function 8 fs) (has_function Logic falling_clock_function fs) others) [
+  | inl others ↦ elim (and_cases (has_each Logic cell_function 8 fs) (has_function Logic falling_clock_function fs) others) [
     | inl cell ↦ of_set Logic fs cell_function 8 (is_apart Logic) cell_apart cell
     | inr edge ↦ record { name = falling_clock_function; passes = refl; lacking = edge }
   ]
@@ -150,12 +151,12 @@ buffer_needed is_source kind wanted n lt =
 
 own_needed : (is_source : Bool) (kind : TileKind) (name : List ℕ) → is_apart kind name ≡ true → is_needed is_source kind name ≡ true
 own_needed is_source kind name apart =
-    let parts = both_true (is_own kind name) (not (is_column_buffer name)) apart in
+    let parts = and_parts (is_own kind name) (not (is_column_buffer name)) apart in
     ap (λ t. t && (not (is_column_buffer name) || needs_buffers is_source kind)) (reads_own kind name ∙ ap (λ t. t || is_column_buffer name) parts.0)
     ∙ ap (λ t. t || needs_buffers is_source kind) parts.1
 
 pub lacks_what_it_needs : (is_source : Bool) (kind : TileKind) (fs : List FunctionRow) → has_needed is_source kind fs ≡ false → Missing kind fs (is_needed is_source kind)
-lacks_what_it_needs is_source kind fs none = elim (either_false (has_own kind fs) (not (needs_buffers is_source kind) || has_column_buffers kind fs) (sym (needs_own is_source kind fs) ∙ none)) [
+lacks_what_it_needs is_source kind fs none = elim (and_cases (has_own kind fs) (not (needs_buffers is_source kind) || has_column_buffers kind fs) (sym (needs_own is_source kind fs) ∙ none)) [
   | inl no_own ↦ let m = own_lacking kind fs no_own in record { name = m.name; passes = own_needed is_source kind m.name m.passes; lacking = m.lacking }
   | inr no_buffers ↦
       let parted = not_implied (needs_buffers is_source kind) (has_column_buffers kind fs) no_buffers in

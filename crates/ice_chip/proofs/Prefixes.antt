@@ -6,7 +6,8 @@ use Rattle.std.proofs.lemmas.Bool.Decides.{Decides-eqb}
 use Rattle.std.specs.Cmp.Lexicographic.{pointwise}
 use Rattle.std.specs.Borrow.{Bor}
 use Rattle.ice_chip.specs.Digits.{digit, number_of, lone_number, leading_number, behind, number_behind, number_within, number_or, numbered_or}
-use Rattle.ice_chip.proofs.Keys.{nat_same, nat_self, both_true}
+use Rattle.std.proofs.lemmas.Bool.{and_parts}
+use Rattle.ice_base.proofs.Keys.{nat_same, nat_self}
 
 pub behind_append : (prefix rest : List ℕ) → behind prefix (prefix ++ rest) ≡ Some rest
 behind_append [] rest = refl
@@ -62,7 +63,7 @@ number_digit limit n lt le =
 pub number_told : (limit d n : ℕ) → limit ≤ 10 → number_of limit d ≡ Some n → (n < limit) × (d ≡ digit n)
 number_told limit d n le e =
     let parts = if_some (nat_le 48 d && nat_lt (d - 48) limit) (Some (d - 48)) n e in
-    let so = both_true (nat_le 48 d) (nat_lt (d - 48) limit) parts.0 in
+    let so = and_parts (nat_le 48 d) (nat_lt (d - 48) limit) parts.0 in
     let low : 48 ≤ d = leb-true 48 d so.0 in
     let below : d - 48 < limit = ltb-true (d - 48) limit so.1 in
     let same : d - 48 ≡ n = cc in
@@ -124,7 +125,7 @@ each_number test (suc n) = each_number test n && test n
 number_passes : (test : ℕ → Bool) (n limit : ℕ) → n < limit → each_number test limit ≡ true → test n ≡ true
 number_passes test n zero lt all = absurd (omega arith)
 number_passes test n (suc limit) lt all =
-    let both = both_true (each_number test limit) (test limit) all in
+    let both = and_parts (each_number test limit) (test limit) all in
     elim (below_or_last n limit (omega arith)) [
       | inl below ↦ number_passes test n limit below both.0
       | inr last ↦ ap test last ∙ both.1

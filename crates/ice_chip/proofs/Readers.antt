@@ -6,10 +6,11 @@ use Rattle.std.specs.Option.{option_and_then}
 use Rattle.std.specs.Map.{lookup}
 use Rattle.std.specs.declared.alloc.Global.{Global}
 use Rattle.ice_base.specs.declared.number.TileAt.{TileAt}
+use Rattle.ice_base.specs.Names.{number_of_name}
 use Rattle.ice_chip.specs.Database.{Parts}
 use Rattle.ice_chip.specs.Places.{same_tile, same_pad}
 use Rattle.ice_chip.specs.Lookups.{in_group, placed_names, placed_wire, names_of, wire_named, global_tile, enable_counts, buffer_counts, served_tile, global_of, ieren_of, colbuf_of}
-use Rattle.ice_chip.specs.Indices.{Numbered, number_of_text, same_numbered, numbered, lists_of, listed, firsts, row_in, row_at}
+use Rattle.ice_chip.specs.Indices.{Numbered, same_numbered, numbered, lists_of, listed, firsts, row_in, row_at}
 use Rattle.ice_chip.specs.NameIndex.{no_names}
 use Rattle.ice_chip.specs.Views.{group_view, row_view}
 use Rattle.ice_chip.specs.declared.index.RowPlace.{RowPlace}
@@ -18,7 +19,8 @@ use Rattle.ice_chip.specs.declared.rows.Pad.{Pad}
 use Rattle.ice_chip.specs.declared.rows.Row.{Row}
 use Rattle.ice_chip.specs.declared.whole.PlacedName.{PlacedName}
 use Rattle.ice_chip.proofs.Firsts.{lookup-firsts}
-use Rattle.ice_chip.proofs.Keys.{nat_same, tile_same, pad_same}
+use Rattle.ice_base.proofs.Keys.{nat_same, tile_same}
+use Rattle.ice_chip.proofs.Keys.{pad_same}
 use Rattle.ice_chip.proofs.Listing.{items_at, length-listed, listed_at}
 use Rattle.ice_chip.proofs.Numbering.{found_by_number}
 use Rattle.ice_chip.proofs.RowPlaces.{group_at, found_row}
@@ -89,9 +91,9 @@ names_found parts lists wire d e lt =
     ∙ ap (λ xs. xs ++ names_of parts wire) (get_or-replicate parts.wires wire [] [] lt)
 
 pub wire_found : (parts : Parts) (s : Numbered) (tile : TileAt) (name : List ℕ) → s ≡ numbered no_names (map placed_wire (placed_names parts))
-    → lookup (same_numbered (record { tile = tile; number = number_of_text s.texts name })) s.wires ≡ wire_named parts tile name
+    → lookup (same_numbered (record { tile = tile; number = number_of_name s.texts name })) s.wires ≡ wire_named parts tile name
 wire_found parts s tile name e =
-    ap (λ t. lookup (same_numbered (record { tile = tile; number = number_of_text t.texts name })) t.wires) e
+    ap (λ t. lookup (same_numbered (record { tile = tile; number = number_of_name t.texts name })) t.wires) e
     ∙ found_by_number tile name (map placed_wire (placed_names parts))
 
 -- ---- the first rows

@@ -18,7 +18,8 @@ use Rattle.ice_chip.specs.declared.rows.TileKind.{TileKind}
 use Rattle.ice_chip.specs.declared.rows.TileKind.TheVariants.{Io, Logic, RamBottom, RamTop}
 use Rattle.ice_chip.specs.declared.shared.BitUse.{BitUse}
 use Rattle.ice_chip.specs.declared.shared.KindBit.{KindBit}
-use Rattle.ice_chip.proofs.JoinedTests.{both_true, and_true, and_false}
+use Rattle.std.proofs.lemmas.Bool.{and_parts}
+use Rattle.ice_base.proofs.Booleans.{and_true, and_false}
 
 -- ---- the order of lines
 -- the first of the lines of a use with two others is that with the least of them
@@ -53,8 +54,8 @@ same_kind_self RamTop = refl
 
 pub same_bit_is : (a b : KindBit) → same_bit a b ≡ true → a ≡ b
 same_bit_is a b e =
-    let kind_and_bit = both_true (same_kind a.kind b.kind) ((a.bit.row == b.bit.row) && (a.bit.col == b.bit.col)) e in
-    let row_and_col = both_true (a.bit.row == b.bit.row) (a.bit.col == b.bit.col) kind_and_bit.1 in
+    let kind_and_bit = and_parts (same_kind a.kind b.kind) ((a.bit.row == b.bit.row) && (a.bit.col == b.bit.col)) e in
+    let row_and_col = and_parts (a.bit.row == b.bit.row) (a.bit.col == b.bit.col) kind_and_bit.1 in
     let kinds : a.kind ≡ b.kind = same_kind_is a.kind b.kind kind_and_bit.0 in
     let rows : a.bit.row ≡ b.bit.row = eqb-true a.bit.row b.bit.row row_and_col.0 in
     let cols : a.bit.col ≡ b.bit.col = eqb-true a.bit.col b.bit.col row_and_col.1 in

@@ -4,7 +4,7 @@ use Rattle.ice_chip.specs.Digits.{digit, number_behind, number_or, numbered_or}
 use Rattle.ice_chip.specs.WireNames.{wire_name, IsTileWire, IsNamedWire, WireNamesAreRead, cell_wire, pad_wire, lone_wire, global_wire, outer_wire, tile_wire, global_name}
 use Rattle.ice_chip.specs.declared.wire_names.TileWire.{TileWire}
 use Rattle.ice_chip.specs.declared.wire_names.TileWire.TheVariants.{CellInput, CellOutput, CarryOut, LookUp, Clock, ClockEnable, SetReset, CarryIn, FirstCarry, PadInput, PadOutput, OutputEnable, Fabout, Global}
-use Rattle.ice_chip.proofs.Keys.{bytes_same}
+use Rattle.ice_base.proofs.Keys.{bytes_same}
 use Rattle.ice_chip.proofs.Prefixes.{number_behind_read, number_within_read, if_meets, number_meets, number_or_meets, numbered_or_meets}
 
 -- ---- each name is read

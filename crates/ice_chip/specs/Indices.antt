@@ -1,9 +1,9 @@
 -- The maps and lists by which a chip answers at once, as what its rows make of them.
-use Rattle.std.specs.Prelude.{ℕ, zero, suc, ◌==◌, ◌&&◌, Bool, Option, None, Some, List, [], ◌∷◌, ◌++◌, map, filter, slice_get, slice_set, slice_index_or, option_map, bytes_eq, if◌then◌else◌, Vec}
-use Rattle.std.specs.List.{list_any, position_or_len}
+use Rattle.std.specs.Prelude.{ℕ, zero, suc, ◌==◌, ◌&&◌, Bool, Option, None, Some, List, [], ◌∷◌, ◌++◌, map, filter, slice_get, slice_set, slice_index_or, option_map, Vec}
 use Rattle.std.specs.Map.{lookup}
 use Rattle.std.specs.Option.{option_and_then}
 use Rattle.std.specs.declared.alloc.Global.{Global}
+use Rattle.ice_base.specs.Names.{with_name, number_of_name}
 use Rattle.ice_chip.specs.Database.{Parts, WireName, SwitchGroup, SwitchRow}
 use Rattle.ice_chip.specs.Places.{same_tile, same_pad}
 use Rattle.ice_chip.specs.WholeFaults.{placed}
@@ -34,23 +34,13 @@ pub record Numbered : Type 0 where
   pub texts : List (List ℕ)
   pub wires : List (NumberedName × ℕ)
 
--- names without where they lie in memory
-abbrev pub texts : List (Vec ℕ Global) → List (List ℕ)
-texts keys = map (λ key. key.items) keys
-
-abbrev pub with_text : List (List ℕ) → List ℕ → List (List ℕ)
-with_text names name = if list_any (bytes_eq name) names then names else names ++ name ∷ []
-
-abbrev pub number_of_text : List (List ℕ) → List ℕ → ℕ
-number_of_text names name = position_or_len (bytes_eq name) names
-
 abbrev pub same_numbered : NumberedName → NumberedName → Bool
 same_numbered a b = same_tile a.tile b.tile && (a.number == b.number)
 
 abbrev pub with_named : Numbered → PlacedName × ℕ → Numbered
 with_named s row = record {
-  texts = with_text s.texts row.0.name;
-  wires = with_first same_numbered s.wires (record { tile = row.0.tile; number = number_of_text s.texts row.0.name }, row.1);
+  texts = with_name s.texts row.0.name;
+  wires = with_first same_numbered s.wires (record { tile = row.0.tile; number = number_of_name s.texts row.0.name }, row.1);
 }
 
 abbrev pub numbered : Numbered → List (PlacedName × ℕ) → Numbered

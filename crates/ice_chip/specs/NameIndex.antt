@@ -1,6 +1,7 @@
 -- The index of names as the definitions see it.
 use Rattle.std.specs.Prelude.{[]}
-use Rattle.ice_chip.specs.Indices.{Numbered, texts}
+use Rattle.ice_base.specs.Names.{texts}
+use Rattle.ice_chip.specs.Indices.{Numbered}
 use Rattle.ice_chip.specs.declared.names.NameIndex.{NameIndex}
 
 abbrev pub numbered_of : NameIndex → Numbered

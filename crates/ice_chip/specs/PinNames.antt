@@ -1,5 +1,6 @@
 -- Names of wires that lead into the cells or pads of a tile, or out of them.
-use Rattle.std.specs.Prelude.{ℕ, ◌==◌, Bool, ◌&&◌, true, false, is_some, List, [], ◌∷◌, nat_le, codes, if◌then◌else◌}
+use Rattle.std.specs.Prelude.{ℕ, ◌==◌, Bool, ◌&&◌, true, false, is_some, List, [], ◌∷◌, nat_eq, nat_le, codes, if◌then◌else◌}
+use Rattle.std.specs.List.{starts_with}
 use Rattle.std.specs.Option.{option_map_or}
 use Rattle.ice_chip.specs.Digits.{number_behind}
 use Rattle.ice_chip.specs.WireNames.{tile_wire}
@@ -44,3 +45,7 @@ is_output_of kind wire = false
 
 abbrev pub is_output_name : TileKind → List ℕ → Bool
 is_output_name kind name = option_map_or (is_output_of kind) (tile_wire name) false
+
+-- a name of a memory's wire, which no route uses
+abbrev pub is_memory_name : List ℕ → Bool
+is_memory_name name = starts_with nat_eq name (codes "ram/")

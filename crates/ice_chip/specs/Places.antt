@@ -1,14 +1,12 @@
 -- Tiles and their bits.
 use Rattle.std.specs.Prelude.{ℕ, ◌==◌, ◌&&◌, Bool, Option, List}
 use Rattle.std.specs.Map.{lookup}
+pub use Rattle.ice_base.specs.Places.{same_tile}
 use Rattle.ice_base.specs.declared.number.TileAt.{TileAt}
 use Rattle.ice_chip.specs.declared.rows.Pad.{Pad}
 use Rattle.ice_chip.specs.declared.rows.TileKind.{TileKind}
 use Rattle.ice_chip.specs.declared.rows.TileKind.TheVariants.{Io, Logic, RamBottom, RamTop}
 use Rattle.ice_chip.specs.declared.parts.TileLine.{TileLine}
-
-abbrev pub same_tile : TileAt → TileAt → Bool
-same_tile a b = (a.x == b.x) && (a.y == b.y)
 
 abbrev pub same_pad : Pad → Pad → Bool
 same_pad a b = same_tile a.tile b.tile && (a.pio == b.pio)

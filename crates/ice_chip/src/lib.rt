@@ -37,7 +37,7 @@ pub use function_names::{
 };
 pub use functions::{function_line, is_foreign, is_read, same_kind};
 pub use parts::{ChipParts, Package, TileLine};
-pub use pin_names::{cell_pin, is_global_name, is_input_name, is_output_name};
+pub use pin_names::{cell_pin, is_global_name, is_input_name, is_memory_name, is_output_name};
 pub use pins::PinLine;
 pub use rows::{Function, Group, NameRow, Pad, Row, TileKind};
 pub use shared::{BitUse, KindBit};

@@ -3,7 +3,8 @@ ghost use Rattle.std.specs.Prelude.{◌≡◌, [], map, filter, position, bytes_
 ghost use Rattle.std.specs.Map.{lookup};
 ghost use Rattle.ice_chip.specs.Places.{tile_known};
 ghost use Rattle.ice_chip.specs.Lookups.{is_placed, placed_names, placed_wire};
-ghost use Rattle.ice_chip.specs.Indices.{with_first, texts, with_text, number_of_text, same_numbered, with_named, numbered};
+ghost use Rattle.ice_chip.specs.Indices.{with_first, same_numbered, with_named, numbered};
+ghost use Rattle.ice_base.specs.Names.{texts, with_name, number_of_name};
 ghost use Rattle.ice_chip.specs.NameIndex.{numbered_of, no_names};
 ghost use Rattle.ice_chip.specs.Views.{name_view, parts_view};
 
@@ -23,10 +24,10 @@ pub struct NameIndex {
 }
 
 // The number of a name; a new name goes last.
-#[tactic(auto, using(crate::proofs::NameLists::found_names))]
+#[tactic(auto, using(ice_base::proofs::NameLists::found_names))]
 fn number_of(alloc: Global, names: &mut IndexSet<Vec<u8>>, name: &[u8]) -> Result<usize, NoMemory>
-    ensures number { IfOk result (λ n. n ≡ number_of_text (texts names.old.keys) name.now) }
-    ensures appended { OnOk result (texts names.new.keys ≡ with_text (texts names.old.keys) name.now) }
+    ensures number { IfOk result (λ n. n ≡ number_of_name (texts names.old.keys) name.now) }
+    ensures appended { OnOk result (texts names.new.keys ≡ with_name (texts names.old.keys) name.now) }
 {
     if let Some(number) = names.get_index_of(name) {
         return Ok(number);
@@ -37,9 +38,9 @@ fn number_of(alloc: Global, names: &mut IndexSet<Vec<u8>>, name: &[u8]) -> Resul
 }
 
 // The number of a name. One that isn't there has the number behind all that are.
-#[tactic(auto, using(crate::proofs::NameLists::sought_number))]
+#[tactic(auto, using(ice_base::proofs::NameLists::sought_number))]
 fn number_sought(names: &IndexSet<Vec<u8>>, name: &[u8]) -> usize
-    ensures { result ≡ number_of_text (texts names.now.keys) name.now }
+    ensures { result ≡ number_of_name (texts names.now.keys) name.now }
 {
     names.get_index_of(name).unwrap_or(names.len())
 }
@@ -75,7 +76,7 @@ impl NameIndex {
 
     /// The wire that has the name at the place.
     pub fn wire(&self, tile: TileAt, name: &[u8]) -> Option<u32>
-        ensures { result ≡ lookup (same_numbered (record { tile = tile; number = number_of_text (numbered_of self.now).texts name.now })) (numbered_of self.now).wires }
+        ensures { result ≡ lookup (same_numbered (record { tile = tile; number = number_of_name (numbered_of self.now).texts name.now })) (numbered_of self.now).wires }
     {
         let number = number_sought(&self.texts, name);
         self.wires.get(&NumberedName { tile, number }).copied()

@@ -1,6 +1,6 @@
 //! Names of wires that lead into the cells or pads of a tile, or out of them.
 ghost use Rattle.std.specs.Prelude.{◌≡◌};
-ghost use Rattle.ice_chip.specs.PinNames.{is_global_name, cell_pin, is_input_of, is_output_of, is_input_name, is_output_name};
+ghost use Rattle.ice_chip.specs.PinNames.{is_global_name, cell_pin, is_input_of, is_output_of, is_input_name, is_output_name, is_memory_name};
 
 use crate::{TileKind, TileWire, number_behind, tile_wire};
 
@@ -82,4 +82,11 @@ pub fn is_output_name(kind: TileKind, name: &[u8]) -> bool
         Some(wire) => wire.is_output_of(kind),
         None => false,
     }
+}
+
+/// Whether this is the name of a memory's wire, which no route uses.
+pub fn is_memory_name(name: &[u8]) -> bool
+    ensures { result ≡ is_memory_name name.now }
+{
+    name.starts_with(b"ram/".as_slice())
 }

@@ -16,7 +16,7 @@ use Rattle.ice_chip.specs.Places.{same_tile, columns}
 use Rattle.ice_chip.specs.Within.{IsPlace, IsPad, FeedsGlobal, PadFeedsGlobal, ArePads, ArePlaces, IsBit, IsKept, is_again, IsGroup, IsPackage}
 use Rattle.ice_chip.specs.declared.rows.Pad.{Pad}
 use Rattle.ice_chip_laws.specs.Example.{example, switch_groups, wire_names, FindsExample}
-use Rattle.ice_chip_laws.proofs.SameKeys.{nat_same}
+use Rattle.ice_base.proofs.Keys.{nat_same}
 
 -- ---- items that pass a test
 lifted : {X : Type 0} (P : X → Type 0) (test : X → Bool) (sound : (x : X) → test x ≡ true → P x) (xs : List X) → list_all test xs ≡ true → All P xs

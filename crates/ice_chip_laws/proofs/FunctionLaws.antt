@@ -19,12 +19,13 @@ use Rattle.ice_chip.specs.declared.rows.TileKind.{TileKind}
 use Rattle.ice_chip.specs.declared.rows.TileKind.TheVariants.{Io, Logic, RamBottom, RamTop}
 use Rattle.ice_chip_laws.specs.Bits.{function_place}
 use Rattle.ice_chip_laws.specs.Functions.{HasFunction, HasColumnBuffers, HasFunctions}
-use Rattle.ice_chip_laws.specs.Members.{Has}
+use Rattle.ice_value.specs.Order.{Has}
 use Rattle.ice_chip_laws.proofs.FaultFree.{no_fault}
 use Rattle.ice_chip_laws.proofs.KnownTiles.{known_kind}
-use Rattle.ice_chip_laws.proofs.ListMembers.{has_cases, has_none, find_at, lookup_has}
+use Rattle.ice_value.proofs.Members.{Has_cases, Has_none, find_Has, lookup_Has}
 use Rattle.ice_chip_laws.proofs.NameTests.{passes, buffers, is_own, cell_own, first_type_own, second_type_own, enable_own, buffer_is_one, buffer_is_read}
-use Rattle.ice_chip_laws.proofs.SameKeys.{nat_same, bytes_same, kind_same, kind_self}
+use Rattle.ice_base.proofs.Keys.{nat_same, bytes_same}
+use Rattle.ice_chip_laws.proofs.SameKeys.{kind_same, kind_self}
 
 -- ---- functions by their names
 line_is : (kind : TileKind) (name : List ℕ) (fs : List FunctionRow) → function_line kind name fs ≡ option_map (λ (f : FunctionRow). f.line) (find (is_function kind name) fs)
@@ -51,14 +52,14 @@ pub record IsOf (parts : Parts) (kind : TileKind) (name : List ℕ) (f : Functio
 
 pub is_of : (parts : Parts) (kind : TileKind) (name : List ℕ) (f : FunctionRow) → function_of parts kind name ≡ Some f → IsOf parts kind name f
 is_of parts kind name f e =
-    let found = find_at (is_function kind name) parts.functions f e in
+    let found = find_Has (is_function kind name) parts.functions f e in
     let both = and_parts (same_kind f.kind kind) (bytes_eq f.name name) found.1 in
     record { there = found.0; of_kind = kind_same f.kind kind both.0; of_name = bytes_same f.name name both.1 }
 
 -- where an item stands
 split : {X : Type 0} (xs : List X) (x : X) → Has xs x → (before after : List X) × (xs ≡ before ++ x ∷ after)
-split [] x has = absurd (has_none x has)
-split (y ∷ xs) x has = by (has_cases y x xs has) (split xs x)
+split [] x has = absurd (Has_none x has)
+split (y ∷ xs) x has = by (Has_cases y x xs has) (split xs x)
   where
     by : (y ≡ x) ⊎ Has xs x → (Has xs x → (before after : List _) × (xs ≡ before ++ x ∷ after)) → (before after : List _) × (y ∷ xs ≡ before ++ x ∷ after)
     by (inl here) more = ([], xs, ap (λ z. z ∷ xs) here)
@@ -78,8 +79,8 @@ with_bits parts kind name count f found long = record { function = f; there = fo
 
 -- ---- kinds with tiles
 kind_among : (tiles : List (TileAt × TileLine)) (t : TileAt) (known : TileLine) (kind : TileKind) → Has tiles (t, known) → known.kind ≡ kind → has_kind kind (values_of tiles) ≡ true
-kind_among [] t known kind has is = absurd (has_none (t, known) has)
-kind_among (tile ∷ tiles) t known kind has is = by (has_cases tile (t, known) tiles has) (λ there. kind_among tiles t known kind there is)
+kind_among [] t known kind has is = absurd (Has_none (t, known) has)
+kind_among (tile ∷ tiles) t known kind has is = by (Has_cases tile (t, known) tiles has) (λ there. kind_among tiles t known kind there is)
   where
     kept : (b : Bool) → has_kind kind (values_of tiles) ≡ true → (if b then true else has_kind kind (values_of tiles)) ≡ true
     kept true more = refl
@@ -94,13 +95,13 @@ kind_among (tile ∷ tiles) t known kind has is = by (has_cases tile (t, known) 
 pub tile_of_kind : (parts : Parts) (t : TileAt) (kind : TileKind) → kind_at parts t ≡ Some kind → has_tile kind parts.tiles ≡ true
 tile_of_kind parts t kind e =
     let tile = known_kind parts t kind e in
-    let found = lookup_has (same_tile t) parts.tiles tile.0 tile.1 in
+    let found = lookup_Has (same_tile t) parts.tiles tile.0 tile.1 in
     kind_among parts.tiles found.0 tile.0 kind found.1 tile.2
 
 source_among : (kind : TileKind) (tiles : List (TileAt × TileLine)) (rows : List (TileAt × TileAt)) (row : TileAt × TileAt) → Has rows row → is_of_kind kind (tile_known tiles row.0) ≡ true
     → is_buffer_source kind tiles rows ≡ true
-source_among kind tiles [] row has is = absurd (has_none row has)
-source_among kind tiles (first ∷ rows) row has is = by (has_cases first row rows has) (λ there. source_among kind tiles rows row there is)
+source_among kind tiles [] row has is = absurd (Has_none row has)
+source_among kind tiles (first ∷ rows) row has is = by (Has_cases first row rows has) (λ there. source_among kind tiles rows row there is)
   where
     kept : (b : Bool) → is_buffer_source kind tiles rows ≡ true → (if b then true else is_buffer_source kind tiles rows) ≡ true
     kept true more = refl

@@ -1,4 +1,3 @@
-mod ListMembers
 mod SameKeys
 mod KnownTiles
 mod FaultFree
@@ -14,7 +13,6 @@ mod GroupLaws
 mod RowNumbers
 mod ServerLaws
 mod ExampleLaws
-mod TwiceKeys
 mod TwiceScan
 mod TwiceFirst
 mod PinsFirst

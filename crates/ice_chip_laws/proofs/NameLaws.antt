@@ -14,13 +14,15 @@ use Rattle.ice_chip.specs.declared.parts.TileLine.{TileLine}
 use Rattle.ice_chip.specs.declared.rows.TileKind.{TileKind}
 use Rattle.ice_chip.specs.declared.whole.PlacedName.{PlacedName}
 use Rattle.ice_chip.specs.declared.whole.WireLine.{WireLine}
-use Rattle.ice_chip_laws.specs.Members.{Has}
+use Rattle.ice_value.specs.Order.{Has}
 use Rattle.ice_chip_laws.specs.Names.{HasNames}
 use Rattle.ice_chip_laws.proofs.FaultFree.{no_fault}
 use Rattle.ice_chip_laws.proofs.KnownTiles.{some_known, kind_known}
-use Rattle.ice_chip_laws.proofs.ListMembers.{has_map, map_has, has_filter, filter_has, lookup_has, has_lookup, lookup_kept, lookup_added}
+use Rattle.ice_base.proofs.Entries.{lookup_kept, lookup_added}
+use Rattle.ice_value.proofs.Members.{Has_map, map_Has, Has_filter, filter_Has, lookup_Has, Has_lookup}
 use Rattle.ice_chip_laws.proofs.OneName.{goes_on, fit_one}
-use Rattle.ice_chip_laws.proofs.SameKeys.{nat_same, nat_self, placed_same, placed_self}
+use Rattle.ice_base.proofs.Keys.{nat_same, nat_self}
+use Rattle.ice_chip_laws.proofs.SameKeys.{placed_same, placed_self}
 
 module _ (tiles : List (TileAt × TileLine)) where
   abbrev step : List (PlacedName × WireLine) → WireName → Result (List (PlacedName × WireLine)) (ℕ × ℕ)
@@ -92,22 +94,22 @@ pub record Gives (parts : Parts) (w : ℕ) (n : PlacedName) : Type 0 where
 
 pub gives : (parts : Parts) (w : ℕ) (n : PlacedName) → Has (names_of parts w) n → Gives parts w n
 gives parts w n has =
-    let mapped = map_has placed (filter (λ (x : WireName). x.wire == w) (placed_names parts)) n has in
-    let kept = filter_has (λ (x : WireName). x.wire == w) (placed_names parts) mapped.0 mapped.1 in
-    let counted = filter_has (is_placed parts.tiles) parts.names mapped.0 kept.0 in
+    let mapped = map_Has placed (filter (λ (x : WireName). x.wire == w) (placed_names parts)) n has in
+    let kept = filter_Has (λ (x : WireName). x.wire == w) (placed_names parts) mapped.0 mapped.1 in
+    let counted = filter_Has (is_placed parts.tiles) parts.names mapped.0 kept.0 in
     record { row = mapped.0; there = counted.0; counts = counted.1; wire = nat_same mapped.0.wire w kept.1; name = mapped.2 }
 
 given : (parts : Parts) (w : ℕ) (n : PlacedName) → Gives parts w n → Has (names_of parts w) n
 given parts w n g =
-    let counted : Has (placed_names parts) g.row = has_filter (is_placed parts.tiles) parts.names g.row g.there g.counts in
-    let kept = has_filter (λ (x : WireName). x.wire == w) (placed_names parts) g.row counted (ap (λ v. v == w) g.wire ∙ nat_self w) in
-    subst (λ x. Has (names_of parts w) x) g.name (has_map placed (filter (λ (x : WireName). x.wire == w) (placed_names parts)) g.row kept)
+    let counted : Has (placed_names parts) g.row = Has_filter (is_placed parts.tiles) parts.names g.row g.there g.counts in
+    let kept = Has_filter (λ (x : WireName). x.wire == w) (placed_names parts) g.row counted (ap (λ v. v == w) g.wire ∙ nat_self w) in
+    subst (λ x. Has (names_of parts w) x) g.name (Has_map placed (filter (λ (x : WireName). x.wire == w) (placed_names parts)) g.row kept)
 
 found_gives : (parts : Parts) (t : TileAt) (name : List ℕ) (w : ℕ) → wire_named parts t name ≡ Some w → Gives parts w (placed_at t name)
 found_gives parts t name w e =
-    let found = lookup_has (same_placed (placed_at t name)) (map placed_wire (placed_names parts)) w e in
-    let mapped = map_has placed_wire (placed_names parts) (found.0, w) found.1 in
-    let counted = filter_has (is_placed parts.tiles) parts.names mapped.0 mapped.1 in
+    let found = lookup_Has (same_placed (placed_at t name)) (map placed_wire (placed_names parts)) w e in
+    let mapped = map_Has placed_wire (placed_names parts) (found.0, w) found.1 in
+    let counted = filter_Has (is_placed parts.tiles) parts.names mapped.0 mapped.1 in
     record {
       row = mapped.0;
       there = counted.0;
@@ -122,9 +124,9 @@ one_wire parts chip v w n a b =
 
 gives_found : (parts : Parts) → IsChip parts → (t : TileAt) (name : List ℕ) (w : ℕ) → Gives parts w (placed_at t name) → wire_named parts t name ≡ Some w
 gives_found parts chip t name w g =
-    let counted : Has (placed_names parts) g.row = has_filter (is_placed parts.tiles) parts.names g.row g.there g.counts in
+    let counted : Has (placed_names parts) g.row = Has_filter (is_placed parts.tiles) parts.names g.row g.there g.counts in
     let passes : same_placed (placed_at t name) (placed g.row) ≡ true = ap (same_placed (placed_at t name)) g.name ∙ placed_self (placed_at t name) in
-    let found = has_lookup (same_placed (placed_at t name)) (map placed_wire (placed_names parts)) (placed_wire g.row) (has_map placed_wire (placed_names parts) g.row counted) passes in
+    let found = Has_lookup (same_placed (placed_at t name)) (map placed_wire (placed_names parts)) (placed_wire g.row) (Has_map placed_wire (placed_names parts) g.row counted) passes in
     found.1 ∙ ap Some (one_wire parts chip found.0 w (placed_at t name) (found_gives parts t name found.0 found.1) g)
 
 below : (parts : Parts) → IsChip parts → (w : ℕ) (n : PlacedName) → Gives parts w n → w < parts.wires

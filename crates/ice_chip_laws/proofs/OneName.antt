@@ -5,8 +5,8 @@ use Rattle.std.specs.Map.{lookup}
 use Rattle.std.proofs.lemmas.Option.{none-some, same_Some}
 use Rattle.ice_chip.specs.Database.{WireName}
 use Rattle.ice_chip.specs.WholeFaults.{unless_clash}
-use Rattle.ice_chip_laws.specs.Members.{Has}
-use Rattle.ice_chip_laws.proofs.ListMembers.{has_cases, has_none}
+use Rattle.ice_value.specs.Order.{Has}
+use Rattle.ice_value.proofs.Members.{Has_cases, Has_none}
 
 -- what a test goes on with, where it answers no clash
 pub goes_on : {A : Type 0} (r : Result A (ℕ × ℕ)) (test : A → Option (ℕ × ℕ)) → unless_clash r test ≡ None → (more : A) × (r ≡ Ok more) × (test more ≡ None)
@@ -20,8 +20,8 @@ module _ {K V : Type 0} (same : K → K → Bool) (key : WireName → K) (Counts
     (notes : (seen more : List (K × V)) (n : WireName) → Counts n → step seen n ≡ Ok more → (v : V) × (lookup (same (key n)) more ≡ Some v) × Fits v n) where
   -- what was seen fits each later name of the key
   held : (seen : List (K × V)) (ns : List WireName) (n : WireName) (v : V) → run seen ns ≡ None → Has ns n → Counts n → lookup (same (key n)) seen ≡ Some v → Fits v n
-  held seen [] n v e has counts found = absurd (has_none n has)
-  held seen (m ∷ ns) n v e has counts found = by (runs seen m ns e) (has_cases m n ns has) (λ more rest there later. held more ns n v rest there counts later)
+  held seen [] n v e has counts found = absurd (Has_none n has)
+  held seen (m ∷ ns) n v e has counts found = by (runs seen m ns e) (Has_cases m n ns has) (λ more rest there later. held more ns n v rest there counts later)
     where
       by : (more : List (K × V)) × (step seen m ≡ Ok more) × (run more ns ≡ None) → (m ≡ n) ⊎ Has ns n
           → ((more : List (K × V)) → run more ns ≡ None → Has ns n → lookup (same (key n)) more ≡ Some v → Fits v n) → Fits v n
@@ -32,8 +32,8 @@ module _ {K V : Type 0} (same : K → K → Bool) (key : WireName → K) (Counts
 
   -- two names of one key fit one thing
   pub fit_one : (seen : List (K × V)) (ns : List WireName) (n m : WireName) → run seen ns ≡ None → Has ns n → Has ns m → Counts n → Counts m → key n ≡ key m → (v : V) × Fits v n × Fits v m
-  fit_one seen [] n m e has_n has_m counts_n counts_m one = absurd (has_none n has_n)
-  fit_one seen (x ∷ ns) n m e has_n has_m counts_n counts_m one = by (runs seen x ns e) (has_cases x n ns has_n) (has_cases x m ns has_m) (λ more rest a b. fit_one more ns n m rest a b counts_n counts_m one)
+  fit_one seen [] n m e has_n has_m counts_n counts_m one = absurd (Has_none n has_n)
+  fit_one seen (x ∷ ns) n m e has_n has_m counts_n counts_m one = by (runs seen x ns e) (Has_cases x n ns has_n) (Has_cases x m ns has_m) (λ more rest a b. fit_one more ns n m rest a b counts_n counts_m one)
     where
       by : (more : List (K × V)) × (step seen x ≡ Ok more) × (run more ns ≡ None) → (x ≡ n) ⊎ Has ns n → (x ≡ m) ⊎ Has ns m
           → ((more : List (K × V)) → run more ns ≡ None → Has ns n → Has ns m → (v : V) × Fits v n × Fits v m) → (v : V) × Fits v n × Fits v m

@@ -15,13 +15,14 @@ use Rattle.ice_chip.specs.WholeFaults.{placed}
 use Rattle.ice_chip.specs.declared.parts.TileLine.{TileLine}
 use Rattle.ice_chip.specs.declared.pins.PinLine.{PinLine}
 use Rattle.ice_chip.specs.declared.whole.PlacedName.{PlacedName}
-use Rattle.ice_chip_laws.specs.Members.{Has}
+use Rattle.ice_value.specs.Order.{Has}
 use Rattle.ice_chip_laws.specs.Pins.{is_pin_in, is_pin_name, pin_of, AreOnePin, IsPinOf, IsOnePin, HasPins}
 use Rattle.ice_chip_laws.proofs.FaultFree.{no_fault}
-use Rattle.ice_chip_laws.proofs.ListMembers.{find_at, has_find, lookup_kept, lookup_added}
+use Rattle.ice_base.proofs.Entries.{lookup_kept, lookup_added}
+use Rattle.ice_value.proofs.Members.{find_Has, Has_find}
 use Rattle.ice_chip_laws.proofs.NameLaws.{gives}
 use Rattle.ice_chip_laws.proofs.OneName.{goes_on, fit_one}
-use Rattle.ice_chip_laws.proofs.SameKeys.{nat_self, bytes_same, bytes_self, tile_same, tile_self}
+use Rattle.ice_base.proofs.Keys.{nat_self, bytes_same, bytes_self, tile_same, tile_self}
 
 -- two names that are of one pin with a third
 one_with : (first a b : PlacedName) → same_pin first a ≡ true → same_pin first b ≡ true → AreOnePin a b
@@ -118,8 +119,8 @@ one_pin parts chip w a b (has_a, pin_a) (has_b, pin_b) =
 
 found_pin : (parts : Parts) → IsChip parts → (w : ℕ) (n : PlacedName) → IsPinOf parts w n → (first : PlacedName) × (pin_of parts w ≡ Some first) × AreOnePin first n
 found_pin parts chip w n is =
-    let found = has_find (is_pin_name parts) (names_of parts w) n is.0 is.1 in
-    (found.0, found.1, one_pin parts chip w found.0 n (find_at (is_pin_name parts) (names_of parts w) found.0 found.1) is)
+    let found = Has_find (is_pin_name parts) (names_of parts w) n is.0 is.1 in
+    (found.0, found.1, one_pin parts chip w found.0 n (find_Has (is_pin_name parts) (names_of parts w) found.0 found.1) is)
 
 -- a pin that is no global's has one name
 same_name : (n m : PlacedName) → AreOnePin n m → is_global_name m.name ≡ false → n ≡ m
@@ -133,7 +134,7 @@ pins_are parts chip = record {
   only = λ w n is local.
       let found = found_pin parts chip w n is in
       found.1 ∙ ap Some (same_name found.0 n found.2 local);
-  named = λ w n e. find_at (is_pin_name parts) (names_of parts w) n e;
+  named = λ w n e. find_Has (is_pin_name parts) (names_of parts w) n e;
 }
 
 -- the pin to which a wire leads is its one pin

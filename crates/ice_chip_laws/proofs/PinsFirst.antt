@@ -3,7 +3,7 @@ use Rattle.std.proofs.Common.{◌≡◌, ℕ, Bool, true, false, Option, None, S
 use Rattle.std.proofs.Math.Path.{fun_ext}
 use Rattle.std.specs.Prelude.{◌||◌, ◌⊎◌, nat_eq, bytes_eq, Result, Ok, if◌then◌else◌}
 use Rattle.std.specs.Map.{lookup}
-use Rattle.std.proofs.lemmas.Bool.{and_parts}
+use Rattle.std.proofs.lemmas.Bool.{and_parts, or_cases}
 use Rattle.ice_base.specs.declared.number.TileAt.{TileAt}
 use Rattle.ice_chip.specs.Database.{WireName}
 use Rattle.ice_chip.specs.PinNames.{is_global_name}
@@ -15,20 +15,13 @@ use Rattle.ice_chip.specs.declared.pins.PinLine.{PinLine}
 use Rattle.ice_chip.specs.declared.whole.PlacedName.{PlacedName}
 use Rattle.ice_chip_laws.specs.FirstPins.{AreTwoPins, SharedPinIsFirst}
 use Rattle.ice_chip_laws.specs.FirstTwo.{AreLinesOfFirst}
-use Rattle.ice_chip_laws.proofs.TwiceKeys.{bytes_same, number_same, number_self, tile_same}
+use Rattle.ice_base.proofs.Booleans.{or_true}
+use Rattle.ice_base.proofs.Keys.{bytes_same, nat_same, nat_self, tile_same}
 use Rattle.ice_chip_laws.proofs.TwiceScan.{noted, step, scan, scan_is_first}
 
 -- ---- pins
 abbrev of_pin : PinLine → WireName → Bool
 of_pin known n = same_pin known.pin (placed n)
-
-either_true : (a b : Bool) → (a || b) ≡ true → (a ≡ true) ⊎ (b ≡ true)
-either_true true b e = inl refl
-either_true false b e = inr e
-
-or_true : (a : Bool) → (a || true) ≡ true
-or_true true = refl
-or_true false = refl
 
 -- pins that are the same as one pin are the same
 same_as_one : (a b c : PlacedName) → same_pin a b ≡ true → same_pin a c ≡ true → same_pin b c ≡ true
@@ -39,7 +32,7 @@ same_as_one a b c ab ac =
     let a_is_c : a.name ≡ c.name = bytes_same a.name c.name c_parts.0 in
     let names : bytes_eq b.name c.name ≡ true = ap (λ name. bytes_eq name c.name) (sym a_is_b) ∙ c_parts.0 in
     let places : (same_tile b.tile c.tile || is_global_name b.name) ≡ true =
-    by_global a_is_b (either_true (same_tile a.tile b.tile) (is_global_name a.name) b_parts.1) (either_true (same_tile a.tile c.tile) (is_global_name a.name) c_parts.1) in
+    by_global a_is_b (or_cases (same_tile a.tile b.tile) (is_global_name a.name) b_parts.1) (or_cases (same_tile a.tile c.tile) (is_global_name a.name) c_parts.1) in
     rw (names, places) refl
   where
     global : a.name ≡ b.name → is_global_name a.name ≡ true → (same_tile b.tile c.tile || is_global_name b.name) ≡ true
@@ -89,6 +82,6 @@ module _ (tiles : List (TileAt × TileLine)) where
 pub pin_is_first : SharedPinIsFirst
 pin_is_first parts =
     let first : AreLinesOfFirst (AreTwoPins parts.tiles) parts.names (scans parts.tiles [] parts.names) =
-    scan_is_first nat_eq (is_pin_row parts.tiles) (wire_of parts.tiles) pin_line of_pin (λ known. known.line) number_same number_self (λ n. refl)
+    scan_is_first nat_eq (is_pin_row parts.tiles) (wire_of parts.tiles) pin_line of_pin (λ known. known.line) nat_same nat_self (λ n. refl)
     (λ a b c. same_as_one (placed a) (placed b) (placed c)) (AreTwoPins parts.tiles) (two_pins parts.tiles) (has_two_pins parts.tiles) parts.names in
     subst (AreLinesOfFirst (AreTwoPins parts.tiles) parts.names) (sym (are_scans parts.tiles parts.names [])) first

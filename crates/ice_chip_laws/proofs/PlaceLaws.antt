@@ -1,6 +1,6 @@
 -- The function at a place of the tiles of a kind.
-use Rattle.std.proofs.Common.{◌≡◌, ℕ, ◌+◌, ◌<◌, Bool, true, Option, None, Some, List, [], ◌∷◌, length, slice_get, refl, sym, ap, subst, ◌∙◌, true≢false, inl, inr, arith}
-use Rattle.std.specs.Prelude.{◌⊎◌, ◌&&◌, ◌||◌, ◌==◌, bytes_eq, codes}
+use Rattle.std.proofs.Common.{◌≡◌, ℕ, ◌+◌, ◌<◌, Bool, true, Option, None, Some, List, length, slice_get, refl, sym, ap, subst, ◌∙◌, true≢false, inl, inr, arith}
+use Rattle.std.specs.Prelude.{◌&&◌, ◌||◌, ◌==◌, bytes_eq, codes}
 use Rattle.std.specs.List.{list_all, list_any, range_with_len}
 use Rattle.std.specs.Option.{option_and_then}
 use Rattle.std.proofs.lemmas.Bool.{and_parts, or_cases}
@@ -17,31 +17,11 @@ use Rattle.ice_chip.specs.Lookups.{kind_at, function_of}
 use Rattle.ice_chip.specs.declared.rows.TileKind.{TileKind}
 use Rattle.ice_chip.specs.declared.rows.TileKind.TheVariants.{Io, Logic, RamBottom, RamTop}
 use Rattle.ice_chip_laws.specs.Bits.{function_place, IsReadAt, read_bits, is_there, function_at}
-use Rattle.ice_chip_laws.specs.Members.{Has}
+use Rattle.ice_value.specs.Order.{Has}
 use Rattle.ice_chip_laws.proofs.FunctionLaws.{size_of}
-use Rattle.ice_chip_laws.proofs.ListMembers.{has_cases, has_none, has_tail, find_at, has_find}
+use Rattle.ice_value.proofs.Members.{find_Has, Has_find, all_Has, any_Has}
 use Rattle.ice_chip_laws.proofs.NameTests.{passes, enables_pass, cells, buffers, first_types, second_types}
-use Rattle.ice_chip_laws.proofs.SameKeys.{nat_same, nat_self, bytes_same}
-
--- ---- items that pass tests
-all_has : {X : Type 0} (test : X → Bool) (xs : List X) (x : X) → list_all test xs ≡ true → Has xs x → test x ≡ true
-all_has test [] x all has = absurd (has_none x has)
-all_has test (y ∷ xs) x all has = by (and_parts (test y) (list_all test xs) all) (has_cases y x xs has) (all_has test xs x)
-  where
-    by : (test y ≡ true) × (list_all test xs ≡ true) → (y ≡ x) ⊎ Has xs x → (list_all test xs ≡ true → Has xs x → test x ≡ true) → test x ≡ true
-    by (first, rest) (inl here) more = ap test (sym here) ∙ first
-    by (first, rest) (inr there) more = more rest there
-
-any_has : {X : Type 0} (test : X → Bool) (xs : List X) → list_any test xs ≡ true → (x : X) × Has xs x × (test x ≡ true)
-any_has test [] any = absurd (true≢false (sym any))
-any_has test (y ∷ xs) any = by (test y) refl (or_cases (test y) (list_any test xs) any) (any_has test xs)
-  where
-    further : (x : _) × Has xs x × (test x ≡ true) → (x : _) × Has (y ∷ xs) x × (test x ≡ true)
-    further (x, has, is) = (x, has_tail y x xs has, is)
-
-    by : (b : Bool) → test y ≡ b → (test y ≡ true) ⊎ (list_any test xs ≡ true) → (list_any test xs ≡ true → (x : _) × Has xs x × (test x ≡ true)) → (x : _) × Has (y ∷ xs) x × (test x ≡ true)
-    by b is (inl here) more = (y, (0, refl), here)
-    by b is (inr there) more = further (more there)
+use Rattle.ice_base.proofs.Keys.{nat_same, nat_self, bytes_same}
 
 -- ---- the bits that are read are listed
 abbrev is_bit : List ℕ → ℕ → List ℕ × ℕ → Bool
@@ -98,8 +78,8 @@ in_range n k lt =
 
 pub bit_listed : (kind : TileKind) (name : List ℕ) (k : ℕ) → is_read kind name ≡ true → k < bits_needed name → Has (read_bits kind) (name, k)
 bit_listed kind name k read lt =
-    let listed = all_has (is_listed kind name) (range_with_len 0 (bits_needed name)) k (read_listed kind name read) (in_range (bits_needed name) k lt) in
-    let found = any_has (is_bit name k) (read_bits kind) listed in
+    let listed = all_Has (is_listed kind name) (range_with_len 0 (bits_needed name)) k (read_listed kind name read) (in_range (bits_needed name) k lt) in
+    let found = any_Has (is_bit name k) (read_bits kind) listed in
     let both = and_parts (bytes_eq found.0.0 name) (found.0.1 == k) found.2 in
     let same_name = bytes_same found.0.0 name both.0 in
     let same_number = nat_same found.0.1 k both.1 in
@@ -125,14 +105,14 @@ there_self b o e = ap (is_there b) e ∙ rw (nat_self b.row, nat_self b.col) ref
 
 pub found_at : (parts : Parts) (kind : TileKind) (name : List ℕ) (k : ℕ) (b : BitAt) → function_at parts kind b ≡ Some (name, k) → IsReadAt parts kind name k b
 found_at parts kind name k b e =
-    let found = find_at (λ (bit : List ℕ × ℕ). is_there b (function_place parts kind bit.0 bit.1)) (read_bits kind) (name, k) e in
-    (all_has (λ (bit : List ℕ × ℕ). is_read kind bit.0) (read_bits kind) (name, k) (bits_read kind) found.0, place_is b (function_place parts kind name k) found.1)
+    let found = find_Has (λ (bit : List ℕ × ℕ). is_there b (function_place parts kind bit.0 bit.1)) (read_bits kind) (name, k) e in
+    (all_Has (λ (bit : List ℕ × ℕ). is_read kind bit.0) (read_bits kind) (name, k) (bits_read kind) found.0, place_is b (function_place parts kind name k) found.1)
 
 pub found_there : (parts : Parts) (kind : TileKind) (name : List ℕ) (k : ℕ) (b : BitAt)
     → ((one other : List ℕ) (i j : ℕ) (place : BitAt) → IsReadAt parts kind one i place → IsReadAt parts kind other j place → (one ≡ other) × (i ≡ j))
     → IsReadAt parts kind name k b → Has (read_bits kind) (name, k) → function_at parts kind b ≡ Some (name, k)
 found_there parts kind name k b one_use is listed =
-    let found = has_find (λ (bit : List ℕ × ℕ). is_there b (function_place parts kind bit.0 bit.1)) (read_bits kind) (name, k) listed (there_self b (function_place parts kind name k) is.1) in
+    let found = Has_find (λ (bit : List ℕ × ℕ). is_there b (function_place parts kind bit.0 bit.1)) (read_bits kind) (name, k) listed (there_self b (function_place parts kind name k) is.1) in
     let same = one_use found.0.0 name found.0.1 k b (found_at parts kind found.0.0 found.0.1 b found.1) is in
     found.1 ∙ ap Some (λ i. (same.0 i, same.1 i))
 

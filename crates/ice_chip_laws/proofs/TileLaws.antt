@@ -10,21 +10,21 @@ use Rattle.ice_chip.specs.Places.{same_tile}
 use Rattle.ice_chip.specs.Within.{IsPlace}
 use Rattle.ice_chip.specs.declared.parts.TileLine.{TileLine}
 use Rattle.ice_chip.specs.declared.rows.TileKind.{TileKind}
-use Rattle.ice_chip_laws.specs.Members.{Has}
+use Rattle.ice_value.specs.Order.{Has}
 use Rattle.ice_chip_laws.specs.Tiles.{HasTiles}
 use Rattle.ice_chip_laws.proofs.KnownTiles.{known_kind, kind_known}
-use Rattle.ice_chip_laws.proofs.ListMembers.{lookup_has, has_lookup, has_map, has_all}
-use Rattle.ice_chip_laws.proofs.SameKeys.{tile_same, tile_self, tiles_equal}
+use Rattle.ice_value.proofs.Members.{lookup_Has, Has_lookup, Has_map, Has_all}
+use Rattle.ice_base.proofs.Keys.{tile_same, tile_self, tiles_equal}
 
 listed : (parts : Parts) (t : TileAt) (kind : TileKind) → kind_at parts t ≡ Some kind → (known : TileLine) × Has parts.tiles (t, known) × (known.kind ≡ kind)
 listed parts t kind e =
     let tile = known_kind parts t kind e in
-    let found = lookup_has (same_tile t) parts.tiles tile.0 tile.1 in
+    let found = lookup_Has (same_tile t) parts.tiles tile.0 tile.1 in
     (tile.0, subst (λ place. Has parts.tiles (place, tile.0)) (sym (tile_same t found.0 found.2)) found.1, tile.2)
 
 stands : (parts : Parts) (t : TileAt) (known : TileLine) → Has parts.tiles (t, known) → (kind : TileKind) × (kind_at parts t ≡ Some kind)
 stands parts t known has =
-    let found = has_lookup (same_tile t) parts.tiles (t, known) has (tile_self t) in
+    let found = Has_lookup (same_tile t) parts.tiles (t, known) has (tile_self t) in
     (found.0.kind, kind_known parts t found.0 found.1)
 
 kinds : (parts : Parts) → IsChip parts → (t : TileAt) (known : TileLine) → Has parts.tiles (t, known) → kind_at parts t ≡ Some known.kind
@@ -33,7 +33,7 @@ kinds parts chip t known has = kind_known parts t known (lookup_from_place tiles
 within : (parts : Parts) → IsChip parts → (t : TileAt) (kind : TileKind) → kind_at parts t ≡ Some kind → IsPlace parts.width parts.height t
 within parts chip t kind e =
     let found = listed parts t kind e in
-    has_all (IsPlace parts.width parts.height) (keys_of parts.tiles) t chip.read.tile_places (has_map (λ (row : TileAt × TileLine). row.0) parts.tiles (t, found.0) found.1)
+    Has_all (IsPlace parts.width parts.height) (keys_of parts.tiles) t chip.read.tile_places (Has_map (λ (row : TileAt × TileLine). row.0) parts.tiles (t, found.0) found.1)
 
 near : (parts : Parts) → IsChip parts → (t : TileAt) (kind : TileKind) → kind_at parts t ≡ Some kind → (t.x < 256) × (t.y < 256)
 near parts chip t kind e =

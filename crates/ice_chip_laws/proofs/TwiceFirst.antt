@@ -1,53 +1,42 @@
 -- The lines of a name of two wires are those of the first two rows that clash.
 use Rattle.std.proofs.Common.{◌≡◌, ℕ, Bool, true, false, Option, None, Some, List, [], ◌∷◌, refl, sym, ap, subst, ◌∙◌, true≢false}
 use Rattle.std.proofs.Math.Path.{fun_ext}
-use Rattle.std.specs.Prelude.{◌==◌, bytes_eq, is_some, Result, Ok, if◌then◌else◌}
+use Rattle.std.specs.Prelude.{◌==◌, is_some, Result, Ok, if◌then◌else◌}
 use Rattle.std.specs.Map.{lookup}
-use Rattle.std.proofs.lemmas.Bool.{and_parts}
 use Rattle.ice_base.specs.declared.number.TileAt.{TileAt}
 use Rattle.ice_chip.specs.Database.{WireName}
 use Rattle.ice_chip.specs.Lookups.{is_placed}
-use Rattle.ice_chip.specs.Places.{same_tile, tile_known}
+use Rattle.ice_chip.specs.Places.{tile_known}
 use Rattle.ice_chip.specs.WholeFaults.{same_placed, placed, wire_line, with_placed, with_name, unless_clash, name_of_two_wires}
 use Rattle.ice_chip.specs.declared.parts.TileLine.{TileLine}
 use Rattle.ice_chip.specs.declared.whole.PlacedName.{PlacedName}
 use Rattle.ice_chip.specs.declared.whole.WireLine.{WireLine}
 use Rattle.ice_chip_laws.specs.FirstTwice.{AreOfTwoWires, NameOfTwoWiresIsFirst}
 use Rattle.ice_chip_laws.specs.FirstTwo.{AreLinesOfFirst}
-use Rattle.ice_chip_laws.proofs.TwiceKeys.{bytes_same, bytes_self, number_same, number_self, tile_same}
+use Rattle.ice_base.proofs.Keys.{nat_same, nat_self}
+use Rattle.ice_chip_laws.proofs.SameKeys.{placed_same, placed_self}
 use Rattle.ice_chip_laws.proofs.TwiceScan.{noted, step, scan, scan_is_first}
-
--- ---- names and places
-placed_same : (a b : PlacedName) → same_placed a b ≡ true → a ≡ b
-placed_same a b e =
-    let parts = and_parts (same_tile a.tile b.tile) (bytes_eq a.name b.name) e in
-    let tile = tile_same a.tile b.tile parts.0 in
-    let name = bytes_same a.name b.name parts.1 in
-    λ i. record { tile = tile i; name = name i }
-
-placed_self : (a : PlacedName) → same_placed a a ≡ true
-placed_self a = rw (number_self a.tile.x, number_self a.tile.y, bytes_self a.name) refl
 
 -- ---- wires
 abbrev of_wire : WireLine → WireName → Bool
 of_wire known n = known.wire == n.wire
 
 one_wire : (a b c : WireName) → of_wire (wire_line a) b ≡ true → of_wire (wire_line a) c ≡ true → of_wire (wire_line b) c ≡ true
-one_wire a b c ab ac = ap (λ w. w == c.wire) (sym (number_same a.wire b.wire ab)) ∙ ac
+one_wire a b c ab ac = ap (λ w. w == c.wire) (sym (nat_same a.wire b.wire ab)) ∙ ac
 
 module _ (tiles : List (TileAt × TileLine)) where
   two_wires : (a b : WireName) → is_placed tiles a ≡ true → is_placed tiles b ≡ true → placed a ≡ placed b → of_wire (wire_line a) b ≡ false → AreOfTwoWires tiles a b
   two_wires a b tile other name differ = record {
     tile = tile;
     name = name;
-    wires = λ same. true≢false (sym (ap (λ w. a.wire == w) (sym same) ∙ number_self a.wire) ∙ differ);
+    wires = λ same. true≢false (sym (ap (λ w. a.wire == w) (sym same) ∙ nat_self a.wire) ∙ differ);
   }
 
   wires_differ : (a b : WireName) → AreOfTwoWires tiles a b → of_wire (wire_line a) b ≡ false
   wires_differ a b two = by (a.wire == b.wire) refl
     where
       by : (c : Bool) → (a.wire == b.wire) ≡ c → c ≡ false
-      by true is = absurd (two.wires (number_same a.wire b.wire is))
+      by true is = absurd (two.wires (nat_same a.wire b.wire is))
       by false is = refl
 
   has_two_wires : (a b : WireName) → AreOfTwoWires tiles a b → (is_placed tiles a ≡ true) × (is_placed tiles b ≡ true) × (placed a ≡ placed b) × (of_wire (wire_line a) b ≡ false)

@@ -19,14 +19,15 @@ use Rattle.ice_chip.specs.declared.parts.TileLine.{TileLine}
 use Rattle.ice_chip.specs.declared.rows.TileKind.{TileKind}
 use Rattle.ice_chip.specs.declared.shared.BitUse.{BitUse}
 use Rattle.ice_chip_laws.specs.Bits.{function_place, IsReadAt, HasOwnBits}
-use Rattle.ice_chip_laws.specs.Members.{At, Has}
+use Rattle.ice_value.specs.Order.{At, Has}
 use Rattle.ice_chip_laws.proofs.FaultFree.{no_fault}
 use Rattle.ice_chip_laws.proofs.FunctionLaws.{IsOf, is_of}
 use Rattle.ice_chip_laws.proofs.KnownTiles.{known_kind}
-use Rattle.ice_chip_laws.proofs.ListMembers.{at_left, at_right, at_within, at_map, has_map, has_all}
+use Rattle.ice_value.proofs.Members.{At_left, At_right, At_within, At_map, Has_map, Has_all}
 use Rattle.ice_chip_laws.proofs.NameTests.{read_not_foreign}
 use Rattle.ice_chip_laws.proofs.PlaceLaws.{found_at, found_there, bit_listed, number_below}
-use Rattle.ice_chip_laws.proofs.SameKeys.{nat_self, kind_self}
+use Rattle.ice_base.proofs.Keys.{nat_self}
+use Rattle.ice_chip_laws.proofs.SameKeys.{kind_self}
 
 -- ---- one item before another
 record Before {X : Type 0} (xs : List X) (x y : X) : Type 0 where
@@ -37,24 +38,24 @@ record Before {X : Type 0} (xs : List X) (x y : X) : Type 0 where
   at_second : At xs second y
 
 before_left : {X : Type 0} (xs ys : List X) (x y : X) → Before xs x y → Before (xs ++ ys) x y
-before_left xs ys x y b = record { first = b.first; second = b.second; order = b.order; at_first = at_left xs ys b.first x b.at_first; at_second = at_left xs ys b.second y b.at_second }
+before_left xs ys x y b = record { first = b.first; second = b.second; order = b.order; at_first = At_left xs ys b.first x b.at_first; at_second = At_left xs ys b.second y b.at_second }
 
 before_right : {X : Type 0} (xs ys : List X) (x y : X) → Before ys x y → Before (xs ++ ys) x y
 before_right xs ys x y b =
     let lt = b.order in
-    record { first = length xs + b.first; second = length xs + b.second; order = omega arith; at_first = at_right xs ys b.first x b.at_first; at_second = at_right xs ys b.second y b.at_second }
+    record { first = length xs + b.first; second = length xs + b.second; order = omega arith; at_first = At_right xs ys b.first x b.at_first; at_second = At_right xs ys b.second y b.at_second }
 
 before_across : {X : Type 0} (xs ys : List X) (x y : X) → Has xs x → Has ys y → Before (xs ++ ys) x y
 before_across xs ys x y (i, at_x) (j, at_y) =
-    let lt : i < length xs = at_within xs i x at_x in
-    record { first = i; second = length xs + j; order = omega arith; at_first = at_left xs ys i x at_x; at_second = at_right xs ys j y at_y }
+    let lt : i < length xs = At_within xs i x at_x in
+    record { first = i; second = length xs + j; order = omega arith; at_first = At_left xs ys i x at_x; at_second = At_right xs ys j y at_y }
 
 -- ---- lists that are made of parts
 has_left : {X : Type 0} (xs ys : List X) (x : X) → Has xs x → Has (xs ++ ys) x
-has_left xs ys x (i, at) = (i, at_left xs ys i x at)
+has_left xs ys x (i, at) = (i, At_left xs ys i x at)
 
 has_right : {X : Type 0} (xs ys : List X) (x : X) → Has ys x → Has (xs ++ ys) x
-has_right xs ys x (i, at) = (length xs + i, at_right xs ys i x at)
+has_right xs ys x (i, at) = (length xs + i, At_right xs ys i x at)
 
 has_part : {X Y : Type 0} (f : X → List Y) (xs : List X) (i : ℕ) (x : X) (y : Y) → At xs i x → Has (f x) y → Has (flat_map f xs) y
 has_part f [] i x y at has = absurd (none-some x at)
@@ -118,12 +119,12 @@ foreign_uses f read foreign = rw (read, foreign) refl
 read_use : (f : FunctionRow) (kind : TileKind) (k : ℕ) (b : BitAt) → f.kind ≡ kind → is_read f.kind f.name ≡ true → At f.bits k b → At (function_uses f) k (bit_use kind true f.line b)
 read_use f kind k b of read at =
     subst (λ us. At us k (bit_use kind true f.line b)) (read_uses f read)
-    (subst (λ (x : TileKind). At (map (bit_use f.kind true f.line) f.bits) k (bit_use x true f.line b)) of (at_map (bit_use f.kind true f.line) f.bits k b at))
+    (subst (λ (x : TileKind). At (map (bit_use f.kind true f.line) f.bits) k (bit_use x true f.line b)) of (At_map (bit_use f.kind true f.line) f.bits k b at))
 
 foreign_use : (f : FunctionRow) (kind : TileKind) (b : BitAt) → f.kind ≡ kind → is_read f.kind f.name ≡ false → is_foreign f.kind f.name ≡ true → Has f.bits b → Has (function_uses f) (bit_use kind false f.line b)
 foreign_use f kind b of read foreign has =
     subst (λ us. Has us (bit_use kind false f.line b)) (foreign_uses f read foreign)
-    (subst (λ (x : TileKind). Has (map (bit_use f.kind false f.line) f.bits) (bit_use x false f.line b)) of (has_map (bit_use f.kind false f.line) f.bits b has))
+    (subst (λ (x : TileKind). Has (map (bit_use f.kind false f.line) f.bits) (bit_use x false f.line b)) of (Has_map (bit_use f.kind false f.line) f.bits b has))
 
 module _ (parts : Parts) (chip : IsChip parts) (first : SharedFunctionIsFirst) where
   abbrev of_functions : List BitUse
@@ -209,7 +210,7 @@ module _ (parts : Parts) (chip : IsChip parts) (first : SharedFunctionIsFirst) w
       by (f, of_f, bit_f) (known, tile, is) =
           let use_f : BitUse = bit_use kind true f.line b in
           let use_g : BitUse = bit_use kind false g.line b in
-          let of_tile : Has (group_uses (Some known) g) use_g = subst (λ (x : TileKind). Has (map (bit_use known.kind false g.line) g.bits) (bit_use x false g.line b)) is (has_map (bit_use known.kind false g.line) g.bits b bit_g) in
+          let of_tile : Has (group_uses (Some known) g) use_g = subst (λ (x : TileKind). Has (map (bit_use known.kind false g.line) g.bits) (bit_use x false g.line b)) is (Has_map (bit_use known.kind false g.line) g.bits b bit_g) in
           let in_group : Has (group_uses (tile_known parts.tiles g.tile) g) use_g = subst (λ (o : Option TileLine). Has (group_uses o g) use_g) (sym tile) of_tile in
           let from_f : Has of_functions use_f = has_part function_uses parts.functions of_f.there.0 f use_f of_f.there.1 (k, read_use f kind k b of_f.of_kind (read_there kind name f of_f read) bit_f) in
           let from_g : Has of_groups use_g = has_part (λ (x : SwitchGroup). group_uses (tile_known parts.tiles x.tile) x) parts.groups has.0 g use_g has.1 in_group in
@@ -220,8 +221,8 @@ module _ (parts : Parts) (chip : IsChip parts) (first : SharedFunctionIsFirst) w
   within kind name k b (read, at_k) =
       let found = found_bit parts kind name k b at_k in
       let f : FunctionRow = found.0 in
-      let kept : IsKept f = has_all IsKept parts.functions f chip.read.functions_kept found.1.there in
-      let bit : IsBit (columns f.kind) b = has_all (IsBit (columns f.kind)) f.bits b kept.bits (k, found.2) in
+      let kept : IsKept f = Has_all IsKept parts.functions f chip.read.functions_kept found.1.there in
+      let bit : IsBit (columns f.kind) b = Has_all (IsBit (columns f.kind)) f.bits b kept.bits (k, found.2) in
       (bit.row, subst (λ (x : TileKind). b.col < columns x) found.1.of_kind bit.column)
 
   pub bits_are : LacksFunctionIsFirst → HasOwnBits parts

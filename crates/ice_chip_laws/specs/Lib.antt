@@ -1,4 +1,3 @@
-pub mod Members
 pub mod Tiles
 pub mod Names
 pub mod Pins

@@ -6,3 +6,4 @@ mod Results
 mod InRange
 mod Once
 mod ReadForms
+mod FirstFaults

@@ -23,7 +23,8 @@ use Rattle.ice_chip_read.specs.Headings.{heading_of}
 use Rattle.ice_chip_read.specs.Reading.{Reading, begun, closed}
 use Rattle.ice_chip_read.specs.Bits.{bits_in}
 use Rattle.ice_chip_read.specs.Words.{number, two, three, ended}
-use Rattle.ice_chip_read.specs.Lines.{most_wires, most_places, most_rows, tile_in, pad_in, wire_in, global_in, unseen, one_word, sizes_in, begun_within, device_first, tile_line, new_tile, bits_at, group_bits, heading_says, kept_function, function_row, values_at, with_row, row_says, with_closed, line_says, lines_say, first_says, plain_says}
+use Rattle.ice_chip.specs.Limits.{most_wires, most_places, most_rows}
+use Rattle.ice_chip_read.specs.Lines.{tile_in, pad_in, wire_in, global_in, unseen, one_word, sizes_in, begun_within, device_first, tile_line, new_tile, bits_at, group_bits, heading_says, kept_function, function_row, values_at, with_row, row_says, with_closed, line_says, lines_say, first_says, plain_says}
 use Rattle.ice_chip_read.proofs.Results.{bind, bind_meeting, held}
 use Rattle.ice_chip_read.proofs.Once.{distinct_none, keys_further, tile_laws, AreOthers, others_unseen, others_unread, functions_further, package_further}
 use Rattle.ice_chip_read.proofs.InRange.{place_read, pad_read, global_read, bits_read, AreSomeBits, group_bits_read, values_read}

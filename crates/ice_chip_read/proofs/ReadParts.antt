@@ -24,7 +24,8 @@ use Rattle.ice_chip_read.specs.PlainLines.{plain_lines}
 use Rattle.ice_chip_read.specs.Reading.{Reading, begun, closed}
 use Rattle.ice_chip_read.specs.Bits.{bits_in}
 use Rattle.ice_chip_read.specs.Words.{number, two, three, ended}
-use Rattle.ice_chip_read.specs.Lines.{most_wires, most_places, most_rows, tile_in, pad_in, wire_in, global_in, unseen, one_word, sizes_in, begun_within, device_first, new_tile, bits_at, group_bits, heading_says, kept_function, values_at, with_row, row_says, with_closed, line_says, lines_say, first_says, plain_says, text_says}
+use Rattle.ice_chip.specs.Limits.{most_wires, most_places, most_rows}
+use Rattle.ice_chip_read.specs.Lines.{tile_in, pad_in, wire_in, global_in, unseen, one_word, sizes_in, begun_within, device_first, new_tile, bits_at, group_bits, heading_says, kept_function, values_at, with_row, row_says, with_closed, line_says, lines_say, first_says, plain_says, text_says}
 use Rattle.ice_chip_read.proofs.Results.{bind, held}
 use Rattle.ice_chip_read.proofs.ReadForms.{AreWithin, plain_within}
 
@@ -45,7 +46,7 @@ record AreRead (wires : ℕ) (names : List WireName) (groups : List SwitchGroup)
   named_wires : All (λ n. n.wire < wires) names
   group_wires : All (HasWiresBelow wires) groups
   numbers : AreNumbered 0 groups
-  few_wires : wires ≤ 262144
+  few_wires : wires ≤ most_wires
 
 -- a group that is open behind these
 record IsNext (wires : ℕ) (groups : List SwitchGroup) (g : SwitchGroup) (rows : ℕ) : Type 0 where
@@ -68,7 +69,7 @@ IsOpen section.Switches wires groups g rows = IsNext wires groups g rows
 
 record Holds (r : Reading) : Type 0 where
   sound : AreRead r.parts.wires r.parts.names r.parts.groups
-  few : r.rows ≤ 4194304
+  few : r.rows ≤ most_rows
   opened : IsOpen r.open_section r.parts.wires r.parts.groups r.group r.rows
 
 -- ---- wires
@@ -181,7 +182,7 @@ row_holds r section.Switches line w ws h =
     by values source lt false is = tt
     by values source lt true is =
         let row : SwitchRow = record { values = values; source = source; line = line } in
-        let fewer : r.rows < 4194304 = search (rules, tests) in
+        let fewer : r.rows < most_rows = search (rules, tests) in
         record {
           sound = h.sound;
           few = omega arith;
@@ -205,7 +206,7 @@ lines_hold : (ls : List (ℕ × List (List ℕ))) (r : Reading) → Holds r → 
 lines_hold [] r h = h
 lines_hold (l ∷ ls) r h = bind Holds (line_says r l.0 l.1) _ (λ more e. lines_hold ls more (held Holds (line_says r l.0 l.1) more e (line_holds r h l.0 l.1)))
 
-begun_holds : (line width height wires : ℕ) → wires ≤ 262144 → Holds (begun line width height wires)
+begun_holds : (line width height wires : ℕ) → wires ≤ most_wires → Holds (begun line width height wires)
 begun_holds line width height wires le = record {
   sound = record { named_wires = All-nil (λ n. n.wire < wires); group_wires = All-nil (HasWiresBelow wires); numbers = tt; few_wires = le };
   few = omega arith;
@@ -220,7 +221,7 @@ within_holds line (width, height, wires) = by (nat_lt most_wires wires) (nat_lt 
     by true b c is = tt
     by false true c is = tt
     by false false true is = tt
-    by false false false is = let le : wires ≤ 262144 = search (rules, tests) in begun_holds line width height wires le
+    by false false false is = let le : wires ≤ most_wires = search (rules, tests) in begun_holds line width height wires le
 
 first_holds : (line : ℕ) (ws : List (List ℕ)) → IfOk (first_says line ws) Holds
 first_holds line [] = tt
@@ -237,7 +238,7 @@ plain_holds (l ∷ ls) = bind Holds (first_says l.0 l.1) _ (λ r e. lines_hold l
 closed_is_read : (r : Reading) → Holds r → AreWithin (closed r) → IsRead (closed r)
 closed_is_read r h within =
     let whole = close_holds r.open_section r h in
-    let few : length (rows_of (closed r).groups) ≤ 4194304 = omega (arith, whole.few, whole.opened) in
+    let few : length (rows_of (closed r).groups) ≤ most_rows = omega (arith, whole.few, whole.opened) in
     record {
       narrow = within.small.narrow;
       low = within.small.low;

@@ -8,3 +8,4 @@ pub mod Reading
 pub mod Lines
 pub mod Stops
 pub mod Views
+pub mod FirstFault

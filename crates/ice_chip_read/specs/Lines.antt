@@ -6,7 +6,8 @@ use Rattle.ice_base.specs.Text.{lines, numbered}
 use Rattle.ice_base.specs.Comments.{begins_with}
 use Rattle.ice_base.specs.declared.number.TileAt.{TileAt}
 use Rattle.ice_base.specs.declared.number.BitAt.{BitAt}
-use Rattle.ice_chip.specs.Places.{same_tile, columns, tile_known}
+use Rattle.ice_chip.specs.Limits.{most_places, most_wires, most_rows}
+use Rattle.ice_chip.specs.Places.{same_pad, columns, tile_known}
 use Rattle.ice_chip.specs.Database.{Parts, PackageRows}
 use Rattle.ice_chip.specs.declared.rows.TileKind.{TileKind}
 use Rattle.ice_chip.specs.declared.rows.Pad.{Pad}
@@ -25,16 +26,6 @@ use Rattle.ice_chip.specs.Functions.{is_read, is_foreign, function_line}
 use Rattle.ice_chip_read.specs.Headings.{heading_of}
 use Rattle.ice_chip_read.specs.Reading.{Reading, begun, closed, tile_at, no_group, no_package}
 
--- ---- limits
-abbrev pub most_wires : ℕ
-most_wires = 262144
-
-abbrev pub most_places : ℕ
-most_places = 256
-
-abbrev pub most_rows : ℕ
-most_rows = 4194304
-
 -- ---- places, pads and wires in range
 abbrev pub tile_in : ℕ → Parts → ℕ → ℕ → Result TileAt ChipFault
 tile_in line parts x y = if nat_lt x parts.width && nat_lt y parts.height then Ok (tile_at x y) else Err (OutOfRange line)
@@ -50,9 +41,6 @@ wire_in line parts wire = if nat_lt wire parts.wires then Ok wire else Err (OutO
 
 abbrev pub global_in : ℕ → ℕ → Result ℕ ChipFault
 global_in line global = if nat_lt global 8 then Ok global else Err (OutOfRange line)
-
-abbrev pub same_pad : Pad → Pad → Bool
-same_pad a b = same_tile a.tile b.tile && (a.pio == b.pio)
 
 -- what must be new has no earlier line
 abbrev pub unseen : ℕ → Option ℕ → Result Unit ChipFault

@@ -27,7 +27,7 @@ use indexmap::{IndexMap, IndexSet};
 use std::alloc::Global;
 
 // The most wires of a database.
-const MOST_WIRES: u32 = 262_144;
+const MOST_WIRES: u32 = 1_048_576;
 
 // The most columns and rows of places.
 const MOST_PLACES: u32 = 256;

@@ -4,6 +4,7 @@
 mod bits;
 mod fault;
 mod headings;
+mod laws;
 mod plain;
 mod ranges;
 mod read;
@@ -13,4 +14,5 @@ mod section;
 mod words;
 
 use fault::ReadStop;
+pub use laws::says_chip_or_first_fault;
 pub use read::read_chip;

@@ -6,7 +6,7 @@ use ice_base::{LineIter, PlainWords, plain_words_of};
 use std::marker::Model;
 
 /// A line that has words before its comment.
-#[derive(Debug, Drop)]
+#[derive(Drop)]
 pub struct PlainLine<'a> {
     /// The number of the line.
     pub number: u32,
@@ -17,7 +17,7 @@ pub struct PlainLine<'a> {
 }
 
 /// The lines with words that are left of a text. Contracts see it as the list of them, as numbers and words.
-#[derive(Debug, Drop)]
+#[derive(Drop)]
 pub struct PlainLines<'a> {
     lines: LineIter<'a>,
 }

@@ -14,7 +14,7 @@ use std::alloc::Global;
 use std::mem;
 
 /// What is read up to a line: the rows of the sections that are ended, and the section that is open.
-#[derive(Debug, Drop)]
+#[derive(Drop)]
 pub struct Reading {
     /// The rows of the sections that are ended, and those of the open one that stand alone.
     pub parts: ChipParts,

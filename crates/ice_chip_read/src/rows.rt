@@ -30,7 +30,7 @@ use ice_chip::{
 use std::alloc::Global;
 
 // The most switch rows of a database.
-const MOST_ROWS: u32 = 4_194_304;
+const MOST_ROWS: u32 = 16_777_216;
 
 // A pin of a package; of repeated pins the first counts.
 fn add_pin(alloc: Global, pins: &mut Package, pin: &[u8], pad: Pad) -> Result<(), ReadStop>

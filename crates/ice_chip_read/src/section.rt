@@ -5,7 +5,7 @@ ghost use Rattle.ice_chip_read.specs.Headings.{heading_of, tile_heading_of};
 use ice_chip::TileKind;
 
 /// The section that is open, by what its rows are.
-#[derive(Clone, Copy, Debug, PartialEq, Eq)]
+#[derive(Clone, Copy)]
 pub enum Section {
     /// A section that has no rows.
     Rowless,
@@ -30,7 +30,7 @@ pub enum Section {
 }
 
 /// What the first word of a heading names.
-#[derive(Clone, Copy, Debug, PartialEq, Eq)]
+#[derive(Clone, Copy)]
 pub enum Heading {
     /// `.device`
     Device,

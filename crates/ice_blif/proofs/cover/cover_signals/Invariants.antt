@@ -1,7 +1,7 @@
 use Rattle.std.proofs.Common.{◌≡◌, ◌≤◌, [], length, All}
 use Rattle.ice_net.specs.Formed.{IsPresent}
 use Rattle.ice_blif.specs.Grammar.{cover_signals}
-use Rattle.ice_blif.specs.JoinedLines.{words_left, lines_left}
+use Rattle.ice_blif.specs.Views.{words_left, lines_left}
 use Rattle.ice_blif.proofs.cover.cover_signals.Given as goal
 
 abbrev pub invariant-loop-word : goal.invariant-loop-word

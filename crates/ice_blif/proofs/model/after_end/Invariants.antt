@@ -1,6 +1,7 @@
 use Rattle.std.proofs.Common.{◌≡◌, length}
 use Rattle.ice_blif.specs.Grammar.{after_end}
-use Rattle.ice_blif.specs.JoinedLines.{filled, lines_left}
+use Rattle.ice_blif.specs.JoinedLines.{filled}
+use Rattle.ice_blif.specs.Views.{lines_left}
 use Rattle.ice_blif.proofs.model.after_end.Given as goal
 
 abbrev pub invariant-loop-first : goal.invariant-loop-first

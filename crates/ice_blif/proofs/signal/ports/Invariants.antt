@@ -1,6 +1,6 @@
 use Rattle.std.proofs.Common.{◌≡◌, ◌≤◌, length}
 use Rattle.ice_blif.specs.Grammar.{ports_say}
-use Rattle.ice_blif.specs.JoinedLines.{words_left, lines_left}
+use Rattle.ice_blif.specs.Views.{words_left, lines_left}
 use Rattle.ice_blif.proofs.signal.ports.Given as goal
 
 abbrev pub invariant-loop-name : goal.invariant-loop-name

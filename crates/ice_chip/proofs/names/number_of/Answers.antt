@@ -1,5 +1,5 @@
 use Rattle.std.proofs.Common.{sym, ◌∙◌}
-use Rattle.ice_chip.proofs.NameLists.{found_number, new_number, new_names}
+use Rattle.ice_base.proofs.NameLists.{found_number, new_number, new_names}
 use Rattle.ice_chip.proofs.names.number_of.Goals as goal
 
 pub returns-in-Some-clause-number : goal.returns-in-Some-clause-number

@@ -1,5 +1,5 @@
 use Rattle.std.proofs.Common.{ap, ◌∙◌, unwrap_or, position, bytes_eq}
-use Rattle.ice_chip.proofs.NameLists.{sought_number}
+use Rattle.ice_base.proofs.NameLists.{sought_number}
 use Rattle.ice_chip.proofs.names.number_sought.Goals as goal
 
 pub returns : goal.returns

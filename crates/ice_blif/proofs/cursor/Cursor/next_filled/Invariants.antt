@@ -1,5 +1,6 @@
 use Rattle.std.proofs.Common.{◌≡◌, length}
-use Rattle.ice_blif.specs.JoinedLines.{filled, lines_left}
+use Rattle.ice_blif.specs.JoinedLines.{filled}
+use Rattle.ice_blif.specs.Views.{lines_left}
 use Rattle.ice_blif.proofs.cursor.Cursor.next_filled.Given as goal
 
 abbrev pub invariant-loop-line : goal.invariant-loop-line

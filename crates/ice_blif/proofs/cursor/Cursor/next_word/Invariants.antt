@@ -1,5 +1,5 @@
 use Rattle.std.proofs.Common.{◌≡◌, length}
-use Rattle.ice_blif.specs.JoinedLines.{words_left, lines_left}
+use Rattle.ice_blif.specs.Views.{words_left, lines_left}
 use Rattle.ice_blif.proofs.cursor.Cursor.next_word.Given as goal
 
 abbrev pub invariant-loop-word : goal.invariant-loop-word

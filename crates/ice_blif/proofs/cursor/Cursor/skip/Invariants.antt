@@ -1,5 +1,5 @@
 use Rattle.std.proofs.Common.{◌≡◌, ◌+◌, length, if◌then◌else◌}
-use Rattle.ice_blif.specs.JoinedLines.{lines_left}
+use Rattle.ice_blif.specs.Views.{lines_left}
 use Rattle.ice_blif.proofs.cursor.Cursor.skip.Given as goal
 
 abbrev pub invariant-loop-self : goal.invariant-loop-self

@@ -1,0 +1,36 @@
+-- What is read so far of a netlist text.
+use Rattle.std.specs.Prelude.{ℕ, Bool, List, Option}
+use Rattle.ice_base.specs.declared.number.SignalNo.{SignalNo}
+use Rattle.ice_net.specs.declared.cell.Cell.{Cell}
+use Rattle.ice_net.specs.NetlistData.{NetlistData}
+
+-- a cover whose rows may be read
+pub record OpenCover : Type 0 where
+  -- the number of its `.names` line
+  pub line : ℕ
+  -- the signals of its inputs, and that of its output
+  pub ins : List (Option SignalNo)
+  pub outs : List (Option SignalNo)
+  -- bit j says whether a row so far has the levels with the number j
+  pub covered : ℕ
+  -- the level that the rows so far give
+  pub level : Option Bool
+
+-- the cell that was made last: none, a gate, to which parameters belong, or a cover, to which rows belong
+pub data LastCell : Type 0 where
+  Nothing : LastCell
+  Gate : Cell → LastCell
+  Rows : OpenCover → LastCell
+
+-- the netlist without the cell that was made last, that cell, and whether a row may stand in the next line
+pub record State : Type 0 where
+  pub netlist : NetlistData
+  pub last : LastCell
+  pub rows : Bool
+
+-- the connections of a gate by the places of its inputs and then its outputs: which ports were named, their signals, and
+-- whether one was named twice
+pub record Connections : Type 0 where
+  pub taken : List Bool
+  pub signals : List (Option SignalNo)
+  pub twice : Bool
