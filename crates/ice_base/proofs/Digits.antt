@@ -1,8 +1,10 @@
 -- How a word is read as a number, digit by digit.
 use Rattle.std.proofs.Common.{◌≡◌, ◌⊎◌, inl, inr, ℕ, ◌<◌, ◌≤◌, ◌+◌, ◌^◌, Bool, true, false, ◌&&◌, List, [], ◌∷◌, length, get_or, drop, nat_lt, nat_le, Some, None, if◌then◌else◌, refl, sym, ap, ◌∙◌, arith, rules, tests}
+use Rattle.std.proofs.lemmas.Bool.{and_parts, and_cases}
 use Rattle.std.proofs.lemmas.List.{at_drop_more, at_drop_all}
 use Rattle.std.specs.Char.{is_ascii_digit}
 use Rattle.std.specs.Str.{all_ascii_digits}
+use Rattle.ice_base.proofs.Booleans.{and_false}
 use Rattle.ice_base.specs.Numbers.{with_digit, with_digits, decimal_value, is_number, number_in}
 
 -- the digits so far are read: those that are left decide
@@ -15,18 +17,6 @@ pub record ReadTo (word rest : List ℕ) (number : ℕ) : Type 0 where
 no_less : (n : ℕ) (digits : List ℕ) → n ≤ with_digits n digits
 no_less n [] = omega arith
 no_less n (d ∷ ds) = omega (arith, no_less (with_digit n d) ds)
-
-one_false : (a b : Bool) → (a && b) ≡ false → (a ≡ false) ⊎ (b ≡ false)
-one_false false b e = inl refl
-one_false true b e = inr e
-
-and_false : (a : Bool) → (a && false) ≡ false
-and_false false = refl
-and_false true = refl
-
-pub both_true : (a b : Bool) → (a && b) ≡ true → (a ≡ true) × (b ≡ true)
-both_true false b e = absurd (cc)
-both_true true b e = (refl, e)
 
 second_false : (a b c d : Bool) → b ≡ false → (a && b && c && d) ≡ false
 second_false a b c d e = rw (e, and_false a) refl
@@ -74,7 +64,7 @@ pub digit_joins : (word : List ℕ) (i number : ℕ) → ReadTo word (drop i wor
     → (is_ascii_digit (get_or word i 0) && nat_lt (with_digit number (get_or word i 0)) (2 ^ 32)) ≡ true
     → ReadTo word (drop (i + 1) word) (with_digit number (get_or word i 0))
 digit_joins word i number so_far lt joins =
-    let both = both_true (is_ascii_digit (get_or word i 0)) (nat_lt (with_digit number (get_or word i 0)) (2 ^ 32)) joins in
+    let both = and_parts (is_ascii_digit (get_or word i 0)) (nat_lt (with_digit number (get_or word i 0)) (2 ^ 32)) joins in
     let small : nat_lt (with_digit number (get_or word i 0)) (2 ^ 32) ≡ true = both.1 in
     record {
       value = value_goes_on word i number so_far lt;
@@ -96,7 +86,7 @@ pub digit_stops : (word : List ℕ) (i number : ℕ) → ReadTo word (drop i wor
     → (is_ascii_digit (get_or word i 0) && nat_lt (with_digit number (get_or word i 0)) (2 ^ 32)) ≡ false
     → number_in word ≡ None
 digit_stops word i number so_far lt stops =
-    stops_by word i number so_far lt (one_false (is_ascii_digit (get_or word i 0)) (nat_lt (with_digit number (get_or word i 0)) (2 ^ 32)) stops)
+    stops_by word i number so_far lt (and_cases (is_ascii_digit (get_or word i 0)) (nat_lt (with_digit number (get_or word i 0)) (2 ^ 32)) stops)
 
 -- a word of one to ten digits is the number that they write, where that is not too great
 pub number_here : (word : List ℕ) (number : ℕ) → 0 < length word → length word ≤ 10 → all_ascii_digits word ≡ true → decimal_value word ≡ number → number < 2 ^ 32

@@ -4,13 +4,14 @@ use Rattle.std.specs.List.{AllByRecursion}
 use Rattle.std.specs.Char.{is_ascii_digit}
 use Rattle.std.specs.Str.{all_ascii_digits}
 use Rattle.std.specs.Fmt.{decimal}
+use Rattle.std.proofs.lemmas.Bool.{and_parts}
 use Rattle.std.proofs.lemmas.List.Elements.{filter-append}
 use Rattle.std.proofs.lemmas.Str.Parse.{IsNumeralModel, numerals_by_fold, tells_all_ascii_digits}
 use Rattle.std.proofs.lemmas.Fmt.{digits_decimal, digits_value-decimal, length-decimal-le, decimal_nonempty}
 use Rattle.ice_base.specs.Text.{onto_first, lines, pieces, words, words_of_lines, ends_word, IsLine, IsWord}
 use Rattle.ice_base.specs.Numbers.{with_digits, number_in}
 use Rattle.ice_base.proofs.Cuts.{join_front, join_line, join_nothing, join_more, some_bytes, line_step, line_end, no_lines, piece_step, piece_end, words_are, no_pieces, no_words, kept}
-use Rattle.ice_base.proofs.Digits.{number_here, both_true}
+use Rattle.ice_base.proofs.Digits.{number_here}
 
 -- ---- lines
 -- the empty text has no lines
@@ -132,7 +133,7 @@ digit_in_word b digit = search (rules, tests)
 no_digit_ends : (digits : List ℕ) → all_ascii_digits digits ≡ true → AllByRecursion (λ b. ends_word b ≡ false) digits
 no_digit_ends [] h = tt
 no_digit_ends (b ∷ digits) h =
-    let both = both_true (is_ascii_digit b) (all_ascii_digits digits) h in
+    let both = and_parts (is_ascii_digit b) (all_ascii_digits digits) h in
     (digit_in_word b both.0, no_digit_ends digits both.1)
 
 -- what a number is printed as is a word

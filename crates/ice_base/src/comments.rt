@@ -7,7 +7,7 @@ use crate::{WordIter, no_words, words_of};
 use std::marker::Model;
 
 /// The words of a line that are left before its comment. Contracts see it as the list of them.
-#[derive(Debug, Drop)]
+#[derive(Drop)]
 pub struct PlainWords<'a> {
     words: WordIter<'a>,
 }

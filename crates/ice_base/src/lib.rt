@@ -24,6 +24,3 @@ pub use number::{BitAt, NetNo, RowNo, SignalNo, TileAt, WireNo};
 pub use plain::{PlainLine, PlainLines, plain_lines};
 pub use sink::Sink;
 pub use words::{WordIter, no_words, words_of};
-
-#[cfg(test)]
-mod tests;

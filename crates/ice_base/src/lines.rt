@@ -5,7 +5,7 @@ ghost use Rattle.ice_base.specs.Text.{lines, numbered};
 use std::marker::Model;
 
 /// A line of a text, without its line feed.
-#[derive(Clone, Copy, Debug)]
+#[derive(Clone, Copy)]
 pub struct Line<'a> {
     /// From 1; every line beyond number 4,294,967,295 has that number too.
     pub number: u32,
@@ -14,7 +14,7 @@ pub struct Line<'a> {
 }
 
 /// The lines that are left of a text. Contracts see it as the list of them, as numbers and bytes.
-#[derive(Debug, Drop)]
+#[derive(Drop)]
 pub struct LineIter<'a> {
     rest: &'a [u8],
     number: u32,

@@ -5,7 +5,7 @@ ghost use Rattle.ice_base.specs.Text.{words, ends_word, StartsWord};
 use std::marker::Model;
 
 /// The words that are left of a text. Contracts see it as the list of them.
-#[derive(Debug, Drop)]
+#[derive(Drop)]
 pub struct WordIter<'a> {
     rest: &'a [u8],
 }
