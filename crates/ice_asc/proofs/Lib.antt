@@ -1,7 +1,7 @@
-mod KnownLists
 mod Sound
 mod Joining
 mod TextLines
 mod WrittenLines
 mod WrittenReading
 mod RoundTrips
+mod FirstFaults

@@ -18,7 +18,9 @@ use Rattle.ice_bits.specs.Rewriting.{with_rows}
 use Rattle.ice_bits.proofs.Forms.{blank_is_of, with_rows_is_of}
 use Rattle.ice_asc.specs.Faults.{◌>>=◌}
 use Rattle.ice_asc.specs.Headings.{heading_of}
-use Rattle.ice_asc.specs.Words.{all_known, bit_of_digit, row_of_words, tile_of_words, extra_of_words}
+use Rattle.ice_base.specs.Lists.{all_known}
+use Rattle.ice_base.specs.BitNames.{digit_value}
+use Rattle.ice_asc.specs.Words.{row_of_words, tile_of_words, extra_of_words}
 use Rattle.ice_asc.specs.Grammar.{Reading, start, with_row, known_row, row_says, device_says, opened, tile_says, extra_says, heading_says, words_say, line_says, at_line, lines_say, end_says, asc_in}
 use Rattle.ice_asc.specs.Answers.{Answers}
 use Rattle.ice_asc.specs.declared.fault.AscFault.{AscFault}
@@ -70,9 +72,9 @@ row_length width w [] row e = by (nat_eq (length w) width) refl e
     same : nat_eq (length w) width ≡ true → length w ≡ width
     same test = search (rules, tests)
 
-    by : (x : Bool) → nat_eq (length w) width ≡ x → cond x (all_known (map bit_of_digit w)) None ≡ Some row → length row ≡ width
+    by : (x : Bool) → nat_eq (length w) width ≡ x → cond x (all_known (map digit_value w)) None ≡ Some row → length row ≡ width
     by false test said = absurd (cc)
-    by true test said = known_length (map bit_of_digit w) row said ∙ (length-map w bit_of_digit ∙ same test)
+    by true test said = known_length (map digit_value w) row said ∙ (length-map w digit_value ∙ same test)
 
 row_sound : (parts : Parts) (r : Reading) (heading : ℕ) (at : TileAt) (kind : TileKind) (row : List Bool) → IsSound parts r → IsOpenTile parts at kind r.rows → length row ≡ columns kind
     → IsSound parts (with_row r heading at kind (r.rows ++ row ∷ []))

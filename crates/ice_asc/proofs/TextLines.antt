@@ -1,7 +1,8 @@
 -- A text that is made of lines is cut into these lines.
 use Rattle.std.proofs.Common.{◌≡◌, ◌≢◌, ℕ, ◌<◌, ◌==◌, ◌^◌, Bool, true, false, not, List, [], ◌∷◌, ◌++◌, length, map, refl, ap, ◌∙◌, append_assoc, arith, eq-eqb}
-use Rattle.std.specs.Prelude.{◌&&◌, codes, decimal}
+use Rattle.std.specs.Prelude.{codes, decimal}
 use Rattle.std.specs.List.{AllByRecursion, list_all}
+use Rattle.std.proofs.lemmas.Bool.{and_parts}
 use Rattle.ice_base.specs.Text.{lines, ends_word, IsLine, IsWord}
 use Rattle.ice_base.proofs.TextLaws.{no_lines_left, first_line, decimal_is_word}
 use Rattle.ice_chip.specs.declared.rows.TileKind.{TileKind}
@@ -18,16 +19,12 @@ pub all_append : {X : Type 0} (P : X → Type 0) (xs ys : List X) → AllByRecur
 all_append P [] ys h k = k
 all_append P (x ∷ xs) ys h k = (h.0, all_append P xs ys h.1 k)
 
-both : (a b : Bool) → (a && b) ≡ true → (a ≡ true) × (b ≡ true)
-both true b h = (refl, h)
-both false b h = absurd (cc)
-
 is_no_feed : (b : ℕ) → not (b == 10) ≡ true → b ≢ 10
 is_no_feed b h e = let low : not (b == 10) ≡ false = ap not (eq-eqb b 10 e) in absurd (cc)
 
 pub plain_line : (l : List ℕ) → list_all (λ b. not (b == 10)) l ≡ true → IsLine l
 plain_line [] h = tt
-plain_line (b ∷ l) h = let parts = both (not (b == 10)) (list_all (λ x. not (x == 10)) l) h in (is_no_feed b parts.0, plain_line l parts.1)
+plain_line (b ∷ l) h = let parts = and_parts (not (b == 10)) (list_all (λ x. not (x == 10)) l) h in (is_no_feed b parts.0, plain_line l parts.1)
 
 -- a word is a line
 pub word_line : (w : List ℕ) → AllByRecursion (λ b. ends_word b ≡ false) w → IsLine w
@@ -51,7 +48,7 @@ digits_end_no_word (false ∷ row) = (refl, digits_end_no_word row)
 -- ---- the first words of headings
 no_end : (w : List ℕ) → list_all (λ b. not (ends_word b)) w ≡ true → AllByRecursion (λ b. ends_word b ≡ false) w
 no_end [] h = tt
-no_end (b ∷ w) h = let parts = both (not (ends_word b)) (list_all (λ x. not (ends_word x)) w) h in (low (ends_word b) parts.0, no_end w parts.1)
+no_end (b ∷ w) h = let parts = and_parts (not (ends_word b)) (list_all (λ x. not (ends_word x)) w) h in (low (ends_word b) parts.0, no_end w parts.1)
   where
     low : (x : Bool) → not x ≡ true → x ≡ false
     low false e = refl

@@ -23,7 +23,9 @@ use Rattle.ice_bits.specs.Rewriting.{with_rows}
 use Rattle.ice_bits.proofs.TileKinds.{kind_same}
 use Rattle.ice_asc.specs.Faults.{◌>>=◌}
 use Rattle.ice_asc.specs.Headings.{heading_of_kind, heading_of}
-use Rattle.ice_asc.specs.Words.{all_known, bit_of_digit, row_of_words, place_of, tile_of_words, extra_bit, extra_of_words}
+use Rattle.ice_base.specs.Lists.{all_known}
+use Rattle.ice_base.specs.BitNames.{digit_value}
+use Rattle.ice_asc.specs.Words.{row_of_words, place_of, tile_of_words, extra_bit, extra_of_words}
 use Rattle.ice_asc.specs.Grammar.{Reading, start, with_row, known_row, opened, tile_says, extra_says, heading_says, line_says, at_line, lines_say, end_says}
 use Rattle.ice_asc.specs.RoundTrip.{IsSmall}
 use Rattle.ice_asc.specs.Text.{digit_of_bit, spaced, tile_heading, extra_line}
@@ -47,7 +49,7 @@ reads_line parts r u l ls k says later last n =
 word_of_digits : (row : List Bool) → 0 < length row → words (map digit_of_bit row) ≡ map digit_of_bit row ∷ []
 word_of_digits row some = last_word (map digit_of_bit row) (let lt : 0 < length (map digit_of_bit row) = omega (arith, length-map row digit_of_bit) in lt, digits_end_no_word row)
 
-bits_of_row : (row : List Bool) → all_known (map bit_of_digit (map digit_of_bit row)) ≡ Some row
+bits_of_row : (row : List Bool) → all_known (map digit_value (map digit_of_bit row)) ≡ Some row
 bits_of_row [] = refl
 bits_of_row (true ∷ row) = ap (option_map (λ bits. true ∷ bits)) (bits_of_row row)
 bits_of_row (false ∷ row) = ap (option_map (λ bits. false ∷ bits)) (bits_of_row row)

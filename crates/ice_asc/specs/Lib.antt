@@ -7,3 +7,4 @@ pub mod RoundTrip
 pub mod Stops
 pub mod Answers
 pub mod Views
+pub mod FirstFault

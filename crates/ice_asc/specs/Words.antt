@@ -1,22 +1,13 @@
 -- What the words of a line write: digits of bits, places of tiles, extra bits.
-use Rattle.std.specs.Prelude.{ℕ, ◌==◌, ◌&&◌, Bool, true, false, Option, None, Some, List, [], ◌∷◌, length, map, nat_lt, option_map, if◌then◌else◌}
+use Rattle.std.specs.Prelude.{ℕ, ◌==◌, ◌&&◌, Bool, Option, None, Some, List, [], ◌∷◌, length, nat_lt, option_map, if◌then◌else◌}
 use Rattle.std.specs.Option.{option_and_then}
+use Rattle.ice_base.specs.BitNames.{values_in}
 use Rattle.ice_base.specs.Numbers.{number_in}
 use Rattle.ice_base.specs.declared.number.TileAt.{TileAt}
 
--- all the values of a list, where each is known
-abbrev pub all_known : {A : Type 0} → List (Option A) → Option (List A)
-all_known [] = Some []
-all_known (None ∷ others) = None
-all_known (Some x ∷ others) = option_map (λ xs. x ∷ xs) (all_known others)
-
--- the bit of a digit: 48 is `0`, 49 is `1`
-abbrev pub bit_of_digit : ℕ → Option Bool
-bit_of_digit b = if b == 48 then Some false else (if b == 49 then Some true else None)
-
 -- the bits of as many digits as there are columns
 abbrev pub bits_of_digits : ℕ → List ℕ → Option (List Bool)
-bits_of_digits columns digits = if length digits == columns then all_known (map bit_of_digit digits) else None
+bits_of_digits columns digits = if length digits == columns then values_in digits else None
 
 -- the row that the words of a line write: one word of digits
 abbrev pub row_of_words : ℕ → List ℕ → List (List ℕ) → Option (List Bool)

@@ -57,7 +57,7 @@ pub enum AscFault {
 }
 
 /// Why reading stops.
-#[derive(Clone, Copy, Debug, PartialEq, Eq, Error)]
+#[derive(Clone, Copy, Debug, Error)]
 pub enum ReadStop {
     /// Want of memory.
     #[error("want of memory")]

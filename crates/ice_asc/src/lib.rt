@@ -13,6 +13,6 @@ mod words;
 mod write;
 
 pub use fault::AscFault;
-pub use laws::written_is_read;
+pub use laws::{says_bits_or_first_fault, written_is_read};
 pub use read::read_asc;
 pub use write::write_asc;

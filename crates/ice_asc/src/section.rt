@@ -6,7 +6,7 @@ use ice_base::TileAt;
 use ice_chip::TileKind;
 
 /// What takes the next line.
-#[derive(Clone, Copy, Debug, PartialEq, Eq)]
+#[derive(Clone, Copy)]
 pub enum Section {
     /// A heading, and no other line.
     Nowhere,
@@ -24,7 +24,7 @@ pub enum Section {
 }
 
 /// What the first word of a heading names.
-#[derive(Clone, Copy, Debug, PartialEq, Eq)]
+#[derive(Clone, Copy)]
 pub enum Heading {
     /// `.device`
     Device,

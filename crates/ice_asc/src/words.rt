@@ -1,11 +1,13 @@
 //! Words that write places of tiles, extra bits and rows of bits.
 ghost use Rattle.std.specs.Prelude.{◌≡◌, map};
-ghost use Rattle.ice_asc.specs.Words.{bit_of_digit, bits_of_digits, row_of_words, tile_of_words, extra_of_words, all_known};
+ghost use Rattle.ice_base.specs.Lists.{all_known};
+ghost use Rattle.ice_base.specs.BitNames.{digit_value};
+ghost use Rattle.ice_asc.specs.Words.{bits_of_digits, row_of_words, tile_of_words, extra_of_words};
 ghost use Rattle.ice_asc.specs.Grammar.{known_row};
 ghost use Rattle.ice_asc.specs.Views.{Gives};
 
 use crate::fault::{AscFault, ReadStop};
-use ice_base::{TileAt, WordIter, number_of};
+use ice_base::{TileAt, WordIter, digit_value, number_of};
 use std::alloc::Global;
 
 /// The place of a tile that these words write: two numbers below 65,536.
@@ -35,25 +37,14 @@ pub fn extra_of(mut words: WordIter<'_>) -> Option<(u32, u32, u32)>
     Some((number_of(bank)?, number_of(column)?, number_of(row)?))
 }
 
-// The bit of a digit.
-fn bit_of_digit(digit: u8) -> Option<bool>
-    ensures { result ≡ bit_of_digit digit }
-{
-    match digit {
-        b'0' => Some(false),
-        b'1' => Some(true),
-        _ => None,
-    }
-}
-
 // The bits that these digits write.
-#[tactic(auto, using(crate::proofs::KnownLists::all_begin, crate::proofs::KnownLists::bit_joins, crate::proofs::KnownLists::bit_stops, crate::proofs::KnownLists::bits_end))]
+#[tactic(auto, using(ice_base::proofs::KnownLists::all_begin, ice_base::proofs::KnownLists::value_joins, ice_base::proofs::KnownLists::value_stops, ice_base::proofs::KnownLists::values_end))]
 fn known_bits(alloc: Global, line: u32, digits: &[u8]) -> Result<Vec<bool>, ReadStop>
-    ensures { Gives (λ row. row.items) result (known_row line (all_known (map bit_of_digit digits.now))) }
+    ensures { Gives (λ row. row.items) result (known_row line (all_known (map digit_value digits.now))) }
 {
     let mut row = Vec::with_capacity(alloc, digits.len())?;
     for digit in digits {
-        let Some(bit) = bit_of_digit(*digit) else {
+        let Some(bit) = digit_value(*digit) else {
             return Err(ReadStop::Fault(AscFault::BadRow { line }));
         };
         row.push(bit)?;

@@ -1,4 +1,3 @@
-mod Keys
 mod RowWrites
 mod TileWrites
 pub mod Forms

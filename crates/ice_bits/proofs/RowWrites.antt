@@ -1,6 +1,7 @@
 -- One bit written in the rows of a tile.
 use Rattle.std.proofs.Common.{Vec, ◌≡◌, ◌≢◌, ℕ, zero, suc, ◌<◌, ◌≤◌, Bool, true, false, if◌then◌else◌, List, [], ◌∷◌, length, get_or, set, refl, sym, ap, ◌∙◌, subst, arith, rules, tests, get_or-set_same, get_or-set_other}
 use Rattle.std.specs.Prelude.{◌&&◌, nat_lt, nat_eq}
+use Rattle.std.proofs.lemmas.Bool.{and_parts}
 use Rattle.std.proofs.lemmas.List.{length-set, map-set}
 use Rattle.std.specs.declared.alloc.Global.{Global}
 use Rattle.std.proofs.lemmas.List.Elements.{All-get_or, All-from_get_or}
@@ -8,7 +9,7 @@ use Rattle.ice_base.specs.declared.number.BitAt.{BitAt}
 use Rattle.ice_bits.specs.Configuration.{bit_in, is_in, same_place, IsGrid}
 use Rattle.ice_bits.specs.Rewriting.{rows_with}
 use Rattle.ice_bits.specs.TileRows.{rows_view}
-use Rattle.ice_bits.proofs.Keys.{place_same, both_true}
+use Rattle.ice_base.proofs.Keys.{place_same}
 
 lt_from : (a b : ℕ) → nat_lt a b ≡ true → a < b
 lt_from a b e = search (rules, tests)
@@ -80,7 +81,7 @@ nothing_outside rows b out = by (nat_lt b.row (length rows)) refl (nat_lt b.col 
 
 read_here : (rows : List (List Bool)) (p : BitAt) (v : Bool) → is_in rows p ≡ true → bit_in (rows_with p v rows) p ≡ v
 read_here rows p v there =
-    let parts = both_true (nat_lt p.row (length rows)) (nat_lt p.col (length (get_or rows p.row []))) there in
+    let parts = and_parts (nat_lt p.row (length rows)) (nat_lt p.col (length (get_or rows p.row []))) there in
     let col : p.col < length (get_or rows p.row []) = lt_from p.col (length (get_or rows p.row [])) parts.1 in
     ap (λ (line : List Bool). get_or line p.col false) (row_after rows p.row p.col v) ∙ get_or-set_same (get_or rows p.row []) p.col v false col
 

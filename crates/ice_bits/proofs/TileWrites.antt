@@ -3,7 +3,8 @@ use Rattle.std.proofs.Common.{◌≤◌, ◌+◌, take, drop, map, slice_get, �
 use Rattle.std.specs.Prelude.{◌&&◌}
 use Rattle.std.specs.Map.{lookup}
 use Rattle.std.specs.Option.{option_map_or, option_and_then, option_or}
-use Rattle.std.proofs.lemmas.List.{take_more, take_all, map-append}
+use Rattle.std.proofs.lemmas.Bool.{and_parts}
+use Rattle.std.proofs.lemmas.List.{take_more, map-append}
 use Rattle.ice_base.specs.declared.number.TileAt.{TileAt}
 use Rattle.ice_base.specs.declared.number.BitAt.{BitAt}
 use Rattle.ice_chip.specs.Database.{Parts, SwitchGroup, SwitchRow}
@@ -15,9 +16,9 @@ use Rattle.ice_chip.specs.declared.rows.TileKind.{TileKind}
 use Rattle.ice_bits.specs.Configuration.{Bits, Configuration, bit_in, bit_at, rows_at, bits_of, kind_in, is_in, is_there, same_place, AreGrids, blank_rows, blank_tile, kind_of_tile, blank}
 use Rattle.ice_bits.specs.Written.{with_bit, with_bits}
 use Rattle.ice_bits.specs.Rewriting.{where_there, Rewrites, rows_with, tiles_with, with_place, with_places, with_row}
-use Rattle.ice_bits.specs.Views.{blank_at, kind_of}
+use Rattle.ice_bits.specs.TileForms.{blank_at, kind_of}
 use Rattle.ice_bits.specs.TilePlaces.{place_in}
-use Rattle.ice_bits.proofs.Keys.{tile_same, tile_self, place_same, both_true}
+use Rattle.ice_base.proofs.Keys.{tile_same, tile_self, place_same}
 use Rattle.ice_bits.proofs.RowWrites.{rows_keep, grid_keeps, nothing_outside, read_after}
 
 abbrev Rows : Type 0
@@ -96,12 +97,6 @@ written_at t change es i e rows at is wrote =
 
 abbrev pub of_tiles : Tiles → List TileKind → List (ℕ × ℕ × ℕ) → Configuration
 of_tiles tiles kinds extras = record { tiles = tiles; kinds = kinds; extras = extras }
-
--- the configuration of which the tiles are these, with other rows of a tile
-pub seen_written : (t : TileAt) (change : Rows → Rows) (tiles new : Tiles) (kinds : List TileKind) (extras : List (ℕ × ℕ × ℕ)) (k : Configuration) → of_tiles tiles kinds extras ≡ k
-    → new ≡ tiles_with t change tiles → of_tiles new kinds extras ≡ of_tiles (tiles_with t change k.tiles) k.kinds k.extras
-seen_written t change tiles new kinds extras k view is =
-    ap (λ (ts : Tiles). of_tiles ts kinds extras) is ∙ ap (λ (c : Configuration). of_tiles (tiles_with t change c.tiles) c.kinds c.extras) view
 
 pub nothing_changes : (t : TileAt) (change : Rows → Rows) (es : Tiles) → place_in t es ≡ None → tiles_with t change es ≡ es
 nothing_changes t change [] at = refl
@@ -228,7 +223,7 @@ bit_rewrites k t p v there = record {
         by true is y at = refl
         by false out false at = sym (unseen k u b out)
         by false out true at =
-            let parts = both_true (same_tile t u) (same_place p b) at in
+            let parts = and_parts (same_tile t u) (same_place p b) at in
             let tile : t ≡ u = tile_same t u parts.0 in
             let place : p ≡ b = place_same p b parts.1 in
             let here : is_there k u b ≡ true = subst (λ (w : TileAt). is_there k w b ≡ true) tile (subst (λ (q : BitAt). is_there k t q ≡ true) place there) in
@@ -338,16 +333,11 @@ blank_more tiles i d done rows lt so_far is =
     ap (λ (ts : Tiles). ts ++ ((get_or tiles i d).at, rows) ∷ []) so_far ∙ ap (λ (rs : Rows). map blank_at (take i tiles) ++ ((get_or tiles i d).at, rs) ∷ []) is
     ∙ sym (map-append blank_at (take i tiles) (get_or tiles i d ∷ [])) ∙ ap (map blank_at) (sym (take_more tiles i d lt))
 
-pub kinds_more : (tiles : List Tile) (i : ℕ) (d : Tile) (kinds : List TileKind) → i < length tiles → kinds ≡ map kind_of (take i tiles)
-    → kinds ++ (get_or tiles i d).kind ∷ [] ≡ map kind_of (take (i + 1) tiles)
-kinds_more tiles i d kinds lt so_far =
-    ap (λ (ks : List TileKind). ks ++ (get_or tiles i d).kind ∷ []) so_far ∙ sym (map-append kind_of (take i tiles) (get_or tiles i d ∷ [])) ∙ ap (map kind_of) (sym (take_more tiles i d lt))
-
-pub blank_all : (parts : Parts) (tiles : List Tile) (i : ℕ) (done : Tiles) (kinds : List TileKind) (extras : List (ℕ × ℕ × ℕ)) → tiles ≡ map tile_of parts.tiles → length tiles ≤ i
-    → done ≡ map blank_at (take i tiles) → kinds ≡ map kind_of (take i tiles) → extras ≡ [] → of_tiles done kinds extras ≡ blank parts
-blank_all parts tiles i done kinds extras are le so_far kinds_so_far none =
-    ap (λ (ts : Tiles). of_tiles ts kinds extras) (so_far ∙ ap (map blank_at) (take_all i tiles le ∙ are) ∙ fused parts.tiles)
-    ∙ ap (λ (ks : List TileKind). of_tiles (map blank_tile parts.tiles) ks extras) (kinds_so_far ∙ ap (map kind_of) (take_all i tiles le ∙ are) ∙ kinds_fused parts.tiles)
+pub blank_all : (parts : Parts) (grids : Tiles) (kinds : List TileKind) (extras : List (ℕ × ℕ × ℕ)) → grids ≡ map blank_at (map tile_of parts.tiles)
+    → kinds ≡ map kind_of (map tile_of parts.tiles) → extras ≡ [] → of_tiles grids kinds extras ≡ blank parts
+blank_all parts grids kinds extras grids_are kinds_are none =
+    ap (λ (ts : Tiles). of_tiles ts kinds extras) (grids_are ∙ fused parts.tiles)
+    ∙ ap (λ (ks : List TileKind). of_tiles (map blank_tile parts.tiles) ks extras) (kinds_are ∙ kinds_fused parts.tiles)
     ∙ ap (of_tiles (map blank_tile parts.tiles) (map kind_of_tile parts.tiles)) none
   where
     fused : (ts : List (TileAt × TileLine)) → map blank_at (map tile_of ts) ≡ map blank_tile ts

@@ -1,9 +1,10 @@
 -- Configuration bits as data, and as a bit for each tile, row and column.
-use Rattle.std.specs.Prelude.{◌≡◌, ℕ, ◌==◌, ◌&&◌, Bool, false, Option, None, Some, List, [], ◌∷◌, length, map, replicate, All, slice_get, slice_index_or, nat_lt}
+use Rattle.std.specs.Prelude.{◌≡◌, ℕ, ◌&&◌, Bool, false, Option, None, Some, List, [], ◌∷◌, length, map, replicate, All, slice_get, slice_index_or, nat_lt}
 use Rattle.std.specs.Map.{lookup}
 use Rattle.std.specs.Option.{option_map_or, option_and_then}
 use Rattle.ice_base.specs.declared.number.TileAt.{TileAt}
 use Rattle.ice_base.specs.declared.number.BitAt.{BitAt}
+pub use Rattle.ice_base.specs.Places.{same_place}
 use Rattle.ice_chip.specs.Database.{Parts}
 use Rattle.ice_chip.specs.Functions.{same_kind}
 use Rattle.ice_chip.specs.Lookups.{kind_at}
@@ -23,9 +24,6 @@ pub record Configuration : Type 0 where
   pub extras : List (ℕ × ℕ × ℕ)
 
 -- ---- one bit
-abbrev pub same_place : BitAt → BitAt → Bool
-same_place a b = (a.row == b.row) && (a.col == b.col)
-
 -- the bit at a place of a tile with these rows; 0 where the tile has no such place
 abbrev pub bit_in : List (List Bool) → BitAt → Bool
 bit_in rows b = slice_index_or (slice_index_or rows b.row []) b.col false

@@ -5,5 +5,7 @@ pub mod RowsOn
 pub mod Written
 pub mod Rewriting
 pub mod TilePlaces
+pub mod GridPlaces
 pub mod TileRows
+pub mod TileForms
 pub mod Views

@@ -1,22 +1,20 @@
 //! The configuration bits of all tiles of a chip.
-ghost use Rattle.std.specs.Prelude.{◌≡◌, ◌<◌, ℕ, true, false, Some, [], ◌∷◌, ◌++◌, length, map, option_map, IfOk, OnOk, OnErr, if◌then◌else◌};
-ghost use Rattle.std.specs.Map.{lookup};
-ghost use Rattle.std.specs.Option.{option_or};
+ghost use Rattle.std.specs.Prelude.{◌≡◌, ◌<◌, true, false, Some, length, map, option_map, IfOk, OnOk, OnErr};
 ghost use Rattle.ice_base.specs.declared.number.TileAt.{TileAt};
 ghost use Rattle.ice_base.specs.declared.number.BitAt.{BitAt};
 ghost use Rattle.ice_chip.specs.Lookups.{rows_of};
-ghost use Rattle.ice_chip.specs.Places.{same_tile};
 ghost use Rattle.ice_bits.specs.Configuration.{Configuration, bits_of, rows_at, kind_in, is_of_kind, is_there, blank, IsOf};
 ghost use Rattle.ice_bits.specs.Written.{with_bit};
 ghost use Rattle.ice_bits.specs.Rewriting.{where_there, Rewrites, with_row, with_rows, with_place, with_places, with_extra};
 ghost use Rattle.ice_bits.specs.FunctionBits.{bit_place, function_value, with_function};
 ghost use Rattle.ice_bits.specs.TilePlaces.{place_in};
+ghost use Rattle.ice_bits.specs.TileForms.{kind_of};
 ghost use Rattle.ice_chip.specs.Views.{function_view};
 
 use crate::TileBits;
+use crate::grids::Grids;
 use ice_base::{BitAt, NoMemory, RowNo, TileAt};
-use ice_chip::{Chip, Function, TileKind, same_kind};
-use indexmap::IndexMap;
+use ice_chip::{Chip, Function, Tile, TileKind, same_kind};
 use std::alloc::Global;
 use std::marker::Model;
 
@@ -24,11 +22,9 @@ use std::marker::Model;
 #[derive(Drop)]
 pub struct Bits {
     // The bits of each tile, in the order of the chip's tiles.
-    tiles: Vec<(TileAt, TileBits)>,
+    grids: Grids,
     // The kinds of these tiles in the same order.
     kinds: Vec<TileKind>,
-    // Where the bits of each tile stand.
-    places: IndexMap<TileAt, usize>,
     // The extra bits in order.
     extras: Vec<(u32, u32, u32)>,
 }
@@ -38,11 +34,9 @@ impl Model for Bits {
 
     ghost Value = { Configuration };
 
-    ghost use Rattle.ice_bits.specs.Views.{bits_view, IsIndexed};
+    ghost use Rattle.ice_bits.specs.Views.{bits_view};
 
     ghost view = { bits_view };
-
-    ghost invariant = { IsIndexed };
 }
 
 /// Whether a tile is known and of this kind.
@@ -55,34 +49,15 @@ pub fn is_of_kind(kind: TileKind, known: Option<TileKind>) -> bool
     }
 }
 
-// Notes the place of a tile that has none yet.
-fn note_place(
-    places: &mut IndexMap<TileAt, usize>,
-    tile: TileAt,
-    place: usize,
-) -> Result<(), NoMemory>
-    ensures { OnOk result ((t : TileAt) → lookup (same_tile t) places.new.entries ≡ option_or (lookup (same_tile t) places.old.entries) (lookup (same_tile t) ((tile, place) ∷ []))) }
+// The kinds of these tiles.
+fn kinds_of(alloc: Global, tiles: &[Tile]) -> Result<Vec<TileKind>, NoMemory>
+    ensures { IfOk result (λ kinds. kinds.items ≡ map kind_of tiles.now) }
 {
-    if places.get(&tile).is_none() {
-        places.insert(tile, place)?;
+    let mut kinds = Vec::with_capacity(alloc, tiles.len())?;
+    for tile in tiles {
+        kinds.push(tile.kind)?;
     }
-    Ok(())
-}
-
-// Adds the bits of a tile.
-fn add_tile(
-    tiles: &mut Vec<(TileAt, TileBits)>,
-    places: &mut IndexMap<TileAt, usize>,
-    tile: TileAt,
-    rows: TileBits,
-) -> Result<(), NoMemory>
-    requires { (t : TileAt) → lookup (same_tile t) places.old.entries ≡ place_in t tiles.old.items }
-    ensures tiles { OnOk result (tiles.new.items ≡ tiles.old.items ++ (tile, rows) ∷ []) }
-    ensures places { OnOk result ((t : TileAt) → lookup (same_tile t) places.new.entries ≡ place_in t tiles.new.items) }
-{
-    note_place(places, tile, tiles.len())?;
-    tiles.push((tile, rows))?;
-    Ok(())
+    Ok(kinds)
 }
 
 /// The bits of a chip, all 0, and no extra bits. It fails for want of memory alone.
@@ -90,18 +65,11 @@ pub fn blank(alloc: Global, chip: &Chip) -> Result<Bits, NoMemory>
     ensures blank { IfOk result (λ bits. bits ≡ blank chip.now) }
     ensures form { IfOk result (IsOf chip.now) }
 {
-    let mut tiles = Vec::with_capacity(alloc, chip.tiles().len())?;
-    let mut kinds = Vec::with_capacity(alloc, chip.tiles().len())?;
-    let mut places = IndexMap::with_capacity(alloc, chip.tiles().len())?;
-    for tile in chip.tiles() {
-        let rows = TileBits::blank(alloc, tile.kind.columns())?;
-        add_tile(&mut tiles, &mut places, tile.at, rows)?;
-        kinds.push(tile.kind)?;
-    }
+    let grids = Grids::blank(alloc, chip.tiles())?;
+    let kinds = kinds_of(alloc, chip.tiles())?;
     Ok(Bits {
-        tiles,
+        grids,
         kinds,
-        places,
         extras: Vec::new(alloc),
     })
 }
@@ -111,16 +79,9 @@ impl Bits {
     pub fn copy(&self, alloc: Global) -> Result<Bits, NoMemory>
         ensures { IfOk result (λ copy. copy ≡ self.now) }
     {
-        let mut tiles = Vec::with_capacity(alloc, self.tiles.len())?;
-        let mut places = IndexMap::with_capacity(alloc, self.tiles.len())?;
-        for held in &self.tiles {
-            let (tile, rows) = held;
-            add_tile(&mut tiles, &mut places, *tile, rows.copy(alloc)?)?;
-        }
         Ok(Bits {
-            tiles,
+            grids: self.grids.copy(alloc)?,
             kinds: self.kinds.clone()?,
-            places,
             extras: self.extras.clone()?,
         })
     }
@@ -129,17 +90,14 @@ impl Bits {
     fn place(&self, tile: TileAt) -> Option<usize>
         ensures { result ≡ place_in tile self.now.tiles }
     {
-        self.places.get(&tile).copied()
+        self.grids.place(tile)
     }
 
     /// The bits of a tile, or None exactly where no tile stands there. It takes no memory.
     pub fn tile(&self, tile: TileAt) -> Option<&TileBits>
         ensures { option_map (λ rows. rows.now) result ≡ rows_at self.now tile }
     {
-        match self.place(tile) {
-            None => None,
-            Some(place) => Some(&self.tiles[place].1),
-        }
+        self.grids.tile(tile)
     }
 
     /// The kind of a tile, or None exactly where no tile stands there. It takes no memory.
@@ -178,8 +136,7 @@ impl Bits {
         ensures written { self.new ≡ with_place tile bit value self.old }
         ensures place { place_in tile self.new.tiles ≡ Some place }
     {
-        let held = &mut self.tiles[place];
-        held.1.write(bit, value);
+        self.grids.write(tile, place, bit, value);
     }
 
     /// Writes the bit at a place of a tile, which has such a place. It takes no memory.
@@ -261,9 +218,7 @@ impl Bits {
     pub fn set_tile(&mut self, tile: TileAt, rows: TileBits)
         ensures { self.new ≡ with_rows tile rows self.old }
     {
-        if let Some(place) = self.place(tile) {
-            self.tiles[place].1 = rows;
-        }
+        self.grids.put(tile, rows);
     }
 
     /// The extra bits in order.

@@ -2,6 +2,7 @@
 #![tactic(auto)]
 
 mod bits;
+mod grids;
 mod laws;
 mod tile;
 

@@ -12,7 +12,7 @@ use std::marker::Model;
 const ROWS: usize = 16;
 
 /// The rows of bits of a tile. Contracts see them as the list of the rows.
-#[derive(Debug, Drop)]
+#[derive(Drop)]
 pub struct TileBits {
     rows: Vec<Vec<bool>>,
 }

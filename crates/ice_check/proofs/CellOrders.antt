@@ -23,7 +23,7 @@ use Rattle.ice_check.specs.Loops.{HasOrder, IsGraphOf, cell_by, cells_at, cells_
 use Rattle.ice_check.proofs.Graphs.{reads_below, graph_from}
 
 -- ---- drivers
-place_within : (s : ℕ) (xs : List (Option SignalNo)) (i : ℕ) → place_of s xs ≡ Some i → i < length xs
+pub place_within : (s : ℕ) (xs : List (Option SignalNo)) (i : ℕ) → place_of s xs ≡ Some i → i < length xs
 place_within s [] i e = cc e
 place_within s (x ∷ xs) i e = by (is_signal s x) (place_of s xs) (λ k h. place_within s xs k h) e
   where

@@ -17,7 +17,7 @@ use Rattle.ice_net.specs.NetlistData.{NetlistData}
 use Rattle.ice_net.specs.Formed.{IsBelow, IsPortBelow, IsFormedCell, IsFormed}
 use Rattle.ice_net.specs.Drivers.{pin_by, pin_of, pad_by, pad_of, has_buffer, output_of, pads, outputs}
 
-at_below : (n : ℕ) (ins : List (Option SignalNo)) (k : ℕ) → All (IsBelow n) ins → IsBelow n (get_or ins k None)
+pub at_below : (n : ℕ) (ins : List (Option SignalNo)) (k : ℕ) → All (IsBelow n) ins → IsBelow n (get_or ins k None)
 at_below n ins k all =
     elim (cases_lt k (length ins)) [
       | inl lt ↦ all k None lt

@@ -4,6 +4,7 @@ use Rattle.std.specs.List.{range_with_len}
 use Rattle.ice_base.specs.declared.number.TileAt.{TileAt}
 use Rattle.ice_base.specs.declared.number.BitAt.{BitAt}
 use Rattle.ice_chip.specs.Database.{Parts, FunctionRow, WireName, SwitchGroup, SwitchRow}
+use Rattle.ice_chip.specs.FunctionNames.{cell_function, falling_clock_function, carry_set_function, pin_type_function, input_enable_function, pull_up_function, column_buffer_function}
 use Rattle.ice_chip.specs.Lookups.{wire_named, names_of, placed_at, rows_of, global_of, ieren_of, colbuf_of}
 use Rattle.ice_chip.specs.declared.rows.Pad.{Pad}
 use Rattle.ice_chip.specs.declared.rows.TileKind.{TileKind}
@@ -25,29 +26,28 @@ abbrev pub one_bit : TileKind → List ℕ → ℕ → ℕ → FunctionRow
 one_bit kind name row col = record { kind = kind; name = name; bits = bit row col ∷ []; line = 0 }
 
 -- two pads: the bits of an IO tile's functions stand in its last column, one in each row
+abbrev pub type_rows : ℕ → List FunctionRow
+type_rows pio = map (λ place. one_bit Io (pin_type_function pio place) (6 * pio + place) 17) (range_with_len 0 6)
+
+abbrev pub enable_rows : ℕ → List FunctionRow
+enable_rows pio = one_bit Io (input_enable_function pio) (12 + 2 * pio) 17 ∷ one_bit Io (pull_up_function pio) (13 + 2 * pio) 17 ∷ []
+
 abbrev pub pad_functions : List FunctionRow
-pad_functions =
-    one_bit Io (codes "IOB_0.PINTYPE_0") 0 17 ∷ one_bit Io (codes "IOB_0.PINTYPE_1") 1 17 ∷ one_bit Io (codes "IOB_0.PINTYPE_2") 2 17
-    ∷ one_bit Io (codes "IOB_0.PINTYPE_3") 3 17 ∷ one_bit Io (codes "IOB_0.PINTYPE_4") 4 17 ∷ one_bit Io (codes "IOB_0.PINTYPE_5") 5 17
-    ∷ one_bit Io (codes "IOB_1.PINTYPE_0") 6 17 ∷ one_bit Io (codes "IOB_1.PINTYPE_1") 7 17 ∷ one_bit Io (codes "IOB_1.PINTYPE_2") 8 17
-    ∷ one_bit Io (codes "IOB_1.PINTYPE_3") 9 17 ∷ one_bit Io (codes "IOB_1.PINTYPE_4") 10 17 ∷ one_bit Io (codes "IOB_1.PINTYPE_5") 11 17
-    ∷ one_bit Io (codes "IoCtrl.IE_0") 12 17 ∷ one_bit Io (codes "IoCtrl.REN_0") 13 17 ∷ one_bit Io (codes "IoCtrl.IE_1") 14 17
-    ∷ one_bit Io (codes "IoCtrl.REN_1") 15 17 ∷ []
+pad_functions = type_rows 0 ++ type_rows 1 ++ enable_rows 0 ++ enable_rows 1
 
 -- ten bits of a row, from column 36 on
 abbrev pub ten_bits : ℕ → List BitAt
 ten_bits row = map (λ k. bit row (36 + k)) (range_with_len 0 10)
 
--- a cell has two rows of ten bits: 48 is `0`
-abbrev pub cell_function : ℕ → FunctionRow
-cell_function i = record { kind = Logic; name = codes "LC_" ++ (48 + i) ∷ []; bits = ten_bits (2 * i) ++ ten_bits (2 * i + 1); line = 0 }
+-- a cell has two rows of ten bits
+abbrev pub cell_row : ℕ → FunctionRow
+cell_row cell = record { kind = Logic; name = cell_function cell; bits = ten_bits (2 * cell) ++ ten_bits (2 * cell + 1); line = 0 }
 
-abbrev pub buffer_function : ℕ → FunctionRow
-buffer_function n = one_bit Logic (codes "ColBufCtrl.glb_netwk_" ++ (48 + n) ∷ []) n 1
+abbrev pub buffer_row : ℕ → FunctionRow
+buffer_row n = one_bit Logic (column_buffer_function n) n 1
 
 abbrev pub logic_functions : List FunctionRow
-logic_functions =
-    map cell_function (range_with_len 0 8) ++ one_bit Logic (codes "NegClk") 0 0 ∷ one_bit Logic (codes "CarryInSet") 1 49 ∷ map buffer_function (range_with_len 0 8)
+logic_functions = map cell_row (range_with_len 0 8) ++ one_bit Logic falling_clock_function 0 0 ∷ one_bit Logic carry_set_function 1 49 ∷ map buffer_row (range_with_len 0 8)
 
 -- ---- wires
 abbrev pub named : ℕ → TileAt → List ℕ → WireName

@@ -5,10 +5,11 @@ use Rattle.ice_chip.specs.Database.{Parts}
 use Rattle.ice_chip.specs.Whole.{whole_fault}
 use Rattle.ice_chip.specs.declared.fault.ChipFault.{ChipFault}
 use Rattle.ice_chip_read.specs.Faults.{◌>>=◌}
-use Rattle.ice_chip_read.specs.FirstFault.{WordLine, AreSound, AreRows, HasParts, IsFirstFault, word_lines, HasChip, HasFirstFault}
+use Rattle.ice_chip_read.specs.FirstFault.{WordLine, NamesLine, AreSound, AreRows, HasParts, IsFirstFault, word_lines, HasChip, HasFirstFault}
 use Rattle.ice_chip_read.specs.Lines.{line_says, lines_say, first_says, plain_says}
 use Rattle.ice_chip_read.specs.Reading.{Reading, closed}
 use Rattle.ice_chip_read.specs.Whole.{chip_says}
+use Rattle.ice_chip_read.proofs.FaultLines.{Names, line_names, first_names}
 
 -- ---- what lines behind the first say
 -- a line has this fault, and no line before it has one
@@ -20,6 +21,7 @@ record FaultsAt (r : Reading) (ls : List WordLine) (fault : ChipFault) : Type 0 
   stands : ls ≡ before ++ line ∷ behind
   sound : AreSound r before reached
   faulty : line_says reached line.0 line.1 ≡ Err fault
+  names : NamesLine line.0 fault
 
 abbrev LinesMean : Reading → List WordLine → Result Reading ChipFault → Type 0
 LinesMean r ls (Ok behind) = AreSound r ls behind
@@ -27,12 +29,12 @@ LinesMean r ls (Err fault) = FaultsAt r ls fault
 
 line_means : (r : Reading) (l : WordLine) (ls : List WordLine) (said : Result Reading ChipFault) → line_says r l.0 l.1 ≡ said → ((next : Reading) → LinesMean next ls (lines_say next ls))
     → LinesMean r (l ∷ ls) (said >>= (λ next. lines_say next ls))
-line_means r l ls (Err fault) e more = record { before = []; line = l; behind = ls; reached = r; stands = refl; sound = refl; faulty = e }
+line_means r l ls (Err fault) e more = record { before = []; line = l; behind = ls; reached = r; stands = refl; sound = refl; faulty = e; names = subst (Names l.0) e (line_names r l.0 l.1) }
 line_means r l ls (Ok next) e more = by (lines_say next ls) (more next)
   where
     by : (said : Result Reading ChipFault) → LinesMean next ls said → LinesMean r (l ∷ ls) said
     by (Ok behind) sound = (next, e, sound)
-    by (Err fault) m = record { before = l ∷ m.before; line = m.line; behind = m.behind; reached = m.reached; stands = ap (λ xs. l ∷ xs) m.stands; sound = (next, e, m.sound); faulty = m.faulty }
+    by (Err fault) m = record { before = l ∷ m.before; line = m.line; behind = m.behind; reached = m.reached; stands = ap (λ xs. l ∷ xs) m.stands; sound = (next, e, m.sound); faulty = m.faulty; names = m.names }
 
 lines_mean : (r : Reading) (ls : List WordLine) → LinesMean r ls (lines_say r ls)
 lines_mean r [] = refl
@@ -52,12 +54,12 @@ whole_means ls parts rows (Some fault) e = inr (inr (inr (record { parts = parts
 
 begun_means : (l : WordLine) (ls : List WordLine) (r : Reading) → first_says l.0 l.1 ≡ Ok r → (said : Result Reading ChipFault) → LinesMean r ls said → Means (l ∷ ls) ((said >>= (λ s. Ok (closed s))) >>= chip_of)
 begun_means l ls r e (Err fault) m =
-    inr (inr (inl (record { first = l; before = m.before; line = m.line; behind = m.behind; begun = r; reached = m.reached; stands = ap (λ xs. l ∷ xs) m.stands; device = e; sound = m.sound; faulty = m.faulty })))
+    inr (inr (inl (record { first = l; before = m.before; line = m.line; behind = m.behind; begun = r; reached = m.reached; stands = ap (λ xs. l ∷ xs) m.stands; device = e; sound = m.sound; faulty = m.faulty; names = m.names })))
 begun_means l ls r e (Ok behind) sound =
     whole_means (l ∷ ls) (closed behind) (record { first = l; others = ls; begun = r; ended = behind; stands = refl; device = e; sound = sound; rows = refl }) (whole_fault (closed behind)) refl
 
 first_means : (l : WordLine) (ls : List WordLine) (said : Result Reading ChipFault) → first_says l.0 l.1 ≡ said → Means (l ∷ ls) (((said >>= (λ r. lines_say r ls)) >>= (λ s. Ok (closed s))) >>= chip_of)
-first_means l ls (Err fault) e = inr (inl (record { first = l; others = ls; stands = refl; faulty = e }))
+first_means l ls (Err fault) e = inr (inl (record { first = l; others = ls; stands = refl; faulty = e; names = subst (Names l.0) e (first_names l.0 l.1) }))
 first_means l ls (Ok r) e = begun_means l ls r e (lines_say r ls) (lines_mean r ls)
 
 means : (ls : List WordLine) → Means ls (says ls)

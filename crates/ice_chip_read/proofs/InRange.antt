@@ -7,7 +7,10 @@ use Rattle.ice_base.specs.declared.number.BitAt.{BitAt}
 use Rattle.ice_chip.specs.Database.{Parts}
 use Rattle.ice_chip.specs.Within.{IsPlace, IsPad, IsBit}
 use Rattle.ice_chip.specs.declared.fault.ChipFault.TheVariants.{OutOfRange, BadBit, BadValues}
-use Rattle.ice_chip_read.specs.Bits.{all_known, number_below, cut_at, place, column_in, place_in, bit_in, bits_in, digit_value, values_in}
+use Rattle.ice_base.specs.Lists.{all_known}
+use Rattle.ice_base.specs.Numbers.{number_below}
+use Rattle.ice_base.specs.Places.{bit_place}
+use Rattle.ice_base.specs.BitNames.{cut_at, column_named, place_named, bit_named, bits_named, digit_value, values_in}
 use Rattle.ice_chip_read.specs.Lines.{tile_in, pad_of, pad_in, global_in, bits_at, group_bits, known_values, values_at}
 use Rattle.ice_chip_read.specs.Reading.{tile_at}
 use Rattle.ice_chip_read.proofs.Results.{bind_meeting, some_then, some_mapped, some_any}
@@ -61,27 +64,27 @@ number_is_below limit word = some_then (λ n. n < limit) (λ n. Unit {0}) (numbe
     by n true is = search (rules, tests)
     by n false is = tt
 
-column_is_below : (columns : ℕ) (column rest : List ℕ) → IfSome (column_in columns column rest) (λ n. n < columns)
+column_is_below : (columns : ℕ) (column rest : List ℕ) → IfSome (column_named columns column rest) (λ n. n < columns)
 column_is_below columns column [] = number_is_below columns column
 column_is_below columns column (b ∷ bytes) = tt
 
-place_is_bit : (columns : ℕ) (row rest : List ℕ) → IfSome (place_in columns row rest) (IsBit columns)
+place_is_bit : (columns : ℕ) (row rest : List ℕ) → IfSome (place_named columns row rest) (IsBit columns)
 place_is_bit columns row rest =
     some_then (IsBit columns) (λ n. n < 16) (number_below 16 row) _ (number_is_below 16 row)
-    (λ r low. some_mapped (IsBit columns) (λ n. n < columns) (option_and_then (λ cut. column_in columns cut.0 cut.1) (cut_at 93 rest)) (place r)
+    (λ r low. some_mapped (IsBit columns) (λ n. n < columns) (option_and_then (λ cut. column_named columns cut.0 cut.1) (cut_at 93 rest)) (bit_place r)
     (some_then (λ n. n < columns) (λ cut. Unit {0}) (cut_at 93 rest) _ (some_any (cut_at 93 rest)) (λ cut u. column_is_below columns cut.0 cut.1))
     (λ c narrow. record { row = low; column = narrow }))
 
-bit_is_bit : (columns : ℕ) (name : List ℕ) → IfSome (bit_in columns name) (IsBit columns)
+bit_is_bit : (columns : ℕ) (name : List ℕ) → IfSome (bit_named columns name) (IsBit columns)
 bit_is_bit columns [] = tt
 bit_is_bit columns (b ∷ bytes) = by (b == 66)
   where
-    by : (t : Bool) → IfSome (if t then option_and_then (λ cut. place_in columns cut.0 cut.1) (cut_at 91 bytes) else None) (IsBit columns)
+    by : (t : Bool) → IfSome (if t then option_and_then (λ cut. place_named columns cut.0 cut.1) (cut_at 91 bytes) else None) (IsBit columns)
     by true = some_then (IsBit columns) (λ cut. Unit {0}) (cut_at 91 bytes) _ (some_any (cut_at 91 bytes)) (λ cut u. place_is_bit columns cut.0 cut.1)
     by false = tt
 
-pub bits_read : (line columns : ℕ) (names : List (List ℕ)) → IfOk (bits_at line (bits_in columns names)) (All (IsBit columns))
-bits_read line columns names = by (bits_in columns names) (all_known_are (IsBit columns) (bit_in columns) (bit_is_bit columns) names)
+pub bits_read : (line columns : ℕ) (names : List (List ℕ)) → IfOk (bits_at line (bits_named columns names)) (All (IsBit columns))
+bits_read line columns names = by (bits_named columns names) (all_known_are (IsBit columns) (bit_named columns) (bit_is_bit columns) names)
   where
     by : (o : Option (List BitAt)) → IfSome o (All (IsBit columns)) → IfOk (bits_at line o) (All (IsBit columns))
     by None are = tt
@@ -94,7 +97,7 @@ pub record AreSomeBits (bits : List BitAt) : Type 0 where
 
 pub group_bits_read : (line : ℕ) (names : List (List ℕ)) → IfOk (group_bits line names) AreSomeBits
 group_bits_read line names =
-    bind_meeting AreSomeBits (All (IsBit 54)) (bits_at line (bits_in 54 names)) _ (bits_read line 54 names) (λ bits are. by bits are (length bits == 0) refl)
+    bind_meeting AreSomeBits (All (IsBit 54)) (bits_at line (bits_named 54 names)) _ (bits_read line 54 names) (λ bits are. by bits are (length bits == 0) refl)
   where
     by : (bits : List BitAt) → All (IsBit 54) bits → (b : Bool) → (length bits == 0) ≡ b → IfOk (if b then Err (BadBit line) else Ok bits) AreSomeBits
     by bits are true is = tt

@@ -1,9 +1,7 @@
-mod BitCuts
-mod KnownLists
-mod Entries
 mod ReadParts
 mod Results
 mod InRange
 mod Once
 mod ReadForms
+mod FaultLines
 mod FirstFaults

@@ -21,7 +21,7 @@ use Rattle.ice_chip_read.specs.declared.section.Heading.TheVariants as heading
 use Rattle.ice_chip_read.specs.Faults.{◌>>=◌}
 use Rattle.ice_chip_read.specs.Headings.{heading_of}
 use Rattle.ice_chip_read.specs.Reading.{Reading, begun, closed}
-use Rattle.ice_chip_read.specs.Bits.{bits_in}
+use Rattle.ice_base.specs.BitNames.{bits_named}
 use Rattle.ice_chip_read.specs.Words.{number, two, three, ended}
 use Rattle.ice_chip.specs.Limits.{most_wires, most_places, most_rows}
 use Rattle.ice_chip_read.specs.Lines.{tile_in, pad_in, wire_in, global_in, unseen, one_word, sizes_in, begun_within, device_first, tile_line, new_tile, bits_at, group_bits, heading_says, kept_function, function_row, values_at, with_row, row_says, with_closed, line_says, lines_say, first_says, plain_says}
@@ -173,7 +173,7 @@ heading_forms r line (heading.Bits kind) ws h =
 kept_forms : (r : Reading) (line : ℕ) (kind : TileKind) (name : List ℕ) (ws : List (List ℕ)) → Forms (record r { open_section = section.Bits kind })
     → (is_read kind name || is_foreign kind name) ≡ true → AreOthers kind name r.parts.functions → IfOk (kept_function (record r { open_section = section.Bits kind }) line kind name ws) Forms
 kept_forms r line kind name ws h known others =
-    bind_meeting Forms (All (IsBit (columns kind))) (bits_at line (bits_in (columns kind) ws)) _ (bits_read line (columns kind) ws) (λ bits are. record {
+    bind_meeting Forms (All (IsBit (columns kind))) (bits_at line (bits_named (columns kind) ws)) _ (bits_read line (columns kind) ws) (λ bits are. record {
       within = record {
         small = h.within.small;
         listed = record {

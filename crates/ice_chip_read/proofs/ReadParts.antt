@@ -20,9 +20,9 @@ use Rattle.ice_chip_read.specs.declared.section.Heading.{Heading}
 use Rattle.ice_chip_read.specs.declared.section.Heading.TheVariants as heading
 use Rattle.ice_chip_read.specs.Faults.{◌>>=◌}
 use Rattle.ice_chip_read.specs.Headings.{heading_of}
-use Rattle.ice_chip_read.specs.PlainLines.{plain_lines}
+use Rattle.ice_base.specs.PlainLines.{plain_lines}
 use Rattle.ice_chip_read.specs.Reading.{Reading, begun, closed}
-use Rattle.ice_chip_read.specs.Bits.{bits_in}
+use Rattle.ice_base.specs.BitNames.{bits_named}
 use Rattle.ice_chip_read.specs.Words.{number, two, three, ended}
 use Rattle.ice_chip.specs.Limits.{most_wires, most_places, most_rows}
 use Rattle.ice_chip_read.specs.Lines.{tile_in, pad_in, wire_in, global_in, unseen, one_word, sizes_in, begun_within, device_first, new_tile, bits_at, group_bits, heading_says, kept_function, values_at, with_row, row_says, with_closed, line_says, lines_say, first_says, plain_says, text_says}
@@ -136,7 +136,7 @@ heading_holds r line (heading.Bits kind) ws h =
 -- ---- rows
 kept_holds : (r : Reading) (line : ℕ) (kind : TileKind) (name : List ℕ) (ws : List (List ℕ)) → Holds (record r { open_section = section.Bits kind })
     → IfOk (kept_function (record r { open_section = section.Bits kind }) line kind name ws) Holds
-kept_holds r line kind name ws h = bind Holds (bits_at line (bits_in (columns kind) ws)) _ (λ bits e. record { sound = h.sound; few = h.few; opened = h.opened })
+kept_holds r line kind name ws h = bind Holds (bits_at line (bits_named (columns kind) ws)) _ (λ bits e. record { sound = h.sound; few = h.few; opened = h.opened })
 
 row_holds : (r : Reading) (s : Section) (line : ℕ) (w : List ℕ) (ws : List (List ℕ)) → Holds (record r { open_section = s }) → IfOk (row_says (record r { open_section = s }) line s w ws) Holds
 row_holds r section.Rowless line w ws h = tt

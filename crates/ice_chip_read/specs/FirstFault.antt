@@ -4,9 +4,9 @@ use Rattle.ice_base.specs.Text.{lines, numbered}
 use Rattle.ice_chip.specs.Database.{Parts}
 use Rattle.ice_chip.specs.Whole.{whole_fault}
 use Rattle.ice_chip.specs.declared.fault.ChipFault.{ChipFault}
-use Rattle.ice_chip.specs.declared.fault.ChipFault.TheVariants.{NoDevice}
+use Rattle.ice_chip.specs.declared.fault.ChipFault.TheVariants.{NoDevice, BadNumber, BadName, OutOfRange, Twice, BadBit, BadValues, SharedFunction, LacksFunction, SharedPin, TooMany, NoMemory}
 use Rattle.ice_chip_read.specs.Lines.{line_says, first_says}
-use Rattle.ice_chip_read.specs.PlainLines.{plain_lines}
+use Rattle.ice_base.specs.PlainLines.{plain_lines}
 use Rattle.ice_chip_read.specs.Reading.{Reading, closed}
 
 -- the number and the words of a line that has words
@@ -34,14 +34,30 @@ pub record HasParts (ls : List WordLine) (parts : Parts) : Type 0 where
   pub rows : AreRows ls parts
   pub faultless : whole_fault parts ≡ None
 
--- the first line has this fault
+-- the fault names this line, as the later one where it names two; that there are too many names none
+abbrev pub NamesLine : ℕ → ChipFault → Type 0
+NamesLine line (NoDevice at) = at ≡ line
+NamesLine line (BadNumber at) = at ≡ line
+NamesLine line (BadName at) = at ≡ line
+NamesLine line (OutOfRange at) = at ≡ line
+NamesLine line (Twice at other) = at ≡ line
+NamesLine line (BadBit at) = at ≡ line
+NamesLine line (BadValues at) = at ≡ line
+NamesLine line (SharedFunction at other) = at ≡ line
+NamesLine line (LacksFunction at) = at ≡ line
+NamesLine line (SharedPin at other) = at ≡ line
+NamesLine line (TooMany limit) = Unit {0}
+NamesLine line NoMemory = ⊥
+
+-- the first line has this fault, which names it
 pub record IsFirstOfDevice (ls : List WordLine) (fault : ChipFault) : Type 0 where
   pub first : WordLine
   pub others : List WordLine
   pub stands : ls ≡ first ∷ others
   pub faulty : first_says first.0 first.1 ≡ Err fault
+  pub names : NamesLine first.0 fault
 
--- a later line has this fault, and no line before it has one
+-- a later line has this fault, which names it, and no line before it has one
 pub record IsFirstOfLines (ls : List WordLine) (fault : ChipFault) : Type 0 where
   pub first : WordLine
   pub before : List WordLine
@@ -53,6 +69,7 @@ pub record IsFirstOfLines (ls : List WordLine) (fault : ChipFault) : Type 0 wher
   pub device : first_says first.0 first.1 ≡ Ok begun
   pub sound : AreSound begun before reached
   pub faulty : line_says reached line.0 line.1 ≡ Err fault
+  pub names : NamesLine line.0 fault
 
 -- no line has a fault, and this is the first fault of the whole
 pub record IsFirstOfWhole (ls : List WordLine) (fault : ChipFault) : Type 0 where

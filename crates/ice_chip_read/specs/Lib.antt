@@ -1,8 +1,6 @@
-pub mod PlainLines
 pub mod Faults
 pub mod Whole
 pub mod Words
-pub mod Bits
 pub mod Headings
 pub mod Reading
 pub mod Lines

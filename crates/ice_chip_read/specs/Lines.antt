@@ -18,10 +18,10 @@ use Rattle.ice_chip_read.specs.declared.section.Section.{Section}
 use Rattle.ice_chip_read.specs.declared.section.Section.TheVariants as section
 use Rattle.ice_chip_read.specs.declared.section.Heading.{Heading}
 use Rattle.ice_chip_read.specs.declared.section.Heading.TheVariants as heading
-use Rattle.ice_chip_read.specs.PlainLines.{plain_lines}
+use Rattle.ice_base.specs.PlainLines.{plain_lines}
 use Rattle.ice_chip_read.specs.Faults.{◌>>=◌}
 use Rattle.ice_chip_read.specs.Words.{number, two, three, ended}
-use Rattle.ice_chip_read.specs.Bits.{bits_in, values_in}
+use Rattle.ice_base.specs.BitNames.{bits_named, values_in}
 use Rattle.ice_chip.specs.Functions.{is_read, is_foreign, function_line}
 use Rattle.ice_chip_read.specs.Headings.{heading_of}
 use Rattle.ice_chip_read.specs.Reading.{Reading, begun, closed, tile_at, no_group, no_package}
@@ -116,7 +116,7 @@ bits_at line (Some bits) = Ok bits
 
 -- a group's bits stand in some tile's columns, and there is one or more
 abbrev pub group_bits : ℕ → List (List ℕ) → Result (List BitAt) ChipFault
-group_bits line ws = bits_at line (bits_in 54 ws) >>= (λ bits. if length bits == 0 then Err (BadBit line) else Ok bits)
+group_bits line ws = bits_at line (bits_named 54 ws) >>= (λ bits. if length bits == 0 then Err (BadBit line) else Ok bits)
 
 abbrev pub with_group : Reading → ℕ → TileAt → ℕ → List BitAt → Reading
 with_group r line tile wire bits =
@@ -178,7 +178,7 @@ with_function r line kind name bits =
     record r { parts = record r.parts { functions = r.parts.functions ++ record { kind = kind; name = name; bits = bits; line = line } ∷ [] } }
 
 abbrev pub kept_function : Reading → ℕ → TileKind → List ℕ → List (List ℕ) → Result Reading ChipFault
-kept_function r line kind name ws = bits_at line (bits_in (columns kind) ws) >>= (λ bits. Ok (with_function r line kind name bits))
+kept_function r line kind name ws = bits_at line (bits_named (columns kind) ws) >>= (λ bits. Ok (with_function r line kind name bits))
 
 -- a read function stands once; rows of functions that are neither read nor kept are read over
 abbrev pub function_row : Reading → ℕ → TileKind → List ℕ → List (List ℕ) → Result Reading ChipFault

@@ -1,6 +1,6 @@
 -- What is read of a chip text up to a line: the rows so far, and the section that is open.
 use Rattle.std.specs.Prelude.{ℕ, List, [], ◌∷◌, ◌++◌}
-use Rattle.ice_base.specs.declared.number.TileAt.{TileAt}
+pub use Rattle.ice_base.specs.Places.{tile_at}
 use Rattle.ice_chip.specs.Database.{Parts, no_parts, SwitchGroup, PackageRows}
 use Rattle.ice_chip_read.specs.declared.section.Section.{Section}
 use Rattle.ice_chip_read.specs.declared.section.Section.TheVariants as section
@@ -15,9 +15,6 @@ pub record Reading : Type 0 where
   pub group : SwitchGroup
   pub pins : PackageRows
   pub rows : ℕ
-
-abbrev pub tile_at : ℕ → ℕ → TileAt
-tile_at x y = record { x = x; y = y }
 
 -- a group and a package without rows, where none is open
 abbrev pub no_group : SwitchGroup

@@ -1,16 +1,11 @@
 -- What the reader answers, as the definitions see it.
-use Rattle.std.specs.Prelude.{◌≡◌, ℕ, List, ◌∷◌, Result, Ok, Err}
+use Rattle.std.specs.Prelude.{◌≡◌, Result, Ok, Err}
 use Rattle.ice_chip.specs.Views.{parts_view, group_view, package_view}
 use Rattle.ice_chip_read.specs.Reading as spec
 use Rattle.ice_chip.specs.declared.fault.ChipFault.{ChipFault}
 use Rattle.ice_chip_read.specs.declared.fault.ReadStop.{ReadStop}
 use Rattle.ice_chip_read.specs.declared.fault.ReadStop.TheVariants.{NoMemory, Fault}
-use Rattle.ice_chip_read.specs.declared.plain.PlainLine.{PlainLine}
 use Rattle.ice_chip_read.specs.declared.reading.Reading.{Reading}
-
--- the number and the words of a line
-abbrev pub plain_line_view : PlainLine → ℕ × List (List ℕ)
-plain_line_view line = (line.number, line.first.now ∷ line.others)
 
 -- what a function that takes no memory returned, seen by view, is what the definition says
 abbrev pub Says : {X Y : Type 0} → (X → Y) → Result X ChipFault → Result Y ChipFault → Type 0

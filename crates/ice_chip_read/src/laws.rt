@@ -7,8 +7,8 @@ ghost use Rattle.ice_chip_read.specs.FirstFault.{HasChip, HasFirstFault};
 
 /// A text says a chip exactly where its first line is that of a device, no line has a fault in what is read before it, and
 /// the rows have no fault of the whole. It says a fault exactly where no line has words, or that is the fault of the first
-/// line that has one, or no line has one and that is the first fault of the whole. So a text has a chip or a first fault,
-/// and never both.
+/// line that has one, and names it, or no line has one and that is the first fault of the whole. So a text has a chip or a
+/// first fault, and never both.
 pub fn says_chip_or_first_fault(text: &[u8])
     ensures chip { (parts : Parts) → (chip_says text.now ≡ Ok parts ↔ HasChip text.now parts) }
     ensures fault { (f : ChipFault) → (chip_says text.now ≡ Err f ↔ HasFirstFault text.now f) }

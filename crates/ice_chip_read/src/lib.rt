@@ -5,7 +5,6 @@ mod bits;
 mod fault;
 mod headings;
 mod laws;
-mod plain;
 mod ranges;
 mod read;
 mod reading;

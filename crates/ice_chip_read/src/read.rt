@@ -8,11 +8,10 @@ ghost use Rattle.ice_chip_read.specs.Views.{Says, Gives, reading_view};
 
 use crate::ReadStop;
 use crate::headings::{device_first, heading_line};
-use crate::plain::{PlainLine, PlainLines, plain_lines};
 use crate::reading::{Reading, close};
 use crate::rows::row_line;
 use crate::section::heading_named;
-use ice_base::{begins_with, lines_of};
+use ice_base::{PlainLine, PlainLines, begins_with, lines_of, plain_lines};
 use ice_chip::{Chip, ChipFault, ChipParts, build};
 use std::alloc::Global;
 

@@ -1,25 +1,15 @@
 -- The different ones of some tiles.
-use Rattle.std.proofs.Common.{◌≡◌, ◌⊎◌, ℕ, zero, suc, ◌+◌, ◌<◌, ◌≤◌, Bool, true, false, cond, List, [], ◌∷◌, ◌++◌, Some, None, inl, inr, refl, ap, sym, ◌∙◌, subst, length, eqb, arith, length-append}
+use Rattle.std.proofs.Common.{◌≡◌, ◌⊎◌, ℕ, zero, suc, ◌+◌, ◌<◌, ◌≤◌, Bool, true, false, cond, List, [], ◌∷◌, ◌++◌, Some, None, inl, inr, refl, ap, sym, ◌∙◌, subst, length, arith, length-append}
 use Rattle.std.specs.Prelude.{not}
 use Rattle.std.specs.List.{list_any, position, position_or_len}
-use Rattle.std.proofs.lemmas.Bool.{and_parts, and_from, eqb-true, eq-eqb, lt-ltb, cond-true}
+use Rattle.std.proofs.lemmas.Bool.{lt-ltb, cond-true}
 use Rattle.std.proofs.lemmas.Option.{same_Some}
 use Rattle.ice_base.specs.declared.number.TileAt.{TileAt}
+use Rattle.ice_base.proofs.Keys.{tile_same, tile_self}
 use Rattle.ice_chip.specs.Places.{same_tile}
 use Rattle.ice_value.specs.Order.{At, Has, StandOnce}
 use Rattle.ice_decode.specs.Different.{with_tile, different}
 use Rattle.ice_decode.proofs.Members.{Has_left, Has_right, Has_append_cases, Has_any, Has_none, once_push}
-
--- ---- equal tiles
-pub tile_same : (a b : TileAt) → same_tile a b ≡ true → a ≡ b
-tile_same a b e =
-    let parts = and_parts (eqb a.x b.x) (eqb a.y b.y) e in
-    let x = eqb-true a.x b.x parts.0 in
-    let y = eqb-true a.y b.y parts.1 in
-    λ i. record { x = x i; y = y i }
-
-pub tile_self : (a : TileAt) → same_tile a a ≡ true
-tile_self a = and_from (eqb a.x a.x) (eqb a.y a.y) (eq-eqb a.x a.x refl) (eq-eqb a.y a.y refl)
 
 -- ---- one tile more
 module _ (seen : List TileAt) (t : TileAt) where

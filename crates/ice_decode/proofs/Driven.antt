@@ -20,11 +20,11 @@ use Rattle.ice_decode.specs.Faults.{or_else, first_of, contended_by}
 use Rattle.ice_decode.specs.Refusals.{IsFaultless, CircuitData, IsCircuitOf}
 use Rattle.ice_decode.specs.Laws.{HasNoRowOn, IsDriverOf}
 use Rattle.ice_decode.proofs.Members.{At_map, At_range}
-use Rattle.ice_decode.proofs.Switches.{some_mapped, some_then}
+use Rattle.ice_base.proofs.Options.{option_map_some, and_then_some}
 
 -- ---- contention
 -- where nothing is found there is nothing for any of the numbers
-first_none : {A : Type 0} (f : ℕ → Option A) (k n : ℕ) → first_of f k n ≡ None → (w : ℕ) → k ≤ w → w < k + n → f w ≡ None
+pub first_none : {A : Type 0} (f : ℕ → Option A) (k n : ℕ) → first_of f k n ≡ None → (w : ℕ) → k ≤ w → w < k + n → f w ≡ None
 first_none f k zero e w le lt = absurd (omega arith)
 first_none {A} f k (suc n) e w le lt = by (f k) refl e (λ none less. first_none f (k + 1) n none w less (omega arith))
   where
@@ -78,8 +78,8 @@ switch_off bits g none = by (row_on bits g) refl
 
 switch_target : (bits : Bits) (g : SwitchGroup) (s : Switch) → switch_on bits g ≡ Some s → g.wire ≡ s.target.0
 switch_target bits g s e =
-    let number = some_then (switch_at g) (row_on bits g) s e in
-    let row = some_mapped (switch g number.0) (slice_get g.rows (number.0 - g.first)) s number.2 in
+    let number = and_then_some (switch_at g) (row_on bits g) s e in
+    let row = option_map_some (switch g number.0) (slice_get g.rows (number.0 - g.first)) s number.2 in
     ap (λ (t : Switch). t.target.0) row.2
 
 module _ (bits : Bits) (w : ℕ) where

@@ -11,7 +11,9 @@ pub mod TileLists
 pub mod ForeignBits
 pub mod DriverTables
 pub mod Driven
-pub mod Groups
+pub mod GlobalsNamed
+pub mod KeptLevels
+pub mod PinRoles
 pub mod RowValues
 pub mod FirstOf
 pub mod RowsOn

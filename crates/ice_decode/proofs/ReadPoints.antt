@@ -1,11 +1,11 @@
 -- What the points of a chip read are points of the chip.
-use Rattle.std.proofs.Common.{◌≡◌, ℕ, zero, suc, ◌+◌, ◌*◌, ◌<◌, Bool, true, false, cond, List, [], ◌∷◌, Some, None, Option, refl, sym, subst, map, All, arith}
+use Rattle.std.proofs.Common.{◌≡◌, ℕ, zero, suc, ◌+◌, ◌*◌, ◌<◌, false, List, [], ◌∷◌, Some, None, Option, refl, sym, subst, map, arith}
 use Rattle.std.specs.Prelude.{codes, option_map}
-use Rattle.std.specs.Map.{lookup}
 use Rattle.std.proofs.lemmas.Option.{same_Some}
 use Rattle.std.proofs.lemmas.Bool.{cond_both}
-use Rattle.std.proofs.lemmas.List.Elements.{All-head, All-tail, All-map, All-filter}
+use Rattle.std.proofs.lemmas.List.Elements.{All-map, All-filter}
 use Rattle.ice_base.specs.declared.number.TileAt.{TileAt}
+use Rattle.ice_base.proofs.Entries.{lookup_all}
 use Rattle.ice_chip.specs.Database.{Parts, WireName}
 use Rattle.ice_chip.specs.IsRead.{IsRead}
 use Rattle.ice_chip.specs.Lookups.{wire_named, placed_at, placed_wire, placed_names, is_placed, global_of}
@@ -20,7 +20,7 @@ use Rattle.ice_decode.specs.declared.driver.Driver.{Driver}
 use Rattle.ice_decode.specs.declared.driver.Driver.TheVariants.{Nothing, By, Several}
 use Rattle.ice_decode.specs.declared.role.Role.{Role}
 use Rattle.ice_decode.specs.declared.role.Role.TheVariants.{Plain, Output, LookUp, CarryOut, PadInput, Global, CarryIn, ClockEnable}
-use Rattle.ice_decode.specs.Names.{input_name}
+use Rattle.ice_chip.specs.WireNames.{input_name}
 use Rattle.ice_decode.specs.Cells.{has_carry, has_flop, logic_tiles}
 use Rattle.ice_decode.specs.Drivers.{driver}
 use Rattle.ice_decode.specs.Roles.{role_of}
@@ -47,14 +47,6 @@ read_has P (Some p ∷ reads) all q (zero, at) = subst P (same_Some p q at) all.
 read_has P (Some p ∷ reads) all q (suc i, at) = read_has P reads all.1 q (i, at)
 
 -- ---- names
-lookup_all : {K V : Type 0} (P : V → Type 0) (test : K → Bool) (entries : List (K × V)) → All (λ (e : K × V). P e.1) entries → (v : V) → lookup test entries ≡ Some v → P v
-lookup_all P test [] all v e = cc e
-lookup_all {K} {V} P test (x ∷ entries) all v e = by (test x.0) (λ f. lookup_all P test entries (All-tail (λ (y : K × V). P y.1) x entries all) v f) e
-  where
-    by : (b : Bool) → (lookup test entries ≡ Some v → P v) → cond b (Some x.1) (lookup test entries) ≡ Some v → P v
-    by true later f = subst P (same_Some x.1 v f) (All-head (λ (y : K × V). P y.1) x entries all)
-    by false later f = later f
-
 named_below : (parts : Parts) → IsRead parts → (t : TileAt) (name : List ℕ) (w : ℕ) → wire_named parts t name ≡ Some w → w < parts.wires
 named_below parts read t name w e =
     lookup_all (λ (k : ℕ). k < parts.wires) (same_placed (placed_at t name)) (map placed_wire (placed_names parts))

@@ -21,8 +21,8 @@ use Rattle.ice_decode.specs.Cells.{is_logic, is_logic_tile, logic_tiles}
 use Rattle.ice_decode.specs.Reads.{points}
 use Rattle.ice_decode.specs.Roles.{number_at, global_role, output_role, or_global, logic_role, io_role, role_in, role_or, first_role, role_of}
 use Rattle.ice_decode.proofs.Members.{Has_filter, Has_map}
-use Rattle.ice_decode.proofs.DifferentTiles.{tile_same}
-use Rattle.ice_decode.proofs.Switches.{some_mapped}
+use Rattle.ice_base.proofs.Keys.{tile_same}
+use Rattle.ice_base.proofs.Options.{option_map_some}
 use Rattle.ice_decode.proofs.PointPlaces.{carry_at}
 
 -- a cell of a logic tile
@@ -120,7 +120,7 @@ lookup_entry {K} {V} test (x ∷ entries) v e = by (test x.0) refl (λ f. lookup
 
 pub logic_there : (parts : Parts) (t : TileAt) → kind_at parts t ≡ Some Logic → Has (logic_tiles parts) t
 logic_there parts t e =
-    let line = some_mapped (λ (known : TileLine). known.kind) (tile_known parts.tiles t) Logic e in
+    let line = option_map_some (λ (known : TileLine). known.kind) (tile_known parts.tiles t) Logic e in
     let entry = lookup_entry (same_tile t) parts.tiles line.0 line.1 in
     let passes : is_logic_tile (entry.0, line.0) ≡ true = ap is_logic line.2 in
     subst (Has (logic_tiles parts)) (sym (tile_same t entry.0 entry.2))

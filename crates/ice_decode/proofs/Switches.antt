@@ -1,10 +1,10 @@
 -- Rows that are on lead from wires of the chip to wires of the chip.
 use Rattle.std.proofs.Common.{◌≡◌, ℕ, ◌-◌, ◌<◌, List, [], ◌∷◌, Some, None, Option, refl, ap, sym, ◌∙◌, subst, All}
-use Rattle.std.specs.Prelude.{slice_get, option_map, filter_map}
+use Rattle.std.specs.Prelude.{slice_get, filter_map}
 use Rattle.std.specs.List.{cons_option}
-use Rattle.std.specs.Option.{option_and_then}
-use Rattle.std.proofs.lemmas.Option.{same_Some, slice_get_within, get_or_from_slice_get}
+use Rattle.std.proofs.lemmas.Option.{slice_get_within, get_or_from_slice_get}
 use Rattle.std.proofs.lemmas.List.Elements.{All-nil, All-cons, All-head, All-tail, All-get_or, All-filter, All-same}
+use Rattle.ice_base.proofs.Options.{option_map_some, and_then_some}
 use Rattle.ice_chip.specs.Database.{Parts, SwitchGroup, SwitchRow}
 use Rattle.ice_chip.specs.IsRead.{HasWiresBelow, IsRead}
 use Rattle.ice_bits.specs.Configuration.{Bits}
@@ -15,15 +15,6 @@ use Rattle.ice_decode.specs.declared.driver.Driver.TheVariants.{By}
 use Rattle.ice_decode.specs.Drivers.{switch, switch_at, switch_on, switches_on, into, driver_among, driver}
 use Rattle.ice_decode.specs.Tables.{IsBetween, drivers_of}
 use Rattle.ice_decode.specs.Refusals.{AreDrivers}
-
--- what is there of an Option behind a function
-pub some_mapped : {A B : Type 0} (f : A → B) (o : Option A) (y : B) → option_map f o ≡ Some y → (x : A) × (o ≡ Some x) × (f x ≡ y)
-some_mapped f None y e = cc e
-some_mapped f (Some x) y e = (x, refl, same_Some (f x) y e)
-
-pub some_then : {A B : Type 0} (f : A → Option B) (o : Option A) (y : B) → option_and_then f o ≡ Some y → (x : A) × (o ≡ Some x) × (f x ≡ Some y)
-some_then f None y e = cc e
-some_then f (Some x) y e = (x, refl, e)
 
 all_chosen : {X Y : Type 0} (P : X → Type 0) (Q : Y → Type 0) (h : X → Option Y) → ((x : X) (y : Y) → P x → h x ≡ Some y → Q y)
     → (xs : List X) → All P xs → All Q (filter_map h xs)
@@ -36,8 +27,8 @@ all_chosen {X} {Y} P Q h gives (x ∷ xs) all = by (h x) refl (all_chosen P Q h 
 
 on_between : (wires : ℕ) (bits : Bits) (g : SwitchGroup) (s : Switch) → HasWiresBelow wires g → switch_on bits g ≡ Some s → IsBetween wires s
 on_between wires bits g s below e =
-    let number = some_then (switch_at g) (row_on bits g) s e in
-    let row = some_mapped (switch g number.0) (slice_get g.rows (number.0 - g.first)) s number.2 in
+    let number = and_then_some (switch_at g) (row_on bits g) s e in
+    let row = option_map_some (switch g number.0) (slice_get g.rows (number.0 - g.first)) s number.2 in
     let lt = slice_get_within g.rows (number.0 - g.first) row.0 row.1 in
     let source : row.0.source < wires
     = subst (λ (r : SwitchRow). r.source < wires) (get_or_from_slice_get g.rows (number.0 - g.first) row.0 row.0 row.1)

@@ -11,7 +11,7 @@ use Rattle.ice_bits.specs.Settings.{set_at}
 use Rattle.ice_net.specs.declared.kind.Reset.{Reset}
 use Rattle.ice_net.specs.declared.kind.Reset.TheVariants.{SyncReset, AsyncReset, SyncSet, AsyncSet}
 use Rattle.ice_net.specs.Meaning.{number_of}
-use Rattle.ice_decode.specs.Names.{cell_function}
+use Rattle.ice_chip.specs.FunctionNames.{cell_function}
 
 -- ---- the cells of a chip
 abbrev pub is_logic : TileKind → Bool

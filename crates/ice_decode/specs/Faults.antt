@@ -15,7 +15,7 @@ use Rattle.ice_decode.specs.declared.point.Point.TheVariants.{Wire, Carry}
 use Rattle.ice_decode.specs.declared.driver.Switch.{Switch}
 use Rattle.ice_decode.specs.declared.driver.Driver.{Driver}
 use Rattle.ice_decode.specs.declared.driver.Driver.TheVariants.{Nothing, By, Several}
-use Rattle.ice_decode.specs.Names.{pad_input_name}
+use Rattle.ice_chip.specs.WireNames.{pad_input_name}
 use Rattle.ice_decode.specs.Drivers.{switches_on, driver}
 use Rattle.ice_decode.specs.Pads.{pads, pin_type}
 use Rattle.ice_decode.specs.Reads.{points, depends_on}

@@ -8,6 +8,7 @@ pub mod Meaning
 pub mod Faults
 pub mod Refusals
 pub mod Tables
+pub mod GlobalNames
 pub mod Tiles
 pub mod ForeignTiles
 pub mod ForeignPlaces

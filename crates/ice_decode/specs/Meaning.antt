@@ -26,7 +26,7 @@ use Rattle.ice_decode.specs.declared.driver.Driver.{Driver}
 use Rattle.ice_decode.specs.declared.driver.Driver.TheVariants.{Nothing, By, Several}
 use Rattle.ice_decode.specs.declared.role.Role.{Role}
 use Rattle.ice_decode.specs.declared.role.Role.TheVariants.{Plain, Output, LookUp, CarryOut, PadInput, Global, CarryIn, ClockEnable}
-use Rattle.ice_decode.specs.Names.{column_buffer_function}
+use Rattle.ice_chip.specs.FunctionNames.{column_buffer_function}
 use Rattle.ice_decode.specs.Roles.{role_of, number_at}
 use Rattle.ice_decode.specs.Drivers.{driver}
 use Rattle.ice_decode.specs.Cells.{cells, logic_tiles, has_flop, reset_of, looked_up}

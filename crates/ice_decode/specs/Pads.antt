@@ -15,7 +15,8 @@ use Rattle.ice_net.specs.declared.drive.Drive.TheVariants.{Off}
 use Rattle.ice_net.specs.Drives.{level_drive}
 use Rattle.ice_net.specs.Meaning.{number_of}
 use Rattle.ice_decode.specs.declared.point.Point.{Point}
-use Rattle.ice_decode.specs.Names.{pin_type_function, input_enable_function, pad_output_name, output_enable_name}
+use Rattle.ice_chip.specs.WireNames.{pad_output_name, output_enable_name}
+use Rattle.ice_chip.specs.FunctionNames.{pin_type_function, input_enable_function}
 use Rattle.ice_decode.specs.Reads.{at_pin}
 
 -- ---- the pads of a chip

@@ -35,6 +35,10 @@ pub record AreSources (switches : List Switch) (sources : List Bool) : Type 0 wh
 abbrev pub contended_among : List Driver → Option (ℕ × ℕ × ℕ)
 contended_among drivers = first_of (λ w. contended_by w (slice_index_or drivers w Nothing)) 0 (length drivers)
 
+-- a table of whether each wire is the output of a memory
+abbrev pub foreign_wires : Parts → List Bool
+foreign_wires parts = map (is_foreign_wire parts) (range_with_len 0 parts.wires)
+
 -- the source of the first of these rows whose source is the output of a memory
 abbrev pub foreign_source_of : Parts → List Switch → Option ℕ
 foreign_source_of parts switches = option_map (λ (s : Switch). s.source.0) (find (λ (s : Switch). is_foreign_wire parts s.source.0) switches)

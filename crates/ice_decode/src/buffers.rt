@@ -1,27 +1,55 @@
 //! Column buffers: which globals reach the rows of a tile.
 ghost use Rattle.std.specs.Prelude.{◌≡◌, ◌<◌};
-ghost use Rattle.ice_chip.specs.Lookups.{colbuf_of};
+ghost use Rattle.ice_chip.specs.Lookups.{names_of, colbuf_of};
 ghost use Rattle.ice_bits.specs.Configuration.{bits_of};
+ghost use Rattle.ice_chip.specs.WireNames.{global_name};
+ghost use Rattle.ice_decode.specs.GlobalNames.{is_named, global_named};
 ghost use Rattle.ice_decode.specs.Meaning.{global_at, lets_through, passes_global, passes};
 
 use crate::Switch;
-use crate::names::column_buffer_function;
-use crate::role::number_at;
 use crate::settings::setting;
-use ice_base::TileAt;
+use ice_base::{TileAt, WireNo};
 use ice_bits::Bits;
-use ice_chip::{Chip, PlacedName, is_global_name};
+use ice_chip::{Chip, column_buffer_function, global_name};
+use ice_chip_laws::chip_is_lawful;
 
-// The number of the global whose name stands among these at a place.
-fn global_at(tile: TileAt, names: &[PlacedName]) -> Option<u8>
-    ensures { result ≡ global_at tile names.now }
+// Whether a wire has a name in a tile.
+fn is_named(chip: &Chip, tile: TileAt, name: &[u8], wire: WireNo) -> bool
+    ensures { result ≡ is_named chip.now tile name.now wire.0 }
 {
-    for placed in names {
-        if placed.tile == tile && is_global_name(placed.name.as_bytes()) {
-            return Some(number_at(placed.name.as_bytes(), 10));
+    match chip.wire_named(tile, name) {
+        None => false,
+        Some(named) => named.0 == wire.0,
+    }
+}
+
+// Whether a wire has the name of a global in a tile.
+fn has_global(chip: &Chip, tile: TileAt, wire: WireNo, global: u8) -> bool
+    ensures { result ≡ is_named chip.now tile (global_name global) wire.0 }
+{
+    is_named(chip, tile, &global_name(global), wire)
+}
+
+// The first of the eight globals whose name a wire has in a tile.
+#[tactic(auto, using(crate::proofs::FirstOf::first_here, crate::proofs::FirstOf::first_next, crate::proofs::FirstOf::first_none))]
+fn global_named(chip: &Chip, tile: TileAt, wire: WireNo) -> Option<u8>
+    ensures { result ≡ global_named chip.now tile wire.0 }
+{
+    for global in 0..8u8 {
+        if has_global(chip, tile, wire, global) {
+            return Some(global);
         }
     }
     None
+}
+
+// The number of the global whose name stands among those of a wire at a place: of a wire that is a global's, all pin names are of
+// this global, so that eight look-ups find it, however many names the wire has.
+fn global_at(chip: &Chip, tile: TileAt, wire: WireNo) -> Option<u8>
+    ensures { result ≡ global_at tile (names_of chip.now wire.0) }
+{
+    chip_is_lawful(chip);
+    global_named(chip, tile, wire)
 }
 
 // Whether the column buffer of a global lets it through to a tile.
@@ -40,7 +68,7 @@ pub fn passes(chip: &Chip, bits: &Bits, switch: &Switch) -> bool
     requires { switch.now.source.0 < chip.now.wires }
     ensures { result ≡ passes chip.now (bits_of bits.now) switch.now }
 {
-    match global_at(switch.tile, chip.names(switch.source)) {
+    match global_at(chip, switch.tile, switch.source) {
         None => true,
         Some(global) => lets_through(chip, bits, switch.tile, global),
     }

@@ -1,10 +1,9 @@
 //! The decoding of bits: the circuit in them, or the first fault.
-ghost use Rattle.std.specs.Prelude.{◌≡◌, None, All, IfOk, IfErr, OnOk};
+ghost use Rattle.std.specs.Prelude.{◌≡◌, None, IfOk, IfErr, OnOk};
 ghost use Rattle.ice_bits.specs.Configuration.{bits_of};
 ghost use Rattle.ice_decode.specs.Drivers.{switches_on};
 ghost use Rattle.ice_decode.specs.Faults.{contention, wrong_pad, HasNoLoop, IsOrderOf};
-ghost use Rattle.ice_decode.specs.Tables.{IsBetween, AreSources};
-ghost use Rattle.ice_decode.specs.Refusals.{AreDrivers, IsOfChip, IsFaultOf, IsCircuitOf};
+ghost use Rattle.ice_decode.specs.Refusals.{AreDrivers, IsOfChip, IsFaultless, IsFaultOf, IsCircuitOf};
 
 use crate::contended::contention;
 use crate::evaluation::{Found, search};
@@ -14,7 +13,7 @@ use crate::pin_types::wrong_pad;
 use crate::rows::switches_on;
 use crate::tables::{drivers_of, sources_of};
 use crate::{Circuit, DecodeFault, Driver, Point, Switch};
-use ice_base::WireNo;
+use ice_base::{NoMemory, WireNo};
 use ice_bits::Bits;
 use ice_chip::Chip;
 use std::alloc::Global;
@@ -43,12 +42,12 @@ fn check_foreign(
     switches: &[Switch],
 ) -> Result<(), DecodeFault>
     requires rows { switches.now ≡ switches_on (bits_of bits.now) chip.now.groups }
-    requires wires { All (IsBetween chip.now.wires) switches.now }
     requires uncontended { contention chip.now (bits_of bits.now) ≡ None }
     ensures none { OnOk result (IsOfChip chip.now (bits_of bits.now) bits.now.extras) }
     ensures fault { IfErr result (IsFaultOf chip.now (bits_of bits.now) bits.now.extras) }
 {
-    if let Some(wire) = foreign_source(chip, switches) {
+    let _wires = chip.wires();
+    if let Some(wire) = foreign_source(alloc, chip, switches)? {
         return Err(DecodeFault::ForeignSource { wire });
     }
     if let Some((tile, line)) = foreign_function(alloc, chip, bits)? {
@@ -81,18 +80,64 @@ fn check_loops(
 }
 
 // Looks for a pad of a wrong type.
-fn check_pin_types(chip: &Chip, bits: &Bits, sources: &[bool]) -> Result<(), DecodeFault>
-    requires sources { AreSources (switches_on (bits_of bits.now) chip.now.groups) sources.now }
+fn check_pin_types(
+    alloc: Global,
+    chip: &Chip,
+    bits: &Bits,
+    switches: &[Switch],
+) -> Result<(), DecodeFault>
+    requires rows { switches.now ≡ switches_on (bits_of bits.now) chip.now.groups }
     requires of_chip { IsOfChip chip.now (bits_of bits.now) bits.now.extras }
     requires loopless { HasNoLoop chip.now (bits_of bits.now) }
     ensures none { OnOk result (wrong_pad chip.now (bits_of bits.now) ≡ None) }
     ensures fault { IfErr result (IsFaultOf chip.now (bits_of bits.now) bits.now.extras) }
 {
-    if let Some(pad) = wrong_pad(chip, bits, sources) {
+    let wires = chip.wires();
+    let sources = sources_of(alloc, wires, switches)?;
+    if let Some(pad) = wrong_pad(chip, bits, &sources) {
         let value = pin_type(chip, bits, pad);
         return Err(DecodeFault::PinType { pad, value });
     }
     Ok(())
+}
+
+// An order of evaluation, where the bits have no fault, by the rows that are on and what drives each wire.
+fn check(
+    alloc: Global,
+    chip: &Chip,
+    bits: &Bits,
+    switches: &[Switch],
+    drivers: &[Driver],
+) -> Result<Vec<Point>, DecodeFault>
+    requires rows { switches.now ≡ switches_on (bits_of bits.now) chip.now.groups }
+    requires drivers { AreDrivers chip.now (bits_of bits.now) drivers.now }
+    ensures faultless { OnOk result (IsFaultless chip.now (bits_of bits.now) bits.now.extras) }
+    ensures order { IfOk result (λ order. IsOrderOf chip.now (bits_of bits.now) order.items) }
+    ensures fault { IfErr result (IsFaultOf chip.now (bits_of bits.now) bits.now.extras) }
+{
+    check_contention(chip, bits, drivers)?;
+    check_foreign(alloc, chip, bits, switches)?;
+    let order = check_loops(alloc, chip, bits, drivers)?;
+    check_pin_types(alloc, chip, bits, switches)?;
+    Ok(order)
+}
+
+// The circuit that keeps a copy of the bits, by what drives each wire and an order of evaluation.
+fn circuit_of(
+    alloc: Global,
+    chip: &Chip,
+    bits: &Bits,
+    drivers: Vec<Driver>,
+    order: Vec<Point>,
+) -> Result<Circuit, NoMemory>
+    requires faultless { IsFaultless chip.now (bits_of bits.now) bits.now.extras }
+    requires drivers { AreDrivers chip.now (bits_of bits.now) drivers.items }
+    requires order { IsOrderOf chip.now (bits_of bits.now) order.items }
+    ensures { IfOk result (λ circuit. IsCircuitOf chip.now bits.now circuit) }
+{
+    let _chip = chip;
+    let bits = bits.copy(alloc)?;
+    Ok(Circuit::of(bits, drivers, order))
 }
 
 /// The circuit in the bits of a chip, where they have no fault.
@@ -108,11 +153,6 @@ pub fn decode(alloc: Global, chip: &Chip, bits: &Bits) -> Result<Circuit, Decode
     let wires = chip.wires();
     let switches = switches_on(alloc, chip, bits)?;
     let drivers = drivers_of(alloc, wires, &switches)?;
-    check_contention(chip, bits, &drivers)?;
-    check_foreign(alloc, chip, bits, &switches)?;
-    let order = check_loops(alloc, chip, bits, &drivers)?;
-    let sources = sources_of(alloc, wires, &switches)?;
-    check_pin_types(chip, bits, &sources)?;
-    let bits = bits.copy(alloc)?;
-    Ok(Circuit::of(bits, drivers, order))
+    let order = check(alloc, chip, bits, &switches, &drivers)?;
+    Ok(circuit_of(alloc, chip, bits, drivers, order)?)
 }

@@ -3,7 +3,7 @@
 use ice_base::{RowNo, TileAt, WireNo};
 
 /// A row of switches that is on.
-#[derive(Clone, Copy, Debug, PartialEq, Eq)]
+#[derive(Clone, Copy)]
 pub struct Switch {
     /// The row's number.
     pub row: RowNo,
@@ -16,7 +16,7 @@ pub struct Switch {
 }
 
 /// The rows of switches that drive a wire.
-#[derive(Clone, Copy, Debug, PartialEq, Eq)]
+#[derive(Clone, Copy)]
 pub enum Driver {
     /// No row into the wire is on.
     Nothing,

@@ -1,5 +1,7 @@
 //! An order in which the points of a chip can be evaluated, or a loop of them.
-ghost use Rattle.std.specs.Prelude.{◌≡◌, ◌++◌, map, IfOk};
+ghost use Rattle.std.specs.Prelude.{◌≡◌, ◌++◌, length, map, IfOk};
+ghost use Rattle.ice_value.specs.Order.{IsOrder, IsSimpleCycle};
+ghost use Rattle.ice_value.specs.Graph.{depends_of};
 ghost use Rattle.ice_bits.specs.Configuration.{bits_of};
 ghost use Rattle.ice_decode.specs.Reads.{depends_on};
 ghost use Rattle.ice_decode.specs.Faults.{wires_among};
@@ -17,7 +19,7 @@ use ice_value::{Graph, Outcome, from_least, order};
 use std::alloc::Global;
 
 /// What the search for an order of all points finds.
-#[derive(Debug, Drop)]
+#[derive(Drop)]
 pub(crate) enum Found {
     /// Each point once, after all that it depends on.
     Order(Vec<Point>),
@@ -63,6 +65,46 @@ fn wires_among(alloc: Global, points: &[Point]) -> Result<Wires, NoMemory>
     Ok(Wires::from_vec(wires))
 }
 
+// The points at the numbers of an order of the graph.
+fn order_at(
+    alloc: Global,
+    chip: &Chip,
+    bits: &Bits,
+    numbering: &Numbering,
+    graph: &Graph,
+    order: &[usize],
+) -> Result<Found, NoMemory>
+    requires points { AreAllPoints chip.now numbering.now }
+    requires graph { IsGraphOf numbering.now (depends_on chip.now (bits_of bits.now)) graph.now }
+    requires order { IsOrder (length graph.now) (depends_of graph.now) order.now }
+    ensures { IfOk result (IsSearched chip.now (bits_of bits.now)) }
+{
+    let (_chip, _bits, _graph) = (chip, bits, graph);
+    let points = numbering.points_at(alloc, order)?;
+    Ok(Found::Order(points))
+}
+
+// The wires at the numbers of a cycle of the graph, begun at its least number.
+fn loop_at(
+    alloc: Global,
+    chip: &Chip,
+    bits: &Bits,
+    numbering: &Numbering,
+    graph: &Graph,
+    cycle: &[usize],
+) -> Result<Found, NoMemory>
+    requires points { AreAllPoints chip.now numbering.now }
+    requires graph { IsGraphOf numbering.now (depends_on chip.now (bits_of bits.now)) graph.now }
+    requires cycle { IsSimpleCycle (length graph.now) (depends_of graph.now) cycle.now }
+    ensures { IfOk result (IsSearched chip.now (bits_of bits.now)) }
+{
+    let (_chip, _bits, _graph) = (chip, bits, graph);
+    let cycle = from_least(alloc, cycle)?;
+    let points = numbering.points_at(alloc, &cycle)?;
+    let wires = wires_among(alloc, &points)?;
+    Ok(Found::Loop(wires))
+}
+
 /// An order of evaluation of all points of a chip, or else a loop, begun at its point of the least number. The table has what drives
 /// each wire.
 ///
@@ -80,15 +122,7 @@ pub(crate) fn search(
     let numbering = Numbering::new(alloc, chip)?;
     let graph = graph_of_points(alloc, chip, bits, drivers, &numbering)?;
     match order(alloc, &graph)? {
-        Outcome::Order(order) => {
-            let order = numbering.points_at(alloc, &order)?;
-            Ok(Found::Order(order))
-        }
-        Outcome::Cycle(cycle) => {
-            let cycle = from_least(alloc, &cycle)?;
-            let points = numbering.points_at(alloc, &cycle)?;
-            let wires = wires_among(alloc, &points)?;
-            Ok(Found::Loop(wires))
-        }
+        Outcome::Order(order) => order_at(alloc, chip, bits, &numbering, &graph, &order),
+        Outcome::Cycle(cycle) => loop_at(alloc, chip, bits, &numbering, &graph, &cycle),
     }
 }

@@ -4,7 +4,7 @@ ghost use Rattle.std.specs.List.{list_any};
 ghost use Rattle.ice_chip.specs.Views.{function_view};
 ghost use Rattle.ice_bits.specs.Configuration.{bits_of};
 ghost use Rattle.ice_decode.specs.Faults.{is_memory_output, is_foreign_wire, foreign_function};
-ghost use Rattle.ice_decode.specs.Tables.{IsBetween, foreign_source_of};
+ghost use Rattle.ice_decode.specs.Tables.{IsBetween, foreign_wires, foreign_source_of};
 ghost use Rattle.ice_decode.specs.ForeignTiles.{is_set_at, foreign_at};
 ghost use Rattle.ice_decode.specs.ForeignPlaces.{with_places, foreign_places};
 
@@ -35,18 +35,56 @@ fn is_foreign_wire(chip: &Chip, wire: WireNo) -> bool
     false
 }
 
-/// The source of the first of these rows whose source is an output of a memory. It takes no memory.
+// Whether each wire is an output of a memory: the names of a wire are gone through once, however many rows read it.
+fn foreign_wires(alloc: Global, chip: &Chip) -> Result<Vec<bool>, NoMemory>
+    ensures { IfOk result (λ foreign. foreign.items ≡ foreign_wires chip.now) }
+{
+    let mut foreign = Vec::with_capacity(alloc, chip.wires() as usize)?;
+    for wire in 0..chip.wires() {
+        foreign.push(is_foreign_wire(chip, WireNo(wire)))?;
+    }
+    Ok(foreign)
+}
+
+// Whether a wire is an output of a memory, by the table of all wires.
+fn is_marked(chip: &Chip, foreign: &[bool], wire: WireNo) -> bool
+    requires foreign { foreign.now ≡ foreign_wires chip.now }
+    requires wire { wire.0 < chip.now.wires }
+    ensures { result ≡ is_foreign_wire chip.now wire.0 }
+{
+    let _chip = chip;
+    foreign[wire.0 as usize]
+}
+
+// The source of the first of these rows whose source is an output of a memory, by the table of all wires.
 #[tactic(auto, using(crate::proofs::DriverTables::source_below))]
-pub(crate) fn foreign_source(chip: &Chip, switches: &[Switch]) -> Option<WireNo>
-    requires { All (IsBetween chip.now.wires) switches.now }
+fn first_foreign(chip: &Chip, foreign: &[bool], switches: &[Switch]) -> Option<WireNo>
+    requires foreign { foreign.now ≡ foreign_wires chip.now }
+    requires switches { All (IsBetween chip.now.wires) switches.now }
     ensures { option_map (λ wire. wire.0) result ≡ foreign_source_of chip.now switches.now }
 {
     for switch in switches {
-        if is_foreign_wire(chip, switch.source) {
+        if is_marked(chip, foreign, switch.source) {
             return Some(switch.source);
         }
     }
     None
+}
+
+/// The source of the first of these rows whose source is an output of a memory.
+///
+/// # Errors
+/// Want of memory alone.
+pub(crate) fn foreign_source(
+    alloc: Global,
+    chip: &Chip,
+    switches: &[Switch],
+) -> Result<Option<WireNo>, NoMemory>
+    requires { All (IsBetween chip.now.wires) switches.now }
+    ensures { IfOk result (λ source. option_map (λ wire. wire.0) source ≡ foreign_source_of chip.now switches.now) }
+{
+    let foreign = foreign_wires(alloc, chip)?;
+    Ok(first_foreign(chip, &foreign, switches))
 }
 
 // Whether one of these bits of a tile is 1.

@@ -12,7 +12,6 @@ mod fault;
 mod foreign;
 /// What is proved of the meaning of bits.
 pub mod laws;
-mod names;
 mod numbering;
 mod pads;
 mod pin_types;
@@ -30,10 +29,6 @@ pub use circuit::Circuit;
 pub use decoding::decode;
 pub use driver::{Driver, Switch};
 pub use fault::DecodeFault;
-pub use names::{
-    cell_function, column_buffer_function, input_enable_function, input_name, output_enable_name,
-    pad_input_name, pad_output_name, pin_type_function,
-};
 pub use pads::{is_enabled, pin_type};
 pub use point::Point;
 pub use reads::at_pin;

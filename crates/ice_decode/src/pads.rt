@@ -3,10 +3,9 @@ ghost use Rattle.std.specs.Prelude.{◌≡◌, ◌<◌, ◌≤◌, ◌+◌, ◌*
 ghost use Rattle.ice_bits.specs.Configuration.{bits_of};
 ghost use Rattle.ice_decode.specs.Pads.{is_enabled, pin_type_digit, pin_type};
 
-use crate::names::{input_enable_function, pin_type_function};
 use crate::settings::setting;
 use ice_bits::Bits;
-use ice_chip::{Chip, Pad};
+use ice_chip::{Chip, Pad, input_enable_function, pin_type_function};
 
 /// Whether the input buffer of a pad is enabled. It takes no memory, as the other readers.
 pub fn is_enabled(chip: &Chip, bits: &Bits, pad: Pad) -> bool

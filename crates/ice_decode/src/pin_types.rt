@@ -6,11 +6,10 @@ ghost use Rattle.ice_decode.specs.Tables.{AreSources};
 ghost use Rattle.ice_decode.specs.Faults.{is_output_part, has_wrong_type, wrong_pad};
 ghost use Rattle.ice_decode.specs.PadTiles.{is_read_in, wrong_in};
 
-use crate::names::pad_input_name;
 use crate::pads::pin_type;
 use ice_base::{TileAt, WireNo};
 use ice_bits::Bits;
-use ice_chip::{Chip, Pad, TileKind};
+use ice_chip::{Chip, Pad, TileKind, pad_input_name};
 
 // Whether an output part is off, driving, or driving where enabled.
 fn is_output_part(part: u8) -> bool

@@ -3,7 +3,7 @@
 use ice_base::{TileAt, WireNo};
 
 /// A point of a chip: what has a level at one moment and may depend on other points.
-#[derive(Clone, Copy, Debug, PartialEq, Eq)]
+#[derive(Clone, Copy)]
 pub enum Point {
     /// A wire.
     Wire(WireNo),

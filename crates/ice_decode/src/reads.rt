@@ -1,7 +1,7 @@
 //! What the points of a chip read.
 ghost use Rattle.std.specs.Prelude.{◌≡◌, ◌<◌, ◌++◌, [], length, OnOk, if◌then◌else◌};
 ghost use Rattle.ice_bits.specs.Configuration.{bits_of};
-ghost use Rattle.ice_decode.specs.Names.{input_name};
+ghost use Rattle.ice_chip.specs.WireNames.{input_name};
 ghost use Rattle.ice_decode.specs.Drivers.{driver};
 ghost use Rattle.ice_decode.specs.Roles.{role_of};
 ghost use Rattle.ice_decode.specs.Cells.{has_flop};
@@ -9,13 +9,12 @@ ghost use Rattle.ice_decode.specs.Reads.{at_pin, cell_inputs, carry_into, carry_
 ghost use Rattle.ice_decode.specs.Refusals.{AreDrivers};
 ghost use Rattle.ice_decode.specs.Points.{HasWire};
 
-use crate::names::input_name;
 use crate::role::role_of;
 use crate::settings::{has_carry, has_flop};
 use crate::{Driver, Point, Role};
 use ice_base::{NoMemory, TileAt, WireNo};
 use ice_bits::Bits;
-use ice_chip::Chip;
+use ice_chip::{Chip, input_name};
 
 /// The wire of a name in a tile, or None exactly where there is none. It takes no memory.
 pub fn at_pin(chip: &Chip, tile: TileAt, name: &[u8]) -> Option<Point>

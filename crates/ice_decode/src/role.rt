@@ -7,7 +7,7 @@ use ice_chip::{Chip, Pad, TileKind, cell_pin, is_global_name};
 
 /// What a wire is at a tile's cells or pads, by its name there, where no row of switches leads into it. Cells are numbered from 0
 /// to 7 in their tile.
-#[derive(Clone, Copy, Debug, PartialEq, Eq)]
+#[derive(Clone, Copy)]
 pub enum Role {
     /// Nothing that gives it a level: it is undriven.
     Plain,
@@ -43,7 +43,7 @@ pub enum Role {
 }
 
 // The number that the digit at a place of a name has; 0 behind its end.
-pub(crate) fn number_at(name: &[u8], place: usize) -> u8
+fn number_at(name: &[u8], place: usize) -> u8
     ensures { result ≡ number_at name.now place }
 {
     match name.get(place) {

@@ -3,6 +3,7 @@ ghost use Rattle.std.specs.Prelude.{◌≡◌, ◌<◌, ◌≤◌, ◌+◌, ◌+
 ghost use Rattle.std.specs.Bool.{beq};
 ghost use Rattle.std.specs.List.{list_any};
 ghost use Rattle.std.specs.Cmp.Lexicographic.{pointwise};
+ghost use Rattle.ice_chip.specs.Limits.{most_rows};
 ghost use Rattle.ice_chip.specs.Views.{group_view};
 ghost use Rattle.ice_bits.specs.Configuration.{bits_of, bit_in};
 ghost use Rattle.ice_bits.specs.RowsOn.{number_with, row_on};
@@ -70,7 +71,7 @@ fn place_on(bits: &Bits, group: &Group) -> Option<usize>
 
 // The row of a group that is on.
 fn switch_on(bits: &Bits, group: &Group) -> Option<Switch>
-    requires { group.now.first.0 + length group.now.rows.items ≤ 4194304 }
+    requires { group.now.first.0 + length group.now.rows.items ≤ most_rows }
     ensures { result ≡ switch_on (bits_of bits.now) (group_view group.now) }
 {
     let place = place_on(bits, group)?;
@@ -87,7 +88,7 @@ fn switch_on(bits: &Bits, group: &Group) -> Option<Switch>
 ///
 /// # Errors
 /// Want of memory alone.
-#[tactic(auto, using(crate::proofs::Groups::few_before))]
+#[tactic(auto, using(ice_chip::proofs::GroupRows::few_before))]
 pub(crate) fn switches_on(alloc: Global, chip: &Chip, bits: &Bits) -> Result<Vec<Switch>, NoMemory>
     ensures { IfOk result (λ switches. switches.items ≡ switches_on (bits_of bits.now) chip.now.groups) }
 {

@@ -4,10 +4,9 @@ ghost use Rattle.ice_bits.specs.Configuration.{bits_of};
 ghost use Rattle.ice_bits.specs.Settings.{set_at};
 ghost use Rattle.ice_decode.specs.Cells.{cell_bit, has_carry, has_flop};
 
-use crate::names::cell_function;
 use ice_base::TileAt;
 use ice_bits::Bits;
-use ice_chip::Chip;
+use ice_chip::{Chip, cell_function};
 
 /// The bit of this number of a function in a tile; 0 where no tile stands there, or its kind lacks the function or the bit. It takes
 /// no memory.

@@ -1,6 +1,2 @@
-mod OneOn
-mod Listing
-mod Values
-mod Shares
-mod Taken
+mod GroupRows
 mod Rising

@@ -128,27 +128,16 @@ pub fn kind_named(word: &[u8]) -> Option<CellKind>
     flop(rest)
 }
 
-// The place of a port of SB_LUT4.
+// The place of a port of SB_LUT4: `I0` to `I3`, or `O`.
 fn lut_place(name: &[u8]) -> Option<usize>
     ensures place { result ≡ port_place (CellKind.Lut 0) name.now }
     ensures few { IfSome result (λ place. place < 10) }
 {
-    if name == b"I0".as_slice() {
-        return Some(0);
+    match name {
+        [b'O'] => Some(4),
+        [b'I', digit @ b'0'..=b'3'] => Some(usize::from(*digit - b'0')),
+        _ => None,
     }
-    if name == b"I1".as_slice() {
-        return Some(1);
-    }
-    if name == b"I2".as_slice() {
-        return Some(2);
-    }
-    if name == b"I3".as_slice() {
-        return Some(3);
-    }
-    if name == b"O".as_slice() {
-        return Some(4);
-    }
-    None
 }
 
 // The place of a port of SB_CARRY.

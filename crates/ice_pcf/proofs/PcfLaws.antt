@@ -9,7 +9,7 @@ use Rattle.ice_pcf.specs.declared.constraint.Constraint.{Constraint}
 use Rattle.ice_pcf.specs.declared.options.Options.{Options}
 use Rattle.ice_pcf.specs.declared.fault.PcfFault.{PcfFault}
 use Rattle.ice_pcf.specs.Grammar.{◌>>=◌, no_options, with_lenient, with_pullup, is_lenient_option, pin_says, set_io_says, words_say, line_says, with_constraint, lines_say, text_says}
-use Rattle.ice_pcf.specs.FirstFault.{IsSound, said_by, fault_line, AreConstraints, IsFirstFault, HasConstraints, HasFirstFault}
+use Rattle.ice_pcf.specs.FirstFault.{IsValidLine, said_by, fault_line, AreConstraints, IsFirstFault, HasConstraints, HasFirstFault}
 
 -- ---- a fault names its line
 -- if this is a fault, it names this line
@@ -62,9 +62,9 @@ Meant ls (Err f) = IsFirstFault ls f
 meant_step : (l : ℕ × List ℕ) (ls : List (ℕ × List ℕ)) (r : Result (Option Constraint) PcfFault) → line_says l ≡ r → (s : Result (List Constraint) PcfFault) → Meant ls s
     → Meant (l ∷ ls) (r >>= (λ c. s >>= (λ cs. Ok (with_constraint c cs))))
 meant_step l ls (Err f) e s m =
-    record { before = []; line = l; behind = ls; stands = refl; sound_before = tt; faulty = e; number = subst (Names l.0) e (line_names l) }
+    record { before = []; line = l; behind = ls; stands = refl; valid_before = tt; faulty = e; number = subst (Names l.0) e (line_names l) }
 meant_step l ls (Ok said) e (Ok cs) m = record {
-  sound = ((said, e), m.sound);
+  valid = ((said, e), m.valid);
   in_order = with_is said cs ∙ ap (λ xs. with_constraint said [] ++ xs) m.in_order ∙ ap (λ r. said_by r ++ flat_map (λ line. said_by (line_says line)) ls) (sym e);
 }
 meant_step l ls (Ok said) e (Err f) m = record {
@@ -72,30 +72,30 @@ meant_step l ls (Ok said) e (Err f) m = record {
   line = m.line;
   behind = m.behind;
   stands = ap (λ xs. l ∷ xs) m.stands;
-  sound_before = ((said, e), m.sound_before);
+  valid_before = ((said, e), m.valid_before);
   faulty = m.faulty;
   number = m.number;
 }
 
 meant : (ls : List (ℕ × List ℕ)) → Meant ls (lines_say ls)
-meant [] = record { sound = tt; in_order = refl }
+meant [] = record { valid = tt; in_order = refl }
 meant (l ∷ ls) = meant_step l ls (line_says l) refl (lines_say ls) (meant ls)
 
 -- ---- never both
-sound_at : (before : List (ℕ × List ℕ)) (line : ℕ × List ℕ) (behind : List (ℕ × List ℕ)) → AllByRecursion IsSound (before ++ line ∷ behind) → IsSound line
-sound_at [] line behind s = s.0
-sound_at (l ∷ before) line behind s = sound_at before line behind s.1
+valid_at : (before : List (ℕ × List ℕ)) (line : ℕ × List ℕ) (behind : List (ℕ × List ℕ)) → AllByRecursion IsValidLine (before ++ line ∷ behind) → IsValidLine line
+valid_at [] line behind s = s.0
+valid_at (l ∷ before) line behind s = valid_at before line behind s.1
 
 both_sides : (r : Result (Option Constraint) PcfFault) (said : Option Constraint) (f : PcfFault) → r ≡ Ok said → r ≡ Err f → ⊥
 both_sides r said f a b = cc
 
 never_both : (ls : List (ℕ × List ℕ)) (cs : List Constraint) (f : PcfFault) → AreConstraints ls cs → IsFirstFault ls f → ⊥
 never_both ls cs f are first =
-    let sound = sound_at first.before first.line first.behind (subst (AllByRecursion IsSound) first.stands are.sound) in
-    both_sides (line_says first.line) sound.0 f sound.1 first.faulty
+    let valid = valid_at first.before first.line first.behind (subst (AllByRecursion IsValidLine) first.stands are.valid) in
+    both_sides (line_says first.line) valid.0 f valid.1 first.faulty
 
 -- ---- and back
-fault_at : (before : List (ℕ × List ℕ)) (line : ℕ × List ℕ) (behind : List (ℕ × List ℕ)) (f : PcfFault) → AllByRecursion IsSound before → line_says line ≡ Err f
+fault_at : (before : List (ℕ × List ℕ)) (line : ℕ × List ℕ) (behind : List (ℕ × List ℕ)) (f : PcfFault) → AllByRecursion IsValidLine before → line_says line ≡ Err f
     → lines_say (before ++ line ∷ behind) ≡ Err f
 fault_at [] line behind f s e = ap (λ r. r >>= (λ c. lines_say behind >>= (λ cs. Ok (with_constraint c cs)))) e
 fault_at (l ∷ before) line behind f s e =
@@ -103,7 +103,7 @@ fault_at (l ∷ before) line behind f s e =
     ∙ ap (λ r. r >>= (λ cs. Ok (with_constraint s.0.0 cs))) (fault_at before line behind f s.1 e)
 
 says_fault : (ls : List (ℕ × List ℕ)) (f : PcfFault) → IsFirstFault ls f → lines_say ls ≡ Err f
-says_fault ls f first = ap lines_say first.stands ∙ fault_at first.before first.line first.behind f first.sound_before first.faulty
+says_fault ls f first = ap lines_say first.stands ∙ fault_at first.before first.line first.behind f first.valid_before first.faulty
 
 says_back : (ls : List (ℕ × List ℕ)) (cs : List Constraint) (r : Result (List Constraint) PcfFault) → Meant ls r → AreConstraints ls cs → r ≡ Ok cs
 says_back ls cs (Ok others) m are = ap (λ xs. Ok xs) (m.in_order ∙ sym are.in_order)

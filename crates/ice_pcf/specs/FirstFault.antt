@@ -7,9 +7,9 @@ use Rattle.ice_pcf.specs.declared.fault.PcfFault.{PcfFault}
 use Rattle.ice_pcf.specs.declared.fault.PcfFault.TheVariants.{UnknownWord, Missing, Extra, NoMemory}
 use Rattle.ice_pcf.specs.Grammar.{line_says, with_constraint}
 
--- a line without a fault: it says one constraint, or none
-abbrev pub IsSound : ℕ × List ℕ → Type 0
-IsSound line = (said : Option Constraint) × (line_says line ≡ Ok said)
+-- a valid line: it says one constraint, or none
+abbrev pub IsValidLine : ℕ × List ℕ → Type 0
+IsValidLine line = (said : Option Constraint) × (line_says line ≡ Ok said)
 
 -- the constraint that a line says, if it says one
 abbrev pub said_by : Result (Option Constraint) PcfFault → List Constraint
@@ -23,18 +23,18 @@ fault_line (Missing line) = Some line
 fault_line (Extra line) = Some line
 fault_line NoMemory = None
 
--- every line is sound, and these are the constraints of the lines in order
+-- every line is valid, and these are the constraints of the lines in order
 pub record AreConstraints (ls : List (ℕ × List ℕ)) (constraints : List Constraint) : Type 0 where
-  pub sound : AllByRecursion IsSound ls
+  pub valid : AllByRecursion IsValidLine ls
   pub in_order : constraints ≡ flat_map (λ line. said_by (line_says line)) ls
 
--- a line has this fault, which names its number, and every line before it is sound
+-- a line has this fault, which names its number, and every line before it is valid
 pub record IsFirstFault (ls : List (ℕ × List ℕ)) (fault : PcfFault) : Type 0 where
   pub before : List (ℕ × List ℕ)
   pub line : ℕ × List ℕ
   pub behind : List (ℕ × List ℕ)
   pub stands : ls ≡ before ++ line ∷ behind
-  pub sound_before : AllByRecursion IsSound before
+  pub valid_before : AllByRecursion IsValidLine before
   pub faulty : line_says line ≡ Err fault
   pub number : fault_line fault ≡ Some line.0
 

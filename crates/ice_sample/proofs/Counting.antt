@@ -1,4 +1,4 @@
--- Tiles and nets counted one place further.
+-- Tiles and wires counted one place further.
 use Rattle.std.proofs.Common.{◌≡◌, ℕ, ◌+◌, ◌*◌, ◌<◌, ◌≤◌, ◌++◌, ◌∷◌, [], List, All, map, length, get_or, Option, Some, None, zero, suc, ap, sym, ◌∙◌, subst, refl, arith, add-one, append-nil}
 use Rattle.std.specs.List.{flat_map, range_with_len, sum_by}
 use Rattle.std.proofs.lemmas.Bool.Decides.{nat_tests}
@@ -12,8 +12,8 @@ use Rattle.ice_base.specs.declared.number.TileAt.{TileAt}
 use Rattle.ice_sample.specs.declared.grid.Tile.{Tile}
 use Rattle.ice_sample.specs.declared.grid.TileKind.{TileKind}
 use Rattle.ice_sample.specs.declared.grid.TileKind.TheVariants.{Io, Logic}
-use Rattle.ice_sample.specs.Kinds.{kind_at, nets_of}
-use Rattle.ice_sample.specs.Tiles.{place, tile_list, tiles_before, tiles_of, nets_before, IsWithin}
+use Rattle.ice_sample.specs.Kinds.{kind_at, wires_of}
+use Rattle.ice_sample.specs.Tiles.{place, tile_list, tiles_before, tiles_of, wires_before, IsWithin}
 
 range_suc : (n a : ℕ) → range_with_len a (suc n) ≡ range_with_len a n ++ (a + n) ∷ []
 range_suc zero a = let e : a ≡ a + 0 = omega arith in ap (λ x. x ∷ []) e
@@ -42,28 +42,28 @@ tiles_none w h = refl
 pub map_range_more : {A : Type 0} (f : ℕ → A) (n : ℕ) → map f (range_with_len 0 (n + 1)) ≡ map f (range_with_len 0 n) ++ f n ∷ []
 map_range_more f n = map-range_with_len_more f 0 n n (omega arith)
 
-pub nets_more : (w h n : ℕ) → nets_before w h (n + 1) ≡ nets_before w h n + nets_of (kind_at w h (place w n))
-unfolding nets_before
-nets_more w h n =
-    let f : ℕ → ℕ = λ m. nets_of (kind_at w h (place w m)) in
+pub wires_more : (w h n : ℕ) → wires_before w h (n + 1) ≡ wires_before w h n + wires_of (kind_at w h (place w n))
+unfolding wires_before
+wires_more w h n =
+    let f : ℕ → ℕ = λ m. wires_of (kind_at w h (place w m)) in
     let e : sum_by f (range_with_len 0 (n + 1)) ≡ sum_by f (range_with_len 0 n) + f n = ap (sum_by f) (range_more 0 n n (omega arith)) ∙ sum_by_push f (range_with_len 0 n) n in
     omega (arith, e)
 
 -- the globals come before the first place
-pub nets_none : (w h : ℕ) → nets_before w h 0 ≡ 8
-unfolding nets_before
-nets_none w h = refl
+pub wires_none : (w h : ℕ) → wires_before w h 0 ≡ 8
+unfolding wires_before
+wires_none w h = refl
 
-few_of : (kind : Option TileKind) → nets_of kind ≤ 116
+few_of : (kind : Option TileKind) → wires_of kind ≤ 116
 few_of None = omega arith
 few_of (Some Io) = omega arith
 few_of (Some Logic) = omega arith
 
-few_nets : (w h n : ℕ) → nets_before w h n ≤ 8 + 116 * n
-few_nets w h zero = let e = nets_none w h in omega arith
-few_nets w h (suc n) =
-    let before = few_nets w h n in
-    let more : nets_before w h (suc n) ≡ nets_before w h n + nets_of (kind_at w h (place w n)) = ap (nets_before w h) (sym (add-one n)) ∙ nets_more w h n in
+few_wires : (w h n : ℕ) → wires_before w h n ≤ 8 + 116 * n
+few_wires w h zero = let e = wires_none w h in omega arith
+few_wires w h (suc n) =
+    let before = few_wires w h n in
+    let more : wires_before w h (suc n) ≡ wires_before w h n + wires_of (kind_at w h (place w n)) = ap (wires_before w h) (sym (add-one n)) ∙ wires_more w h n in
     let own = few_of (kind_at w h (place w n)) in
     omega arith
 
@@ -74,19 +74,19 @@ place_below w h x y left low = mul-add-lt y w x h low left
 pub few_places : (w h : ℕ) → w ≤ 64 → h ≤ 64 → w * h ≤ 4096
 few_places w h narrow low = mul-le-mul narrow low
 
--- all numbers of nets are small
-pub small_net : (w h n : ℕ) → w ≤ 64 → h ≤ 64 → n < w * h → nets_before w h n ≤ 500000
-small_net w h n narrow low below = omega (arith, few_nets w h n, few_places w h narrow low)
+-- all numbers of wires are small
+pub small_wire : (w h n : ℕ) → w ≤ 64 → h ≤ 64 → n < w * h → wires_before w h n ≤ 500000
+small_wire w h n narrow low below = omega (arith, few_wires w h n, few_places w h narrow low)
 
--- how long the list of the first nets is
-pub length_first_nets : (w h : ℕ) → length (map (nets_before w h) (range_with_len 0 (w * h))) ≡ w * h
-length_first_nets w h = length-map-range_with_len (nets_before w h) 0 (w * h)
+-- how long the list of the first wires is
+pub length_first_wires : (w h : ℕ) → length (map (wires_before w h) (range_with_len 0 (w * h))) ≡ w * h
+length_first_wires w h = length-map-range_with_len (wires_before w h) 0 (w * h)
 
--- what the list of the first nets has at a place
-pub found_net : (w h x y i d : ℕ) → x < w → y < h → i ≡ y * w + x → get_or (map (nets_before w h) (range_with_len 0 (w * h))) i d ≡ nets_before w h (y * w + x)
-found_net w h x y i d left low e =
+-- what the list of the first wires has at a place
+pub found_wire : (w h x y i d : ℕ) → x < w → y < h → i ≡ y * w + x → get_or (map (wires_before w h) (range_with_len 0 (w * h))) i d ≡ wires_before w h (y * w + x)
+found_wire w h x y i d left low e =
     let below : i < w * h = subst (λ k. k < w * h) (sym e) (place_below w h x y left low) in
-    get_or-map-range_with_len (nets_before w h) 0 (w * h) i (y * w + x) d below (let same : 0 + i ≡ y * w + x = omega arith in same)
+    get_or-map-range_with_len (wires_before w h) 0 (w * h) i (y * w + x) d below (let same : 0 + i ≡ y * w + x = omega arith in same)
 
 -- a place with a kind is within the chip
 kind_within : (w h : ℕ) (t : TileAt) (kind : TileKind) → kind_at w h t ≡ Some kind → (t.x < w) × (t.y < h)

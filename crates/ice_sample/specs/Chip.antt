@@ -7,7 +7,7 @@ use Rattle.ice_sample.specs.Tiles.{tiles_of}
 use Rattle.ice_sample.specs.Lines.{text_of_lines}
 use Rattle.ice_sample.specs.Sections.{device_lines, io_places, logic_places, pads_at, pin_lines, global_lines, input_enable_lines, column_buffer_lines, tile_lines}
 use Rattle.ice_sample.specs.Bits.{io_bit_lines, logic_bit_lines}
-use Rattle.ice_sample.specs.Nets.{all_net_lines}
+use Rattle.ice_sample.specs.Wires.{all_wire_lines}
 use Rattle.ice_sample.specs.Groups.{all_group_lines}
 
 -- the sections that say what a chip has, from the places of its IO tiles, its pads, the places of its logic tiles, and its tiles
@@ -22,7 +22,7 @@ layout_lines w h ts = sections_of w h (io_places ts) (pads_at (io_places ts)) (l
 unfoldable pub sample_chip_lines : ℕ → ℕ → List (List ℕ)
 sample_chip_lines w h =
     layout_lines w h (tiles_of w h) ++ io_bit_lines ++ logic_bit_lines
-    ++ all_net_lines w h (tiles_of w h) ++ all_group_lines w h (tiles_of w h)
+    ++ all_wire_lines w h (tiles_of w h) ++ all_group_lines w h (tiles_of w h)
 
 -- the text of the sample chip of this width and height
 abbrev pub sample_chip_text : ℕ → ℕ → List ℕ

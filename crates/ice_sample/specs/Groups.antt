@@ -6,11 +6,11 @@ use Rattle.ice_sample.specs.declared.grid.TileKind.{TileKind}
 use Rattle.ice_sample.specs.declared.grid.TileKind.TheVariants.{Io, Logic}
 use Rattle.ice_sample.specs.declared.grid.Tile.{Tile}
 use Rattle.ice_sample.specs.Kinds.{kind_at}
-use Rattle.ice_sample.specs.Tiles.{first_net}
+use Rattle.ice_sample.specs.Tiles.{first_wire}
 use Rattle.ice_sample.specs.Lines.{numbered, placed_words, binary}
 use Rattle.ice_sample.specs.Bits.{columns_of, bit_words, function_bits}
 
--- a group of switches: the net that it drives, how many bits it has, and the nets that it can take, in order
+-- a group of switches: the wire that it drives, how many bits it has, and the wires that it can take, in order
 pub record SampleGroup : Type 0 where
   pub target : ℕ
   pub size : ℕ
@@ -33,7 +33,7 @@ groups_from kind t bit gs = numbered (λ (g : SampleGroup). g.size) (group_lines
 
 -- ---- tracks
 
--- where the tracks of a tile stand among its nets
+-- where the tracks of a tile stand among its wires
 abbrev pub track_place : TileKind → ℕ
 track_place Io = 7
 track_place Logic = 52
@@ -43,7 +43,7 @@ abbrev pub track_size : TileKind → ℕ
 track_size Io = 3
 track_size Logic = 4
 
--- the outputs of a tile, from its first net: of its two pads, or of its eight cells
+-- the outputs of a tile, from its first wire: of its two pads, or of its eight cells
 abbrev pub outputs : TileKind → ℕ → List ℕ
 outputs Io first = map (λ p. first + 3 * p) (range_with_len 0 2)
 outputs Logic first = map (λ i. first + 6 * i + 4) (range_with_len 0 8)
@@ -61,14 +61,14 @@ south t = if t.y == 0 then [] else record { x = t.x; y = t.y - 1 } ∷ []
 abbrev pub north : TileAt → List TileAt
 north t = record { x = t.x; y = t.y + 1 } ∷ []
 
--- track k of a tile of a kind, if there is one, from its first net
+-- track k of a tile of a kind, if there is one, from its first wire
 abbrev pub track_of : Option TileKind → ℕ → ℕ → List ℕ
 track_of None first k = []
 track_of (Some kind) first k = (first + track_place kind + k) ∷ []
 
 -- track k of the tile at a place, if there is one
 abbrev pub track_at : ℕ → ℕ → ℕ → TileAt → List ℕ
-track_at w h k t = track_of (kind_at w h t) (first_net w h t) k
+track_at w h k t = track_of (kind_at w h t) (first_wire w h t) k
 
 -- track k of the tiles to the west, east, south and north that there are
 abbrev pub tracks_beside : ℕ → ℕ → ℕ → TileAt → List ℕ
@@ -77,9 +77,9 @@ tracks_beside w h k t = flat_map (track_at w h k) (west t) ++ flat_map (track_at
 -- track k of a tile takes the tile's outputs and the same track of the tiles beside it
 abbrev pub track_group : ℕ → ℕ → TileKind → TileAt → ℕ → SampleGroup
 track_group w h kind t k = record {
-  target = first_net w h t + track_place kind + k;
+  target = first_wire w h t + track_place kind + k;
   size = track_size kind;
-  sources = outputs kind (first_net w h t) ++ tracks_beside w h k t;
+  sources = outputs kind (first_wire w h t) ++ tracks_beside w h k t;
 }
 
 unfoldable pub track_groups : ℕ → ℕ → TileKind → TileAt → List SampleGroup
@@ -91,7 +91,7 @@ track_groups w h kind t = map (track_group w h kind t) (range_with_len 0 64)
 unfoldable pub pin_tracks : ℕ → ℕ → List ℕ
 pin_tracks tracks p = map (λ j. tracks + (p + 9 * j) % 64) (range_with_len 0 8)
 
--- the carry into cell i of a tile, from its first net: its carry_in_mux, or the carry out of the cell before
+-- the carry into cell i of a tile, from its first wire: its carry_in_mux, or the carry out of the cell before
 abbrev pub carry_into : ℕ → ℕ → ℕ
 carry_into first i = if i == 0 then first + 51 else first + 6 * (i - 1) + 5
 
@@ -128,7 +128,7 @@ control_groups first =
     ∷ control_group first 1 (1 ∷ 3 ∷ 5 ∷ 7 ∷ [])
     ∷ control_group first 2 (0 ∷ 2 ∷ 4 ∷ 6 ∷ []) ∷ []
 
--- the carry out of a tile of a kind, from its first net, if it is a logic tile
+-- the carry out of a tile of a kind, from its first wire, if it is a logic tile
 abbrev pub carry_out : Option TileKind → ℕ → List ℕ
 carry_out None first = []
 carry_out (Some Io) first = []
@@ -136,7 +136,7 @@ carry_out (Some Logic) first = (first + 47) ∷ []
 
 -- the carry into a logic tile: the carry out of the tile to the south, if that is a logic tile
 abbrev pub carry_in : ℕ → ℕ → TileAt → List ℕ
-carry_in w h t = flat_map (λ s. carry_out (kind_at w h s) (first_net w h s)) (south t)
+carry_in w h t = flat_map (λ s. carry_out (kind_at w h s) (first_wire w h s)) (south t)
 
 -- the carry_in_mux takes the carry into the tile, and has no group where there is none
 abbrev pub carry_groups : ℕ → List ℕ → List SampleGroup
@@ -155,7 +155,7 @@ io_pin_groups first =
 
 -- ---- all groups
 
--- the groups behind the tracks of a tile of a kind, from its first net
+-- the groups behind the tracks of a tile of a kind, from its first wire
 abbrev pub pin_groups : ℕ → ℕ → TileKind → TileAt → ℕ → List SampleGroup
 pin_groups w h Io t first = io_pin_groups first
 pin_groups w h Logic t first = input_groups first ++ control_groups first ++ carry_groups first (carry_in w h t)
@@ -165,7 +165,7 @@ abbrev pub own_group_lines : ℕ → ℕ → TileKind → TileAt → ℕ → Lis
 own_group_lines w h kind t first = groups_from kind t (function_bits kind) (track_groups w h kind t ++ pin_groups w h kind t first)
 
 abbrev pub tile_group_lines : ℕ → ℕ → Tile → List (List ℕ)
-tile_group_lines w h t = own_group_lines w h t.kind t.at (first_net w h t.at)
+tile_group_lines w h t = own_group_lines w h t.kind t.at (first_wire w h t.at)
 
 -- the sections of the groups of tiles
 abbrev pub all_group_lines : ℕ → ℕ → List Tile → List (List ℕ)

@@ -1,4 +1,4 @@
--- Which tiles the sample chip has, and how many nets each has.
+-- Which tiles the sample chip has, and how many wires each has.
 use Rattle.std.specs.Prelude.{ℕ, ◌+◌, ◌==◌, ◌&&◌, ◌||◌, Bool, true, false, nat_lt, Option, Some, None, if◌then◌else◌}
 use Rattle.ice_base.specs.declared.number.TileAt.{TileAt}
 use Rattle.ice_sample.specs.declared.grid.TileKind.{TileKind}
@@ -20,8 +20,8 @@ kind_by_ends false false = Some Logic
 abbrev pub kind_at : ℕ → ℕ → TileAt → Option TileKind
 kind_at w h t = if nat_lt t.x w && nat_lt t.y h then kind_by_ends (is_end w t.x) (is_end h t.y) else None
 
--- how many nets of its own a place has
-abbrev pub nets_of : Option TileKind → ℕ
-nets_of None = 0
-nets_of (Some Io) = 71
-nets_of (Some Logic) = 116
+-- how many wires of its own a place has
+abbrev pub wires_of : Option TileKind → ℕ
+wires_of None = 0
+wires_of (Some Io) = 71
+wires_of (Some Logic) = 116

@@ -3,7 +3,7 @@ pub mod Tiles
 pub mod Lines
 pub mod Sections
 pub mod Bits
-pub mod Nets
+pub mod Wires
 pub mod Groups
 pub mod Chip
 pub mod Laws

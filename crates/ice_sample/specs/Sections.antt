@@ -6,12 +6,12 @@ use Rattle.ice_sample.specs.declared.grid.TileKind.{TileKind}
 use Rattle.ice_sample.specs.declared.grid.TileKind.TheVariants.{Io, Logic}
 use Rattle.ice_sample.specs.declared.grid.Tile.{Tile}
 use Rattle.ice_sample.specs.declared.pads.Pad.{Pad}
-use Rattle.ice_sample.specs.Tiles.{net_count}
+use Rattle.ice_sample.specs.Tiles.{wire_count}
 use Rattle.ice_sample.specs.Lines.{numbered, number_words, place_words, placed_words}
 
--- the name, the size and how many nets
+-- the name, the size and how many wires
 abbrev pub device_lines : ℕ → ℕ → List (List ℕ)
-device_lines w h = (codes ".device 1k " ++ number_words w h ++ codes " " ++ decimal (net_count w h)) ∷ []
+device_lines w h = (codes ".device 1k " ++ number_words w h ++ codes " " ++ decimal (wire_count w h)) ∷ []
 
 -- the place of a tile, if it is an IO tile
 abbrev pub if_io : TileKind → TileAt → List TileAt

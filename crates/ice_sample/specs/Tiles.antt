@@ -1,10 +1,10 @@
--- The tiles of the sample chip in tile order, and the numbers of their nets.
+-- The tiles of the sample chip in tile order, and the numbers of their wires.
 use Rattle.std.specs.Prelude.{ℕ, ◌+◌, ◌*◌, ◌/◌, ◌%◌, ◌<◌, Option, Some, None, List, [], ◌∷◌}
 use Rattle.std.specs.List.{flat_map, range_with_len, sum_by}
 use Rattle.ice_base.specs.declared.number.TileAt.{TileAt}
 use Rattle.ice_sample.specs.declared.grid.TileKind.{TileKind}
 use Rattle.ice_sample.specs.declared.grid.Tile.{Tile}
-use Rattle.ice_sample.specs.Kinds.{kind_at, nets_of}
+use Rattle.ice_sample.specs.Kinds.{kind_at, wires_of}
 
 -- the place of a number: places are numbered from 0, row by row from below, and from west to east in a row
 abbrev pub place : ℕ → ℕ → TileAt
@@ -27,17 +27,17 @@ tiles_before w h n = flat_map (λ m. tile_list (place w m) (kind_at w h (place w
 abbrev pub tiles_of : ℕ → ℕ → List Tile
 tiles_of w h = tiles_before w h (w * h)
 
--- the nets before the place of a number: the eight globals, and the nets of the tiles before it
-unfoldable pub nets_before : ℕ → ℕ → ℕ → ℕ
-nets_before w h n = 8 + sum_by (λ m. nets_of (kind_at w h (place w m))) (range_with_len 0 n)
+-- the wires before the place of a number: the eight globals, and the wires of the tiles before it
+unfoldable pub wires_before : ℕ → ℕ → ℕ → ℕ
+wires_before w h n = 8 + sum_by (λ m. wires_of (kind_at w h (place w m))) (range_with_len 0 n)
 
--- the first net of the tile at a place
-abbrev pub first_net : ℕ → ℕ → TileAt → ℕ
-first_net w h t = nets_before w h (place_number w t)
+-- the first wire of the tile at a place
+abbrev pub first_wire : ℕ → ℕ → TileAt → ℕ
+first_wire w h t = wires_before w h (place_number w t)
 
--- how many nets the chip has
-abbrev pub net_count : ℕ → ℕ → ℕ
-net_count w h = nets_before w h (w * h)
+-- how many wires the chip has
+abbrev pub wire_count : ℕ → ℕ → ℕ
+wire_count w h = wires_before w h (w * h)
 
 -- the tile is within a chip of this width and height
 pub record IsWithin (w h : ℕ) (t : Tile) : Type 0 where

@@ -7,13 +7,13 @@ ghost use Rattle.ice_sample.specs.Chip.{sections_of, layout_lines, sample_chip_t
 
 use crate::bits::{put_io_functions, put_logic_functions};
 use crate::grid::{Grid, Tile, TileKind};
-use crate::nets::put_nets;
 use crate::pads::{Pad, io_places, logic_places, pads_at};
 use crate::pins::{put_carry, put_controls, put_inputs, put_io_pins};
 use crate::sections::{
     put_column_buffers, put_device, put_globals, put_input_enables, put_pins, put_tiles,
 };
 use crate::tracks::put_tracks;
+use crate::wires::put_wires;
 use ice_base::{NoMemory, TileAt};
 use std::alloc::Global;
 
@@ -47,7 +47,7 @@ fn put_layout(alloc: Global, text: &mut Vec<u8>, grid: &Grid) -> Result<(), NoMe
     Ok(())
 }
 
-// Writes the groups of an IO tile, from its first net.
+// Writes the groups of an IO tile, from its first wire.
 fn put_io_groups(
     text: &mut Vec<u8>,
     sources: &mut Vec<u32>,
@@ -69,7 +69,7 @@ fn put_io_groups(
     Ok(())
 }
 
-// Writes the groups of a logic tile, from its first net.
+// Writes the groups of a logic tile, from its first wire.
 fn put_logic_groups(
     text: &mut Vec<u8>,
     sources: &mut Vec<u32>,
@@ -103,7 +103,7 @@ fn put_tile_groups(
     requires { IsWithin grid.now.width grid.now.height tile }
     ensures { OnOk result (text.new.items ≡ text.old.items ++ text_of_lines (tile_group_lines grid.now.width grid.now.height tile)) }
 {
-    let first = grid.first_net(tile.at);
+    let first = grid.first_wire(tile.at);
     match tile.kind {
         TileKind::Io => put_io_groups(text, sources, grid, tile.at, first),
         TileKind::Logic => put_logic_groups(text, sources, grid, tile.at, first),
@@ -128,7 +128,7 @@ fn put_chip(alloc: Global, text: &mut Vec<u8>, grid: &Grid) -> Result<(), NoMemo
     put_layout(alloc, text, grid)?;
     put_io_functions(text)?;
     put_logic_functions(text)?;
-    put_nets(text, grid)?;
+    put_wires(text, grid)?;
     put_groups(alloc, text, grid)?;
     Ok(())
 }

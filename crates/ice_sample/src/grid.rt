@@ -1,17 +1,17 @@
-//! The tiles of the sample chip, and the first net of each place.
+//! The tiles of the sample chip, and the first wire of each place.
 ghost use Rattle.std.specs.Prelude.{◌≡◌, ◌+◌, ◌*◌, ◌<◌, ◌≤◌, ◌^◌, ◌++◌, ℕ, All, map, IfOk, IfSome, OnOk};
 ghost use Rattle.std.specs.List.{range_with_len};
-ghost use Rattle.ice_sample.specs.Kinds.{is_end, kind_at, nets_of};
-ghost use Rattle.ice_sample.specs.Tiles.{tile_list, tiles_of, nets_before, first_net, net_count};
+ghost use Rattle.ice_sample.specs.Kinds.{is_end, kind_at, wires_of};
+ghost use Rattle.ice_sample.specs.Tiles.{tile_list, tiles_of, wires_before, first_wire, wire_count};
 
 use ice_base::{NoMemory, TileAt};
 use std::alloc::Global;
 
-/// The number of global nets, which come before the nets of all tiles.
+/// The number of global wires, which come before the wires of all tiles.
 pub const GLOBALS: u32 = 8;
 
 /// The kinds of tiles of the sample chip.
-#[derive(Clone, Copy, Debug, PartialEq, Eq)]
+#[derive(Clone, Copy)]
 pub enum TileKind {
     /// A tile of two pads, at the border of the chip.
     Io,
@@ -20,7 +20,7 @@ pub enum TileKind {
 }
 
 /// A tile.
-#[derive(Clone, Copy, Debug, PartialEq, Eq)]
+#[derive(Clone, Copy)]
 pub struct Tile {
     /// Where it is.
     pub at: TileAt,
@@ -52,9 +52,9 @@ pub fn kind_at(width: u16, height: u16, at: TileAt) -> Option<TileKind>
     }
 }
 
-// How many nets of its own a place has.
-fn nets_of(kind: Option<TileKind>) -> u32
-    ensures nets { result ≡ nets_of kind }
+// How many wires of its own a place has.
+fn wires_of(kind: Option<TileKind>) -> u32
+    ensures wires { result ≡ wires_of kind }
     ensures few { result ≤ 116 }
 {
     match kind {
@@ -64,24 +64,24 @@ fn nets_of(kind: Option<TileKind>) -> u32
     }
 }
 
-/// The tiles of a chip of a size, and the first net of each place.
+/// The tiles of a chip of a size, and the first wire of each place.
 #[derive(Drop)]
 pub struct Grid {
     /// How many columns the chip has, from 4 to 64.
     pub width: u16,
     /// How many rows the chip has, from 4 to 64.
     pub height: u16,
-    /// How many nets the chip has.
-    pub nets: u32,
+    /// How many wires the chip has.
+    pub wires: u32,
     /// The tiles in tile order.
     pub tiles: Vec<Tile>,
-    // The nets before each place, by the numbers of places.
-    first_nets: Vec<u32>,
+    // The wires before each place, by the numbers of places.
+    first_wires: Vec<u32>,
     ghost narrow: { width ≤ 64 },
     ghost low: { height ≤ 64 },
-    ghost counted: { nets ≡ net_count width height },
+    ghost counted: { wires ≡ wire_count width height },
     ghost tiled: { tiles.items ≡ tiles_of width height },
-    ghost numbered: { first_nets.items ≡ map (nets_before width height) (range_with_len 0 (width * height)) },
+    ghost numbered: { first_wires.items ≡ map (wires_before width height) (range_with_len 0 (width * height)) },
 }
 
 // Puts the tile of a place behind the tiles, if it has a kind.
@@ -96,7 +96,7 @@ fn add_tile(tiles: &mut Vec<Tile>, at: TileAt, kind: Option<TileKind>) -> Result
 
 impl Grid {
     /// The tiles of a chip of this size.
-    #[tactic(auto, using(crate::proofs::Counting::tiles_none, crate::proofs::Counting::tiles_more, crate::proofs::Counting::map_range_more, crate::proofs::Counting::nets_none, crate::proofs::Counting::nets_more, crate::proofs::Counting::few_places))]
+    #[tactic(auto, using(crate::proofs::Counting::tiles_none, crate::proofs::Counting::tiles_more, crate::proofs::Counting::map_range_more, crate::proofs::Counting::wires_none, crate::proofs::Counting::wires_more, crate::proofs::Counting::few_places))]
     pub fn new(alloc: Global, width: u16, height: u16) -> Result<Grid, NoMemory>
         requires width { (4 ≤ width) × (width ≤ 64) }
         requires height { (4 ≤ height) × (height ≤ 64) }
@@ -104,34 +104,34 @@ impl Grid {
         ensures height { IfOk result (λ grid. grid.height ≡ height) }
     {
         let mut tiles = Vec::new(alloc);
-        let mut first_nets = Vec::new(alloc);
-        let mut nets = GLOBALS;
+        let mut first_wires = Vec::new(alloc);
+        let mut wires = GLOBALS;
         for place in 0..width * height {
             let at = TileAt {
                 x: place % width,
                 y: place / width,
             };
             let kind = kind_at(width, height, at);
-            first_nets.push(nets)?;
+            first_wires.push(wires)?;
             add_tile(&mut tiles, at, kind)?;
-            nets += nets_of(kind);
+            wires += wires_of(kind);
         }
         Ok(Grid {
             width,
             height,
-            nets,
+            wires,
             tiles,
-            first_nets,
+            first_wires,
         })
     }
 
-    /// The first net of the tile at a place.
-    pub fn first_net(&self, at: TileAt) -> u32
+    /// The first wire of the tile at a place.
+    pub fn first_wire(&self, at: TileAt) -> u32
         requires column { at.x < self.now.width }
         requires row { at.y < self.now.height }
-        ensures net { result ≡ first_net self.now.width self.now.height at }
+        ensures wire { result ≡ first_wire self.now.width self.now.height at }
         ensures few { result ≤ 500000 }
     {
-        self.first_nets[usize::from(at.y) * usize::from(self.width) + usize::from(at.x)]
+        self.first_wires[usize::from(at.y) * usize::from(self.width) + usize::from(at.x)]
     }
 }

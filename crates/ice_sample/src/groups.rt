@@ -8,7 +8,7 @@ use crate::grid::Tile;
 use crate::text::{put_binary, put_number, put_placed};
 use ice_base::NoMemory;
 
-// Writes the heading of a group: the net that it drives, and its bits.
+// Writes the heading of a group: the wire that it drives, and its bits.
 #[tactic(auto, unfolding(crate::specs::Lines::text_of_lines))]
 fn put_group_heading(
     text: &mut Vec<u8>,

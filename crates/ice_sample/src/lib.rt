@@ -6,13 +6,13 @@ mod chip;
 mod grid;
 mod groups;
 mod laws;
-mod nets;
 mod pads;
 mod pins;
 mod sections;
 mod sources;
 mod text;
 mod tracks;
+mod wires;
 
 pub use chip::sample_chip;
 pub use laws::{names_are_at_places, worked_numbers};

@@ -7,7 +7,7 @@ use ice_base::{NoMemory, TileAt};
 use std::alloc::Global;
 
 /// A pad of an IO tile.
-#[derive(Clone, Copy, Debug, PartialEq, Eq)]
+#[derive(Clone, Copy)]
 pub struct Pad {
     /// Where the tile is.
     pub at: TileAt,

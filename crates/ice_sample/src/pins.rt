@@ -59,7 +59,7 @@ fn put_cell(
     Ok(())
 }
 
-/// Writes the groups of the inputs of the cells of a logic tile, from its first net, whose bits begin with this one.
+/// Writes the groups of the inputs of the cells of a logic tile, from its first wire, whose bits begin with this one.
 pub fn put_inputs(
     text: &mut Vec<u8>,
     sources: &mut Vec<u32>,
@@ -99,7 +99,7 @@ fn put_control(
     Ok(())
 }
 
-/// Writes the groups of the clock, the enable and the set or reset of a logic tile, from its first net, whose bits
+/// Writes the groups of the clock, the enable and the set or reset of a logic tile, from its first wire, whose bits
 /// begin with this one.
 pub fn put_controls(
     text: &mut Vec<u8>,
@@ -126,7 +126,7 @@ pub fn put_controls(
     Ok(())
 }
 
-/// Writes the group of the carry into a logic tile, from its first net, if there is one. Its bit is this one.
+/// Writes the group of the carry into a logic tile, from its first wire, if there is one. Its bit is this one.
 pub fn put_carry(
     text: &mut Vec<u8>,
     sources: &mut Vec<u32>,
@@ -185,7 +185,7 @@ fn put_io_pin(
     Ok(())
 }
 
-/// Writes the groups of the pins of an IO tile, from its first net, whose bits begin with this one.
+/// Writes the groups of the pins of an IO tile, from its first wire, whose bits begin with this one.
 pub fn put_io_pins(
     text: &mut Vec<u8>,
     sources: &mut Vec<u32>,

@@ -8,15 +8,15 @@ use crate::pads::Pad;
 use crate::text::{put_line, put_number, put_numbers, put_place, put_placed};
 use ice_base::{NoMemory, TileAt};
 
-// Writes the line of a device of a size and so many nets.
+// Writes the line of a device of a size and so many wires.
 #[tactic(auto, unfolding(crate::specs::Lines::text_of_lines))]
-fn put_size(text: &mut Vec<u8>, width: u16, height: u16, nets: u32) -> Result<(), NoMemory>
-    ensures { OnOk result (text.new.items ≡ text.old.items ++ text_of_lines ((codes ".device 1k " ++ number_words width height ++ codes " " ++ decimal nets) ∷ [])) }
+fn put_size(text: &mut Vec<u8>, width: u16, height: u16, wires: u32) -> Result<(), NoMemory>
+    ensures { OnOk result (text.new.items ≡ text.old.items ++ text_of_lines ((codes ".device 1k " ++ number_words width height ++ codes " " ++ decimal wires) ∷ [])) }
 {
     text.extend_from_slice(b".device 1k ")?;
     put_numbers(text, u64::from(width), u64::from(height))?;
     text.push(b' ')?;
-    put_number(text, u64::from(nets))?;
+    put_number(text, u64::from(wires))?;
     text.push(b'\n')?;
     Ok(())
 }
@@ -25,7 +25,7 @@ fn put_size(text: &mut Vec<u8>, width: u16, height: u16, nets: u32) -> Result<()
 pub fn put_device(text: &mut Vec<u8>, grid: &Grid) -> Result<(), NoMemory>
     ensures { OnOk result (text.new.items ≡ text.old.items ++ text_of_lines (device_lines grid.now.width grid.now.height)) }
 {
-    put_size(text, grid.width, grid.height, grid.nets)
+    put_size(text, grid.width, grid.height, grid.wires)
 }
 
 // Writes a pad's place and its number there.

@@ -1,14 +1,14 @@
-//! The nets that groups of switches take: tracks, pins and carries.
+//! The wires that groups of switches take: tracks, pins and carries.
 ghost use Rattle.std.specs.Prelude.{◌≡◌, ◌++◌, ◌+◌, ◌*◌, ◌<◌, ◌≤◌, OnOk};
 ghost use Rattle.std.specs.List.{flat_map};
-ghost use Rattle.ice_sample.specs.Tiles.{first_net};
+ghost use Rattle.ice_sample.specs.Tiles.{first_wire};
 ghost use Rattle.ice_sample.specs.Kinds.{kind_at};
 ghost use Rattle.ice_sample.specs.Groups.{track_place, outputs, west, south, track_at, tracks_beside, pin_tracks, carry_into, carry_for, carry_out, carry_in};
 
 use crate::grid::{Grid, TileKind, kind_at};
 use ice_base::{NoMemory, TileAt};
 
-/// Where the tracks of a tile of a kind stand among its nets.
+/// Where the tracks of a tile of a kind stand among its wires.
 pub fn track_place(kind: TileKind) -> u32
     ensures place { result ≡ track_place kind }
     ensures few { result ≤ 52 }
@@ -19,7 +19,7 @@ pub fn track_place(kind: TileKind) -> u32
     }
 }
 
-/// Puts the outputs of a tile behind the sources, from the tile's first net.
+/// Puts the outputs of a tile behind the sources, from the tile's first wire.
 pub fn add_outputs(sources: &mut Vec<u32>, kind: TileKind, first: u32) -> Result<(), NoMemory>
     requires { first ≤ 500000 }
     ensures { OnOk result (sources.new.items ≡ sources.old.items ++ outputs kind first) }
@@ -60,7 +60,7 @@ fn add_track(sources: &mut Vec<u32>, grid: &Grid, track: u32, at: TileAt) -> Res
     match kind_at(grid.width, grid.height, at) {
         None => Ok(()),
         Some(kind) => {
-            sources.push(grid.first_net(at) + track_place(kind) + track)?;
+            sources.push(grid.first_wire(at) + track_place(kind) + track)?;
             Ok(())
         }
     }
@@ -145,7 +145,7 @@ pub fn add_pin_tracks(sources: &mut Vec<u32>, tracks: u32, pin: u32) -> Result<(
     Ok(())
 }
 
-// The carry into a cell of a logic tile, from the tile's first net.
+// The carry into a cell of a logic tile, from the tile's first wire.
 fn carry_into(first: u32, cell: u32) -> u32
     requires first { first ≤ 500000 }
     requires cell { cell ≤ 8 }
@@ -177,13 +177,13 @@ pub fn add_carry_for(
 
 // Puts the carry out of the tile at a place behind the sources, if that is a logic tile.
 fn add_carry_out(sources: &mut Vec<u32>, grid: &Grid, at: TileAt) -> Result<(), NoMemory>
-    ensures { OnOk result (sources.new.items ≡ sources.old.items ++ carry_out (kind_at grid.now.width grid.now.height at) (first_net grid.now.width grid.now.height at)) }
+    ensures { OnOk result (sources.new.items ≡ sources.old.items ++ carry_out (kind_at grid.now.width grid.now.height at) (first_wire grid.now.width grid.now.height at)) }
 {
     match kind_at(grid.width, grid.height, at) {
         None => Ok(()),
         Some(TileKind::Io) => Ok(()),
         Some(TileKind::Logic) => {
-            sources.push(grid.first_net(at) + 47)?;
+            sources.push(grid.first_wire(at) + 47)?;
             Ok(())
         }
     }

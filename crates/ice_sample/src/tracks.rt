@@ -1,6 +1,6 @@
 //! The groups of tracks.
 ghost use Rattle.std.specs.Prelude.{◌≡◌, ◌++◌, ◌+◌, ◌*◌, ◌<◌, ◌≤◌, OnOk};
-ghost use Rattle.ice_sample.specs.Tiles.{IsWithin, first_net};
+ghost use Rattle.ice_sample.specs.Tiles.{IsWithin, first_wire};
 ghost use Rattle.ice_sample.specs.Lines.{text_of_lines};
 ghost use Rattle.ice_sample.specs.Groups.{track_size, outputs, tracks_beside, group_lines, groups_from, track_group, track_groups};
 
@@ -29,9 +29,9 @@ fn list_track_sources(
 ) -> Result<(), NoMemory>
     requires tile { IsWithin grid.now.width grid.now.height tile }
     requires track { track < 64 }
-    ensures { OnOk result (sources.new.items ≡ outputs tile.kind (first_net grid.now.width grid.now.height tile.at) ++ tracks_beside grid.now.width grid.now.height track tile.at) }
+    ensures { OnOk result (sources.new.items ≡ outputs tile.kind (first_wire grid.now.width grid.now.height tile.at) ++ tracks_beside grid.now.width grid.now.height track tile.at) }
 {
-    let first = grid.first_net(tile.at);
+    let first = grid.first_wire(tile.at);
     sources.clear();
     add_outputs(sources, tile.kind, first)?;
     add_tracks_beside(sources, grid, track, tile.at)?;
@@ -52,7 +52,7 @@ fn put_track(
     requires track { track < 64 }
     ensures { OnOk result (text.new.items ≡ text.old.items ++ text_of_lines (group_lines tile.kind tile.at bit (track_group grid.now.width grid.now.height tile.kind tile.at track))) }
 {
-    let target = grid.first_net(tile.at) + track_place(tile.kind) + track;
+    let target = grid.first_wire(tile.at) + track_place(tile.kind) + track;
     let size = track_size(tile.kind);
     list_track_sources(sources, grid, tile, track)?;
     put_group(text, tile, bit, size, target, sources)?;

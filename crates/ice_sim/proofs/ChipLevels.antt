@@ -1,11 +1,10 @@
 -- The levels of the points of a chip are those in their slots.
-use Rattle.std.proofs.Common.{◌≡◌, ℕ, ◌+◌, ◌<◌, ◌≤◌, Bool, true, false, cond, List, [], ◌∷◌, length, map, Option, Some, None, All, refl, ap, sym, ◌∙◌, subst, arith, length-append}
+use Rattle.std.proofs.Common.{◌≡◌, ℕ, ◌+◌, ◌<◌, ◌≤◌, Bool, true, false, cond, List, [], ◌∷◌, length, map, Option, Some, None, refl, ap, sym, ◌∙◌, subst, arith, length-append}
 use Rattle.std.specs.Prelude.{◌==◌, ◌/◌, option_map, unwrap_or}
 use Rattle.std.specs.List.{range_with_len}
-use Rattle.std.specs.Map.{lookup}
 use Rattle.std.proofs.lemmas.List.{length-map}
 use Rattle.std.proofs.lemmas.List.FromFn.{length-range_with_len}
-use Rattle.std.proofs.lemmas.List.Elements.{All-head, All-tail, All-map, All-filter}
+use Rattle.std.proofs.lemmas.List.Elements.{All-map, All-filter}
 use Rattle.std.proofs.lemmas.Option.{same_Some, slice_get_within}
 use Rattle.ice_base.specs.declared.number.TileAt.{TileAt}
 use Rattle.ice_value.specs.System.{System, MeetsEquation}
@@ -13,6 +12,7 @@ use Rattle.ice_value.specs.Inputs.{reading}
 use Rattle.ice_value.specs.Order.{At, Has}
 use Rattle.ice_value.proofs.Values.{value_ranked}
 use Rattle.ice_value.proofs.Gaps.{local_gapped}
+use Rattle.ice_base.proofs.Entries.{lookup_all}
 use Rattle.ice_chip.specs.Database.{Parts, WireName}
 use Rattle.ice_chip.specs.IsRead.{IsRead}
 use Rattle.ice_chip.specs.Lookups.{wire_named, placed_at, placed_wire, placed_names, is_placed}
@@ -23,7 +23,7 @@ use Rattle.ice_bits.specs.Configuration.{Bits}
 use Rattle.ice_net.specs.declared.drive.Drive.TheVariants.{Off}
 use Rattle.ice_net.specs.Drives.{level_drive}
 use Rattle.ice_decode.specs.declared.point.Point.{Point}
-use Rattle.ice_decode.specs.Names.{input_name, pad_output_name, output_enable_name}
+use Rattle.ice_chip.specs.WireNames.{input_name, pad_output_name, output_enable_name}
 use Rattle.ice_decode.specs.Cells.{cells, logic_tiles, looked_up}
 use Rattle.ice_decode.specs.Reads.{wire_point, carry_point, points, count_points, at_pin, reads}
 use Rattle.ice_decode.specs.Pads.{pin_type, pin_level, part_drive, drive_at}
@@ -44,14 +44,6 @@ points_long parts =
     length-append (map wire_point (range_with_len 0 parts.wires)) (map carry_point (cells parts))
     ∙ ap (λ n. n + length (map carry_point (cells parts))) (length-map (range_with_len 0 parts.wires) wire_point ∙ length-range_with_len 0 parts.wires)
     ∙ ap (λ n. parts.wires + n) (length-map (cells parts) carry_point)
-
-lookup_all : {K V : Type 0} (P : V → Type 0) (test : K → Bool) (entries : List (K × V)) → All (λ (e : K × V). P e.1) entries → (v : V) → lookup test entries ≡ Some v → P v
-lookup_all P test [] all v e = cc e
-lookup_all {K} {V} P test (x ∷ entries) all v e = by (test x.0) (λ f. lookup_all P test entries (All-tail (λ (y : K × V). P y.1) x entries all) v f) e
-  where
-    by : (b : Bool) → (lookup test entries ≡ Some v → P v) → cond b (Some x.1) (lookup test entries) ≡ Some v → P v
-    by true later f = subst P (same_Some x.1 v f) (All-head (λ (y : K × V). P y.1) x entries all)
-    by false later f = later f
 
 named_below : (parts : Parts) → IsRead parts → (t : TileAt) (name : List ℕ) (w : ℕ) → wire_named parts t name ≡ Some w → w < parts.wires
 named_below parts read t name w e =

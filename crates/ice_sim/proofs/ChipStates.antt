@@ -1,5 +1,5 @@
 -- What the cells of a chip keep after a step.
-use Rattle.std.proofs.Common.{◌≡◌, ℕ, suc, ◌+◌, ◌<◌, Bool, true, false, cond, List, [], ◌∷◌, ◌++◌, length, map, set, Option, Some, None, refl, ap, sym, ◌∙◌, subst, arith, append_assoc, length-append, replicate}
+use Rattle.std.proofs.Common.{◌≡◌, ℕ, suc, ◌+◌, ◌<◌, Bool, true, false, cond, List, [], ◌∷◌, ◌++◌, length, map, set, Some, None, refl, ap, sym, ◌∙◌, subst, arith, append_assoc, length-append, replicate}
 use Rattle.std.specs.Prelude.{◌&&◌, codes}
 use Rattle.std.specs.List.{zip}
 use Rattle.std.proofs.Math.Seq.{get_or-append_seam, set-append_seam}
@@ -9,9 +9,6 @@ use Rattle.ice_chip.specs.IsRead.{IsRead}
 use Rattle.ice_chip.specs.declared.rows.Pad.{Pad}
 use Rattle.ice_bits.specs.Configuration.{Bits}
 use Rattle.ice_bits.specs.Settings.{set_at}
-use Rattle.ice_net.specs.declared.kind.Reset.{Reset}
-use Rattle.ice_net.specs.Flops.{is_edge, fired}
-use Rattle.ice_net.specs.Meaning.{State}
 use Rattle.ice_decode.specs.declared.point.Point.{Point}
 use Rattle.ice_decode.specs.Cells.{cells, has_flop, reset_of}
 use Rattle.ice_decode.specs.Pads.{pin_level}
@@ -29,6 +26,7 @@ use Rattle.ice_sim.specs.ChipSlots.{pin_slot, cell_gate}
 use Rattle.ice_sim.specs.Layouts.{Layout, keeper_of, flops_from, tables_from}
 use Rattle.ice_sim.specs.ChipRuns.{IsBlankUnless, AreKept}
 use Rattle.ice_sim.proofs.Laying.{IsLaid}
+use Rattle.ice_sim.proofs.Remembering.{state_with, flop_same}
 use Rattle.ice_sim.proofs.ChipLevels.{pin_zero, pin_one, table_is}
 
 -- what a cell keeps after a step in which points have the levels v, by whether it has a flip-flop
@@ -68,9 +66,6 @@ module _ (parts : Parts) (bits : Bits) (v : Point → Bool) where
   clocks_are (cell ∷ cells) (memory ∷ memories) are =
       ap (λ x. x ∷ map (λ (memory : Memory). memory.clock) (followed parts bits v cells memories)) (clock_one (has_flop parts bits cell.0 cell.1) cell memory)
       ∙ ap (λ xs. clock_after parts bits v cell ∷ xs) (clocks_are cells memories are.1)
-
-  abbrev state_with : List Bool → List (Option Bool) → State
-  state_with levels clocks = record { kept = levels; clocks = clocks }
 
   pub state_is : (memories : List Memory) → AreKept parts bits (cells parts) memories
       → state_of (followed parts bits v (cells parts) memories) ≡ state_after parts bits v (state_of memories)
@@ -113,23 +108,12 @@ clocks_blank : (cells : List (TileAt × ℕ)) → map (λ (memory : Memory). mem
 clocks_blank [] = refl
 clocks_blank (cell ∷ cells) = ap (λ clocks. None ∷ clocks) (clocks_blank cells)
 
-abbrev state_lists : List Bool → List (Option Bool) → State
-state_lists levels clocks = record { kept = levels; clocks = clocks }
-
 pub state_blank : (parts : Parts) → state_of (replicate (length (cells parts)) blank) ≡ start parts
 state_blank parts =
-    ap (λ l. state_lists l (map (λ (memory : Memory). memory.clock) (replicate (length (cells parts)) blank))) (levels_blank (cells parts))
-    ∙ ap (λ l. state_lists (map (λ (c : TileAt × ℕ). false) (cells parts)) l) (clocks_blank (cells parts))
+    ap (λ l. state_with l (map (λ (memory : Memory). memory.clock) (replicate (length (cells parts)) blank))) (levels_blank (cells parts))
+    ∙ ap (λ l. state_with (map (λ (c : TileAt × ℕ). false) (cells parts)) l) (clocks_blank (cells parts))
 
 -- ---- one step of all flip-flops
-abbrev next_by : Bool → Reset → Memory → Bool → Bool → Bool → Bool → Memory
-next_by falling reset memory clock enable level datum =
-    record { kept = fired reset (is_edge falling memory.clock clock) enable level datum memory.kept; clock = Some clock }
-
-flop_same : (falling : Bool) (reset : Reset) (memory : Memory) (c e s d clock enable level datum : Bool) → c ≡ clock → e ≡ enable → s ≡ level → d ≡ datum
-    → next_by falling reset memory clock enable level datum ≡ next_by falling reset memory c e s d
-flop_same falling reset memory c e s d clock enable level datum ce ee se de = rw (ce, ee, se, de) refl
-
 module _ (parts : Parts) (bits : Bits) (bonded : List Pad) (order : List Point) (o : IsOrderOf parts bits order) (read : IsRead parts) (l : Layout)
     (laid_ : IsLaid parts bits bonded order (length order) l) (levels kept values : List Bool) (obeys : Obeys l.feeds levels kept values) where
   abbrev v : Point → Bool

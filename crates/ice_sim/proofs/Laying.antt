@@ -25,7 +25,7 @@ use Rattle.ice_decode.specs.declared.role.Role.{Role}
 use Rattle.ice_decode.specs.declared.role.Role.TheVariants.{Plain, Output, LookUp, CarryOut, PadInput, Global, CarryIn, ClockEnable}
 use Rattle.ice_decode.specs.Roles.{role_of}
 use Rattle.ice_decode.specs.Drivers.{driver as driver_of}
-use Rattle.ice_decode.specs.Names.{input_name}
+use Rattle.ice_chip.specs.WireNames.{input_name}
 use Rattle.ice_decode.specs.Cells.{cells, has_carry, has_flop}
 use Rattle.ice_decode.specs.Reads.{count_points, at_pin, carry_into, global_feed, reads}
 use Rattle.ice_decode.specs.Pads.{is_enabled}

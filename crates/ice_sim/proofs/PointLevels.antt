@@ -21,7 +21,7 @@ use Rattle.ice_decode.specs.Drivers.{driver as driver_of}
 use Rattle.ice_decode.specs.Cells.{logic_tiles, has_carry, has_flop, table_entry, looked_up}
 use Rattle.ice_decode.specs.Reads.{at_pin, cell_inputs, carry_into, carry_inputs, global_feed, role_reads, driven_reads, reads}
 use Rattle.ice_decode.specs.Pads.{is_enabled, level_of}
-use Rattle.ice_decode.specs.Names.{input_name}
+use Rattle.ice_chip.specs.WireNames.{input_name}
 use Rattle.ice_decode.specs.Meaning.{passes, tile_place, kept_at, role_makes, driven_makes, makes}
 use Rattle.ice_sim.specs.declared.parts.Feed.TheVariants.{Made}
 use Rattle.ice_sim.specs.declared.points.PointSlot.{PointSlot}

@@ -1,5 +1,5 @@
 -- Numbers of the points of a chip.
-use Rattle.std.proofs.Common.{◌≡◌, ℕ, zero, suc, ◌+◌, ◌*◌, ◌<◌, Bool, true, false, cond, List, [], ◌∷◌, length, Option, Some, None, refl, ap, ◌∙◌, subst, arith, eq-eqb}
+use Rattle.std.proofs.Common.{◌≡◌, ℕ, zero, suc, ◌+◌, ◌*◌, ◌<◌, Bool, true, false, cond, List, [], ◌∷◌, length, Option, Some, None, refl, ap, ◌∙◌, subst, arith}
 use Rattle.std.specs.Prelude.{option_map, unwrap_or}
 use Rattle.std.specs.List.{flat_map}
 use Rattle.std.proofs.lemmas.Option.{same_Some, slice_get_within}
@@ -13,27 +13,13 @@ use Rattle.ice_decode.specs.declared.point.Point.TheVariants.{Wire, Carry}
 use Rattle.ice_decode.specs.Cells.{cells_in, logic_tiles}
 use Rattle.ice_decode.specs.Reads.{points, count_points}
 use Rattle.ice_decode.specs.Meaning.{tile_place}
-use Rattle.ice_decode.proofs.DifferentTiles.{tile_same}
+use Rattle.ice_decode.proofs.KeptLevels.{tile_at}
+use Rattle.ice_decode.proofs.PointPlaces.{cells_long}
+use Rattle.ice_base.proofs.Keys.{tile_self}
 use Rattle.ice_decode.proofs.PointPlaces.{StandsAs, point_cases}
 use Rattle.ice_sim.specs.ChipSlots.{cell_place, number}
 
 -- ---- tiles
-tile_self : (t : TileAt) → same_tile t t ≡ true
-tile_self t = rw (eq-eqb t.x t.x refl, eq-eqb t.y t.y refl) refl
-
--- the place that is found is one of the tile
-pub tile_at : (t : TileAt) (tiles : List TileAt) (k : ℕ) → tile_place t tiles ≡ Some k → At tiles k t
-tile_at t [] k e = cc e
-tile_at t (u ∷ tiles) k e = of (same_tile u t) refl e (λ m f. tile_at t tiles m f)
-  where
-    next : (o : Option ℕ) → option_map suc o ≡ Some k → ((m : ℕ) → o ≡ Some m → At tiles m t) → At (u ∷ tiles) k t
-    next None f rec = cc f
-    next (Some m) f rec = subst (λ n. At (u ∷ tiles) n t) (same_Some (suc m) k f) (rec m refl)
-
-    of : (b : Bool) → same_tile u t ≡ b → cond b (Some 0) (option_map suc (tile_place t tiles)) ≡ Some k → ((m : ℕ) → tile_place t tiles ≡ Some m → At tiles m t) → At (u ∷ tiles) k t
-    of true is f rec = subst (λ n. At (u ∷ tiles) n t) (same_Some 0 k f) (ap (λ x. Some x) (tile_same u t is))
-    of false is f rec = next (tile_place t tiles) f rec
-
 -- and there is one where the tile stands
 pub tile_there : (t : TileAt) (tiles : List TileAt) (k : ℕ) → At tiles k t → (m : ℕ) × (tile_place t tiles ≡ Some m)
 tile_there t [] k at = cc at
@@ -75,10 +61,6 @@ is_in parts p has = by p (point_cases parts.wires (logic_tiles parts) has.0 p ha
     by : (q : Point) → StandsAs parts.wires (logic_tiles parts) has.0 q → IsIn parts q
     by (Wire w) x = x.1
     by (Carry t i) x = cell_in parts t i x.0 x.1 x.2
-
-cells_long : (tiles : List TileAt) → length (flat_map cells_in tiles) ≡ 8 * length tiles
-cells_long [] = refl
-cells_long (t ∷ tiles) = let rest = cells_long tiles in omega arith
 
 -- the place of a cell
 pub cell_number : (parts : Parts) (t : TileAt) (i : ℕ) → (c : IsCellIn parts t i) → unwrap_or (cell_place parts t i) 0 ≡ 8 * c.place + i

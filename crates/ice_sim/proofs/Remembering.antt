@@ -9,7 +9,7 @@ use Rattle.ice_net.specs.declared.kind.CellKind.TheVariants.{Lut, Cover, Carry, 
 use Rattle.ice_net.specs.Formed.{IsBelow, IsFormedCell}
 use Rattle.ice_net.specs.Drives.{at_input}
 use Rattle.ice_net.specs.Flops.{is_edge, fired}
-use Rattle.ice_net.specs.Meaning.{enable_level, set_level, kept_by, clock_by, kept_after, clocks_after}
+use Rattle.ice_net.specs.Meaning.{State, enable_level, set_level, kept_by, clock_by, kept_after, clocks_after}
 use Rattle.ice_sim.specs.declared.parts.Keeper.{Keeper}
 use Rattle.ice_sim.specs.declared.parts.Memory.{Memory}
 use Rattle.ice_sim.specs.Slots.{slot_at, level_at, enable_slot, set_slot}
@@ -27,11 +27,16 @@ followed v [] memories = []
 followed v (cell ∷ cells) [] = []
 followed v (cell ∷ cells) (memory ∷ memories) = memory_by v cell.kind cell.ins memory ∷ followed v cells memories
 
-abbrev next_by : Bool → Reset → Memory → Bool → Bool → Bool → Bool → Memory
+-- the state that keeps these levels, and has seen these levels of clocks
+abbrev pub state_with : List Bool → List (Option Bool) → State
+state_with levels clocks = record { kept = levels; clocks = clocks }
+
+-- what a flip-flop keeps, by the levels that it reads
+abbrev pub next_by : Bool → Reset → Memory → Bool → Bool → Bool → Bool → Memory
 next_by falling reset memory clock enable level datum =
     record { kept = fired reset (is_edge falling memory.clock clock) enable level datum memory.kept; clock = Some clock }
 
-flop_same : (falling : Bool) (reset : Reset) (memory : Memory) (c e s d clock enable level datum : Bool) → c ≡ clock → e ≡ enable → s ≡ level → d ≡ datum
+pub flop_same : (falling : Bool) (reset : Reset) (memory : Memory) (c e s d clock enable level datum : Bool) → c ≡ clock → e ≡ enable → s ≡ level → d ≡ datum
     → next_by falling reset memory clock enable level datum ≡ next_by falling reset memory c e s d
 flop_same falling reset memory c e s d clock enable level datum ce ee se de = rw (ce, ee, se, de) refl
 

@@ -23,7 +23,7 @@ use Rattle.ice_sim.specs.Arrays.{feed_level}
 use Rattle.ice_sim.proofs.Copying.{copy_long, copy_behind, copy_other, copy_done}
 use Rattle.ice_sim.proofs.Settling.{AreSettled, all_made, values_are}
 use Rattle.ice_sim.proofs.Showing.{all_drive}
-use Rattle.ice_sim.proofs.Remembering.{followed, all_follow, kept_is, clocks_are, memories_after, memories_blank, kept_blank, clocks_blank}
+use Rattle.ice_sim.proofs.Remembering.{state_with, followed, all_follow, kept_is, clocks_are, memories_after, memories_blank, kept_blank, clocks_blank}
 
 module _ (n : NetlistData) (plan : Plan) (levels : List Bool) (memories : List Memory) (values : List Bool) (p : IsPlan n plan) (b : IsBetweenSteps n memories values) where
   abbrev ports_of : ℕ → Option ℕ
@@ -100,9 +100,6 @@ module _ (n : NetlistData) (plan : Plan) (levels : List Bool) (memories : List M
   memories_are =
       ap (λ keepers. remembered keepers third memories) p.keepers_are
       ∙ all_follow v third (length n.names) agree done.zero_is done.one_is n.cells memories p.formed.cells b.remembers
-
-  abbrev state_with : List Bool → List (Option Bool) → State
-  state_with levels clocks = record { kept = levels; clocks = clocks }
 
   state_is : state_of (followed v n.cells memories) ≡ (step n (state_of memories) levels).0
   state_is =

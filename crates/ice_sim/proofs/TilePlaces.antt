@@ -4,8 +4,6 @@ use Rattle.std.specs.Prelude.{◌==◌, option_map, position}
 use Rattle.std.specs.List.{range_with_len}
 use Rattle.std.specs.Map.{lookup}
 use Rattle.std.proofs.lemmas.List.FromFn.{length-map-range_with_len, get_or-map-range_with_len}
-use Rattle.indexmap.specs.IndexMap.{IndexMap, insert_entry}
-use Rattle.indexmap.proofs.CallerLemmas.{insert_entry-new}
 use Rattle.ice_base.specs.declared.number.TileAt.{TileAt}
 use Rattle.ice_chip.specs.Database.{Parts}
 use Rattle.ice_chip.specs.IsRead.{IsChip}
@@ -19,7 +17,7 @@ use Rattle.ice_decode.specs.Cells.{logic_tiles}
 use Rattle.ice_decode.specs.Faults.{or_else}
 use Rattle.ice_decode.specs.Meaning.{tile_place}
 use Rattle.ice_decode.specs.Refusals.{AreDrivers}
-use Rattle.ice_decode.proofs.DifferentTiles.{tile_same}
+use Rattle.ice_base.proofs.Keys.{tile_same}
 use Rattle.ice_decode.proofs.Switches.{driver_between}
 use Rattle.ice_sim.specs.ChipSlots.{pad_place}
 use Rattle.ice_sim.specs.Sites.{ComesFrom, put_place, with_place, with_places}
@@ -42,11 +40,6 @@ pad_turned : (a b : Pad) → same_pad a b ≡ same_pad b a
 pad_turned a b = rw (tile_turned a.tile b.tile, number_turned a.pio b.pio) refl
 
 -- ---- tiles
--- a key that is new goes last in a map
-pub new_goes_last : {K V S : Type 0} (eq : K → K → Bool) (m n : IndexMap K V S) (k : K) (v : V) → lookup (eq k) m.entries ≡ None → n.entries ≡ insert_entry eq m.entries k v
-    → n.entries ≡ m.entries ++ (k, v) ∷ []
-new_goes_last eq m n k v none put = put ∙ insert_entry-new eq m k v none
-
 lookup_push : (t u : TileAt) (k : ℕ) (entries : List (TileAt × ℕ))
     → lookup (same_tile t) (entries ++ (u, k) ∷ []) ≡ or_else (lookup (same_tile t) entries) (cond (same_tile t u) (Some k) None)
 lookup_push t u k [] = refl

@@ -7,7 +7,7 @@ use Rattle.ice_chip.specs.declared.rows.Pad.{Pad}
 use Rattle.ice_bits.specs.Configuration.{Bits}
 use Rattle.ice_bits.specs.Settings.{set_at}
 use Rattle.ice_decode.specs.declared.point.Point.{Point}
-use Rattle.ice_decode.specs.Names.{pad_output_name, output_enable_name}
+use Rattle.ice_chip.specs.WireNames.{pad_output_name, output_enable_name}
 use Rattle.ice_decode.specs.Cells.{has_flop, reset_of}
 use Rattle.ice_decode.specs.Reads.{count_points}
 use Rattle.ice_decode.specs.Pads.{pin_type}

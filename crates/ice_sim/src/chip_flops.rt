@@ -2,14 +2,15 @@
 ghost use Rattle.std.specs.Prelude.{◌≡◌, ◌++◌, ◌∷◌, [], length, codes, OnOk, IfOk};
 ghost use Rattle.std.specs.List.{flat_map};
 ghost use Rattle.ice_bits.specs.Configuration.{bits_of};
-ghost use Rattle.ice_decode.specs.Cells.{cells_in, reset_by, reset_of};
+ghost use Rattle.ice_decode.specs.Cells.{cells, cells_in, reset_by, reset_of};
 ghost use Rattle.ice_sim.specs.Layouts.{keeper_of, flops_from, tables_from};
 
 use crate::gates::{cell_gate, table};
 use crate::parts::{Feed, Keeper};
 use crate::site::{Site, small};
 use ice_base::{NoMemory, TileAt};
-use ice_decode::{cell_bit, has_flop, setting};
+use ice_chip::Chip;
+use ice_decode::{cell_bit, has_flop, logic_tiles, setting};
 use ice_net::Reset;
 use std::alloc::Global;
 
@@ -30,14 +31,23 @@ fn add_cells(cells: &mut Vec<(TileAt, u8)>, tile: TileAt) -> Result<(), NoMemory
     Ok(())
 }
 
-/// The cells of these tiles, tile by tile.
-pub(crate) fn cells_of(alloc: Global, tiles: &[TileAt]) -> Result<Vec<(TileAt, u8)>, NoMemory>
+// The cells of these tiles, tile by tile.
+fn cells_of(alloc: Global, tiles: &[TileAt]) -> Result<Vec<(TileAt, u8)>, NoMemory>
     ensures { IfOk result (λ cells. cells.items ≡ flat_map cells_in tiles.now) }
 {
     let mut cells = Vec::new(alloc);
     for tile in tiles {
         add_cells(&mut cells, *tile)?;
     }
+    Ok(cells)
+}
+
+/// The logic cells of a chip.
+pub(crate) fn chip_cells(alloc: Global, chip: &Chip) -> Result<Vec<(TileAt, u8)>, NoMemory>
+    ensures { IfOk result (λ all. all.items ≡ cells chip.now) }
+{
+    let tiles = logic_tiles(alloc, chip)?;
+    let cells = cells_of(alloc, &tiles)?;
     Ok(cells)
 }
 

@@ -1,18 +1,24 @@
 //! Configured chips, compiled.
-ghost use Rattle.std.specs.Prelude.{◌≡◌, false, replicate, IfOk};
+ghost use Rattle.std.specs.Prelude.{◌≡◌, ◌++◌, false, length, map, replicate, IfOk, OnOk};
+ghost use Rattle.ice_chip.specs.IsRead.{IsChip};
 ghost use Rattle.ice_bits.specs.Configuration.{bits_of};
 ghost use Rattle.ice_decode.specs.Cells.{cells};
 ghost use Rattle.ice_decode.specs.Faults.{IsOrderOf};
+ghost use Rattle.ice_decode.specs.Refusals.{IsCircuitOf};
+ghost use Rattle.ice_sim.specs.Arrays.{IsWired};
+ghost use Rattle.ice_sim.specs.Layouts.{layout_of, laid, bare_layout, flops_from, tables_from, pad_tap};
 ghost use Rattle.ice_sim.specs.ChipRuns.{IsCompiled};
 
 use crate::chip_flops::add_flops;
 use crate::chip_taps::pad_taps;
 use crate::layout::{constant_feeds, lay};
+use crate::parts::{Feed, Keeper};
 use crate::plan::Plan;
 use crate::site::Site;
 use crate::wiring::wired;
 use ice_base::{NoMemory, TileAt};
-use ice_decode::Point;
+use ice_chip::{Chip, Package};
+use ice_decode::{Circuit, Point};
 use std::alloc::Global;
 
 // So many slots, all 0.
@@ -31,9 +37,59 @@ fn low_levels(alloc: Global, count: usize) -> Result<Vec<bool>, NoMemory>
     Ok(levels)
 }
 
-/// The plan of a chip, whose cells are given, and the array for it, in which all is 0. It fails for want of memory alone; more than
-/// 2^32 slots count as that.
-pub(crate) fn compile_chip(
+// The slots of the points of a chip, of which the order has each that the chip evaluates, and what feeds the slots.
+fn lay_out(
+    alloc: Global,
+    site: &Site<'_>,
+    all_cells: &[(TileAt, u8)],
+    order: &[Point],
+) -> Result<(Vec<u32>, Vec<Feed>), NoMemory>
+    requires cells { all_cells.now ≡ cells site.now.parts }
+    requires order { IsOrderOf site.now.parts (bits_of site.now.configuration) order.now }
+    ensures chip { OnOk result (IsChip site.now.parts) }
+    ensures layout { IfOk result (λ out. layout_of out.0.items out.1.items ≡ laid site.now.parts (bits_of site.now.configuration) site.now.bonded order.now (bare_layout site.now.parts)) }
+{
+    let points = site.chip().wires() as usize + all_cells.len();
+    let mut slots = zeros(alloc, points)?;
+    let mut feeds = constant_feeds(alloc)?;
+    lay(site, order, &mut slots, &mut feeds)?;
+    Ok((slots, feeds))
+}
+
+// The flip-flops of a chip; what feeds the slots of their tables is added.
+fn flops(
+    alloc: Global,
+    site: &Site<'_>,
+    slots: &[u32],
+    all_cells: &[(TileAt, u8)],
+    feeds: &mut Vec<Feed>,
+) -> Result<Vec<Keeper>, NoMemory>
+    ensures feeds { OnOk result (feeds.new.items ≡ feeds.old.items ++ tables_from site.now.parts (bits_of site.now.configuration) slots.now (length feeds.old.items) all_cells.now) }
+    ensures keepers { IfOk result (λ keepers. keepers.items ≡ flops_from site.now.parts (bits_of site.now.configuration) slots.now 0 (length feeds.old.items) all_cells.now) }
+{
+    let mut keepers = Vec::new(alloc);
+    add_flops(site, slots, all_cells, feeds, &mut keepers)?;
+    Ok(keepers)
+}
+
+// The plan of a chip whose slots have these feeds, and whose flip-flops are these.
+fn plan_of(
+    alloc: Global,
+    site: &Site<'_>,
+    slots: &[u32],
+    feeds: &[Feed],
+    keepers: Vec<Keeper>,
+) -> Result<Plan, NoMemory>
+    ensures wired { IfOk result (IsWired feeds.now) }
+    ensures keepers { IfOk result (λ plan. plan.keepers.items ≡ keepers.items) }
+    ensures taps { IfOk result (λ plan. plan.taps.items ≡ map (pad_tap site.now.parts (bits_of site.now.configuration) slots.now) site.now.bonded) }
+{
+    let taps = pad_taps(alloc, site, slots)?;
+    wired(alloc, feeds, taps, keepers)
+}
+
+// The plan of a chip with the array for it.
+fn compile_site(
     alloc: Global,
     site: &Site<'_>,
     all_cells: &[(TileAt, u8)],
@@ -43,14 +99,26 @@ pub(crate) fn compile_chip(
     requires order { IsOrderOf site.now.parts (bits_of site.now.configuration) order.now }
     ensures { IfOk result (λ compiled. IsCompiled site.now.parts (bits_of site.now.configuration) site.now.bonded compiled.0 compiled.1.items) }
 {
-    let points = site.chip().wires() as usize + all_cells.len();
-    let mut slots = zeros(alloc, points)?;
-    let mut feeds = constant_feeds(alloc)?;
-    lay(site, order, &mut slots, &mut feeds)?;
-    let mut keepers = Vec::new(alloc);
-    add_flops(site, &slots, all_cells, &mut feeds, &mut keepers)?;
-    let taps = pad_taps(alloc, site, &slots)?;
-    let plan = wired(alloc, &feeds, taps, keepers)?;
+    let (slots, mut feeds) = lay_out(alloc, site, all_cells, order)?;
+    let keepers = flops(alloc, site, &slots, all_cells, &mut feeds)?;
+    let plan = plan_of(alloc, site, &slots, &feeds, keepers)?;
     let values = low_levels(alloc, feeds.len())?;
     Ok((plan, values))
+}
+
+/// The plan of a chip, whose cells are given, and the array for it, in which all is 0. It fails for want of memory alone; more than
+/// 2^32 slots count as that.
+pub(crate) fn compile_chip(
+    alloc: Global,
+    chip: &Chip,
+    circuit: &Circuit,
+    package: &Package,
+    all_cells: &[(TileAt, u8)],
+) -> Result<(Plan, Vec<bool>), NoMemory>
+    requires cells { all_cells.now ≡ cells chip.now }
+    requires circuit { IsCircuitOf chip.now circuit.now.configuration circuit.now }
+    ensures { IfOk result (λ compiled. IsCompiled chip.now (bits_of circuit.now.configuration) «package».now.pads.keys compiled.0 compiled.1.items) }
+{
+    let site = Site::new(alloc, chip, circuit, package)?;
+    compile_site(alloc, &site, all_cells, circuit.order())
 }

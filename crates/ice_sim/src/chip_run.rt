@@ -5,16 +5,15 @@ ghost use Rattle.ice_decode.specs.Meaning.{start, step};
 ghost use Rattle.ice_decode.specs.Refusals.{IsCircuitOf};
 ghost use Rattle.ice_sim.specs.ChipRuns.{with_state};
 
-use crate::chip_flops::cells_of;
+use crate::chip_flops::chip_cells;
 use crate::chip_plan::compile_chip;
 use crate::parts::Memory;
 use crate::plan::Plan;
 use crate::run::blanks;
-use crate::site::Site;
 use crate::sweep::sweep;
 use ice_base::NoMemory;
 use ice_chip::{Chip, Package};
-use ice_decode::{Circuit, logic_tiles};
+use ice_decode::Circuit;
 use ice_net::Drive;
 use std::alloc::Global;
 use std::marker::Model;
@@ -57,10 +56,8 @@ impl<'a> ChipRun<'a> {
         requires { IsCircuitOf chip.now circuit.now.configuration circuit.now }
         ensures { IfOk result (λ run. run ≡ record { parts = chip.now; configuration = circuit.now.configuration; bonded = «package».now.pads.keys; state = start chip.now }) }
     {
-        let tiles = logic_tiles(alloc, chip)?;
-        let cells = cells_of(alloc, &tiles)?;
-        let site = Site::new(alloc, chip, circuit, package, &tiles)?;
-        let (plan, values) = compile_chip(alloc, &site, &cells, circuit.order())?;
+        let cells = chip_cells(alloc, chip)?;
+        let (plan, values) = compile_chip(alloc, chip, circuit, package, &cells)?;
         let memories = blanks(alloc, cells.len())?;
         Ok(ChipRun {
             chip,

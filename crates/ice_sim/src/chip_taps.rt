@@ -6,8 +6,8 @@ ghost use Rattle.ice_sim.specs.Layouts.{part_tap, pad_tap};
 use crate::parts::Tap;
 use crate::site::Site;
 use ice_base::NoMemory;
-use ice_chip::Pad;
-use ice_decode::{output_enable_name, pad_output_name, pin_type};
+use ice_chip::{Pad, output_enable_name, pad_output_name};
+use ice_decode::pin_type;
 use std::alloc::Global;
 
 // What drives a pad, by its output part.

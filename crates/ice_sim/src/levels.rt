@@ -5,7 +5,7 @@ ghost use Rattle.ice_sim.specs.Steps.{steps_of};
 use std::marker::Model;
 
 /// For each step the levels of all ports. Contracts see it as the list of the steps, each the list of its levels.
-#[derive(Debug, Drop)]
+#[derive(Drop)]
 pub struct Levels {
     // The levels of all steps, one step behind the other.
     levels: Vec<bool>,
@@ -58,7 +58,7 @@ impl Levels {
 }
 
 /// The steps that are left. Contracts see it as the list of them.
-#[derive(Debug, Drop)]
+#[derive(Drop)]
 pub struct LevelSteps<'a> {
     rest: &'a [bool],
     width: usize,

@@ -5,7 +5,7 @@
 use ice_net::Reset;
 
 /// A look-up table of four inputs.
-#[derive(Clone, Copy, Debug)]
+#[derive(Clone, Copy)]
 pub struct Gate {
     /// The output is bit j of the table, with j made of the inputs, the first the lowest digit.
     pub table: u16,
@@ -22,7 +22,7 @@ pub struct Gate {
 }
 
 /// A signal that takes its level from outside the array.
-#[derive(Clone, Copy, Debug)]
+#[derive(Clone, Copy)]
 pub struct Link {
     /// The place of the level: of a port, or of a cell.
     pub from: usize,
@@ -31,7 +31,7 @@ pub struct Link {
 }
 
 /// What a port drives: the level in one slot, where the level in another is 1.
-#[derive(Clone, Copy, Debug)]
+#[derive(Clone, Copy)]
 pub struct Tap {
     /// The slot of the level.
     pub level: u32,
@@ -40,7 +40,7 @@ pub struct Tap {
 }
 
 /// A flip-flop.
-#[derive(Clone, Copy, Debug)]
+#[derive(Clone, Copy)]
 pub struct Keeper {
     /// Its place in the list of cells.
     pub cell: u32,
@@ -59,7 +59,7 @@ pub struct Keeper {
 }
 
 /// Where the level of a signal comes from.
-#[derive(Clone, Copy, Debug)]
+#[derive(Clone, Copy)]
 pub enum Feed {
     /// From nowhere: it is 0.
     Nothing,
@@ -72,7 +72,7 @@ pub enum Feed {
 }
 
 /// What a cell keeps from step to step; nothing, where it is no flip-flop.
-#[derive(Clone, Copy, Debug, PartialEq, Eq)]
+#[derive(Clone, Copy)]
 pub struct Memory {
     /// The level of a flip-flop.
     pub kept: bool,

@@ -3,7 +3,7 @@
 use crate::parts::Feed;
 
 /// The slot of a point.
-#[derive(Clone, Copy, Debug)]
+#[derive(Clone, Copy)]
 pub enum PointSlot {
     /// One that is there already: that of another point, or one that is always 0 or always 1.
     Shared(u32),

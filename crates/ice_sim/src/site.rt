@@ -11,7 +11,7 @@ ghost use Rattle.ice_sim.specs.Sites.{ComesFrom, with_place, with_places};
 use ice_base::{NoMemory, TileAt, WireNo};
 use ice_bits::Bits;
 use ice_chip::{Chip, Package, Pad};
-use ice_decode::{Circuit, Driver, Point, at_pin};
+use ice_decode::{Circuit, Driver, Point, at_pin, logic_tiles};
 use indexmap::{IndexMap, IndexSet};
 use std::alloc::Global;
 use std::marker::Model;
@@ -76,13 +76,12 @@ impl<'a> Site<'a> {
         chip: &'a Chip,
         circuit: &'a Circuit,
         package: &'a Package,
-        tiles: &[TileAt],
     ) -> Result<Site<'a>, NoMemory>
-        requires drivers { AreDrivers chip.now (bits_of circuit.now.configuration) circuit.now.drivers }
-        requires tiles { tiles.now ≡ logic_tiles chip.now }
+        requires { AreDrivers chip.now (bits_of circuit.now.configuration) circuit.now.drivers }
         ensures { IfOk result (λ site. site ≡ record { parts = chip.now; configuration = circuit.now.configuration; bonded = «package».now.pads.keys }) }
     {
-        let places = tile_places(alloc, tiles)?;
+        let tiles = logic_tiles(alloc, chip)?;
+        let places = tile_places(alloc, &tiles)?;
         Ok(Site {
             chip,
             circuit,

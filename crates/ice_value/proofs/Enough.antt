@@ -100,6 +100,14 @@ module _ {P A : Type 0} (s : System P A) where
       let there = together_at (λ r. value s f r) (s.depends p) got.0 has.0 q got.1 has.1 in
       (f, there.0, refl, there.1)
 
+  -- where a point has a value, the least number of steps is smaller for what it depends on
+  pub first_falls : (f : ℕ) (p q : P) (x : A) → value s f p ≡ Some x → Has (s.depends p) q → first s f q < first s f p
+  first_falls f p q x h dep =
+      let back = value_back (first s f p) p q x (first_there f p x h) dep in
+      let bound = first_bound f p in
+      let less : first s f q ≤ back.0 = first_least f back.0 q back.1 back.3 (let g : first s f p ≡ suc back.0 = back.2 in omega arith) in
+      let g : first s f p ≡ suc back.0 = back.2 in omega arith
+
   module _ (points : List P) (closed : (p q : P) → Has points p → Has (s.depends p) q → Has points q ⊎ (s.depends q ≡ [])) (f : ℕ) where
     abbrev ranks : List ℕ
     ranks = map (first s f) points

@@ -8,3 +8,4 @@ pub mod Search
 pub mod SearchState
 pub mod Outcome
 pub mod Laws
+pub mod Arriving

@@ -1,6 +1,6 @@
 use Rattle.std.proofs.Common.{rules, ◌≡◌, nat_eq, [], ◌∷◌, ◌++◌, None}
 use Rattle.std.specs.Map.{lookup}
-use Rattle.ice_chip_read.proofs.Entries.{new_goes_last}
+use Rattle.ice_chip.proofs.Entries.{new_goes_last}
 use Rattle.ice_chip_read.proofs.headings.net_heading.Goals as goal
 
 pub returns : goal.returns

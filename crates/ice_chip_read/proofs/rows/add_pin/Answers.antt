@@ -4,7 +4,7 @@ use Rattle.indexmap.specs.IndexSet.{insert_key}
 use Rattle.ice_chip.specs.Views.{package_view}
 use Rattle.ice_chip.specs.Places.{same_pad}
 use Rattle.ice_chip_read.specs.Lines.{with_pin}
-use Rattle.ice_chip_read.proofs.Entries.{new_goes_last}
+use Rattle.ice_chip.proofs.Entries.{new_goes_last}
 use Rattle.ice_chip_read.proofs.rows.add_pin.Goals as goal
 
 pub returns : goal.returns

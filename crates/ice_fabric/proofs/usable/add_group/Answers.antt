@@ -1,6 +1,6 @@
 use Rattle.std.proofs.Common.{◌++◌, append-nil, map, ap, sym, ◌∙◌}
 use Rattle.ice_chip.specs.Views.{row_view, group_view}
-use Rattle.ice_fabric.proofs.Taken.{none}
+use Rattle.ice_fabric.proofs.GroupRows.{none}
 use Rattle.ice_fabric.proofs.usable.add_group.Goals as goal
 
 pub returns-then-not-is_open : goal.returns-then-not-is_open

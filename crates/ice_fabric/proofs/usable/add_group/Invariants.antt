@@ -1,6 +1,6 @@
 use Rattle.std.proofs.Common.{◌≡◌, ◌+◌, ◌++◌, drop, map}
 use Rattle.ice_chip.specs.Views.{row_view, group_view}
-use Rattle.ice_fabric.specs.Usable.{edges_of}
+use Rattle.ice_fabric.specs.Edges.{edges_of}
 use Rattle.ice_fabric.proofs.usable.add_group.Given as goal
 
 abbrev pub invariant-loop-k : goal.invariant-loop-k

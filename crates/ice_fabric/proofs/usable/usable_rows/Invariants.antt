@@ -1,6 +1,6 @@
 use Rattle.std.proofs.Common.{◌≡◌, ◌++◌, drop, map}
 use Rattle.ice_chip.specs.Views.{group_view}
-use Rattle.ice_fabric.specs.Usable.{edges_from, usable_rows}
+use Rattle.ice_fabric.specs.Edges.{edges_from, usable_rows}
 use Rattle.ice_fabric.proofs.usable.usable_rows.Given as goal
 
 abbrev pub invariant-loop-group : goal.invariant-loop-group

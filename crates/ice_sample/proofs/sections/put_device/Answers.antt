@@ -6,5 +6,5 @@ use Rattle.ice_sample.proofs.sections.put_device.Goals as goal
 pub returns : goal.returns
 returns c =
     let g = c.args.grid.now in
-    subst (λ nets. OnOk c.put_size.result (c.put_size.new.text.items ≡ c.args.text.now.items ++ text_of_lines ((codes ".device 1k " ++ number_words g.width g.height ++ codes " " ++ decimal nets) ∷ [])))
+    subst (λ wires. OnOk c.put_size.result (c.put_size.new.text.items ≡ c.args.text.now.items ++ text_of_lines ((codes ".device 1k " ++ number_words g.width g.height ++ codes " " ++ decimal wires) ∷ [])))
     g.counted c.put_size.ensures

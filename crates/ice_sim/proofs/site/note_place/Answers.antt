@@ -2,7 +2,7 @@ use Rattle.std.proofs.Common.{rules, ◌≡◌, [], ◌∷◌, ◌++◌, None, s
 use Rattle.std.specs.Map.{lookup}
 use Rattle.ice_chip.specs.Places.{same_tile}
 use Rattle.ice_sim.specs.Sites.{put_place}
-use Rattle.ice_sim.proofs.TilePlaces.{new_goes_last}
+use Rattle.ice_chip.proofs.Entries.{new_goes_last}
 use Rattle.ice_sim.proofs.site.note_place.Goals as goal
 
 pub returns-in_ok-insert : goal.returns-in_ok-insert

@@ -1,0 +1,478 @@
+//! Generated graphs and nets, against a plain program that follows the definitions: labels are lowered along all
+//! edges until nothing changes, and each round leads to the next by recursion.
+ghost use Rattle.std.specs.Prelude.{◌≡◌, ◌<◌, ◌≤◌, IfOk, length};
+ghost use Rattle.ice_graph.specs.Network.{AreBetween, RowsRise};
+ghost use Rattle.ice_path.specs.Room.{AreWires};
+
+use ice_base::{NetNo, RowNo, WireNo};
+use ice_core::{Net, RoundLog};
+use ice_desk::OpenGate;
+use ice_graph::{Edge, Graph, Tree};
+use ice_negotiate::{RouteFault, Routed, negotiate};
+use std::alloc::{AllocError, Global};
+use std::process::Abort;
+use std::test::Fail;
+
+const WIRES: u32 = 12;
+
+// The first wires are the roots of the nets, and no edge enters them.
+const ROOTS: u32 = 3;
+
+// A number below the bound, from the next step of a generator.
+fn draw(seed: &mut u64, bound: u32) -> u32
+    requires { 0 < bound }
+    ensures { result < bound }
+{
+    *seed = seed
+        .wrapping_mul(6364136223846793005)
+        .wrapping_add(1442695040888963407);
+    ((*seed >> 33) as u32) % bound
+}
+
+// An edge in a row, between drawn wires.
+fn drawn_edge(seed: &mut u64, row: u32) -> Edge
+    ensures row { result.row.0 ≡ row }
+    ensures between { (result.from.0 < 12) × (result.to.0 < 12) }
+{
+    let from = draw(seed, WIRES);
+    let to = ROOTS + draw(seed, WIRES - ROOTS);
+    Edge {
+        row: RowNo(row),
+        from: WireNo(from),
+        to: WireNo(to),
+    }
+}
+
+// Drawn edges, in rows from 0 on.
+fn drawn_edges(alloc: Global, seed: &mut u64, count: u32) -> Result<Vec<Edge>, AllocError>
+    ensures between { IfOk result (λ edges. AreBetween 12 edges.items) }
+    ensures rise { IfOk result (λ edges. RowsRise edges.items) }
+{
+    let mut edges = Vec::new(alloc);
+    for row in 0..count {
+        edges.push(drawn_edge(seed, row))?;
+    }
+    Ok(edges)
+}
+
+// A graph with this many drawn edges.
+fn drawn_graph(rt: &impl Abort, alloc: Global, seed: &mut u64, count: u32) -> Graph
+    ensures { result.wires ≡ 12 }
+{
+    let edges = drawn_edges(alloc, seed, count).expect(rt, "memory");
+    let Ok(graph) = Graph::new(alloc, WIRES, edges) else {
+        panic!(rt; "memory");
+    };
+    graph
+}
+
+// A net with this number, which is also that of its root, and with two drawn sinks, which no net of another number
+// has.
+fn drawn_net(rt: &impl Abort, alloc: Global, seed: &mut u64, number: u32) -> Net
+    requires { number < 3 }
+    ensures root { result.root.0 < 12 }
+    ensures sinks { AreWires 12 result.sinks.items }
+{
+    let (one, other) = (ROOTS + number + ROOTS * draw(seed, 3), draw(seed, WIRES));
+    let other = if other % ROOTS == number { other } else { one };
+    Net {
+        net: NetNo(number),
+        root: WireNo(number),
+        sinks: vec![in alloc; WireNo(one), WireNo(other)].expect(rt, "memory"),
+    }
+}
+
+// The place as a number.
+fn number_of(place: usize) -> u32 {
+    u32::try_from(place).unwrap_or(u32::MAX)
+}
+
+// How many of the trees hold the wire, but for that at a place.
+fn holders_but(trees: &[Tree], wire: WireNo, own: Option<usize>) -> u32 {
+    let mut count = 0u32;
+    for (n, tree) in trees.iter().enumerate() {
+        if own != Some(n) && tree.wires.contains(&wire) {
+            count = count.saturating_add(1);
+        }
+    }
+    count
+}
+
+// What each wire costs the net of a number.
+fn plain_prices(
+    rt: &impl Abort,
+    alloc: Global,
+    round: u32,
+    history: &[u64],
+    trees: &[Tree],
+    net: usize,
+) -> Vec<u64> {
+    let mut prices = Vec::new(alloc);
+    for (wire, past) in history.iter().enumerate() {
+        let others = holders_but(trees, WireNo(number_of(wire)), Some(net)) as u64;
+        let weight = (round as u64).saturating_sub(1).saturating_mul(others);
+        let price = past
+            .saturating_add(1)
+            .saturating_mul(weight.saturating_add(1));
+        prices.push(price).expect(rt, "memory");
+    }
+    prices
+}
+
+fn label_of(labels: &[Option<u64>], wire: WireNo) -> Option<u64> {
+    labels.get(wire.0 as usize).copied().flatten()
+}
+
+// The cost of the wire behind the edge by way of its source.
+fn by_way_of(labels: &[Option<u64>], prices: &[u64], edge: Edge) -> Option<u64> {
+    let label = label_of(labels, edge.from)?;
+    Some(label.saturating_add(prices.get(edge.to.0 as usize).copied()?))
+}
+
+// Lowers the labels along each edge once, and tells whether one changed.
+fn lower_all(edges: &[Edge], prices: &[u64], labels: &mut [Option<u64>]) -> bool {
+    let mut changed = false;
+    for edge in edges {
+        let Some(cost) = by_way_of(labels, prices, *edge) else {
+            continue;
+        };
+        let Some(slot) = labels.get_mut(edge.to.0 as usize) else {
+            continue;
+        };
+        if slot.is_none_or(|label| cost < label) {
+            *slot = Some(cost);
+            changed = true;
+        }
+    }
+    changed
+}
+
+// The least costs from these wires.
+fn plain_labels(
+    rt: &impl Abort,
+    alloc: Global,
+    edges: &[Edge],
+    prices: &[u64],
+    wires: &[WireNo],
+) -> Vec<Option<u64>> {
+    let mut labels = vec![in alloc; None; WIRES as usize].expect(rt, "memory");
+    for wire in wires {
+        if let Some(slot) = labels.get_mut(wire.0 as usize) {
+            *slot = Some(0);
+        }
+    }
+    for _turn in 0..WIRES {
+        if !lower_all(edges, prices, &mut labels) {
+            return labels;
+        }
+    }
+    labels
+}
+
+// The first of the edges into the wire that makes its label.
+fn plain_step(
+    edges: &[Edge],
+    prices: &[u64],
+    labels: &[Option<u64>],
+    wire: WireNo,
+) -> Option<Edge> {
+    let label = label_of(labels, wire)?;
+    for edge in edges {
+        if edge.to == wire && by_way_of(labels, prices, *edge) == Some(label) {
+            return Some(*edge);
+        }
+    }
+    None
+}
+
+// Joins the sink to the tree by the edges back from it. None where no walk leads there.
+fn plain_join(
+    rt: &impl Abort,
+    alloc: Global,
+    edges: &[Edge],
+    prices: &[u64],
+    sink: WireNo,
+    tree: &mut Tree,
+) -> Option<u64> {
+    let labels = plain_labels(rt, alloc, edges, prices, &tree.wires);
+    let cost = label_of(&labels, sink)?;
+    let mut back = Vec::new(alloc);
+    let mut wire = sink;
+    for _step in 0..WIRES {
+        if tree.wires.contains(&wire) {
+            break;
+        }
+        let edge = plain_step(edges, prices, &labels, wire)?;
+        back.push(edge).expect(rt, "memory");
+        wire = edge.from;
+    }
+    for edge in back.iter().rev() {
+        tree.wires.push(edge.to).expect(rt, "memory");
+        tree.rows.push(edge.row).expect(rt, "memory");
+    }
+    Some(cost)
+}
+
+// The tree of the net, or its first sink to which no walk leads.
+fn plain_tree(
+    rt: &impl Abort,
+    alloc: Global,
+    edges: &[Edge],
+    prices: &[u64],
+    net: &Net,
+) -> Result<Tree, WireNo> {
+    let mut tree = Tree {
+        wires: vec![in alloc; net.root].expect(rt, "memory"),
+        rows: Vec::new(alloc),
+    };
+    for sink in &net.sinks {
+        if plain_join(rt, alloc, edges, prices, *sink, &mut tree).is_none() {
+            return Err(*sink);
+        }
+    }
+    Ok(tree)
+}
+
+fn copy_of(rt: &impl Abort, tree: &Tree) -> Tree {
+    Tree {
+        wires: tree.wires.clone().expect(rt, "memory"),
+        rows: tree.rows.clone().expect(rt, "memory"),
+    }
+}
+
+// What a round begins with.
+#[derive(Drop)]
+struct Before {
+    round: u32,
+    history: Vec<u64>,
+    trees: Vec<Tree>,
+    moved: Vec<NetNo>,
+}
+
+// The trees after the round.
+fn plain_round(
+    rt: &impl Abort,
+    alloc: Global,
+    edges: &[Edge],
+    nets: &[Net],
+    before: &Before,
+) -> Result<Vec<Tree>, RouteFault> {
+    let mut trees = Vec::new(alloc);
+    for (n, net) in nets.iter().enumerate() {
+        let number = NetNo(number_of(n));
+        let prices = plain_prices(rt, alloc, before.round, &before.history, &before.trees, n);
+        if before.moved.contains(&number) {
+            match plain_tree(rt, alloc, edges, &prices, net) {
+                Ok(tree) => trees.push(tree).expect(rt, "memory"),
+                Err(sink) => return Err(RouteFault::Unreachable { net: number, sink }),
+            }
+        } else if let Some(tree) = before.trees.get(n) {
+            trees.push(copy_of(rt, tree)).expect(rt, "memory");
+        }
+    }
+    Ok(trees)
+}
+
+// The net of a number leaves a wire of its tree: of the nets on the wire another stays.
+fn plain_leaves(
+    rt: &impl Abort,
+    alloc: Global,
+    round: u32,
+    trees: &[Tree],
+    wire: WireNo,
+    net: usize,
+) -> bool {
+    let mut on = Vec::new(alloc);
+    for (n, tree) in trees.iter().enumerate() {
+        if tree.wires.contains(&wire) {
+            on.push(n).expect(rt, "memory");
+        }
+    }
+    let stays = (round as usize).checked_rem(on.len()).unwrap_or(0);
+    on.len() > 1 && on.get(stays).copied() != Some(net)
+}
+
+// The nets that move after the round.
+fn plain_movers(rt: &impl Abort, alloc: Global, round: u32, trees: &[Tree]) -> Vec<NetNo> {
+    let mut moved = Vec::new(alloc);
+    for (n, tree) in trees.iter().enumerate() {
+        let mut leaves = false;
+        for wire in &tree.wires {
+            leaves = leaves || plain_leaves(rt, alloc, round, trees, *wire, n);
+        }
+        if leaves {
+            moved.push(NetNo(number_of(n))).expect(rt, "memory");
+        }
+    }
+    moved
+}
+
+// The wires that are overused by these trees.
+fn plain_over(rt: &impl Abort, alloc: Global, trees: &[Tree]) -> Vec<(WireNo, u32)> {
+    let mut over = Vec::new(alloc);
+    for wire in 0..WIRES {
+        let count = holders_but(trees, WireNo(wire), None);
+        if count > 1 {
+            over.push((WireNo(wire), count)).expect(rt, "memory");
+        }
+    }
+    over
+}
+
+// The log of the round.
+fn plain_log(rt: &impl Abort, alloc: Global, before: &Before, trees: &[Tree]) -> RoundLog {
+    let mut history = Vec::new(alloc);
+    for (wire, past) in before.history.iter().enumerate() {
+        if *past > 0 {
+            history
+                .push((WireNo(number_of(wire)), *past))
+                .expect(rt, "memory");
+        }
+    }
+    let mut moved = Vec::new(alloc);
+    for net in &before.moved {
+        if let Some(tree) = trees.get(net.0 as usize) {
+            moved.push((*net, copy_of(rt, tree))).expect(rt, "memory");
+        }
+    }
+    RoundLog {
+        round: before.round,
+        history,
+        moved,
+        over: plain_over(rt, alloc, trees),
+    }
+}
+
+// The history behind these trees.
+fn plain_history(rt: &impl Abort, alloc: Global, history: &[u64], trees: &[Tree]) -> Vec<u64> {
+    let mut next = Vec::new(alloc);
+    for (wire, past) in history.iter().enumerate() {
+        let count = holders_but(trees, WireNo(number_of(wire)), None);
+        let rise = count.saturating_sub(1) as u64;
+        next.push(past.saturating_add(rise)).expect(rt, "memory");
+    }
+    next
+}
+
+// The rounds from one on, of which this many are permitted behind it.
+fn plain_rounds(
+    rt: &impl Abort,
+    alloc: Global,
+    edges: &[Edge],
+    nets: &[Net],
+    before: Before,
+    left: u32,
+    mut logs: Vec<RoundLog>,
+) -> Result<Routed, RouteFault> {
+    let trees = plain_round(rt, alloc, edges, nets, &before)?;
+    let log = plain_log(rt, alloc, &before, &trees);
+    let is_free = log.over.is_empty();
+    logs.push(log).expect(rt, "memory");
+    if is_free {
+        return Ok(Routed { trees, logs });
+    }
+    if left == 0 {
+        return Err(RouteFault::GaveUp { logs });
+    }
+    let next = Before {
+        round: before.round.saturating_add(1),
+        history: plain_history(rt, alloc, &before.history, &trees),
+        moved: plain_movers(rt, alloc, before.round, &trees),
+        trees,
+    };
+    plain_rounds(rt, alloc, edges, nets, next, left - 1, logs)
+}
+
+// What the plain program answers.
+fn plain_answer(
+    rt: &impl Abort,
+    alloc: Global,
+    edges: &[Edge],
+    nets: &[Net],
+    rounds: u32,
+) -> Result<Routed, RouteFault> {
+    let (mut moved, mut trees) = (Vec::new(alloc), Vec::new(alloc));
+    for n in 0..nets.len() {
+        moved.push(NetNo(number_of(n))).expect(rt, "memory");
+        let bare = Tree {
+            wires: Vec::new(alloc),
+            rows: Vec::new(alloc),
+        };
+        trees.push(bare).expect(rt, "memory");
+    }
+    let first = Before {
+        round: 1,
+        history: vec![in alloc; 0u64; WIRES as usize].expect(rt, "memory"),
+        trees,
+        moved,
+    };
+    plain_rounds(
+        rt,
+        alloc,
+        edges,
+        nets,
+        first,
+        rounds.saturating_sub(1),
+        Vec::new(alloc),
+    )
+}
+
+// How often each answer came.
+#[derive(Clone, Copy, Debug, Default, PartialEq, Eq)]
+struct Tally {
+    at_once: u32,
+    later: u32,
+    unreachable: u32,
+    gave_up: u32,
+}
+
+// The tally with one more answer.
+fn tally_with(tally: Tally, answer: &Result<Routed, RouteFault>) -> Tally {
+    let mut next = tally;
+    match answer {
+        Ok(routed) if routed.logs.len() == 1 => next.at_once = next.at_once.saturating_add(1),
+        Ok(_) => next.later = next.later.saturating_add(1),
+        Err(RouteFault::Unreachable { .. }) => {
+            next.unreachable = next.unreachable.saturating_add(1);
+        }
+        Err(_) => next.gave_up = next.gave_up.saturating_add(1),
+    }
+    next
+}
+
+// Draws a graph with this many edges and three nets, and fails unless both programs answer the same.
+fn compare_drawn(
+    rt: &impl Abort,
+    alloc: Global,
+    seed: &mut u64,
+    count: u32,
+    tally: Tally,
+) -> Tally {
+    let graph = drawn_graph(rt, alloc, seed, count);
+    let nets = [
+        drawn_net(rt, alloc, seed, 0),
+        drawn_net(rt, alloc, seed, 1),
+        drawn_net(rt, alloc, seed, 2),
+    ];
+    let rounds = 1 + draw(seed, 8);
+    let found = negotiate(alloc, &graph, &nets, rounds, 1, &OpenGate);
+    let plain = plain_answer(rt, alloc, graph.edges(), &nets, rounds);
+    let said = format!(in alloc; "{found:?}").expect(rt, "memory");
+    let expected = format!(in alloc; "{plain:?}").expect(rt, "memory");
+    assert_eq!(rt; said, expected);
+    tally_with(tally, &found)
+}
+
+#[test]
+fn generated_nets_are_routed_alike(rt: HostRuntime) {
+    let alloc = rt.alloc();
+    let mut seed = 1;
+    let mut tally = Tally::default();
+    for turn in 0..400 {
+        tally = compare_drawn(&rt, alloc, &mut seed, 22 + turn % 40, tally);
+    }
+    println!(rt; "{tally:?}").expect(&rt, "said");
+    assert!(rt;
+        tally.at_once > 20 && tally.later > 20 && tally.unreachable > 20 && tally.gave_up > 20
+    );
+}

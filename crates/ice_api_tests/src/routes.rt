@@ -1,0 +1,270 @@
+//! Nets of small chips that are routed over the usable rows: the short way, the long way, and no way.
+ghost use Rattle.std.specs.Prelude.{◌≡◌, ◌≤◌};
+
+use crate::small_chips::{Change, Sample, text_with};
+use crate::usable::next_number;
+use ice_base::{NetNo, RowNo, WireNo, WordIter, lines_of, words_of};
+use ice_chip::Chip;
+use ice_chip_read::read_chip;
+use ice_core::{Net, RoundLog};
+use ice_desk::OpenGate;
+use ice_fabric::fabric;
+use ice_graph::{Graph, Tree};
+use ice_negotiate::{RouteFault, Routed, negotiate};
+use std::alloc::{AllocError, Global};
+use std::process::Abort;
+use std::test::Fail;
+
+// What is kept of a round, as numbers: wires with their histories; on a line for each net that moves its number and its rows; and
+// overused wires with their nets.
+type Round = (&'static [u8], &'static [u8], &'static [u8]);
+
+// Fails unless no word is left.
+fn expect_end(rt: &impl Abort, mut words: WordIter<'_>) {
+    assert!(rt; words.next().is_none(), "more numbers than there are");
+}
+
+// Fails unless these are the wires with their histories.
+fn expect_history(rt: &impl Abort, history: &[(WireNo, u64)], numbers: &[u8]) {
+    let mut words = words_of(numbers);
+    for (wire, height) in history {
+        assert_eq!(rt; wire.0, next_number(&mut words), "of {numbers:?}");
+        assert_eq!(rt;
+            *height,
+            u64::from(next_number(&mut words)),
+            "of {numbers:?}"
+        );
+    }
+    expect_end(rt, words);
+}
+
+// Fails unless these are the overused wires with their nets.
+fn expect_over(rt: &impl Abort, over: &[(WireNo, u32)], numbers: &[u8]) {
+    let mut words = words_of(numbers);
+    for (wire, nets) in over {
+        assert_eq!(rt; wire.0, next_number(&mut words), "of {numbers:?}");
+        assert_eq!(rt; *nets, next_number(&mut words), "of {numbers:?}");
+    }
+    expect_end(rt, words);
+}
+
+// Fails unless the next words are these rows, and no word is left.
+fn expect_rows(rt: &impl Abort, rows: &[RowNo], mut words: WordIter<'_>) {
+    for row in rows {
+        assert_eq!(rt; row.0, next_number(&mut words));
+    }
+    expect_end(rt, words);
+}
+
+// Fails unless these are the wires.
+fn expect_wires(rt: &impl Abort, wires: &[WireNo], numbers: &[u8]) {
+    let mut words = words_of(numbers);
+    for wire in wires {
+        assert_eq!(rt; wire.0, next_number(&mut words), "of {numbers:?}");
+    }
+    expect_end(rt, words);
+}
+
+// Fails unless this net moved and got these rows.
+fn expect_net(rt: &impl Abort, net: NetNo, tree: &Tree, numbers: &[u8]) {
+    let mut words = words_of(numbers);
+    assert_eq!(rt; net.0, next_number(&mut words), "of {numbers:?}");
+    expect_rows(rt, &tree.rows, words);
+}
+
+// Fails unless these nets moved.
+fn expect_moved(rt: &impl Abort, moved: &[(NetNo, Tree)], nets: &[u8]) {
+    let mut lines = lines_of(nets);
+    for (net, tree) in moved {
+        match lines.next() {
+            Some(line) => expect_net(rt, *net, tree, line.text),
+            None => panic!(rt; "more nets than {nets:?}"),
+        }
+    }
+    assert!(rt; lines.next().is_none(), "fewer nets than {nets:?}");
+}
+
+// Fails unless the logs are those of these rounds.
+fn expect_logs(rt: &impl Abort, logs: &[RoundLog], rounds: &[Round]) {
+    assert_eq!(rt; logs.len(), rounds.len());
+    for (number, (log, round)) in logs.iter().zip(rounds).enumerate() {
+        assert_eq!(rt; log.round as usize, number.saturating_add(1));
+        expect_history(rt, &log.history, round.0);
+        expect_moved(rt, &log.moved, round.1);
+        expect_over(rt, &log.over, round.2);
+    }
+}
+
+// Fails unless the tree has these wires and these rows.
+fn expect_tree(rt: &impl Abort, trees: &[Tree], number: usize, wires: &[u8], rows: &[u8]) {
+    let tree = trees.get(number).expect(rt, "a tree");
+    expect_wires(rt, &tree.wires, wires);
+    expect_rows(rt, &tree.rows, words_of(rows));
+}
+
+// A net of this number and root, with these sinks.
+fn net(rt: &impl Abort, alloc: Global, number: u32, root: u32, sinks: &[WireNo]) -> Net
+    ensures root { result.root.0 ≡ root }
+    ensures sinks { result.sinks.items ≡ sinks.now }
+{
+    Net {
+        net: NetNo(number),
+        root: WireNo(root),
+        sinks: Vec::from_slice(alloc, sinks).expect(rt, "memory"),
+    }
+}
+
+// What is answered for two nets, from wires 0 and 1 to these wires.
+fn route_two(
+    rt: &impl Abort,
+    alloc: Global,
+    graph: &Graph,
+    sinks: (WireNo, WireNo),
+    rounds: u32,
+    workers: u32,
+) -> Result<Routed, RouteFault>
+    requires rounds { (1 ≤ rounds) × (rounds ≤ 64) }
+    requires workers { (1 ≤ workers) × (workers ≤ 8) }
+{
+    assert!(rt; graph.wires() <= 262_144 && graph.wires() > 1);
+    assert!(rt; sinks.0.0 < graph.wires() && sinks.1.0 < graph.wires());
+    let nets = [
+        net(rt, alloc, 0, 0, &[sinks.0]),
+        net(rt, alloc, 1, 1, &[sinks.1]),
+    ];
+    negotiate(alloc, graph, &nets, rounds, workers, &OpenGate)
+}
+
+// What is answered for one net from wire 0.
+fn route_one(
+    rt: &impl Abort,
+    alloc: Global,
+    graph: &Graph,
+    sink: WireNo,
+) -> Result<Routed, RouteFault> {
+    assert!(rt; graph.wires() <= 262_144 && sink.0 < graph.wires());
+    let nets = [net(rt, alloc, 0, 0, &[sink])];
+    negotiate(alloc, graph, &nets, 64, 1, &OpenGate)
+}
+
+// Both nets take the short wire 2, and then the first takes the long way over wires 3 and 4.
+const LONG_WAY: [Round; 2] = [(b"", b"0 0 5\n1 1 7", b"2 2"), (b"2 1", b"0 2 4 6", b"")];
+
+// Fails unless the first net has the long way, and the second the short one.
+fn expect_long_way(rt: &impl Abort, routed: &Routed) {
+    expect_logs(rt, &routed.logs, &LONG_WAY);
+    assert_eq!(rt; routed.trees.len(), 2);
+    expect_tree(rt, &routed.trees, 0, b"0 3 4 5", b"2 4 6");
+    expect_tree(rt, &routed.trees, 1, b"1 2 6", b"1 7");
+}
+
+// Fails unless so many workers route two nets over the short way and the long way.
+fn expect_routed(rt: &impl Abort, alloc: Global, graph: &Graph, workers: u32)
+    requires { (1 ≤ workers) × (workers ≤ 8) }
+{
+    match route_two(rt, alloc, graph, (WireNo(5), WireNo(6)), 64, workers) {
+        Ok(routed) => expect_long_way(rt, &routed),
+        Err(fault) => panic!(rt; "{fault}"),
+    }
+}
+
+// Both nets need wire 2, and move over it again and again.
+const NO_WAY_ROUND: [Round; 3] = [
+    (b"", b"0 0 2\n1 1 3", b"2 2"),
+    (b"2 1", b"0 0 2", b"2 2"),
+    (b"2 2", b"1 1 3", b"2 2"),
+];
+
+// Fails unless routing gave up after these rounds.
+fn expect_given_up(rt: &impl Abort, fault: &RouteFault, rounds: &[Round]) {
+    match fault {
+        RouteFault::GaveUp { logs } => expect_logs(rt, logs, rounds),
+        _ => panic!(rt; "{fault}"),
+    }
+}
+
+// Fails unless two nets are not routed in three rounds.
+fn expect_no_way_round(rt: &impl Abort, alloc: Global, graph: &Graph) {
+    match route_two(rt, alloc, graph, (WireNo(3), WireNo(4)), 3, 1) {
+        Ok(_) => panic!(rt; "routed"),
+        Err(fault) => expect_given_up(rt, &fault, &NO_WAY_ROUND),
+    }
+}
+
+// Fails unless this net doesn't reach this sink.
+fn expect_unreachable(rt: &impl Abort, fault: &RouteFault, wanted: (NetNo, WireNo)) {
+    match fault {
+        RouteFault::Unreachable { net, sink } => assert_eq!(rt; (*net, *sink), wanted),
+        _ => panic!(rt; "{fault}"),
+    }
+}
+
+// Fails unless a net from wire 0 doesn't reach wire 2.
+fn expect_cut(rt: &impl Abort, alloc: Global, graph: &Graph) {
+    match route_one(rt, alloc, graph, WireNo(2)) {
+        Ok(_) => panic!(rt; "routed"),
+        Err(fault) => expect_unreachable(rt, &fault, (NetNo(0), WireNo(2))),
+    }
+}
+
+// What is answered for nets.
+#[derive(Clone, Copy)]
+enum Wanted {
+    // Two nets are routed, one of them over the long way.
+    LongWay,
+    // Two nets have no two ways.
+    NoWayRound,
+    // One net has no way.
+    Cut,
+}
+
+// Fails unless this is answered, by 1, 2 and 8 workers where nets are routed.
+fn expect_answer(rt: &impl Abort, alloc: Global, graph: &Graph, wanted: Wanted) {
+    match wanted {
+        Wanted::LongWay => {
+            expect_routed(rt, alloc, graph, 1);
+            expect_routed(rt, alloc, graph, 2);
+            expect_routed(rt, alloc, graph, 8);
+        }
+        Wanted::NoWayRound => expect_no_way_round(rt, alloc, graph),
+        Wanted::Cut => expect_cut(rt, alloc, graph),
+    }
+}
+
+// Fails unless this is answered over the usable rows of a chip.
+fn expect_in_fabric(rt: &impl Abort, alloc: Global, chip: &Chip, wanted: Wanted) {
+    match fabric(alloc, chip) {
+        Ok(graph) => expect_answer(rt, alloc, &graph, wanted),
+        Err(_) => panic!(rt; "want of memory"),
+    }
+}
+
+// Fails unless this is answered on the chip of a text.
+fn expect_in_chip(rt: &impl Abort, alloc: Global, text: &[u8], wanted: Wanted) {
+    match read_chip(alloc, text) {
+        Ok(chip) => expect_in_fabric(rt, alloc, &chip, wanted),
+        Err(fault) => panic!(rt; "{fault}"),
+    }
+}
+
+// Fails unless this is answered on the chip of a text with this change.
+fn expect_in(
+    rt: &impl Abort,
+    alloc: Global,
+    sample: Sample,
+    change: Change,
+    wanted: Wanted,
+) -> Result<(), AllocError> {
+    let text = text_with(alloc, sample, &[change])?;
+    expect_in_chip(rt, alloc, &text, wanted);
+    Ok(())
+}
+
+#[test]
+fn nets_take_the_long_way_or_none(rt: HostRuntime) -> Result<(), Fail> {
+    let alloc = rt.alloc();
+    expect_in(&rt, alloc, Sample::TwoWays, (0, b""), Wanted::LongWay)?;
+    expect_in(&rt, alloc, Sample::OneWay, (0, b""), Wanted::NoWayRound)?;
+    expect_in(&rt, alloc, Sample::TwoTiles, (37, b"0 0\n"), Wanted::Cut)?;
+    Ok(())
+}

@@ -1,0 +1,82 @@
+//! Usable rows, as numbers in a text.
+use crate::small_chips::{Change, Sample, text_with};
+use ice_base::{WordIter, number_of, words_of};
+use ice_chip::Chip;
+use ice_chip_read::read_chip;
+use ice_fabric::fabric;
+use ice_graph::{Edge, Graph};
+use std::alloc::{AllocError, Global};
+use std::process::Abort;
+
+/// What stands in place of a line of a text, and the usable rows of its chip: the number, the source and the target of each.
+pub type Case = (&'static [u8], &'static [u8]);
+
+/// The number that the next word is, or the greatest number where no word is left or it is no number.
+pub fn next_number(words: &mut WordIter<'_>) -> u32 {
+    match words.next() {
+        Some(word) => number_of(word).unwrap_or(u32::MAX),
+        None => u32::MAX,
+    }
+}
+
+// Fails unless the edges are these: three words for each.
+fn expect_edges(rt: &impl Abort, edges: &[Edge], rows: &[u8]) {
+    let mut words = words_of(rows);
+    for edge in edges {
+        assert_eq!(rt; edge.row.0, next_number(&mut words), "of {rows:?}");
+        assert_eq!(rt; edge.from.0, next_number(&mut words), "of {rows:?}");
+        assert_eq!(rt; edge.to.0, next_number(&mut words), "of {rows:?}");
+    }
+    assert!(rt; words.next().is_none(), "more than {rows:?}");
+}
+
+// Fails unless the graph has this many wires and these edges.
+fn expect_graph(rt: &impl Abort, graph: &Graph, wires: u32, rows: &[u8]) {
+    assert_eq!(rt; graph.wires(), wires);
+    expect_edges(rt, graph.edges(), rows);
+}
+
+// Fails unless the chip has this many wires and these usable rows.
+fn expect_fabric(rt: &impl Abort, alloc: Global, chip: &Chip, wires: u32, rows: &[u8]) {
+    match fabric(alloc, chip) {
+        Ok(graph) => expect_graph(rt, &graph, wires, rows),
+        Err(_) => panic!(rt; "want of memory"),
+    }
+}
+
+// Fails unless the chip of a text has this many wires and these usable rows.
+fn expect_chip(rt: &impl Abort, alloc: Global, text: &[u8], wires: u32, rows: &[u8]) {
+    match read_chip(alloc, text) {
+        Ok(chip) => expect_fabric(rt, alloc, &chip, wires, rows),
+        Err(fault) => panic!(rt; "{fault}"),
+    }
+}
+
+/// Fails unless the chip of a text with this change has this many wires and these usable rows.
+pub fn expect_rows(
+    rt: &impl Abort,
+    alloc: Global,
+    sample: Sample,
+    change: Change,
+    wires: u32,
+    rows: &[u8],
+) -> Result<(), AllocError> {
+    let text = text_with(alloc, sample, &[change])?;
+    expect_chip(rt, alloc, &text, wires, rows);
+    Ok(())
+}
+
+/// Fails unless the chip of a text has this many wires, and the usable rows of each case with its lines in place of this line.
+pub fn expect_cases(
+    rt: &impl Abort,
+    alloc: Global,
+    sample: Sample,
+    line: u32,
+    wires: u32,
+    cases: &[Case],
+) -> Result<(), AllocError> {
+    for (lines, rows) in cases {
+        expect_rows(rt, alloc, sample, (line, *lines), wires, rows)?;
+    }
+    Ok(())
+}

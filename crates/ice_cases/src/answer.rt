@@ -1,0 +1,178 @@
+//! The run of a case, and what is said of it.
+use crate::pieces::number_at;
+use crate::texts::{Text, find};
+use ice_base::{Name, begins_with, lines_of, number_of, words_of};
+use ice_desk::{DeskCall, MemoryDesk, OpenGate};
+use ice_flow::run;
+use itoa::Buffer;
+use std::alloc::{AllocError, Global};
+use std::str;
+
+/// What holds for a run: each is a line, whose first word says what it is.
+#[derive(Clone, Copy)]
+pub struct Setting<'a> {
+    /// The name of the group, and the number of the case in it.
+    pub group: &'a [u8],
+    pub number: u32,
+    /// The words of the run.
+    pub words: &'a [u8],
+    /// How many bytes a call of the desk moves at most.
+    pub moves: &'a [u8],
+    /// The calls that fail, each a kind and a number.
+    pub fails: &'a [u8],
+    /// The names of the files that are told.
+    pub shows: &'a [u8],
+}
+
+impl<'a> Setting<'a> {
+    /// Nothing but the name of the group.
+    pub fn new(group: &'a [u8]) -> Setting<'a> {
+        Setting {
+            group,
+            number: 0,
+            words: &[],
+            moves: &[],
+            fails: &[],
+            shows: &[],
+        }
+    }
+}
+
+// The text of a word; `''` is the empty one.
+fn word_text(word: &[u8]) -> &str {
+    if word == b"''".as_slice() {
+        return "";
+    }
+    str::from_utf8(word).unwrap_or("")
+}
+
+// The words of a line behind its first.
+fn words_behind(alloc: Global, line: &[u8]) -> Result<Vec<String>, AllocError> {
+    let mut words = Vec::new(alloc);
+    for word in words_of(line).skip(1) {
+        words.push(String::from_str(alloc, word_text(word))?)?;
+    }
+    Ok(words)
+}
+
+// The texts that words of the run name, as files.
+fn files_of(
+    alloc: Global,
+    line: &[u8],
+    texts: &[Text<'_>],
+) -> Result<Vec<(Name, Vec<u8>)>, AllocError> {
+    let mut files = Vec::new(alloc);
+    for word in words_of(line).skip(1) {
+        if let Some(bytes) = find(texts, word) {
+            let name = Name::from_bytes(Vec::from_slice(alloc, word)?);
+            files.push((name, Vec::from_slice(alloc, bytes)?))?;
+        }
+    }
+    Ok(files)
+}
+
+// The kind of call that a word names.
+fn call_of(word: &[u8]) -> DeskCall {
+    match word {
+        b"begin" => DeskCall::Begin,
+        b"read" => DeskCall::Read,
+        b"make" => DeskCall::Make,
+        b"put" => DeskCall::Put,
+        _ => DeskCall::Say,
+    }
+}
+
+// The calls of a line: each number is that of a call of the kind before it.
+fn calls_of(alloc: Global, line: &[u8]) -> Result<Vec<(DeskCall, u64)>, AllocError> {
+    let mut calls = Vec::new(alloc);
+    let mut kind = DeskCall::Say;
+    for word in words_of(line).skip(1) {
+        match number_of(word) {
+            Some(number) => calls.push((kind, u64::from(number)))?,
+            None => kind = call_of(word),
+        }
+    }
+    Ok(calls)
+}
+
+// The desk of a case.
+fn desk_of(
+    alloc: Global,
+    case: &Setting<'_>,
+    texts: &[Text<'_>],
+) -> Result<MemoryDesk, AllocError> {
+    let files = files_of(alloc, case.words, texts)?;
+    let fails = calls_of(alloc, case.fails)?;
+    let moves = number_at(case.moves, 1, 4096).max(1);
+    Ok(MemoryDesk::new(alloc, files, moves as usize, fails))
+}
+
+// Adds the lines of a text, each behind a mark: `|`, and `\` where a last line has no line feed.
+fn add_lines(out: &mut Vec<u8>, text: &[u8]) -> Result<(), AllocError> {
+    let whole = text.ends_with(b"\n");
+    let mut count: usize = 0;
+    for line in lines_of(text) {
+        count = count.saturating_add(line.text.len()).saturating_add(1);
+        let mark = if whole || count <= text.len() {
+            b'|'
+        } else {
+            b'\\'
+        };
+        out.push(mark)?;
+        out.extend_from_slice(line.text)?;
+        out.push(b'\n')?;
+    }
+    Ok(())
+}
+
+// Adds what a file holds.
+fn add_file(out: &mut Vec<u8>, desk: &MemoryDesk, name: &[u8]) -> Result<(), AllocError> {
+    out.extend_from_slice(b"file ")?;
+    out.extend_from_slice(name)?;
+    match desk.file(word_text(name)) {
+        Some(bytes) => {
+            out.extend_from_slice(b"\n")?;
+            add_lines(out, bytes)
+        }
+        None => out.extend_from_slice(b" is absent\n"),
+    }
+}
+
+// Adds the head of an answer: the case and the status.
+fn add_head(out: &mut Vec<u8>, case: &Setting<'_>, status: u8) -> Result<(), AllocError> {
+    out.extend_from_slice(case.group)?;
+    out.extend_from_slice(b" ")?;
+    out.extend_from_slice(Buffer::new().format(case.number).as_bytes())?;
+    out.extend_from_slice(b": status ")?;
+    out.extend_from_slice(Buffer::new().format(status).as_bytes())?;
+    out.extend_from_slice(b"\n")?;
+    Ok(())
+}
+
+// What a desk tells of a run: the status, what was said, and the files that the case shows.
+fn told(
+    alloc: Global,
+    case: &Setting<'_>,
+    desk: &MemoryDesk,
+    status: u8,
+) -> Result<Vec<u8>, AllocError> {
+    let mut out = Vec::new(alloc);
+    add_head(&mut out, case, status)?;
+    add_lines(&mut out, desk.said())?;
+    for name in words_of(case.shows).skip(1) {
+        add_file(&mut out, desk, name)?;
+    }
+    Ok(out)
+}
+
+/// The answer to a case, as text.
+pub fn answer(
+    alloc: Global,
+    case: &Setting<'_>,
+    texts: &[Text<'_>],
+) -> Result<Vec<u8>, AllocError> {
+    let mut desk = desk_of(alloc, case, texts)?;
+    let words = words_behind(alloc, case.words)?;
+    let done = run(alloc, &words, &mut desk, &OpenGate);
+    told(alloc, case, &desk, done.status)
+}

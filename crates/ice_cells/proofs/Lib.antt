@@ -1,0 +1,5 @@
+pub mod TableLaws
+pub mod RangeFilters
+pub mod SameControls
+pub mod SamePairs
+mod DesignExamples

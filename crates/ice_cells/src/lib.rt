@@ -1,0 +1,21 @@
+//! The packed design as data: logic cells, the runs of their carries, pads and global buffers; and the clusters of eight cells
+//! that go into one tile. `specs/` says what a design means, and which design a netlist has.
+#![tactic(auto)]
+
+mod cell;
+mod cluster;
+mod design;
+mod follow;
+mod items;
+mod origin;
+mod root;
+mod share;
+
+pub use cell::{Control, LogicCell};
+pub use cluster::{Cluster, Clusters, Group};
+pub use design::{Design, DesignPad, Run};
+pub use follow::{Follow, Reader};
+pub use items::Items;
+pub use origin::{Origin, Use};
+pub use root::{CarryIn, Root};
+pub use share::{Pair, Part, Role};

@@ -1,0 +1,6 @@
+mod OneOn
+mod Listing
+mod Values
+mod Shares
+pub mod Taken
+pub mod Known

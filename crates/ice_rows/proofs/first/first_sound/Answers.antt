@@ -1,0 +1,16 @@
+use Rattle.std.proofs.Common.{sym, subst, arith}
+use Rattle.std.proofs.lemmas.List.{length-map}
+use Rattle.ice_chip.specs.Views.{row_view, group_view}
+use Rattle.ice_rows.proofs.Known.{IsKnown, into_known}
+use Rattle.ice_rows.proofs.first.first_sound.Goals as goal
+
+pub first_of-requires-clause-wires : goal.first_of-requires-clause-wires
+first_of-requires-clause-wires c =
+    (subst (λ g. IsKnown c.args.chip.now.wires (group_view g.now)) (sym c.group-item.is)
+    (into_known c.args.chip.now c.args.target.0 c.groups_into-group-items.result.now c.loop-group.group-index c.group-item.result c.wires-wires.ensures.chip.read c.groups_into-group-items.ensures (omega arith))).wires_below
+
+pub first_of-requires-clause-few : goal.first_of-requires-clause-few
+first_of-requires-clause-few c =
+    let known = subst (λ g. IsKnown c.args.chip.now.wires (group_view g.now)) (sym c.group-item.is)
+    (into_known c.args.chip.now c.args.target.0 c.groups_into-group-items.result.now c.loop-group.group-index c.group-item.result c.wires-wires.ensures.chip.read c.groups_into-group-items.ensures (omega arith)) in
+    rw (length-map c.group-item.result.now.rows.items row_view) at known.few

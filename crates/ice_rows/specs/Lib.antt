@@ -1,0 +1,9 @@
+pub mod Bundles
+pub mod WireNames
+pub mod Sound
+pub mod Usable
+pub mod FirstSound
+pub mod Lists
+pub mod Owners
+pub mod Index
+pub mod Alone

@@ -1,0 +1,17 @@
+//! Which rows of switches are sound, so that their values turn them on and nothing else, and which of these a route may
+//! take.
+#![tactic(auto)]
+
+mod alone;
+mod bundle;
+mod first;
+mod index;
+mod lists;
+mod names;
+mod owners;
+mod rows;
+mod sound;
+
+pub use first::{first_sound, is_joined};
+pub use index::{Index, index_of};
+pub use sound::{is_open, is_sound, is_taken, is_usable};

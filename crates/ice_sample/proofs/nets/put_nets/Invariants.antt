@@ -1,9 +1,0 @@
-use Rattle.std.proofs.Common.{◌≡◌, ◌++◌, take}
-use Rattle.std.specs.List.{flat_map}
-use Rattle.ice_sample.specs.Lines.{text_of_lines}
-use Rattle.ice_sample.specs.Nets.{all_global_lines, tile_net_lines}
-use Rattle.ice_sample.proofs.nets.put_nets.Given as goal
-
-abbrev pub invariant-loop-tile : goal.invariant-loop-tile
-invariant-loop-tile l =
-    l.text.items ≡ l.fn.text.items ++ text_of_lines (all_global_lines l.grid.tiles.items ++ flat_map (tile_net_lines l.grid.width l.grid.height) (take l.tile-index l.tile-items))

@@ -1,8 +1,0 @@
-use Rattle.std.proofs.Common.{◌≡◌, ◌++◌, map, codes, decimal}
-use Rattle.std.specs.List.{range_with_len}
-use Rattle.ice_sample.specs.Lines.{text_of_lines}
-use Rattle.ice_sample.specs.Nets.{named_nets}
-use Rattle.ice_sample.proofs.nets.put_track_nets.Given as goal
-
-abbrev pub invariant-loop-track : goal.invariant-loop-track
-invariant-loop-track l = l.text.items ≡ l.fn.text.items ++ text_of_lines (named_nets l.at l.first (map (λ k. codes "trk_" ++ decimal k) (range_with_len 0 l.track)))

@@ -1,0 +1,10 @@
+use Rattle.std.proofs.Common.{◌+◌}
+use Rattle.ice_sample.specs.Wires.{named_wires, io_names, track_names}
+use Rattle.ice_sample.proofs.Numbering.{text_join, further}
+use Rattle.ice_sample.proofs.wires.put_io_wires.Goals as goal
+
+pub returns : goal.returns
+unfolding io_names
+returns c =
+    further _ _ _ _ _ _ c.in_ok-put_named_wires.ensures c.in_ok-put_track_wires.ensures
+    (text_join (named_wires c.args.at c.args.first io_names) (named_wires c.args.at (c.args.first + 7) track_names))

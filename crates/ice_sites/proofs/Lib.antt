@@ -1,0 +1,4 @@
+mod Below
+mod InOrder
+mod Cutting
+mod Linked
