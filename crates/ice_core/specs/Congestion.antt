@@ -11,7 +11,7 @@ pub record ArePrices (p : Prices) : Type 0 where
   pub first : 1 ≤ p.round
   pub last : p.round ≤ 64
   pub lengths : length p.others.items ≡ length p.history.items
-  pub wires : length p.history.items ≤ 262144
+  pub wires : length p.history.items ≤ 1048576
   pub history : (w : ℕ) → slice_index p.history.items w ≤ 4128705
   pub others : (w : ℕ) → slice_index p.others.items w ≤ 65535
 

@@ -13,6 +13,3 @@ pub use log::RoundLog;
 pub use net::Net;
 pub use prices::Prices;
 pub use rounds::{holders, movers};
-
-#[cfg(test)]
-mod tests;

@@ -1,13 +1,13 @@
 //! Nets to be routed.
-use ice_base::{NetNo, WireNo};
+use ice_base::{NetNo, Sink, WireNo};
 
-/// A net: the wire that drives it, and the wires that it has to reach.
-#[derive(Debug, Drop)]
+/// A net: the wire that drives it, and the sinks that it has to reach, each at one of its targets.
+#[derive(Drop)]
 pub struct Net {
     /// The number of the net.
     pub net: NetNo,
     /// The wire from which it is driven.
     pub root: WireNo,
-    /// The wires that it has to reach, in the order in which they are joined.
-    pub sinks: Vec<WireNo>,
+    /// The sinks, in the order in which they are joined.
+    pub sinks: Vec<Sink>,
 }

@@ -1,11 +1,11 @@
 //! Prices of wires.
-ghost use Rattle.std.specs.Prelude.{◌≡◌, ◌+◌, ◌-◌, ◌*◌, ◌<◌, ◌≤◌, ◌^◌, ℕ, length, slice_index};
+ghost use Rattle.std.specs.Prelude.{◌≡◌, ◌+◌, ◌-◌, ◌*◌, ◌<◌, ◌≤◌, ℕ, length, slice_index};
 ghost use Rattle.ice_core.specs.Congestion.{ArePrices, price};
 
 use ice_base::WireNo;
 
 /// What the wires cost one net in one round.
-#[derive(Debug, Drop)]
+#[derive(Drop)]
 pub struct Prices {
     /// The number of the round, from 1 to 64.
     pub round: u32,
@@ -16,13 +16,13 @@ pub struct Prices {
 }
 
 impl Prices {
-    /// The price of a wire: `(1 + history) * (1 + (round - 1) * others)`, from 1 to 2^44 - 1.
+    /// The price of a wire: `(1 + history) * (1 + (round - 1) * others)`, from 1 to 17,046,213,234,436.
     pub fn of(&self, wire: WireNo) -> u64
         requires prices { ArePrices self.now }
         requires wire { wire.0 < length self.now.history.items }
         ensures price { result ≡ price self.now wire.0 }
         ensures positive { 1 ≤ result }
-        ensures bound { result < 2 ^ 44 }
+        ensures bound { result ≤ 17046213234436 }
     {
         price_at(self.round, &self.history, &self.others, wire.0 as usize)
     }
@@ -33,12 +33,12 @@ impl Prices {
 fn price_at(round: u32, history: &[u64], others: &[u32], wire: usize) -> u64
     requires round { (1 ≤ round) × (round ≤ 64) }
     requires lengths { length others.now ≡ length history.now }
-    requires wire { (wire < length history.now) × (length history.now ≤ 262144) }
+    requires wire { (wire < length history.now) × (length history.now ≤ 1048576) }
     requires history { (w : ℕ) → slice_index history.now w ≤ 4128705 }
     requires others { (w : ℕ) → slice_index others.now w ≤ 65535 }
     ensures price { result ≡ (1 + slice_index history.now wire) * (1 + (round - 1) * slice_index others.now wire) }
     ensures positive { 1 ≤ result }
-    ensures bound { result < 2 ^ 44 }
+    ensures bound { result ≤ 17046213234436 }
 {
     let weight = (round - 1) as u64 * others[wire] as u64;
     product(1 + history[wire], 1 + weight)
@@ -51,7 +51,7 @@ fn product(one: u64, other: u64) -> u64
     requires other { (1 ≤ other) × (other ≤ 4128706) }
     ensures value { result ≡ one * other }
     ensures positive { 1 ≤ result }
-    ensures bound { result < 2 ^ 44 }
+    ensures bound { result ≤ 17046213234436 }
 {
     one * other
 }

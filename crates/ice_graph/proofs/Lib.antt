@@ -1,3 +1,5 @@
 pub mod Counting
 pub mod Placing
 pub mod Rising
+pub mod Growing
+pub mod Bounding

@@ -1,3 +1,4 @@
 pub mod Rows
+pub mod Boxes
 pub mod Network
 pub mod Sorting

@@ -16,7 +16,7 @@ pub struct Edge {
 }
 
 /// An end of an edge.
-#[derive(Clone, Copy, Debug, PartialEq, Eq)]
+#[derive(Clone, Copy)]
 pub enum End {
     /// The wire that the row reads.
     Source,

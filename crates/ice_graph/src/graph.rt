@@ -1,22 +1,29 @@
 //! Graphs of wires and rows.
-ghost use Rattle.std.specs.Prelude.{◌≡◌, ◌<◌, ◌≤◌, ◌^◌, length, IfOk, List};
+ghost use Rattle.std.specs.Prelude.{◌≡◌, ◌+◌, ◌<◌, ◌≤◌, ◌^◌, ℕ, Some, length, replicate, slice_get, IfOk, List};
+ghost use Rattle.ice_base.specs.declared.number.WireNo.{WireNo as Wire};
 ghost use Rattle.ice_graph.specs.Rows.{rows_into, rows_from};
-ghost use Rattle.ice_graph.specs.Network.{AreBetween, RowsRise};
+ghost use Rattle.ice_graph.specs.Boxes.{in_spreads};
+ghost use Rattle.ice_graph.specs.Network.{ArePlaces, AreBetween, BoundsFall, RowsRise, bound, least_bound, least_from};
 
+use crate::boxes::{boxes_of, spread_of};
 use crate::edge::{Edge, End};
+use crate::extent::{Extent, distance};
 use crate::index::Index;
-use ice_base::{NoMemory, RowNo, WireNo};
+use ice_base::{NoMemory, RowNo, TileAt, WireNo};
 use std::alloc::Global;
 use std::marker::Model;
 
 /// Wires, and the edges between them in the order of their rows. The edges into a wire and from a wire
-/// are found at once, in the order of their rows.
+/// are found at once, in the order of their rows. By the places of the edges it is known how far two wires
+/// are apart.
 #[derive(Drop)]
 pub struct Graph {
     wires: u32,
     edges: Vec<Edge>,
     into: Index,
     from: Index,
+    boxes: Vec<Option<Extent>>,
+    spread: u32,
 }
 
 impl Model for Graph {
@@ -53,23 +60,60 @@ fn number_of(edges: &[Edge]) -> usize
     edges.len()
 }
 
+// How far a target is in boxes of this half perimeter, rounded up.
+fn in_spreads_of(spread: u32, distance: u32) -> u32
+    requires spread { spread ≤ 131070 }
+    requires distance { distance ≤ 131070 }
+    ensures value { result ≡ in_spreads spread distance }
+    ensures small { result ≤ 131070 }
+{
+    if spread == 0 {
+        return 0;
+    }
+    (distance + (spread - 1)) / spread
+}
+
 impl Graph {
-    /// A graph of this many wires, numbered from 0, and of these edges, whose rows rise.
-    /// It answers `NoMemory` where it finds no memory for them.
+    /// A graph of this many wires, numbered from 0, and of these edges, whose rows rise. All edges stand at
+    /// the tile (0, 0). It answers `NoMemory` where it finds no memory for them.
     pub fn new(alloc: Global, wires: u32, edges: Vec<Edge>) -> Result<Graph, NoMemory>
         requires between { AreBetween wires edges.items }
         requires rise { RowsRise edges.items }
         ensures wires { IfOk result (λ graph. graph.wires ≡ wires) }
         ensures edges { IfOk result (λ graph. graph.edges ≡ edges.items) }
+        ensures places { IfOk result (λ graph. ArePlaces graph (replicate (length edges.items) (record { x = 0; y = 0 }))) }
+    {
+        let places = vec![in alloc; TileAt { x: 0, y: 0 }; edges.len()]?;
+        Graph::placed(alloc, wires, edges, places)
+    }
+
+    /// A graph of this many wires, numbered from 0, and of these edges, whose rows rise, each at the place of
+    /// a tile. It answers `NoMemory` where it finds no memory for them.
+    pub fn placed(
+        alloc: Global,
+        wires: u32,
+        edges: Vec<Edge>,
+        places: Vec<TileAt>,
+    ) -> Result<Graph, NoMemory>
+        requires between { AreBetween wires edges.items }
+        requires rise { RowsRise edges.items }
+        requires places { length places.items ≡ length edges.items }
+        ensures wires { IfOk result (λ graph. graph.wires ≡ wires) }
+        ensures edges { IfOk result (λ graph. graph.edges ≡ edges.items) }
+        ensures places { IfOk result (λ graph. ArePlaces graph places.items) }
     {
         let _number = number_of(&edges);
         let into = Index::new(alloc, End::Target, wires, &edges)?;
         let from = Index::new(alloc, End::Source, wires, &edges)?;
+        let boxes = boxes_of(alloc, wires, &edges, &places)?;
+        let spread = spread_of(wires, &edges, &boxes);
         Ok(Graph {
             wires,
             edges,
             into,
             from,
+            boxes,
+            spread,
         })
     }
 
@@ -86,6 +130,7 @@ impl Graph {
         ensures between { AreBetween self.now.wires self.now.edges }
         ensures rise { RowsRise self.now.edges }
         ensures few { length self.now.edges ≤ 2 ^ 32 }
+        ensures bounds { BoundsFall self.now }
     {
         &self.edges
     }
@@ -104,5 +149,37 @@ impl Graph {
         ensures { result.now ≡ rows_from self.now.edges wire.0 }
     {
         self.from.rows(End::Source, self.wires, &self.edges, wire.0)
+    }
+
+    /// What a walk from one wire to another costs at least, where no step costs less than 1: 0 where they are
+    /// the same, and else 1 and one more for each greatest half perimeter that lies between their boxes,
+    /// rounded up. The wires are of the graph.
+    pub fn bound(&self, wire: WireNo, target: WireNo) -> u64
+        requires wire { wire.0 < self.now.wires }
+        requires target { target.0 < self.now.wires }
+        ensures bound { result ≡ bound self.now wire.0 target.0 }
+        ensures small { result ≤ 131071 }
+    {
+        if wire.0 == target.0 {
+            return 0;
+        }
+        let apart = distance(self.boxes[wire.0 as usize], self.boxes[target.0 as usize]);
+        1 + in_spreads_of(self.spread, apart) as u64
+    }
+
+    /// The least of the bounds from a wire to these targets, of which there is one at least. The wires are of
+    /// the graph.
+    pub fn least_bound(&self, wire: WireNo, targets: &[WireNo]) -> u64
+        requires wire { wire.0 < self.now.wires }
+        requires targets { (k : ℕ) (t : Wire) → slice_get targets.now k ≡ Some t → t.0 < self.now.wires }
+        requires some { 0 < length targets.now }
+        ensures bound { result ≡ least_bound self.now targets.now wire.0 }
+        ensures small { result ≤ 131071 }
+    {
+        let mut least = self.bound(wire, targets[0]);
+        for target in &targets[1..] {
+            least = least.min(self.bound(wire, *target));
+        }
+        least
     }
 }

@@ -2,14 +2,14 @@
 //! from another, and the rows into a wire and from a wire are found at once.
 #![tactic(auto)]
 
+mod boxes;
 mod edge;
+mod extent;
 mod graph;
 mod index;
 mod tree;
 
 pub use edge::Edge;
+pub use extent::Extent;
 pub use graph::Graph;
 pub use tree::Tree;
-
-#[cfg(test)]
-mod tests;

@@ -4,14 +4,18 @@ use Rattle.std.specs.Prelude.{reverse}
 use Rattle.std.proofs.lemmas.List.{drop_more, drop_all, append_assoc, append-nil, map-append, reverse-reverse}
 use Rattle.std.proofs.lemmas.Grind.{reverse_onto}
 use Rattle.std.proofs.lemmas.Bool.{cases_eq}
+use Rattle.std.proofs.lemmas.Option.{slice_get-get_or}
 use Rattle.ice_base.specs.declared.number.WireNo.{WireNo}
 use Rattle.ice_graph.specs.declared.edge.Edge.{Edge}
 use Rattle.ice_graph.specs.Network.{Network, AreBetween}
-use Rattle.ice_path.specs.Walks.{HasEdge, InTree, IsLabel, IsWalk, NoWalk, cost}
-use Rattle.ice_path.specs.Paths.{IsTaken, LeadBack}
-use Rattle.ice_path.proofs.Taking.{label_unique, of_rows_into, taken_cheapest, taken_unique}
+use Rattle.ice_path.specs.Walks.{HasEdge, InTree, IsLabel, IsWalk, NoWalkTo, cost}
+use Rattle.ice_path.specs.Paths.{IsTaken, IsTakenTo, LeadBack}
+use Rattle.ice_path.proofs.Taking.{label_unique, of_rows_into, taken_cheapest}
+use Rattle.ice_path.proofs.Choosing.{choice_unique}
 use Rattle.ice_negotiate.proofs.Listing.{pushed}
-use Rattle.ice_negotiate.specs.Trees.{AreOnce, Route, bare, extended, IsJoined, AreJoined, IsTree, IsReached, IsRooted}
+use Rattle.ice_negotiate.specs.Trees.{AreOnce, Route, bare, extended, IsJoined, AreJoined, IsTree, IsCause, IsReached, IsRooted, IsSinkReached, StopsAt}
+use Rattle.ice_negotiate.specs.declared.stop.TreeStop.{TreeStop}
+use Rattle.ice_negotiate.specs.declared.stop.TreeStop.TheVariants.{Unreachable, NoMemory}
 
 walks_joined : (edges : List Edge) (a b c : ℕ) (one other : List Edge) → IsWalk edges a one b → IsWalk edges b other c → IsWalk edges a (one ++ other) c
 walks_joined edges a b c [] other h k = subst (λ x. IsWalk edges x other c) (sym h) k
@@ -62,17 +66,19 @@ module _ (graph : Network) (root : WireNo) where
   in_tree_reached wires h w root' = let t = h.reached root'.0 root'.1 root'.2 in (t.0, subst (λ x. IsWalk graph.edges root.0 t.0 x) root'.3 t.1)
 
   -- the sink behind a taken path is reached
-  pub sink_reached : (price : ℕ → ℕ) (wires : List WireNo) (sink : WireNo) (path : List Edge) → IsRooted graph root wires → IsTaken graph.edges price wires sink.0 path → IsReached graph.edges root sink
-  sink_reached price wires sink path h taken =
-      let t = taken_cheapest graph.edges price wires sink.0 path taken in
+  pub sink_reached : (price : ℕ → ℕ) (wires targets : List WireNo) (path : List Edge) → IsRooted graph root wires → IsTakenTo graph.edges price wires targets path → IsSinkReached graph.edges root targets
+  sink_reached price wires targets path h chosen =
+      let sink : WireNo = chosen.0 in
+      let t = taken_cheapest graph.edges price wires sink.0 path chosen.3 in
       let start = in_tree_reached wires h t.0.0 t.0.1 in
-      (start.0 ++ path, walks_joined graph.edges root.0 t.0.0 sink.0 start.0 path start.1 t.0.2)
+      (chosen.2.place, sink, chosen.2.stands, (start.0 ++ path, walks_joined graph.edges root.0 t.0.0 sink.0 start.0 path start.1 t.0.2))
 
   -- the tree with a taken path
-  pub rooted_more : (price : ℕ → ℕ) (wires : List WireNo) (sink : WireNo) (path : List Edge) → AreBetween graph.wires graph.edges → IsRooted graph root wires → IsTaken graph.edges price wires sink.0 path
+  pub rooted_more : (price : ℕ → ℕ) (wires targets : List WireNo) (path : List Edge) → AreBetween graph.wires graph.edges → IsRooted graph root wires → IsTakenTo graph.edges price wires targets path
       → IsRooted graph root (wires ++ map (λ (e : Edge). e.to) path)
-  rooted_more price wires sink path between h taken =
-      let t = taken_cheapest graph.edges price wires sink.0 path taken in
+  rooted_more price wires targets path between h chosen =
+      let sink : WireNo = chosen.0 in
+      let t = taken_cheapest graph.edges price wires sink.0 path chosen.3 in
       let start = in_tree_reached wires h t.0.0 t.0.1 in
       let entered = entered_reached graph.edges root t.0.0 sink.0 path start.0 start.1 t.0.2 in
       record {
@@ -88,47 +94,48 @@ module _ (graph : Network) (root : WireNo) where
       }
 
   -- no walk leads from the tree, so none from the root
-  pub unreached : (wires : List WireNo) (sink : WireNo) → IsRooted graph root wires → NoWalk graph.edges wires sink.0 → IsReached graph.edges root sink → ⊥
-  unreached wires sink h none walk = none root.0 walk.0 h.root_in walk.1
+  pub unreached : (wires targets : List WireNo) → IsRooted graph root wires → NoWalkTo graph.edges wires targets → IsSinkReached graph.edges root targets → ⊥
+  unreached wires targets h none s = none s.1.0 (s.0, s.1, s.2, refl) root.0 s.3.0 h.root_in s.3.1
 
 -- what is left to be joined, from the route so far
-pub record GoesOn (edges : List Edge) (price : ℕ → ℕ) (root : WireNo) (sinks : List WireNo) (i : ℕ) (route : Route) : Type 0 where
+pub record GoesOn (edges : List Edge) (price : ℕ → ℕ) (root : WireNo) (sinks : List (List WireNo)) (i : ℕ) (route : Route) : Type 0 where
   pub on : (whole : Route) → AreJoined edges price route (drop i sinks) whole → IsTree edges price root sinks whole
 
-pub goes_first : (edges : List Edge) (price : ℕ → ℕ) (root : WireNo) (sinks : List WireNo) (route : Route) → route ≡ bare root → GoesOn edges price root sinks 0 route
+pub goes_first : (edges : List Edge) (price : ℕ → ℕ) (root : WireNo) (sinks : List (List WireNo)) (route : Route) → route ≡ bare root → GoesOn edges price root sinks 0 route
 goes_first edges price root sinks route same = record { on = λ whole h. subst (λ r. AreJoined edges price r sinks whole) same h }
 
-pub goes_more : (edges : List Edge) (price : ℕ → ℕ) (root : WireNo) (sinks : List WireNo) (i : ℕ) (d : WireNo) (route next : Route) → i < length sinks
+pub goes_more : (edges : List Edge) (price : ℕ → ℕ) (root : WireNo) (sinks : List (List WireNo)) (i : ℕ) (d : List WireNo) (route next : Route) → i < length sinks
     → IsJoined edges price route (get_or sinks i d) next → GoesOn edges price root sinks i route → GoesOn edges price root sinks (i + 1) next
 goes_more edges price root sinks i d route next lt joined h = record {
   on = λ whole rest. h.on whole (subst (λ xs. AreJoined edges price route xs whole) (sym (drop_more sinks i d lt)) (next, joined, rest));
 }
 
-pub goes_last : (edges : List Edge) (price : ℕ → ℕ) (root : WireNo) (sinks : List WireNo) (i : ℕ) (route : Route) → length sinks ≤ i → GoesOn edges price root sinks i route → IsTree edges price root sinks route
+pub goes_last : (edges : List Edge) (price : ℕ → ℕ) (root : WireNo) (sinks : List (List WireNo)) (i : ℕ) (route : Route) → length sinks ≤ i → GoesOn edges price root sinks i route → IsTree edges price root sinks route
 goes_last edges price root sinks i route le h = h.on route (subst (λ xs. AreJoined edges price route xs route) (sym (drop_all i sinks le)) refl)
 
-wire_at : (wires : List WireNo) (k : ℕ) (d : WireNo) → k < length wires → slice_get wires k ≡ Some (get_or wires k d)
-wire_at [] k d lt = absurd (omega arith)
-wire_at (v ∷ wires) zero d lt = refl
-wire_at (v ∷ wires) (suc k) d lt = wire_at wires k d (omega arith)
-
 -- the sinks before i + 1 are reached
-pub reached_more : (edges : List Edge) (root : WireNo) (sinks : List WireNo) (i : ℕ) (d : WireNo) → i < length sinks → IsReached edges root (get_or sinks i d)
-    → ((k : ℕ) (v : WireNo) → k < i → slice_get sinks k ≡ Some v → IsReached edges root v) → (k : ℕ) (v : WireNo) → k < i + 1 → slice_get sinks k ≡ Some v → IsReached edges root v
+pub reached_more : (edges : List Edge) (root : WireNo) (sinks : List (List WireNo)) (i : ℕ) (d : List WireNo) → i < length sinks → IsSinkReached edges root (get_or sinks i d)
+    → ((k : ℕ) (v : List WireNo) → k < i → slice_get sinks k ≡ Some v → IsSinkReached edges root v) → (k : ℕ) (v : List WireNo) → k < i + 1 → slice_get sinks k ≡ Some v → IsSinkReached edges root v
 reached_more edges root sinks i d lt here before k v less at = elim (cases_eq k i) [
-  | inl same ↦ (let both : Some v ≡ Some (get_or sinks i d) = sym at ∙ (ap (λ j. slice_get sinks j) same ∙ wire_at sinks i d lt) in let is : v ≡ get_or sinks i d = (cc) in subst (IsReached edges root) (sym is) here)
+  | inl same ↦ (let both : Some v ≡ Some (get_or sinks i d) = sym at ∙ (ap (λ j. slice_get sinks j) same ∙ slice_get-get_or sinks i d lt) in let is : v ≡ get_or sinks i d = (cc) in subst (IsSinkReached edges root) (sym is) here)
   | inr other ↦ before k v (grind arith) at
 ]
 
-next_unique : (edges : List Edge) (price : ℕ → ℕ) (route : Route) (sink : WireNo) (one other : Route) → IsJoined edges price route sink one → IsJoined edges price route sink other → one ≡ other
-next_unique edges price route sink one other h k =
-    let same = taken_unique edges price route.wires sink.0 h.0 k.0 h.1 k.1 in
+-- the first sink that is not joined
+pub stop_cause : (edges : List Edge) (root : WireNo) (sinks : List (List WireNo)) (i : ℕ) (d : List WireNo) → i < length sinks → ((k : ℕ) (v : List WireNo) → k < i → slice_get sinks k ≡ Some v → IsSinkReached edges root v)
+    → (stop : TreeStop) → StopsAt edges root (get_or sinks i d) stop → IsCause edges root sinks stop
+stop_cause edges root sinks i d lt before (Unreachable wire) s = (i, get_or sinks i d, slice_get-get_or sinks i d lt, s.0, s.1, before)
+stop_cause edges root sinks i d lt before NoMemory s = record {}
+
+next_unique : (edges : List Edge) (price : ℕ → ℕ) (route : Route) (targets : List WireNo) (one other : Route) → IsJoined edges price route targets one → IsJoined edges price route targets other → one ≡ other
+next_unique edges price route targets one other h k =
+    let same = choice_unique edges price route.wires targets h.0 k.0 h.1 k.1 in
     h.2 ∙ (ap (λ p. extended route p) same ∙ sym k.2)
 
-pub joined_unique : (edges : List Edge) (price : ℕ → ℕ) (route : Route) (sinks : List WireNo) (one other : Route) → AreJoined edges price route sinks one → AreJoined edges price route sinks other → one ≡ other
+pub joined_unique : (edges : List Edge) (price : ℕ → ℕ) (route : Route) (sinks : List (List WireNo)) (one other : Route) → AreJoined edges price route sinks one → AreJoined edges price route sinks other → one ≡ other
 joined_unique edges price route [] one other h k = sym h ∙ k
-joined_unique edges price route (sink ∷ sinks) one other h k =
-    let same = next_unique edges price route sink h.0 k.0 h.1 k.1 in
+joined_unique edges price route (targets ∷ sinks) one other h k =
+    let same = next_unique edges price route targets h.0 k.0 h.1 k.1 in
     joined_unique edges price k.0 sinks one other (subst (λ r. AreJoined edges price r sinks one) same h.2) k.2
 
 -- the root stands once in the tree that holds it alone

@@ -6,3 +6,4 @@ pub mod Beginning
 pub mod Rounding
 pub mod Stating
 pub mod Repeating
+pub mod Leading

@@ -244,7 +244,7 @@ rounds_same graph nets rounds others h g (suc k) one other at to =
 pub reached_all : (graph : Network) (nets : List Net) (net : NetNo) (sink : WireNo) → AreReachedBefore graph nets (length nets) → IsUnreachable graph nets net sink → ⊥
 reached_all graph nets net sink reached s =
     let cause = s.cause in
-    cause.2 (reached net.0 s.the_net (slice_get_within nets net.0 s.the_net s.at) s.at cause.0 sink cause.1)
+    cause.4 (reached net.0 s.the_net (slice_get_within nets net.0 s.the_net s.at) s.at cause.0 cause.1 cause.2)
 
 last_at : (earlier : List Past) (last : Past) → slice_get (earlier ++ last ∷ []) (length earlier) ≡ Some last
 last_at [] last = refl

@@ -25,7 +25,7 @@ none_or_some zero = inl refl
 none_or_some (suc n) = inr (omega arith)
 
 -- the bounds of the round that begins from the state
-pub before_bounded : (graph : Network) (nets : List Net) (round : ℕ) (state : State) → round < 64 → graph.wires ≤ 262144 → IsBefore graph nets round state → AreBounded graph (round + 1) state.prices.history.items state.counts.items
+pub before_bounded : (graph : Network) (nets : List Net) (round : ℕ) (state : State) → round < 64 → graph.wires ≤ 1048576 → IsBefore graph nets round state → AreBounded graph (round + 1) state.prices.history.items state.counts.items
 before_bounded graph nets round state lt wires h =
     let long = h.sound.long in
     let counted = h.sound.counted in
@@ -153,7 +153,7 @@ before_next graph nets round number old history others moved few h over risen ot
 no_stop : (graph : Network) (nets : List Net) (moved : List NetNo) (net : NetNo) (sink : WireNo) → AreReachedBefore graph nets (length nets) → IsFirstStop graph nets moved net sink → ⊥
 no_stop graph nets moved net sink reached s =
     let cause = s.cause in
-    cause.2 (reached net.0 s.net (slice_get_within nets net.0 s.net s.is) s.is cause.0 sink cause.1)
+    cause.4 (reached net.0 s.net (slice_get_within nets net.0 s.net s.is) s.is cause.0 cause.1 cause.2)
 
 pub stop_fault : (graph : Network) (nets : List Net) (round : ℕ) (state : State) → IsBefore graph nets round state → (fault : RouteFault) → IsStop graph nets state.moved.items fault → (permitted : ℕ) → IsFault graph nets permitted fault
 stop_fault graph nets round state h (Unreachable net sink) s permitted = elim (none_or_some round) [

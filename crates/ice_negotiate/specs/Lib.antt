@@ -3,3 +3,4 @@ pub mod Rounds
 pub mod Logs
 pub mod Progress
 pub mod Determined
+pub mod Leading

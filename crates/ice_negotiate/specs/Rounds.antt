@@ -9,12 +9,12 @@ use Rattle.ice_core.specs.declared.prices.Prices.{Prices}
 use Rattle.ice_core.specs.Congestion.{price, next_history}
 use Rattle.ice_core.specs.Moves.{IsOccupancy, holds, movers_of}
 use Rattle.ice_path.specs.Room.{AreWires}
-use Rattle.ice_negotiate.specs.Trees.{IsTree, AreOnce, AreReached, IsCause, route_of}
+use Rattle.ice_negotiate.specs.Trees.{IsTree, AreOnce, AreReached, AreSinks, IsCause, route_of}
 use Rattle.ice_negotiate.specs.declared.stop.TreeStop.TheVariants.{Unreachable}
 
--- root and sinks of each net are wires of the graph
+-- root and targets of each net are wires of the graph, and each sink has a target
 abbrev pub AreNets : Network → List Net → Type 0
-AreNets graph nets = (n : ℕ) (net : Net) → slice_get nets n ≡ Some net → (net.root.0 < graph.wires) × AreWires graph.wires net.sinks.items
+AreNets graph nets = (n : ℕ) (net : Net) → slice_get nets n ≡ Some net → (net.root.0 < graph.wires) × AreSinks graph.wires net.sinks.items
 
 -- the prices of the round for the net of this tree: the others are those that hold a wire, less the net itself
 pub record ArePricesOf (round : ℕ) (history counts : List ℕ) (tree : Tree) (p : Prices) : Type 0 where
@@ -100,7 +100,7 @@ AreOverused rounds = (k : ℕ) (one : Past) → slice_get rounds k ≡ Some one 
 abbrev pub AreReachedBefore : Network → List Net → ℕ → Type 0
 AreReachedBefore graph nets n = (j : ℕ) (net : Net) → j < n → slice_get nets j ≡ Some net → AreReached graph.edges net.root net.sinks.items
 
--- the least net with a sink that can't be reached, and its first such sink
+-- the least net with a sink of which no target can be reached, and the first target of its first such sink
 pub record IsUnreachable (graph : Network) (nets : List Net) (net : NetNo) (sink : WireNo) : Type 0 where
   pub the_net : Net
   pub at : slice_get nets net.0 ≡ Some the_net
@@ -111,7 +111,7 @@ pub record IsUnreachable (graph : Network) (nets : List Net) (net : NetNo) (sink
 pub record AreBounded (graph : Network) (round : ℕ) (history counts : List ℕ) : Type 0 where
   pub first : 1 ≤ round
   pub last : round ≤ 64
-  pub wires : graph.wires ≤ 262144
+  pub wires : graph.wires ≤ 1048576
   pub long : length history ≡ graph.wires
   pub counted : length counts ≡ graph.wires
   pub low : (w : ℕ) → slice_index history w ≤ (round - 1) * 65535
@@ -150,7 +150,7 @@ pub record AreDifferent (nets : List Net) (moved : List NetNo) : Type 0 where
 abbrev pub AreMoversReached : Network → List Net → List NetNo → ℕ → Type 0
 AreMoversReached graph nets moved n = (j : ℕ) (number : NetNo) (net : Net) → j < n → slice_get moved j ≡ Some number → slice_get nets number.0 ≡ Some net → AreReached graph.edges net.root net.sinks.items
 
--- the first of these nets with a sink that can't be reached, and its first such sink
+-- the first of these nets with a sink of which no target can be reached, and the first target of its first such sink
 pub record IsFirstStop (graph : Network) (nets : List Net) (moved : List NetNo) (number : NetNo) (sink : WireNo) : Type 0 where
   pub place : ℕ
   pub at : slice_get moved place ≡ Some number

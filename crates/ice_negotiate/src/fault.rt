@@ -9,7 +9,7 @@ use std::alloc::{AllocError, AllocFailed};
 use thiserror::Error;
 
 /// The routes of nets that share no wire, and what happened in the rounds that led to them.
-#[derive(Debug, Drop)]
+#[derive(Drop)]
 pub struct Routed {
     /// The routes of the nets by number.
     pub trees: Vec<Tree>,
@@ -20,12 +20,12 @@ pub struct Routed {
 /// Why nets are not routed.
 #[derive(Debug, Drop, Error)]
 pub enum RouteFault {
-    /// No walk leads from the root of this net to this sink.
+    /// No walk leads from the root of this net to any target of a sink.
     #[error("no walk of net {} to wire {}", .net.0, .sink.0)]
     Unreachable {
         /// The net.
         net: NetNo,
-        /// The sink.
+        /// The first target of the sink.
         sink: WireNo,
     },
     /// Each permitted round ended with an overused wire.

@@ -1,10 +1,18 @@
 //! The laws of trees and rounds, each as the contract of a function that does nothing.
+ghost use Rattle.ice_negotiate.specs.Leading.{RoundsLead, TreesLead};
 ghost use Rattle.ice_negotiate.specs.Trees.{TreesAreUnique};
 ghost use Rattle.ice_negotiate.specs.Determined.{RoundsAreUnique, RoutedAreReached, RoutedEndFree, OverusedAreReached};
 
 /// In the same prices a net has no two trees.
 pub fn trees_are_unique()
     ensures { TreesAreUnique }
+{}
+
+/// The tree of a net leads from its root to its sinks, and has no branch that ends elsewhere; so does each tree of every
+/// round.
+pub fn trees_lead()
+    ensures trees { TreesLead }
+    ensures rounds { RoundsLead }
 {}
 
 /// The rounds of nets are determined: each has one number, one history, one list of nets that move, one route of

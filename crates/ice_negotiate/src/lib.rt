@@ -16,8 +16,3 @@ pub use fault::{RouteFault, Routed};
 pub use routing::negotiate;
 pub use stop::TreeStop;
 pub use tree::tree_of;
-
-#[cfg(test)]
-mod generated;
-#[cfg(test)]
-mod tests;

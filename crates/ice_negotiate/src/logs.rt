@@ -13,7 +13,7 @@ use std::alloc::Global;
 // The wires that have a history, each with it.
 #[tactic(auto, using(crate::proofs::Listing::beyond_yes, crate::proofs::Listing::beyond_no, crate::proofs::Listing::beyond_all))]
 fn histories(alloc: Global, history: &[u64]) -> Result<Vec<(WireNo, u64)>, NoMemory>
-    requires { length history.now ≤ 262144 }
+    requires { length history.now ≤ 1048576 }
     ensures { IfOk result (λ list. list.items ≡ beyond 0 0 history.now) }
 {
     let mut list = Vec::new(alloc);
@@ -28,7 +28,7 @@ fn histories(alloc: Global, history: &[u64]) -> Result<Vec<(WireNo, u64)>, NoMem
 // The wires that more than one net holds, each with the number of these nets.
 #[tactic(auto, using(crate::proofs::Listing::beyond_yes, crate::proofs::Listing::beyond_no, crate::proofs::Listing::beyond_all))]
 fn overused(alloc: Global, counts: &[u32]) -> Result<Vec<(WireNo, u32)>, NoMemory>
-    requires { length counts.now ≤ 262144 }
+    requires { length counts.now ≤ 1048576 }
     ensures { IfOk result (λ list. list.items ≡ beyond 1 0 counts.now) }
 {
     let mut list = Vec::new(alloc);
@@ -76,8 +76,8 @@ pub fn log_of(
     trees: &[Tree],
     counts: &[u32],
 ) -> Result<RoundLog, NoMemory>
-    requires history { length prices.now.history.items ≤ 262144 }
-    requires counts { length counts.now ≤ 262144 }
+    requires history { length prices.now.history.items ≤ 1048576 }
+    requires counts { length counts.now ≤ 1048576 }
     requires moved { (k : ℕ) (net : Number) → slice_get moved.now k ≡ Some net → net.0 < length trees.now }
     ensures { IfOk result (IsLog (past_of prices.now.round prices.now.history.items moved.now trees.now counts.now)) }
 {

@@ -2,7 +2,7 @@
 ghost use Rattle.std.specs.Prelude.{◌≡◌, ◌-◌, ◌<◌, ◌≤◌, ℕ, List, cond, length, slice_index, IfErr, OnOk};
 ghost use Rattle.ice_core.specs.Moves.{IsOccupancy};
 ghost use Rattle.ice_path.specs.Room.{IsFor, AreWires};
-ghost use Rattle.ice_negotiate.specs.Trees.{AreOnce, AreReached, IsCause};
+ghost use Rattle.ice_negotiate.specs.Trees.{AreOnce, AreReached, AreSinks, IsCause};
 ghost use Rattle.ice_negotiate.specs.Rounds.{AreBounded, AreDifferent, AreFew, AreMoversReached, AreNets, AreOpen, ArePricesOf, AreRecounted, HoldOnce, IsCounted, IsRound, Moves};
 ghost use Rattle.ice_negotiate.specs.Logs.{IsStop, fault_of};
 
@@ -65,7 +65,7 @@ fn move_net(
     requires long { length counts.old ≡ graph.now.wires }
     requires apart { AreOnce tree.old.wires.items }
     requires root { net.now.root.0 < graph.now.wires }
-    requires sinks { AreWires graph.now.wires net.now.sinks.items }
+    requires sinks { AreSinks graph.now.wires net.now.sinks.items }
     requires scratch { IsFor graph.now scratch.old }
     ensures moves { OnOk result (Moves graph.now prices.old.round prices.old.history.items prices.old.others.items net.now tree.old tree.new) }
     ensures wires { OnOk result (AreWires graph.now.wires tree.new.wires.items) }

@@ -74,7 +74,7 @@ fn play(
     scratch: &mut Scratch,
 ) -> Result<(), RouteFault>
     requires round { round < 64 }
-    requires wires { graph.now.wires ≤ 262144 }
+    requires wires { graph.now.wires ≤ 1048576 }
     requires nets { AreNets graph.now nets.now }
     requires few { length nets.now ≤ 65536 }
     requires before { IsBefore graph.now nets.now round state.old }
@@ -141,10 +141,10 @@ fn prepare(
 /// the prices of the moment at which the round began. The first round behind which no wire is overused ends
 /// the work, and its routes are the answer.
 ///
-/// From 1 to 64 rounds are permitted, the graph has at most 262,144 wires, and there are at most 65,536 nets,
-/// whose roots and sinks are wires of the graph. A net is named by its place in the list. It answers
-/// `Unreachable` exactly where a sink can't be reached, with the least such net and its first such sink,
-/// `GaveUp` exactly where each permitted round ends with an overused wire, and `NoMemory` where it finds no
+/// From 1 to 64 rounds are permitted, the graph has at most 1,048,576 wires, and there are at most 65,536 nets,
+/// whose roots and targets are wires of the graph. Each sink has a target. A net is named by its place in the list.
+/// It answers `Unreachable` exactly where a sink has no target that can be reached, with the least such net and the
+/// first target of its first such sink, `GaveUp` exactly where each permitted round ends with an overused wire, and `NoMemory` where it finds no
 /// memory.
 ///
 /// From 1 to 8 workers may be named. The routes and the logs don't depend on their number: all work is done on the
@@ -159,7 +159,7 @@ pub fn negotiate<G: Gate + Sync>(
 ) -> Result<Routed, RouteFault>
     requires rounds { (1 ≤ rounds) × (rounds ≤ 64) }
     requires workers { (1 ≤ _workers) × (_workers ≤ 8) }
-    requires wires { graph.now.wires ≤ 262144 }
+    requires wires { graph.now.wires ≤ 1048576 }
     requires few { length nets.now ≤ 65536 }
     requires nets { AreNets graph.now nets.now }
     ensures routed { IfOk result (AreRouted graph.now nets.now rounds) }

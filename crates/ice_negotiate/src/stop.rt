@@ -7,12 +7,12 @@ use std::alloc::{AllocError, AllocFailed};
 use thiserror::Error;
 
 /// Why a net gets no tree.
-#[derive(Clone, Copy, Debug, PartialEq, Eq, Error)]
+#[derive(Clone, Copy, Debug, Error)]
 pub enum TreeStop {
-    /// No walk leads from the root to this sink.
+    /// No walk leads from the root to any target of a sink.
     #[error("no walk to wire {}", .sink.0)]
     Unreachable {
-        /// The sink.
+        /// The first target of the sink.
         sink: WireNo,
     },
     /// Want of memory.

@@ -1,6 +1,7 @@
 pub mod Queueing
 pub mod Relaxing
 pub mod Settling
+pub mod Ending
 pub mod Touching
 pub mod Starting
 pub mod Clearing
@@ -8,3 +9,4 @@ pub mod Walking
 pub mod Taking
 pub mod Reaching
 pub mod Stepping
+pub mod Choosing

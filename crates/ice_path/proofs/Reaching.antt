@@ -86,7 +86,7 @@ module _ (edges : List Edge) (price : ℕ → ℕ) (tree : List WireNo) (positiv
   decided w n = decided_below (suc n) w n (omega arith)
 
   -- a wire to which a walk of a cost below n leads has a label
-  least_below : (w n : ℕ) → ((c : ℕ) × IsLabel edges price tree w c) ⊎ ((k : ℕ) → k < n → Leads w k → ⊥)
+  pub least_below : (w n : ℕ) → ((c : ℕ) × IsLabel edges price tree w c) ⊎ ((k : ℕ) → k < n → Leads w k → ⊥)
   least_below w zero = inr (λ k lt walk. omega arith)
   least_below w (suc n) = by_last (least_below w n) (decided w n)
     where

@@ -4,6 +4,12 @@ use Rattle.std.proofs.lemmas.Bool.{cases_eq, false≢true}
 use Rattle.ice_graph.specs.declared.edge.Edge.{Edge}
 use Rattle.ice_path.specs.Search.{label, done, AtMost, Lowers, Relaxes}
 
+-- a wire with a label is within the labels
+pub label_within : (labels : List (Option ℕ)) (w l : ℕ) → label labels w ≡ Some l → w < length labels
+label_within [] w l e = absurd (cc)
+label_within (x ∷ labels) zero l e = omega arith
+label_within (x ∷ labels) (suc w) l e = omega (arith, label_within labels w l e)
+
 pub lowers_new : (labels : List (Option ℕ)) (w d : ℕ) → label labels w ≡ None → Lowers labels (slice_set labels w (Some d)) w d
 lowers_new labels w d none = inl (refl, λ l e. let bad : Some l ≡ None = sym e ∙ none in absurd (cc))
 
@@ -72,11 +78,6 @@ module _ (rows : List Edge) (price : ℕ → ℕ) (settled : List Bool) (c : ℕ
           | inr a ↦ inr (e, (n, here), sym a.0, a.1 ∙ ap (λ x. c + price x) (sym a.0))
         ];
       }
-
-pub edge_at : (edges : List Edge) (k : ℕ) (d : Edge) → k < length edges → slice_get edges k ≡ Some (get_or edges k d)
-edge_at [] k d lt = absurd (omega arith)
-edge_at (e ∷ edges) zero d lt = refl
-edge_at (e ∷ edges) (suc k) d lt = edge_at edges k d (omega arith)
 
 pub relax_none : (rows : List Edge) (price : ℕ → ℕ) (settled : List Bool) (c : ℕ) (labels : List (Option ℕ)) → Relaxes rows price settled c 0 labels labels
 relax_none rows price settled c labels = record {

@@ -3,6 +3,7 @@ use Rattle.std.proofs.Common.{◌≡◌, ◌≢◌, ℕ, zero, suc, ◌+◌, ◌
 use Rattle.std.proofs.lemmas.Bool.{cases_lt, cases_eq, false≢true}
 use Rattle.std.proofs.lemmas.List.Sums.{sum_by-set, count_by-le-length}
 use Rattle.std.proofs.lemmas.Nat.{mul-le}
+use Rattle.std.proofs.lemmas.Option.{slice_get_within}
 use Rattle.std.specs.Prelude.{◌*◌, ◌-◌, ◌^◌, slice_index}
 use Rattle.ice_core.specs.declared.prices.Prices.{Prices}
 use Rattle.ice_core.specs.Congestion.{ArePrices, price as price_of}
@@ -11,28 +12,14 @@ use Rattle.std.proofs.lemmas.List.Sums.{sum_by-cons}
 use Rattle.ice_base.specs.declared.number.WireNo.{WireNo}
 use Rattle.ice_graph.specs.declared.edge.Edge.{Edge}
 use Rattle.ice_graph.specs.Rows.{rows_from, reads}
-use Rattle.ice_graph.specs.Network.{AreBetween}
-use Rattle.ice_path.specs.Walks.{HasEdge, InTree, IsWalk, IsLeast, NoWalk, cost}
-use Rattle.ice_path.specs.Search.{label, done, AtMost, AreExact, IsLeastOpen, Relaxes, Searches, Starts, opens, open_edges}
+use Rattle.ice_graph.specs.Network.{Network, AreBetween, BoundsFall, least_bound}
+use Rattle.ice_graph.proofs.Bounding.{least_falls}
+use Rattle.ice_path.specs.Walks.{HasEdge, IsWalk, FallsBy}
+use Rattle.ice_path.specs.Search.{label, done, AtMost, IsNext, Relaxes, Searches, Starts, open_edges}
 use Rattle.ice_path.proofs.Walking.{walk_more, cost_more, in_filter, of_filter}
 
-label_within : (labels : List (Option ℕ)) (w l : ℕ) → label labels w ≡ Some l → w < length labels
-label_within [] w l e = absurd (cc)
-label_within (x ∷ labels) zero l e = omega arith
-label_within (x ∷ labels) (suc w) l e = omega (arith, label_within labels w l e)
-
-one_label : (labels : List (Option ℕ)) (w k l : ℕ) → label labels w ≡ Some k → label labels w ≡ Some l → k ≡ l
+pub one_label : (labels : List (Option ℕ)) (w k l : ℕ) → label labels w ≡ Some k → label labels w ≡ Some l → k ≡ l
 one_label labels w k l p q = let e : Some k ≡ Some l = sym p ∙ q in cc
-
-edge_within : (edges : List Edge) (k : ℕ) (e : Edge) → slice_get edges k ≡ Some e → k < length edges
-edge_within [] k e at = absurd (cc)
-edge_within (f ∷ edges) zero e at = omega arith
-edge_within (f ∷ edges) (suc k) e at = omega (arith, edge_within edges k e at)
-
-wire_within : (tree : List WireNo) (k : ℕ) (v : WireNo) → slice_get tree k ≡ Some v → k < length tree
-wire_within [] k v at = absurd (cc)
-wire_within (f ∷ tree) zero v at = omega arith
-wire_within (f ∷ tree) (suc k) v at = omega (arith, wire_within tree k v at)
 
 -- an edge that leaves the wire u is one of the rows from u
 pub in_rows : (edges : List Edge) (u : ℕ) (e : Edge) → HasEdge edges e → e.from.0 ≡ u → HasEdge (rows_from edges u) e
@@ -47,93 +34,28 @@ pub rows_to : (edges : List Edge) (n u k : ℕ) (e : Edge) → AreBetween n edge
 rows_to edges n u k e between at = let t = from_rows edges u e (k, at) in (between t.0.0 e t.0.1).1
 
 -- before anything is settled
-pub starts : (edges : List Edge) (price : ℕ → ℕ) (tree : List WireNo) (most : ℕ) (labels : List (Option ℕ)) (settled : List Bool) → Starts tree (length tree) labels settled → Searches edges price tree most 0 labels settled
-starts edges price tree most labels settled s = record {
+pub starts : (edges : List Edge) (price : ℕ → ℕ) (tree : List WireNo) (bound : ℕ → ℕ) (most : ℕ) (labels : List (Option ℕ)) (settled : List Bool) → Starts tree (length tree) labels settled → Searches edges price tree bound most 0 labels settled
+starts edges price tree bound most labels settled s = record {
   attained = λ w l e. (let t = s.made w l e in (w, [], t.0, refl, sym t.1));
   closed = λ w is. absurd (false≢true (sym (s.fresh w) ∙ is));
-  rooted = λ w root. ap (label labels) (sym root.3) ∙ s.rooted root.0 root.1 (wire_within tree root.0 root.1 root.2) root.2;
+  rooted = λ w root. ap (label labels) (sym root.3) ∙ s.rooted root.0 root.1 (slice_get_within tree root.0 root.1 root.2) root.2;
   order = λ a b la lb a_shut b_open at bt. absurd (false≢true (sym (s.fresh a) ∙ a_shut));
-  bound = λ w l e. (let t = s.made w l e in omega (arith, t.1));
+  low = λ w l e. (let t = s.made w l e in omega (arith, t.1));
 }
 
-module _ (edges : List Edge) (price : ℕ → ℕ) (tree : List WireNo) (most count : ℕ) (labels : List (Option ℕ)) (settled : List Bool) where
-  abbrev Escapes : ℕ → List Edge → ℕ → Type 0
-  Escapes l path b = (x : ℕ) × (k : ℕ) × (label labels x ≡ Some k) × (k ≤ l + cost price path) × ((done settled x ≡ false) ⊎ (x ≡ b))
-
-  escapes_by : Searches edges price tree most count labels settled → (e : Edge) (path : List Edge) (a b l : ℕ) → label labels a ≡ Some l → HasEdge edges e → e.from.0 ≡ a
-      → ((k : ℕ) → label labels e.to.0 ≡ Some k → Escapes k path b) → (d : Bool) → done settled a ≡ d → Escapes l (e ∷ path) b
-  escapes_by h e path a b l at has leaves go false is = (a, l, at, omega arith, inl is)
-  escapes_by h e path a b l at has leaves go true is =
-      let c = h.closed a is in
-      let same = one_label labels a c.0 l c.1 at in
-      let next = c.2 e has leaves in
-      let t = go next.0 next.1 in
-      (t.0, t.1, t.2, omega (arith, t.3, next.2, same), t.4)
-
-  -- a walk from a labelled wire comes to one that isn't settled, or is labelled at its end
-  escapes : Searches edges price tree most count labels settled → (path : List Edge) (a b l : ℕ) → label labels a ≡ Some l → IsWalk edges a path b → Escapes l path b
-  escapes h [] a b l at w = (a, l, at, omega arith, inr w)
-  escapes h (e ∷ path) a b l at w = escapes_by h e path a b l at w.0 w.1 (λ k here. escapes h path e.to.0 b k here w.2) (done settled a) refl
-
-  -- a walk that costs less than the least open label leads to a wire with a label of at most its cost
-  arrives : Searches edges price tree most count labels settled → (u c : ℕ) → IsLeastOpen labels settled (Some (u, c)) → (w start : ℕ) (walk : List Edge)
-      → InTree tree start → IsWalk edges start walk w → cost price walk < c → AtMost labels w (cost price walk)
-  arrives h u c best w start walk root is less =
-      let t = escapes h walk start w 0 (h.rooted start root) is in
-      elim t.4 [
-        | inl open' ↦ absurd (omega (arith, best.2 t.0 t.1 t.2 open', t.3))
-        | inr same ↦ (t.1, ap (label labels) (sym same) ∙ t.2, omega (arith, t.3))
-      ]
-
-  -- the labels below the least open one are exact
-  pub exact : Searches edges price tree most count labels settled → (u c : ℕ) → IsLeastOpen labels settled (Some (u, c)) → AreExact edges price tree c labels
-  exact h u c best = record {
-    least = λ w l at less. (
-      h.attained w l at,
-      λ start walk root is. elim (cases_lt (cost price walk) c) [
-        | inl below ↦ (let t = arrives h u c best w start walk root is below in omega (arith, one_label labels w t.0 l t.1 at, t.2))
-        | inr le ↦ omega arith
-      ],
-    );
-    there = λ w l is less. (
-        let t = arrives h u c best w is.0.0 is.0.1 is.0.2 is.0.3 (omega (arith, is.0.4)) in
-        let walk = h.attained w t.0 t.1 in
-        let le = is.1 walk.0 walk.1 walk.2 walk.3 in
-        let same : t.0 ≡ l = omega (arith, t.2, is.0.4, walk.4, le) in
-        t.1 ∙ ap (λ k. Some k) same);
-  }
-
-  -- where the least open label is the target's, no walk there costs less
-  pub is_least : Searches edges price tree most count labels settled → (u c : ℕ) → IsLeastOpen labels settled (Some (u, c)) → IsLeast edges price tree u c
-  is_least h u c best = λ start path root w.
-      let t = escapes h path start u 0 (h.rooted start root) w in
-      elim t.4 [
-        | inl open' ↦ (let k = best.2 t.0 t.1 t.2 open' in omega (arith, t.3))
-        | inr same ↦ (let here : label labels u ≡ Some t.1 = ap (label labels) (sym same) ∙ t.2 in let eq = one_label labels u c t.1 best.0 here in omega (arith, t.3))
-      ]
-
-  -- where no open wire has a label, and the target is open, no walk leads there
-  pub has_none : Searches edges price tree most count labels settled → (target : ℕ) → done settled target ≡ false → IsLeastOpen labels settled None → NoWalk edges tree target
-  has_none h target open' best = λ start path root w.
-      let t = escapes h path start target 0 (h.rooted start root) w in
-      let shut = best t.0 t.1 t.2 in
-      elim t.4 [
-        | inl still ↦ false≢true (sym still ∙ shut)
-        | inr same ↦ false≢true (sym open' ∙ (ap (done settled) (sym same) ∙ shut))
-      ]
-
+module _ (edges : List Edge) (price : ℕ → ℕ) (tree : List WireNo) (bound : ℕ → ℕ) (falls : FallsBy edges price bound) (most count : ℕ) (labels : List (Option ℕ)) (settled : List Bool) where
   -- u is settled, and its edges have lowered the labels behind it
-  pub settles : Searches edges price tree most count labels settled → (u c : ℕ) (new : List (Option ℕ)) → u < length settled → ((w : ℕ) → price w ≤ most) → IsLeastOpen labels settled (Some (u, c))
-      → Relaxes (rows_from edges u) price (slice_set settled u true) c (length (rows_from edges u)) labels new → Searches edges price tree most (count + 1) new (slice_set settled u true)
+  pub settles : Searches edges price tree bound most count labels settled → (u c : ℕ) (new : List (Option ℕ)) → u < length settled → ((w : ℕ) → price w ≤ most) → IsNext bound labels settled u c
+      → Relaxes (rows_from edges u) price (slice_set settled u true) c (length (rows_from edges u)) labels new → Searches edges price tree bound most (count + 1) new (slice_set settled u true)
   settles h u c new lt small best r =
       let shut : List Bool = slice_set settled u true in
       let u_shut : done shut u ≡ true = get_or-set_same settled u true false lt in
       let else_shut : (w : ℕ) → w ≢ u → done shut w ≡ done settled w = λ w other. get_or-set_other settled u w true false other in
       let still_open : (w : ℕ) → done shut w ≡ false → (done settled w ≡ false) × (w ≢ u) = λ w o. (let other : w ≢ u = (λ same. false≢true (sym o ∙ (ap (done shut) same ∙ u_shut))) in (sym (else_shut w other) ∙ o, other)) in
-      -- a settled wire's label is at most c
-      let low : (w k : ℕ) → done shut w ≡ true → label labels w ≡ Some k → k ≤ c = (λ w k is at. elim (cases_eq w u) [
-        | inl same ↦ (let eq = one_label labels u k c (ap (label labels) (sym same) ∙ at) best.0 in omega arith)
-        | inr other ↦ h.order w u k c (sym (else_shut w other) ∙ is) best.1 at best.0
+      -- a settled wire's sum is at most that of u
+      let low : (w k : ℕ) → done shut w ≡ true → label labels w ≡ Some k → k + bound w ≤ c + bound u = (λ w k is at. elim (cases_eq w u) [
+        | inl same ↦ (let eq = one_label labels u k c (ap (label labels) (sym same) ∙ at) best.has in let near : bound w ≡ bound u = ap bound same in omega (arith, near, eq))
+        | inr other ↦ h.order w u k c (sym (else_shut w other) ∙ is) best.unsettled at best.has
       ]) in
       record {
         attained = λ w l at. elim (r.made w l at) [
@@ -141,13 +63,13 @@ module _ (edges : List Edge) (price : ℕ → ℕ) (tree : List WireNo) (most co
           | inr t ↦
               let e : Edge = t.0 in
               let leaves = from_rows edges u e t.1 in
-              let walk = h.attained u c best.0 in
+              let walk = h.attained u c best.has in
               (walk.0, walk.1 ++ e ∷ [], walk.2, subst (λ x. IsWalk edges walk.0 (walk.1 ++ e ∷ []) x) t.2 (walk_more edges walk.0 u walk.1 e walk.3 leaves.0 leaves.1), omega (arith, cost_more price walk.1 e, walk.4, t.3, ap (λ x. price x) t.2))
         ];
         closed = λ w is. elim (cases_eq w u) [
           | inl same ↦ (
             c,
-            (r.fixed w is ∙ (ap (label labels) same ∙ best.0)),
+            (r.fixed w is ∙ (ap (label labels) same ∙ best.has)),
             λ e has leaves. by_target e has (leaves ∙ same) (done shut e.to.0) refl,
           )
           | inr other ↦ (
@@ -160,38 +82,33 @@ module _ (edges : List Edge) (price : ℕ → ℕ) (tree : List WireNo) (most co
             let le = low a la a_shut before in
             let open' = still_open b b_open in
             elim (r.made b lb bt) [
-              | inl same ↦ (let k = best.2 b lb same open'.0 in omega arith)
-              | inr t ↦ omega (arith, t.3)
+              | inl same ↦ (let k = best.least b lb same open'.0 in omega arith)
+              | inr t ↦ (
+                  let leaves = from_rows edges u t.0 t.1 in
+                  let step = falls t.0 leaves.0 in
+                  let from : bound t.0.from.0 ≡ bound u = ap bound leaves.1 in
+                  let to : bound t.0.to.0 ≡ bound b = ap bound t.2 in
+                  let paid : price t.0.to.0 ≡ price b = ap price t.2 in
+                  omega (arith, t.3, step, from, to, paid, le))
             ];
-        bound = λ w l at. elim (r.made w l at) [
-          | inl before ↦ (let k = h.bound w l before in omega (arith, k))
-          | inr t ↦ (let k = h.bound u c best.0 in omega (arith, k, t.3, small w))
+        low = λ w l at. elim (r.made w l at) [
+          | inl before ↦ (let k = h.low w l before in omega (arith, k))
+          | inr t ↦ (let k = h.low u c best.has in omega (arith, k, t.3, small w))
         ];
       }
     where
       by_target : (e : Edge) → HasEdge edges e → e.from.0 ≡ u → (d : Bool) → done (slice_set settled u true) e.to.0 ≡ d → AtMost new e.to.0 (c + price e.to.0)
-      by_target e has leaves false is = (let row = in_rows edges u e has leaves in r.reached row.0 e (edge_within (rows_from edges u) row.0 e row.1) row.1 is)
+      by_target e has leaves false is = (let row = in_rows edges u e has leaves in r.reached row.0 e (slice_get_within (rows_from edges u) row.0 e row.1) row.1 is)
       by_target e has leaves true is = elim (cases_eq e.to.0 u) [
-        | inl same ↦ (c, r.fixed e.to.0 is ∙ (ap (label labels) same ∙ best.0), omega arith)
+        | inl same ↦ (c, r.fixed e.to.0 is ∙ (ap (label labels) same ∙ best.has), omega arith)
         | inr other ↦ (
             let was : done settled e.to.0 ≡ true = sym (get_or-set_other settled u e.to.0 true false other) ∙ is in
             let old = h.closed e.to.0 was in
-            let le = h.order e.to.0 u old.0 c was best.1 old.1 best.0 in
-            (old.0, r.fixed e.to.0 is ∙ old.1, omega (arith, le)))
+            let le = h.order e.to.0 u old.0 c was best.unsettled old.1 best.has in
+            let step = falls e has in
+            let from : bound e.from.0 ≡ bound u = ap bound leaves in
+            (old.0, r.fixed e.to.0 is ∙ old.1, omega (arith, le, step, from)))
       ]
-
--- one wire fewer is open
-pub opens_set : (settled : List Bool) (u : ℕ) → u < length settled → done settled u ≡ false → opens (slice_set settled u true) + 1 ≡ opens settled
-opens_set settled u lt is =
-    let e = sum_by-set (λ b. cond (not b) 1 0) settled u true false lt in
-    let was : cond (not (get_or settled u false)) 1 0 ≡ one = ap (λ b. cond (not b) 1 0) is in
-    omega (arith, e, was)
-  where
-    one : ℕ
-    one = 1
-
-pub none_open : (settled : List Bool) → opens settled ≤ length settled
-none_open settled = count_by-le-length not settled
 
 abbrev weigh : Bool → ℕ
 weigh b = cond (not b) 1 0
@@ -220,7 +137,7 @@ pub open_edges_all : (settled : List Bool) (edges : List Edge) → open_edges se
 open_edges_all settled edges = count_by-le-length (λ (e : Edge). not (done settled e.from.0)) edges
 
 -- a price is within its bound
-pub price_small : (p : Prices) → ArePrices p → (w : ℕ) → price_of p w ≤ 2 ^ 44
+pub price_small : (p : Prices) → ArePrices p → (w : ℕ) → price_of p w ≤ 17046213234436
 price_small p h w =
     let a : (p.round - 1) * slice_index p.others.items w ≤ 63 * 65535 = mul-le (p.round - 1) (slice_index p.others.items w) 63 65535 (omega (arith, h.last)) (h.others w) in
     let b : price_of p w ≤ 4128706 * 4128706 = mul-le (1 + slice_index p.history.items w) (1 + (p.round - 1) * slice_index p.others.items w) 4128706 4128706 (omega (arith, h.history w)) (omega arith) in
@@ -230,3 +147,10 @@ pub price_positive : (p : Prices) (w : ℕ) → 1 ≤ price_of p w
 price_positive p w =
     let a : 1 * 1 ≤ price_of p w = mul-le 1 1 (1 + slice_index p.history.items w) (1 + (p.round - 1) * slice_index p.others.items w) (omega arith) (omega arith) in
     omega arith
+
+-- the least bound falls along each edge by no more than a price
+pub bounds_fall_by : (graph : Network) (targets : List WireNo) (p : Prices) → BoundsFall graph → FallsBy graph.edges (price_of p) (least_bound graph targets)
+bounds_fall_by graph targets p falls e has =
+    let one' = least_falls graph falls targets has.0 e has.1 in
+    let pos = price_positive p e.to.0 in
+    omega (arith, one', pos)

@@ -4,7 +4,7 @@ use Rattle.std.proofs.lemmas.Bool.{cases_eq}
 use Rattle.std.proofs.lemmas.List.Elements.{All-nil}
 use Rattle.std.specs.List.{All}
 use Rattle.ice_base.specs.declared.number.WireNo.{WireNo}
-use Rattle.ice_path.specs.Search.{label, done, AtMost, Entry, Starts, Queues}
+use Rattle.ice_path.specs.Search.{label, done, SumsToAtMost, Entry, Starts, Queues}
 
 pub starts_none : (tree : List WireNo) (labels : List (Option ℕ)) (settled : List Bool) → ((w : ℕ) → label labels w ≡ None) → ((w : ℕ) → done settled w ≡ false) → Starts tree 0 labels settled
 starts_none tree labels settled fresh open' = record {
@@ -55,8 +55,8 @@ starts_new tree k labels settled wire lt is at h =
     }
 
 -- an empty queue, where no wire has a label
-pub queues_none : (settled : List Bool) (labels : List (Option ℕ)) (queue : List Entry) → queue ≡ [] → ((w : ℕ) → label labels w ≡ None) → Queues settled labels queue
-queues_none settled labels queue empty fresh = record {
+pub queues_none : (bound : ℕ → ℕ) (settled : List Bool) (labels : List (Option ℕ)) (queue : List Entry) → queue ≡ [] → ((w : ℕ) → label labels w ≡ None) → Queues bound settled labels queue
+queues_none bound settled labels queue empty fresh = record {
   waits = λ w l e open'. (let bad : Some l ≡ None = sym e ∙ fresh w in absurd (cc));
-  sound = subst (All (λ (x : Entry). AtMost labels x.1 x.0.0)) (sym empty) (All-nil (λ (x : Entry). AtMost labels x.1 x.0.0));
+  sound = subst (All (λ (x : Entry). SumsToAtMost bound labels x.1 x.0.0)) (sym empty) (All-nil (λ (x : Entry). SumsToAtMost bound labels x.1 x.0.0));
 }

@@ -8,14 +8,10 @@ use Rattle.ice_base.specs.declared.number.WireNo.{WireNo}
 use Rattle.ice_graph.specs.declared.edge.Edge.{Edge}
 use Rattle.ice_graph.specs.Rows.{rows_into}
 use Rattle.ice_graph.specs.Network.{AreBetween}
-use Rattle.ice_path.specs.Walks.{IsLabel, InTree}
+use Rattle.ice_path.specs.Walks.{HasEdge, IsLabel, InTree}
 use Rattle.ice_path.specs.Paths.{MakesLabel, IsStepBack, LeadBack, IsTaken}
-use Rattle.ice_path.specs.Search.{label, AreExact, IsFirstFrom}
-use Rattle.ice_path.proofs.Taking.{label_unique, tree_label, zero_in_tree, step_there, of_rows_into}
-
--- labels that are exact below c are so below less
-pub exact_less : (edges : List Edge) (price : ℕ → ℕ) (tree : List WireNo) (c d : ℕ) (labels : List (Option ℕ)) → d < c → AreExact edges price tree c labels → AreExact edges price tree d labels
-exact_less edges price tree c d labels lt h = record { least = λ w l at less. h.least w l at (omega arith); there = λ w l is less. h.there w l is (omega arith) }
+use Rattle.ice_path.specs.Search.{label, AreExactBehind, IsFirstFrom}
+use Rattle.ice_path.proofs.Taking.{label_unique, tree_label, zero_in_tree, source_label, step_there, of_rows_into}
 
 -- the rows into a wire come from wires of the graph
 pub rows_of : (edges : List Edge) (n w k : ℕ) (e : Edge) → AreBetween n edges → slice_get (rows_into edges w) k ≡ Some e → e.from.0 < n
@@ -70,21 +66,35 @@ module _ (edges : List Edge) (price : ℕ → ℕ) (tree : List WireNo) (positiv
   pub price_within : price w ≤ c
   price_within = let t = step_there edges price tree positive w c more is in omega (arith, t.4)
 
-  module _ (labels : List (Option ℕ)) (exact : AreExact edges price tree c labels) where
-    labelled : (d : Edge) → MakesLabel edges price tree w d → label labels d.from.0 ≡ Some (c - price w)
-    labelled d makes =
+  module _ (labels : List (Option ℕ)) (h : AreExactBehind edges price tree labels w c) where
+    -- the source of a row into the wire is near where it makes the label
+    near_source : (d : Edge) (l : ℕ) → HasEdge (rows_into edges w) d → l + price w ≡ c → l + h.bound d.from.0 ≤ h.most
+    near_source d l row makes =
+        let into = of_rows_into edges w d row in
+        let step = h.falls d into.0 in
+        let paid : price d.to.0 ≡ price w = ap price into.1 in
+        let to : h.bound d.to.0 ≡ h.bound w = ap h.bound into.1 in
+        let near = h.near in
+        omega (arith, step, paid, to, near, makes)
+
+    labelled : (d : Edge) → HasEdge (rows_into edges w) d → MakesLabel edges price tree w d → label labels d.from.0 ≡ Some (c - price w)
+    labelled d row makes =
         let sums = label_unique edges price tree w (makes.0 + price w) c makes.2 is in
         let same : makes.0 ≡ c - price w = omega (arith, sums) in
-        exact.there d.from.0 makes.0 makes.1 (omega (arith, sums, positive w)) ∙ ap (λ k. Some k) same
+        h.exact.there d.from.0 makes.0 makes.1 (near_source d makes.0 row sums) ∙ ap (λ k. Some k) same
 
     -- some row has a source of the label that is left
     pub row_there : IsFirstFrom labels (c - price w) (rows_into edges w) None → ⊥
     row_there none =
         let t = step_there edges price tree positive w c more is in
-        none t.2.0 t.0 t.2.1 (labelled t.0 (t.1, t.3, subst (IsLabel edges price tree w) (sym t.4) is))
+        none t.2.0 t.0 t.2.1 (labelled t.0 t.2 (t.1, t.3, subst (IsLabel edges price tree w) (sym t.4) is))
 
     pub source_is : (e : Edge) → IsFirstFrom labels (c - price w) (rows_into edges w) (Some e) → IsLabel edges price tree e.from.0 (c - price w)
-    source_is e t = exact.least e.from.0 (c - price w) t.2 (omega (arith, price_within, positive w))
+    source_is e t = source_label edges price tree w c (c - price w) e is (t.0, t.1) (h.exact.attained e.from.0 (c - price w) t.2) (omega (arith, price_within))
+
+    -- the labels are exact behind the source, too
+    pub exact_behind : (e : Edge) → IsFirstFrom labels (c - price w) (rows_into edges w) (Some e) → AreExactBehind edges price tree labels e.from.0 (c - price w)
+    exact_behind e t = record { bound = h.bound; most = h.most; falls = h.falls; exact = h.exact; near = near_source e (c - price w) (t.0, t.1) (omega (arith, price_within)) }
 
     -- the first such row is the step back
     pub first_is_step : (e : Edge) → IsFirstFrom labels (c - price w) (rows_into edges w) (Some e) → IsStepBack edges price tree w e
@@ -94,7 +104,7 @@ module _ (edges : List Edge) (price : ℕ → ℕ) (tree : List WireNo) (positiv
           place = t.0;
           stands = t.1;
           makes = (c - price w, source_is e t, subst (IsLabel edges price tree w) sums is);
-          first = λ k d lt at makes. t.3 k d lt at (labelled d makes);
+          first = λ k d lt at makes. t.3 k d lt at (labelled d (k, at) makes);
         }
 
 -- edges that lead back, with those behind them

@@ -2,3 +2,4 @@ pub mod Walks
 pub mod Search
 pub mod Paths
 pub mod Room
+pub mod Bounds

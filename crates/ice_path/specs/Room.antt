@@ -7,11 +7,12 @@ use Rattle.ice_graph.specs.declared.edge.Edge.{Edge}
 use Rattle.ice_path.specs.declared.scratch.Scratch.TheInside.{Inside}
 use Rattle.ice_path.specs.Search.{label, done, sooner}
 
--- for graphs of how many wires and how many edges there is room, and the path of the last search if it found one
+-- for graphs of how many wires and how many edges there is room, and of the last search the path if it found one, and the wires that it settled
 pub record Room : Type 0 where
   pub wires : ℕ
   pub edges : ℕ
   pub path : Option (List Edge)
+  pub settled : List WireNo
 
 -- the room is for this graph
 abbrev pub IsFor : Network → Room → Type 0
@@ -22,13 +23,13 @@ abbrev pub AreWires : ℕ → List WireNo → Type 0
 AreWires n tree = (k : ℕ) (v : WireNo) → slice_get tree k ≡ Some v → v.0 < n
 
 abbrev pub room_of : Inside → Room
-room_of a = record { wires = length a.labels.items; edges = a.edges; path = cond a.found (Some a.path.items) None }
+room_of a = record { wires = length a.labels.items; edges = a.edges; path = cond a.found (Some a.path.items) None; settled = a.order.items }
 
--- between two searches no wire has a label, none is settled or touched, the queue is empty, and a path of all wires has room
+-- between two searches no wire has a label, none is settled or touched, the queue is empty, and a path of all wires and a list of them have room
 pub record IsClear (a : Inside) : Type 0 where
-  pub long : length a.settled.items ≡ length a.labels.items
+  pub long : length a.done.items ≡ length a.labels.items
   pub fresh : (w : ℕ) → label a.labels.items w ≡ None
-  pub open_wires : (w : ℕ) → done a.settled.items w ≡ false
+  pub open_wires : (w : ℕ) → done a.done.items w ≡ false
   pub touched : a.touched.items ≡ []
   pub space : length a.labels.items ≤ vec_capacity a.touched
   pub queue : heap_items a.queue ≡ []
@@ -36,3 +37,4 @@ pub record IsClear (a : Inside) : Type 0 where
   pub order : IsHeap sooner (heap_items a.queue)
   pub room : length a.labels.items + a.edges ≤ heap_capacity a.queue
   pub path : length a.labels.items ≤ vec_capacity a.path
+  pub list : length a.labels.items ≤ vec_capacity a.order

@@ -1,12 +1,12 @@
 -- Tentative labels of wires, and what the search keeps of them.
-use Rattle.std.specs.Prelude.{◌≡◌, ℕ, ◌+◌, ◌*◌, ◌≤◌, ◌<◌, ◌⊎◌, Bool, true, false, not, count_by, List, Option, Some, None, length, slice_index_or, slice_get, slice_set}
+use Rattle.std.specs.Prelude.{◌≡◌, ℕ, ◌+◌, ◌*◌, ◌≤◌, ◌<◌, ◌⊎◌, Bool, true, false, not, count_by, eqb, nat_lt, if◌then◌else◌, List, Option, Some, None, length, slice_index_or, slice_get, slice_set}
 use Rattle.std.specs.List.{All, Contains}
 use Rattle.std.specs.Ordering.{nat_cmp, ordering_then}
 use Rattle.std.specs.declared.cmp.Ordering.{Ordering}
 use Rattle.std.specs.declared.cmp.Reverse.{Reverse}
 use Rattle.ice_base.specs.declared.number.WireNo.{WireNo}
 use Rattle.ice_graph.specs.declared.edge.Edge.{Edge}
-use Rattle.ice_path.specs.Walks.{HasEdge, HasWalk, IsLabel, InTree}
+use Rattle.ice_path.specs.Walks.{HasEdge, HasWalk, IsLabel, InTree, IsTarget, FallsBy}
 
 abbrev pub label : List (Option ℕ) → ℕ → Option ℕ
 label labels w = slice_index_or labels w None
@@ -18,12 +18,18 @@ done settled w = slice_index_or settled w false
 abbrev pub AtMost : List (Option ℕ) → ℕ → ℕ → Type 0
 AtMost labels w c = (l : ℕ) × (label labels w ≡ Some l) × (l ≤ c)
 
--- an open wire with the least label of those that aren't settled, or none where each wire with a label is settled
-abbrev pub IsLeastOpen : List (Option ℕ) → List Bool → Option (ℕ × ℕ) → Type 0
-IsLeastOpen labels settled None = (w k : ℕ) → label labels w ≡ Some k → done settled w ≡ true
-IsLeastOpen labels settled (Some r) =
-    (label labels r.0 ≡ Some r.1) × (done settled r.0 ≡ false)
-    × ((w k : ℕ) → label labels w ≡ Some k → done settled w ≡ false → r.1 ≤ k)
+-- an open wire of which label and bound make the least sum, with that sum, or none where each wire with a label is settled
+abbrev pub IsLeastOpen : (ℕ → ℕ) → List (Option ℕ) → List Bool → Option (ℕ × ℕ) → Type 0
+IsLeastOpen bound labels settled None = (w k : ℕ) → label labels w ≡ Some k → done settled w ≡ true
+IsLeastOpen bound labels settled (Some r) =
+    ((l : ℕ) × (label labels r.0 ≡ Some l) × (l + bound r.0 ≡ r.1)) × (done settled r.0 ≡ false)
+    × ((w k : ℕ) → label labels w ≡ Some k → done settled w ≡ false → r.1 ≤ k + bound w)
+
+-- the open wire u, which has the label c, is the next to be settled
+pub record IsNext (bound : ℕ → ℕ) (labels : List (Option ℕ)) (settled : List Bool) (u c : ℕ) : Type 0 where
+  pub has : label labels u ≡ Some c
+  pub unsettled : done settled u ≡ false
+  pub least : (w k : ℕ) → label labels w ≡ Some k → done settled w ≡ false → c + bound u ≤ k + bound w
 
 -- the label of w is lowered to d, unless it is no more than that
 abbrev pub Lowers : List (Option ℕ) → List (Option ℕ) → ℕ → ℕ → Type 0
@@ -37,12 +43,12 @@ pub record Relaxes (rows : List Edge) (price : ℕ → ℕ) (settled : List Bool
   pub made : (w l : ℕ) → label new w ≡ Some l → (label old w ≡ Some l) ⊎ ((e : Edge) × HasEdge rows e × (e.to.0 ≡ w) × (l ≡ c + price w))
 
 -- the search so far, with this many wires settled
-pub record Searches (edges : List Edge) (price : ℕ → ℕ) (tree : List WireNo) (most count : ℕ) (labels : List (Option ℕ)) (settled : List Bool) : Type 0 where
+pub record Searches (edges : List Edge) (price : ℕ → ℕ) (tree : List WireNo) (bound : ℕ → ℕ) (most count : ℕ) (labels : List (Option ℕ)) (settled : List Bool) : Type 0 where
   pub attained : (w l : ℕ) → label labels w ≡ Some l → HasWalk edges price tree w l
   pub closed : (w : ℕ) → done settled w ≡ true → (l : ℕ) × (label labels w ≡ Some l) × ((e : Edge) → HasEdge edges e → e.from.0 ≡ w → AtMost labels e.to.0 (l + price e.to.0))
   pub rooted : (w : ℕ) → InTree tree w → label labels w ≡ Some 0
-  pub order : (a b la lb : ℕ) → done settled a ≡ true → done settled b ≡ false → label labels a ≡ Some la → label labels b ≡ Some lb → la ≤ lb
-  pub bound : (w l : ℕ) → label labels w ≡ Some l → l ≤ count * most
+  pub order : (a b la lb : ℕ) → done settled a ≡ true → done settled b ≡ false → label labels a ≡ Some la → label labels b ≡ Some lb → la + bound a ≤ lb + bound b
+  pub low : (w l : ℕ) → label labels w ≡ Some l → l ≤ count * most
 
 -- the first n wires of the tree have the label 0, no other wire has one, and none is settled
 pub record Starts (tree : List WireNo) (n : ℕ) (labels : List (Option ℕ)) (settled : List Bool) : Type 0 where
@@ -50,29 +56,58 @@ pub record Starts (tree : List WireNo) (n : ℕ) (labels : List (Option ℕ)) (s
   pub made : (w l : ℕ) → label labels w ≡ Some l → InTree tree w × (l ≡ 0)
   pub fresh : (w : ℕ) → done settled w ≡ false
 
--- how many wires aren't settled
-abbrev pub opens : List Bool → ℕ
-opens settled = count_by not settled
-
 -- how many edges leave a wire that isn't settled
 abbrev pub open_edges : List Bool → List Edge → ℕ
 open_edges settled edges = count_by (λ e. not (done settled e.from.0)) edges
 
--- an entry of the queue: a label, and the wire that had it when the entry was made
+-- an entry of the queue: the sum of a label and a bound, and the wire that had them when the entry was made
 abbrev pub Entry : Type 0
 Entry = Reverse ℕ × ℕ
 
 abbrev pub entry : ℕ → ℕ → Entry
 entry l w = (record { 0 = l }, w)
 
--- the queue's order: the less the label, the sooner
+-- the queue's order: the less the sum, the sooner
 abbrev pub sooner : Entry → Entry → Ordering
 sooner x y = ordering_then (nat_cmp y.0.0 x.0.0) (nat_cmp x.1 y.1)
 
--- each open wire with a label waits in the queue under it, and no entry is below its wire's label
-pub record Queues (settled : List Bool) (labels : List (Option ℕ)) (queue : List Entry) : Type 0 where
-  pub waits : (w l : ℕ) → label labels w ≡ Some l → done settled w ≡ false → Contains queue (entry l w)
-  pub sound : All (λ (x : Entry). AtMost labels x.1 x.0.0) queue
+-- the wire has a label that makes with its bound at most c
+abbrev pub SumsToAtMost : (ℕ → ℕ) → List (Option ℕ) → ℕ → ℕ → Type 0
+SumsToAtMost bound labels w c = (l : ℕ) × (label labels w ≡ Some l) × (l + bound w ≤ c)
+
+-- each open wire with a label waits in the queue under the sum of label and bound, and no entry is below its wire's sum
+pub record Queues (bound : ℕ → ℕ) (settled : List Bool) (labels : List (Option ℕ)) (queue : List Entry) : Type 0 where
+  pub waits : (w l : ℕ) → label labels w ≡ Some l → done settled w ≡ false → Contains queue (entry (l + bound w) w)
+  pub sound : All (λ (x : Entry). SumsToAtMost bound labels x.1 x.0.0) queue
+
+-- how many wires aren't settled
+abbrev pub opens : List Bool → ℕ
+opens settled = count_by not settled
+
+-- the settled wires, each once, and there is room for each other wire
+pub record Lists (order : List WireNo) (settled : List Bool) : Type 0 where
+  pub once : (j k : ℕ) (v : WireNo) → slice_get order j ≡ Some v → slice_get order k ≡ Some v → j ≡ k
+  pub each : (k : ℕ) (v : WireNo) → slice_get order k ≡ Some v → done settled v.0 ≡ true
+  pub all : (w : ℕ) → done settled w ≡ true → InTree order w
+  pub room : length order + opens settled ≡ length settled
+
+-- the label of the nearest target so far: none where no target is settled; else a settled target has it, no other less, and no settled wire makes more
+abbrev pub IsNearest : (ℕ → ℕ) → List WireNo → List (Option ℕ) → List Bool → Option ℕ → Type 0
+IsNearest bound targets labels settled None = (w : ℕ) → IsTarget targets w → done settled w ≡ false
+IsNearest bound targets labels settled (Some c) =
+    ((w : ℕ) × IsTarget targets w × (done settled w ≡ true) × (label labels w ≡ Some c))
+    × ((w l : ℕ) → IsTarget targets w → done settled w ≡ true → label labels w ≡ Some l → c ≤ l)
+    × ((w l : ℕ) → done settled w ≡ true → label labels w ≡ Some l → l + bound w ≤ c)
+
+-- the nearest target's label once a wire of this label and this sum is settled, too
+abbrev pub nearest_after : Option ℕ → ℕ → ℕ → Option ℕ
+nearest_after (Some c) cost sum = Some c
+nearest_after None cost sum = if eqb sum cost then Some cost else None
+
+-- whether the sum is beyond the nearest target's label
+abbrev pub is_beyond : Option ℕ → ℕ → Bool
+is_beyond (Some c) sum = nat_lt c sum
+is_beyond None sum = false
 
 abbrev pub unlabelled : Option ℕ → Bool
 unlabelled None = true
@@ -89,13 +124,27 @@ pub record IsOnlyAt (wires : List ℕ) (labels : List (Option ℕ)) (settled : L
   pub labelled : (w l : ℕ) → label labels w ≡ Some l → Contains wires w
   pub closed : (w : ℕ) → done settled w ≡ true → Contains wires w
 
--- the labels below c are the labels of the definition, and each wire with such a label has it
-pub record AreExact (edges : List Edge) (price : ℕ → ℕ) (tree : List WireNo) (c : ℕ) (labels : List (Option ℕ)) : Type 0 where
-  pub least : (w l : ℕ) → label labels w ≡ Some l → l < c → IsLabel edges price tree w l
-  pub there : (w l : ℕ) → IsLabel edges price tree w l → l < c → label labels w ≡ Some l
+-- each label is the cost of a walk, and where label and bound make at most c, it is the label of the definition
+pub record AreExact (edges : List Edge) (price : ℕ → ℕ) (tree : List WireNo) (bound : ℕ → ℕ) (c : ℕ) (labels : List (Option ℕ)) : Type 0 where
+  pub attained : (w l : ℕ) → label labels w ≡ Some l → HasWalk edges price tree w l
+  pub there : (w l : ℕ) → IsLabel edges price tree w l → l + bound w ≤ c → label labels w ≡ Some l
+
+-- the labels are exact as far as one goes back from the wire w, which has the label d
+pub record AreExactBehind (edges : List Edge) (price : ℕ → ℕ) (tree : List WireNo) (labels : List (Option ℕ)) (w d : ℕ) : Type 0 where
+  pub bound : ℕ → ℕ
+  pub most : ℕ
+  pub falls : FallsBy edges price bound
+  pub exact : AreExact edges price tree bound most labels
+  pub near : d + bound w ≤ most
 
 -- the first of the rows whose source has the label l, or none where no source has it
 abbrev pub IsFirstFrom : List (Option ℕ) → ℕ → List Edge → Option Edge → Type 0
 IsFirstFrom labels l rows None = (k : ℕ) (e : Edge) → slice_get rows k ≡ Some e → label labels e.from.0 ≡ Some l → ⊥
 IsFirstFrom labels l rows (Some e) = (k : ℕ) × (slice_get rows k ≡ Some e) × (label labels e.from.0 ≡ Some l)
     × ((j : ℕ) (d : Edge) → j < k → slice_get rows j ≡ Some d → label labels d.from.0 ≡ Some l → ⊥)
+
+-- the first of the targets that has the label l, or none where no target has it
+abbrev pub IsFirstLabelled : List (Option ℕ) → ℕ → List WireNo → Option WireNo → Type 0
+IsFirstLabelled labels l targets None = (k : ℕ) (t : WireNo) → slice_get targets k ≡ Some t → label labels t.0 ≡ Some l → ⊥
+IsFirstLabelled labels l targets (Some t) = (k : ℕ) × (slice_get targets k ≡ Some t) × (label labels t.0 ≡ Some l)
+    × ((j : ℕ) (u : WireNo) → j < k → slice_get targets j ≡ Some u → label labels u.0 ≡ Some l → ⊥)

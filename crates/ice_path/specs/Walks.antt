@@ -36,3 +36,25 @@ IsLabel edges price tree w c = HasWalk edges price tree w c × IsLeast edges pri
 -- no walk leads from the tree to the wire
 abbrev pub NoWalk : List Edge → List WireNo → ℕ → Type 0
 NoWalk edges tree w = (start : ℕ) (walk : List Edge) → InTree tree start → IsWalk edges start walk w → ⊥
+
+-- the wire is one of the targets
+abbrev pub IsTarget : List WireNo → ℕ → Type 0
+IsTarget targets w = (k : ℕ) × (t : WireNo) × (slice_get targets k ≡ Some t) × (t.0 ≡ w)
+
+-- the cost of a sink with these targets: the least cost of a walk from the tree to any of them
+abbrev pub IsCostTo : List Edge → (ℕ → ℕ) → List WireNo → List WireNo → ℕ → Type 0
+IsCostTo edges price tree targets c = ((w : ℕ) × IsTarget targets w × HasWalk edges price tree w c) × ((w : ℕ) → IsTarget targets w → IsLeast edges price tree w c)
+
+-- no walk leads from the tree to any of the targets
+abbrev pub NoWalkTo : List Edge → List WireNo → List WireNo → Type 0
+NoWalkTo edges tree targets = (w : ℕ) → IsTarget targets w → NoWalk edges tree w
+
+-- the bound falls along each edge by no more than the price of the wire that the edge enters
+abbrev pub FallsBy : List Edge → (ℕ → ℕ) → (ℕ → ℕ) → Type 0
+FallsBy edges price bound = (e : Edge) → HasEdge edges e → bound e.from.0 ≤ price e.to.0 + bound e.to.0
+
+-- each wire whose label and bound make at most c, once, and no other
+pub record AreSettled (edges : List Edge) (price : ℕ → ℕ) (tree : List WireNo) (bound : ℕ → ℕ) (c : ℕ) (wires : List WireNo) : Type 0 where
+  pub once : (j k : ℕ) (v : WireNo) → slice_get wires j ≡ Some v → slice_get wires k ≡ Some v → j ≡ k
+  pub each : (k : ℕ) (v : WireNo) → slice_get wires k ≡ Some v → (l : ℕ) × IsLabel edges price tree v.0 l × (l + bound v.0 ≤ c)
+  pub all : (w l : ℕ) → IsLabel edges price tree w l → l + bound w ≤ c → InTree wires w

@@ -2,9 +2,11 @@
 ghost use Rattle.std.specs.Prelude.{◌≡◌, ◌+◌, ◌<◌, ◌≤◌, ℕ, [], List, Option, Some, length, slice_get, vec_capacity, IfSome, OnSome};
 ghost use Rattle.ice_core.specs.Congestion.{ArePrices, price};
 ghost use Rattle.ice_graph.specs.declared.edge.Edge.{Edge as Row};
-ghost use Rattle.ice_path.specs.Search.{AreExact, IsFirstFrom, label};
-ghost use Rattle.ice_path.specs.Walks.{IsLabel};
-ghost use Rattle.ice_path.specs.Paths.{IsStepBack, IsTaken};
+ghost use Rattle.ice_path.specs.Search.{AreExact, AreExactBehind, IsFirstFrom, IsFirstLabelled, label};
+ghost use Rattle.ice_graph.specs.Network.{least_bound};
+ghost use Rattle.ice_path.specs.Room.{AreWires};
+ghost use Rattle.ice_path.specs.Walks.{IsCostTo, IsLabel};
+ghost use Rattle.ice_path.specs.Paths.{IsStepBack, IsTaken, IsTakenTo, IsTargetTaken};
 
 use ice_base::WireNo;
 use ice_core::Prices;
@@ -36,10 +38,11 @@ fn step_back(
     requires lengths { (length prices.now.history.items ≡ graph.now.wires) × (length labels.now ≡ graph.now.wires) }
     requires wire { wire < graph.now.wires }
     requires label { IsLabel graph.now.edges (price prices.now) tree.now wire cost }
-    requires exact { AreExact graph.now.edges (price prices.now) tree.now cost labels.now }
+    requires exact { AreExactBehind graph.now.edges (price prices.now) tree.now labels.now wire cost }
     requires positive { 0 < cost }
     ensures step { IsStepBack graph.now.edges (price prices.now) tree.now wire result.0 }
     ensures source { IsLabel graph.now.edges (price prices.now) tree.now result.0.from.0 result.1 }
+    ensures exact { AreExactBehind graph.now.edges (price prices.now) tree.now labels.now result.0.from.0 result.1 }
     ensures labelled { label labels.now result.0.from.0 ≡ Some result.1 }
     ensures less { result.1 < cost }
     ensures within { result.0.from.0 < graph.now.wires }
@@ -66,7 +69,7 @@ fn walk_back(
     requires lengths { (length prices.now.history.items ≡ graph.now.wires) × (length labels.now ≡ graph.now.wires) }
     requires target { target < graph.now.wires }
     requires label { IsLabel graph.now.edges (price prices.now) tree.now target cost }
-    requires exact { AreExact graph.now.edges (price prices.now) tree.now cost labels.now }
+    requires exact { AreExactBehind graph.now.edges (price prices.now) tree.now labels.now target cost }
     requires path { path.old.items ≡ [] }
     requires space { graph.now.wires ≤ vec_capacity path.old }
     ensures taken { IsTaken graph.now.edges (price prices.now) tree.now target path.new.items }
@@ -82,28 +85,65 @@ fn walk_back(
     path.reverse();
 }
 
-// Appends the taken path to the target, where it has a label.
+// The first of the targets that has this label.
+fn first_labelled(targets: &[WireNo], labels: &[Option<u64>], cost: u64) -> Option<WireNo>
+    requires within { AreWires (length labels.now) targets.now }
+    ensures { IsFirstLabelled labels.now cost targets.now result }
+{
+    for target in targets {
+        if labels[target.0 as usize] == Some(cost) {
+            return Some(*target);
+        }
+    }
+    None
+}
+
+// The target taken, where this is the cost of the sink.
+fn taken_target(
+    graph: &Graph,
+    prices: &Prices,
+    tree: &[WireNo],
+    targets: &[WireNo],
+    labels: &[Option<u64>],
+    cost: u64,
+) -> WireNo
+    requires lengths { length labels.now ≡ graph.now.wires }
+    requires targets { AreWires graph.now.wires targets.now }
+    requires cost { IsCostTo graph.now.edges (price prices.now) tree.now targets.now cost }
+    requires exact { AreExact graph.now.edges (price prices.now) tree.now (least_bound graph.now targets.now) cost labels.now }
+    ensures { IsTargetTaken graph.now.edges (price prices.now) tree.now targets.now result cost }
+{
+    let (_graph, _prices, _tree) = (graph, prices, tree);
+    let Some(target) = first_labelled(targets, labels, cost) else {
+        unreachable!()
+    };
+    target
+}
+
+// Appends the taken path to the targets, where there is one.
 pub fn take_path(
     graph: &Graph,
     prices: &Prices,
     tree: &[WireNo],
+    targets: &[WireNo],
     labels: &[Option<u64>],
-    target: u32,
     cost: Option<u64>,
     path: &mut Vec<Edge>,
 )
     requires prices { ArePrices prices.now }
     requires lengths { (length prices.now.history.items ≡ graph.now.wires) × (length labels.now ≡ graph.now.wires) }
-    requires target { target < graph.now.wires }
-    requires label { IfSome cost (IsLabel graph.now.edges (price prices.now) tree.now target) }
-    requires exact { IfSome cost (λ c. AreExact graph.now.edges (price prices.now) tree.now c labels.now) }
+    requires targets { AreWires graph.now.wires targets.now }
+    requires cost { IfSome cost (IsCostTo graph.now.edges (price prices.now) tree.now targets.now) }
+    requires exact { IfSome cost (λ c. AreExact graph.now.edges (price prices.now) tree.now (least_bound graph.now targets.now) c labels.now) }
     requires path { path.old.items ≡ [] }
     requires space { graph.now.wires ≤ vec_capacity path.old }
-    ensures taken { OnSome cost (IsTaken graph.now.edges (price prices.now) tree.now target path.new.items) }
+    ensures taken { OnSome cost (IsTakenTo graph.now.edges (price prices.now) tree.now targets.now path.new.items) }
     ensures space { vec_capacity path.new ≡ vec_capacity path.old }
 {
     let Some(cost) = cost else {
         return;
     };
-    walk_back(graph, prices, tree, labels, target, cost, path);
+    let _edges = graph.edges();
+    let target = taken_target(graph, prices, tree, targets, labels, cost);
+    walk_back(graph, prices, tree, labels, target.0, cost, path);
 }

@@ -1,4 +1,4 @@
-//! Cheapest paths: the least cost of a walk from a route tree to a sink, and the taken path.
+//! Cheapest paths: the least cost of a walk from a route tree to a sink, and the taken path to one of its targets.
 #![tactic(auto)]
 
 mod back;
@@ -9,9 +9,4 @@ mod scratch;
 mod search;
 mod start;
 
-pub use scratch::{Scratch, connect, path};
-
-#[cfg(test)]
-mod generated;
-#[cfg(test)]
-mod tests;
+pub use scratch::{Scratch, connect, path, settled};

@@ -1,11 +1,12 @@
 //! The memory of a search.
-ghost use Rattle.std.specs.Prelude.{◌≡◌, ◌+◌, ◌<◌, ◌≤◌, ◌^◌, ℕ, [], Bool, List, Option, None, false, length, vec_capacity, Some, is_some, IsSome, OnSome, IfOk, IfSome, IfNone};
+ghost use Rattle.std.specs.Prelude.{◌≡◌, ◌+◌, ◌*◌, ◌<◌, ◌≤◌, ◌^◌, ℕ, [], Bool, List, Option, None, false, length, vec_capacity, Some, is_some, IsSome, OnSome, IfOk, IfSome, IfNone};
 ghost use Rattle.std.specs.BinaryHeap.{IsHeap, heap_items, heap_len, heap_capacity};
 ghost use Rattle.ice_path.specs.Search.{label, done, sooner};
 ghost use Rattle.ice_core.specs.Congestion.{ArePrices, price};
 ghost use Rattle.ice_path.specs.Room.{IsFor, AreWires};
-ghost use Rattle.ice_path.specs.Walks.{IsLabel, NoWalk};
-ghost use Rattle.ice_path.specs.Paths.{IsTaken};
+ghost use Rattle.ice_graph.specs.Network.{least_bound};
+ghost use Rattle.ice_path.specs.Walks.{AreSettled, IsCostTo, NoWalkTo};
+ghost use Rattle.ice_path.specs.Paths.{IsTakenTo};
 
 use crate::back::take_path;
 use crate::clear::wipe;
@@ -19,15 +20,16 @@ use std::alloc::Global;
 use std::collections::BinaryHeap;
 use std::marker::Model;
 
-/// The memory of a search in a graph, taken once and used for each search after another, and the path of the
-/// last search.
+/// The memory of a search in a graph, taken once and used for each search after another, and of the last search
+/// the path and the wires that it settled.
 #[derive(Drop)]
 pub struct Scratch {
     labels: Vec<Option<u64>>,
-    settled: Vec<bool>,
+    done: Vec<bool>,
     touched: Vec<u32>,
     queue: Queue,
     edges: usize,
+    order: Vec<WireNo>,
     path: Vec<Edge>,
     found: bool,
 }
@@ -51,56 +53,59 @@ impl Scratch {
         ensures { IfOk result (IsFor graph.now) }
     {
         let wires = graph.wires() as usize;
+        let (labels, done) = marks(alloc, wires)?;
+        let (touched, order, path) = lists(alloc, wires)?;
         let edges = graph.edges().len();
-        let labels = vec![in alloc; None; wires]?;
-        let settled = vec![in alloc; false; wires]?;
-        let touched = Vec::with_capacity(alloc, wires)?;
         let queue = BinaryHeap::with_capacity(alloc, wires + edges)?;
-        let path = Vec::with_capacity(alloc, wires)?;
         Ok(Scratch {
             labels,
-            settled,
+            done,
             touched,
             queue,
             edges,
+            order,
             path,
             found: false,
         })
     }
 }
 
-/// The least cost of a walk from the tree to the target, or None where no walk leads there. The cost of a
-/// walk is the sum of the prices of the wires that it enters, and the least is below 2^63. The scratch keeps
-/// the taken path of that cost, which `path` gives.
+/// The least cost of a walk from the tree to one of the targets, or None where no walk leads to any of them. The
+/// cost of a walk is the sum of the prices of the wires that it enters. With one price and one bound added the
+/// least cost is below 2^64. The scratch keeps the taken path of that cost, which `path` gives, to the first of the
+/// targets that can be reached at it.
 ///
-/// The scratch was made for this graph, and the prices are for its wires. The target and the wires of the
-/// tree are wires of the graph. It takes no memory.
+/// The scratch was made for this graph, and the prices are for its wires. The targets, of which there is one at
+/// least, and the wires of the tree are wires of the graph. It takes no memory.
 pub fn connect(
     graph: &Graph,
     prices: &Prices,
     tree: &Tree,
-    target: WireNo,
+    targets: &[WireNo],
     scratch: &mut Scratch,
 ) -> Option<u64>
     requires prices { ArePrices prices.now }
     requires wires { length prices.now.history.items ≡ graph.now.wires }
     requires tree { AreWires graph.now.wires tree.now.wires.items }
-    requires target { target.0 < graph.now.wires }
+    requires targets { AreWires graph.now.wires targets.now }
+    requires some { 0 < length targets.now }
     requires scratch { IsFor graph.now scratch.old }
-    ensures some { IfSome result (IsLabel graph.now.edges (price prices.now) tree.now.wires.items target.0) }
-    ensures bound { IfSome result (λ cost. cost < 9223372036854775808) }
-    ensures none { IfNone result (NoWalk graph.now.edges tree.now.wires.items target.0) }
+    ensures some { IfSome result (IsCostTo graph.now.edges (price prices.now) tree.now.wires.items targets.now) }
+    ensures bound { IfSome result (λ cost. cost + 17046213234436 + 131071 < 2 ^ 64) }
+    ensures none { IfNone result (NoWalkTo graph.now.edges tree.now.wires.items targets.now) }
     ensures found { is_some scratch.new.path ≡ is_some result }
-    ensures path { IfSome scratch.new.path (IsTaken graph.now.edges (price prices.now) tree.now.wires.items target.0) }
+    ensures path { IfSome scratch.new.path (IsTakenTo graph.now.edges (price prices.now) tree.now.wires.items targets.now) }
+    ensures settled { IfSome result (λ cost. AreSettled graph.now.edges (price prices.now) tree.now.wires.items (least_bound graph.now targets.now) cost scratch.new.settled) }
     ensures scratch { IsFor graph.now scratch.new }
 {
     let cost = find(
         graph,
         prices,
         &tree.wires,
-        target.0,
+        targets,
         &mut scratch.labels,
-        &mut scratch.settled,
+        &mut scratch.done,
+        &mut scratch.order,
         &mut scratch.touched,
         &mut scratch.queue,
         &mut scratch.path,
@@ -110,7 +115,7 @@ pub fn connect(
 }
 
 /// The path of the last search, which found one: the edges of the taken path in order, from the tree to the
-/// target. It is empty where the target is a wire of the tree. It takes no memory.
+/// target taken. It is empty where that is a wire of the tree. It takes no memory.
 pub fn path(scratch: &Scratch) -> &[Edge]
     requires { IsSome scratch.now.path }
     ensures { scratch.now.path ≡ Some result.now }
@@ -118,16 +123,49 @@ pub fn path(scratch: &Scratch) -> &[Edge]
     &scratch.path
 }
 
-// The least cost of a walk to the target, from memory that is clear. It leaves the memory clear, and the
-// taken path where there is one.
+/// The wires that the last search settled, which found a path: each wire of which label and bound make at most
+/// the cost of the path, once, and no other. It takes no memory.
+pub fn settled(scratch: &Scratch) -> &[WireNo]
+    requires { IsSome scratch.now.path }
+    ensures { result.now ≡ scratch.now.settled }
+{
+    &scratch.order
+}
+
+// No label and no mark for each wire.
+fn marks(alloc: Global, wires: usize) -> Result<(Vec<Option<u64>>, Vec<bool>), NoMemory>
+    ensures long { IfOk result (λ r. (length r.0.items ≡ wires) × (length r.1.items ≡ wires)) }
+    ensures fresh { IfOk result (λ r. (w : ℕ) → label r.0.items w ≡ None) }
+    ensures open_wires { IfOk result (λ r. (w : ℕ) → done r.1.items w ≡ false) }
+{
+    let labels = vec![in alloc; None; wires]?;
+    let done = vec![in alloc; false; wires]?;
+    Ok((labels, done))
+}
+
+// Empty lists with room for each wire: of touched ones, of settled ones, and a path.
+fn lists(alloc: Global, wires: usize) -> Result<(Vec<u32>, Vec<WireNo>, Vec<Edge>), NoMemory>
+    ensures touched { IfOk result (λ r. (r.0.items ≡ []) × (wires ≤ vec_capacity r.0)) }
+    ensures settled { IfOk result (λ r. wires ≤ vec_capacity r.1) }
+    ensures path { IfOk result (λ r. wires ≤ vec_capacity r.2) }
+{
+    let touched = Vec::with_capacity(alloc, wires)?;
+    let order = Vec::with_capacity(alloc, wires)?;
+    let path = Vec::with_capacity(alloc, wires)?;
+    Ok((touched, order, path))
+}
+
+// The least cost of a walk to one of the targets, from memory that is clear. It leaves the memory clear but for the
+// wires that were settled, and the taken path where there is one.
 #[tactic(auto, using(crate::proofs::Touching::touches_none, crate::proofs::Touching::only_at))]
 fn find(
     graph: &Graph,
     prices: &Prices,
     tree: &[WireNo],
-    target: u32,
+    targets: &[WireNo],
     labels: &mut [Option<u64>],
     settled: &mut [bool],
+    order: &mut Vec<WireNo>,
     touched: &mut Vec<u32>,
     queue: &mut Queue,
     path: &mut Vec<Edge>,
@@ -135,19 +173,23 @@ fn find(
     requires prices { ArePrices prices.now }
     requires lengths { (length prices.now.history.items ≡ graph.now.wires) × (length labels.old ≡ graph.now.wires) × (length settled.old ≡ graph.now.wires) }
     requires tree { AreWires graph.now.wires tree.now }
-    requires target { target < graph.now.wires }
+    requires targets { AreWires graph.now.wires targets.now }
+    requires some { 0 < length targets.now }
     requires labels { (w : ℕ) → label labels.old w ≡ None }
     requires settled { (w : ℕ) → done settled.old w ≡ false }
+    requires list { graph.now.wires ≤ vec_capacity order.old }
     requires touched { touched.old.items ≡ [] }
     requires space { graph.now.wires ≤ vec_capacity touched.old }
     requires queue { (heap_items queue.old ≡ []) × (heap_len queue.old ≡ 0) × IsHeap sooner (heap_items queue.old) }
     requires room { graph.now.wires + length graph.now.edges ≤ heap_capacity queue.old }
     requires path { graph.now.wires ≤ vec_capacity path.old }
-    ensures some { IfSome result (IsLabel graph.now.edges (price prices.now) tree.now target) }
-    ensures bound { IfSome result (λ cost. cost < 2 ^ 63) }
-    ensures taken { OnSome result (IsTaken graph.now.edges (price prices.now) tree.now target path.new.items) }
+    ensures some { IfSome result (IsCostTo graph.now.edges (price prices.now) tree.now targets.now) }
+    ensures bound { IfSome result (λ cost. cost ≤ 1048575 * 17046213234436) }
+    ensures taken { OnSome result (IsTakenTo graph.now.edges (price prices.now) tree.now targets.now path.new.items) }
     ensures path { vec_capacity path.new ≡ vec_capacity path.old }
-    ensures none { IfNone result (NoWalk graph.now.edges tree.now target) }
+    ensures none { IfNone result (NoWalkTo graph.now.edges tree.now targets.now) }
+    ensures listed { IfSome result (λ cost. AreSettled graph.now.edges (price prices.now) tree.now (least_bound graph.now targets.now) cost order.new.items) }
+    ensures list { vec_capacity order.new ≡ vec_capacity order.old }
     ensures labels { (w : ℕ) → label labels.new w ≡ None }
     ensures settled { (w : ℕ) → done settled.new w ≡ false }
     ensures touched { touched.new.items ≡ [] }
@@ -156,9 +198,12 @@ fn find(
     ensures capacity { heap_capacity queue.old ≤ heap_capacity queue.new }
 {
     path.clear();
-    root_all(labels, touched, queue, tree, settled);
-    let cost = search(graph, prices, tree, target, labels, settled, touched, queue);
-    take_path(graph, prices, tree, labels, target, cost, path);
+    order.clear();
+    root_all(graph, targets, labels, touched, queue, tree, settled);
+    let cost = search(
+        graph, prices, tree, targets, labels, settled, order, touched, queue,
+    );
+    take_path(graph, prices, tree, targets, labels, cost, path);
     wipe(labels, settled, touched);
     touched.clear();
     queue.clear();

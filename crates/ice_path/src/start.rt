@@ -2,22 +2,35 @@
 ghost use Rattle.std.specs.Prelude.{◌≡◌, ◌+◌, ◌<◌, ◌≤◌, ℕ, [], ◌∷◌, Bool, List, Option, length, slice_get, true, false, None, Some, vec_capacity};
 ghost use Rattle.std.specs.BinaryHeap.{IsHeap, heap_items, heap_len, heap_capacity};
 ghost use Rattle.ice_base.specs.declared.number.WireNo.{WireNo as Wire};
+ghost use Rattle.ice_graph.specs.Network.{least_bound};
+ghost use Rattle.ice_path.specs.Room.{AreWires};
 ghost use Rattle.ice_path.specs.Search.{Queues, Touches, Starts, sooner, done, label};
 
 use crate::queue::Queue;
 use crate::search::mark;
 use ice_base::WireNo;
+use ice_graph::Graph;
 
 // Gives a wire of the tree the label 0, unless it has it already.
 #[tactic(auto, using(crate::proofs::Touching::touched_new, crate::proofs::Touching::room_left, crate::proofs::Touching::no_label, crate::proofs::Starting::starts_again, crate::proofs::Starting::starts_new))]
-fn root(labels: &mut [Option<u64>], touched: &mut Vec<u32>, queue: &mut Queue, wire: WireNo)
+fn root(
+    graph: &Graph,
+    targets: &[WireNo],
+    labels: &mut [Option<u64>],
+    touched: &mut Vec<u32>,
+    queue: &mut Queue,
+    wire: WireNo,
+)
+    requires wires { length labels.old ≡ graph.now.wires }
+    requires targets { AreWires graph.now.wires targets.now }
+    requires some { 0 < length targets.now }
     requires within { wire.0 < length labels.old }
     requires order { IsHeap sooner (heap_items queue.old) }
     requires room { (heap_len queue.old ≤ length touched.old.items) × (length labels.old ≤ heap_capacity queue.old) }
     requires touches { Touches labels.old touched.old.items }
     requires space { length labels.old ≤ vec_capacity touched.old }
     ensures starts { (tree : List Wire) (k : ℕ) (settled : List Bool) → slice_get tree k ≡ Some wire → Starts tree k labels.old settled → Starts tree (k + 1) labels.new settled }
-    ensures waits { (settled : List Bool) → Queues settled labels.old (heap_items queue.old) → Queues settled labels.new (heap_items queue.new) }
+    ensures waits { (settled : List Bool) → Queues (least_bound graph.now targets.now) settled labels.old (heap_items queue.old) → Queues (least_bound graph.now targets.now) settled labels.new (heap_items queue.new) }
     ensures order { IsHeap sooner (heap_items queue.new) }
     ensures room { heap_len queue.new ≤ length touched.new.items }
     ensures capacity { heap_capacity queue.old ≤ heap_capacity queue.new }
@@ -28,18 +41,23 @@ fn root(labels: &mut [Option<u64>], touched: &mut Vec<u32>, queue: &mut Queue, w
         return;
     }
     touched.push_reserved(wire.0);
-    mark(labels, queue, wire.0, 0);
+    mark(graph, targets, labels, queue, wire.0, 0);
 }
 
 // Gives the wires of the tree the label 0.
 #[tactic(auto, using(crate::proofs::Starting::starts_none, crate::proofs::Starting::queues_none))]
 pub fn root_all(
+    graph: &Graph,
+    targets: &[WireNo],
     labels: &mut [Option<u64>],
     touched: &mut Vec<u32>,
     queue: &mut Queue,
     tree: &[WireNo],
     settled: &[bool],
 )
+    requires wires { length labels.old ≡ graph.now.wires }
+    requires targets { AreWires graph.now.wires targets.now }
+    requires some { 0 < length targets.now }
     requires tree { (k : ℕ) (v : Wire) → slice_get tree.now k ≡ Some v → v.0 < length labels.old }
     requires order { IsHeap sooner (heap_items queue.old) }
     requires empty { (heap_items queue.old ≡ []) × (heap_len queue.old ≡ 0) }
@@ -49,7 +67,7 @@ pub fn root_all(
     requires touches { Touches labels.old touched.old.items }
     requires space { length labels.old ≤ vec_capacity touched.old }
     ensures starts { Starts tree.now (length tree.now) labels.new settled.now }
-    ensures waits { Queues settled.now labels.new (heap_items queue.new) }
+    ensures waits { Queues (least_bound graph.now targets.now) settled.now labels.new (heap_items queue.new) }
     ensures order { IsHeap sooner (heap_items queue.new) }
     ensures room { heap_len queue.new ≤ length touched.new.items }
     ensures capacity { heap_capacity queue.old ≤ heap_capacity queue.new }
@@ -58,6 +76,6 @@ pub fn root_all(
 {
     let _settled = settled;
     for wire in tree {
-        root(labels, touched, queue, *wire);
+        root(graph, targets, labels, touched, queue, *wire);
     }
 }

@@ -2,10 +2,10 @@ use Rattle.std.proofs.Common.{◌≡◌, ◌-◌, ◌∙◌, ℕ, List, Option, 
 use Rattle.ice_core.specs.Congestion.{price}
 use Rattle.ice_graph.specs.declared.edge.Edge.{Edge}
 use Rattle.ice_graph.specs.Rows.{rows_into}
-use Rattle.ice_path.specs.Search.{IsFirstFrom}
+use Rattle.ice_path.specs.Search.{AreExactBehind, IsFirstFrom}
 use Rattle.ice_path.specs.Walks.{IsLabel}
 use Rattle.ice_path.proofs.Settling.{price_positive}
-use Rattle.ice_path.proofs.Stepping.{rows_of, price_within, row_there, source_is, first_is_step}
+use Rattle.ice_path.proofs.Stepping.{rows_of, price_within, row_there, source_is, exact_behind, first_is_step}
 use Rattle.ice_path.proofs.back.step_back.Goals as goal
 
 pub overflow_sub-before : goal.overflow_sub-before
@@ -40,4 +40,10 @@ pub returns-clause-source : goal.returns-clause-source
 returns-clause-source c =
     subst (λ x. IsLabel c.args.graph.now.edges (price c.args.prices.now) c.args.tree.now c.in-Some.row.from.0 (c.args.cost - x)) (sym c.of.ensures.price)
     (source_is c.args.graph.now.edges (price c.args.prices.now) c.args.tree.now (price_positive c.args.prices.now) c.args.wire c.args.cost c.requires.positive c.requires.label c.args.labels.now c.requires.exact c.in-Some.row
+    (first_of_rows c.args.labels.now c.args.cost c.of.result (price c.args.prices.now c.args.wire) c.rows_into.result.now (rows_into c.args.graph.now.edges c.args.wire) (Some c.in-Some.row) c.of.ensures.price c.rows_into.ensures c.in-Some.ensures))
+
+pub returns-clause-exact : goal.returns-clause-exact
+returns-clause-exact c =
+    subst (λ x. AreExactBehind c.args.graph.now.edges (price c.args.prices.now) c.args.tree.now c.args.labels.now c.in-Some.row.from.0 (c.args.cost - x)) (sym c.of.ensures.price)
+    (exact_behind c.args.graph.now.edges (price c.args.prices.now) c.args.tree.now (price_positive c.args.prices.now) c.args.wire c.args.cost c.requires.positive c.requires.label c.args.labels.now c.requires.exact c.in-Some.row
     (first_of_rows c.args.labels.now c.args.cost c.of.result (price c.args.prices.now c.args.wire) c.rows_into.result.now (rows_into c.args.graph.now.edges c.args.wire) (Some c.in-Some.row) c.of.ensures.price c.rows_into.ensures c.in-Some.ensures))

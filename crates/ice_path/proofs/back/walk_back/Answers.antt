@@ -3,7 +3,7 @@ use Rattle.ice_core.specs.Congestion.{price}
 use Rattle.ice_path.specs.Walks.{IsLabel}
 use Rattle.ice_path.specs.Paths.{IsTaken}
 use Rattle.ice_path.proofs.Settling.{price_positive}
-use Rattle.ice_path.proofs.Stepping.{Goes, goes_on, goes_home, off_tree, exact_less, fewer_below}
+use Rattle.ice_path.proofs.Stepping.{Goes, goes_on, goes_home, off_tree, fewer_below}
 use Rattle.ice_path.proofs.back.walk_back.Goals as goal
 
 pub loop-rest-preserved : goal.loop-rest-preserved
@@ -16,7 +16,7 @@ loop-rest-preserved c =
     record {
       within = e.within;
       is = e.source;
-      exact = exact_less c.args.graph.now.edges (price c.args.prices.now) c.args.tree.now c.loop-rest.rest c.step_back-before.result.1 c.args.labels.now e.less i.exact;
+      exact = e.exact;
       goes = subst (Goes c.args.graph.now.edges (price c.args.prices.now) c.args.tree.now c.args.target row.from.0) (sym c.push_reserved.ensures.items)
           (goes_on c.args.graph.now.edges (price c.args.prices.now) c.args.tree.now c.args.target c.loop-rest.wire c.loop-rest.path.items row off e.step i.goes);
       room = omega (arith, fewer, i.room, c.push_reserved.ensures.len);

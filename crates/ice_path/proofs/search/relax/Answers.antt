@@ -1,6 +1,6 @@
 use Rattle.std.proofs.Common.{arith, ◌∙◌}
 use Rattle.ice_graph.specs.declared.edge.Edge.{Edge}
-use Rattle.ice_path.proofs.Relaxing.{edge_at}
+use Rattle.std.proofs.lemmas.Option.{slice_get-get_or}
 use Rattle.ice_path.proofs.search.relax.Goals as goal
 
 abbrev none : Edge
@@ -10,7 +10,7 @@ pub loop-row-preserved : goal.loop-row-preserved
 loop-row-preserved c =
     let i = c.loop-row.invariant in
     let e = c.relax_one.ensures in
-    let at = edge_at c.args.rows.now c.loop-row.row-index none c.loop-row-test.true in
+    let at = slice_get-get_or c.args.rows.now c.loop-row.row-index none c.loop-row-test.true in
     record {
       relaxes = e.relaxes c.args.rows.now c.loop-row.row-index c.args.labels.now at i.relaxes;
       waits = e.waits c.args.settled.now i.waits;

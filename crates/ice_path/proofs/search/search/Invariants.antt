@@ -1,17 +1,22 @@
-use Rattle.std.proofs.Common.{◌≡◌, ◌≤◌, ◌+◌, ◌^◌, length, false, vec_capacity}
+use Rattle.std.proofs.Common.{◌≡◌, ◌≤◌, ◌+◌, ◌*◌, length, false, vec_capacity}
+use Rattle.std.specs.Prelude.{IfSome}
 use Rattle.std.specs.BinaryHeap.{IsHeap, heap_items, heap_len, heap_capacity}
 use Rattle.ice_core.specs.Congestion.{price}
-use Rattle.ice_path.specs.Search.{Searches, Queues, Touches, opens, open_edges, done, sooner}
+use Rattle.ice_graph.specs.Network.{least_bound}
+use Rattle.ice_path.specs.Search.{IsNearest, Lists, Searches, Queues, Touches, opens, open_edges, sooner}
 use Rattle.ice_path.proofs.search.search.Given as goal
 
 abbrev pub invariant-loop-round : goal.invariant-loop-round
 invariant-loop-round l = record {
   labels : length l.labels ≡ l.graph.wires;
   settled : length l.settled ≡ l.graph.wires;
-  so_far : Searches l.graph.edges (price l.prices) l.tree (2 ^ 44) l._round l.labels l.settled;
-  target_open : done l.settled l.target ≡ false;
+  so_far : Searches l.graph.edges (price l.prices) l.tree (least_bound l.graph l.targets) 17046213234436 l._round l.labels l.settled;
+  nearest : IsNearest (least_bound l.graph l.targets) l.targets l.labels l.settled l.nearest;
+  low : IfSome l.nearest (λ c. c ≤ 1048575 * 17046213234436);
+  listed : Lists l.order.items l.settled;
+  list : vec_capacity l.order ≡ vec_capacity l.fn.order;
   left : opens l.settled + l._round ≤ l.graph.wires;
-  waits : Queues l.settled l.labels (heap_items l.queue);
+  waits : Queues (least_bound l.graph l.targets) l.settled l.labels (heap_items l.queue);
   order : IsHeap sooner (heap_items l.queue);
   room : heap_len l.queue + open_edges l.settled l.graph.edges ≤ heap_capacity l.queue;
   capacity : heap_capacity l.fn.queue ≤ heap_capacity l.queue;
