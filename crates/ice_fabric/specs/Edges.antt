@@ -1,5 +1,6 @@
 -- Rows of switches that a route may use, as edges between wires.
 use Rattle.std.specs.Prelude.{ℕ, ◌+◌, List, [], ◌∷◌, ◌++◌, if◌then◌else◌}
+use Rattle.ice_base.specs.declared.number.TileAt.{TileAt}
 use Rattle.ice_graph.specs.declared.edge.Edge.{Edge}
 use Rattle.ice_chip.specs.Database.{Parts, SwitchRow, SwitchGroup}
 use Rattle.ice_rows.specs.Usable.{is_usable}
@@ -19,3 +20,16 @@ edges_from parts (g ∷ groups) = edges_of parts g g.first g.rows ++ edges_from 
 -- the usable rows of a chip, in the order of their numbers
 abbrev pub usable_rows : Parts → List Edge
 usable_rows parts = edges_from parts parts.groups
+
+-- the tile of the group for each usable one of these rows
+abbrev pub places_of : Parts → SwitchGroup → ℕ → List SwitchRow → List TileAt
+places_of parts g n [] = []
+places_of parts g n (r ∷ rows) = if is_usable parts g n r then g.tile ∷ places_of parts g (n + 1) rows else places_of parts g (n + 1) rows
+
+abbrev pub places_from : Parts → List SwitchGroup → List TileAt
+places_from parts [] = []
+places_from parts (g ∷ groups) = places_of parts g g.first g.rows ++ places_from parts groups
+
+-- the tiles of the groups of the usable rows of a chip, row by row
+abbrev pub usable_places : Parts → List TileAt
+usable_places parts = places_from parts parts.groups

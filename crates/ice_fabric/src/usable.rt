@@ -1,29 +1,50 @@
 //! The graph of the usable rows of a chip.
-ghost use Rattle.std.specs.Prelude.{◌≡◌, ◌<◌, ◌≤◌, ◌+◌, ◌++◌, length, IfOk, OnOk};
+ghost use Rattle.std.specs.Prelude.{◌≡◌, ◌<◌, ◌≤◌, ◌+◌, ◌++◌, [], ◌∷◌, List, length, IfOk, OnOk, if◌then◌else◌};
 ghost use Rattle.ice_chip.specs.IsRead.{HasWiresBelow};
 ghost use Rattle.ice_chip.specs.Limits.{most_rows};
 ghost use Rattle.ice_chip.specs.Views.{row_view, group_view};
 ghost use Rattle.ice_rows.specs.Index.{IsIndexOf};
-ghost use Rattle.ice_fabric.specs.Edges.{edges_of, usable_rows};
+ghost use Rattle.ice_graph.specs.Network.{ArePlaces};
+ghost use Rattle.ice_fabric.specs.Edges.{edges_of, places_of, usable_places, usable_rows};
 
-use ice_base::{NoMemory, RowNo};
+use ice_base::{NoMemory, RowNo, TileAt};
 use ice_chip::{Chip, Group};
 use ice_graph::{Edge, Graph};
 use ice_rows::{Index, index_of, is_open, is_taken};
 use std::alloc::Global;
 
-// Adds the usable rows of a group to the edges.
-#[tactic(auto, using(ice_rows::proofs::Taken::taken, crate::proofs::GroupRows::none, ice_rows::proofs::Known::source_below))]
+// Adds an edge and the tile of its group, where its row is taken.
+fn add_row(
+    taken: bool,
+    edge: Edge,
+    tile: TileAt,
+    edges: &mut Vec<Edge>,
+    places: &mut Vec<TileAt>,
+) -> Result<(), NoMemory>
+    ensures edges { OnOk result (edges.new.items ≡ (if taken then edges.old.items ++ edge ∷ [] else edges.old.items)) }
+    ensures places { OnOk result (places.new.items ≡ (if taken then places.old.items ++ tile ∷ [] else places.old.items)) }
+{
+    if taken {
+        edges.push(edge)?;
+        places.push(tile)?;
+    }
+    Ok(())
+}
+
+// Adds the usable rows of a group to the edges, and its tile to the places for each.
+#[tactic(auto, using(ice_rows::proofs::Taken::taken, crate::proofs::GroupRows::none, crate::proofs::GroupRows::none_placed, ice_rows::proofs::Known::source_below))]
 fn add_group(
     chip: &Chip,
     index: &Index,
     group: &Group,
     edges: &mut Vec<Edge>,
+    places: &mut Vec<TileAt>,
 ) -> Result<(), NoMemory>
     requires index { IsIndexOf chip.now index.now }
     requires wires { HasWiresBelow chip.now.wires (group_view group.now) }
     requires few { group.now.first.0 + length group.now.rows.items ≤ most_rows }
-    ensures { OnOk result (edges.new.items ≡ edges.old.items ++ edges_of chip.now (group_view group.now) group.now.first.0 (group_view group.now).rows) }
+    ensures edges { OnOk result (edges.new.items ≡ edges.old.items ++ edges_of chip.now (group_view group.now) group.now.first.0 (group_view group.now).rows) }
+    ensures places { OnOk result (places.new.items ≡ places.old.items ++ places_of chip.now (group_view group.now) group.now.first.0 (group_view group.now).rows) }
 {
     if !is_open(chip, index, group) {
         return Ok(());
@@ -31,28 +52,34 @@ fn add_group(
     for k in 0..group.rows.len() {
         let row = &group.rows[k];
         let number = group.first.0 + k as u32;
-        if is_taken(chip, index, group, number, row) {
-            edges.push(Edge {
-                row: RowNo(number),
-                from: row.source,
-                to: group.wire,
-            })?;
-        }
+        let taken = is_taken(chip, index, group, number, row);
+        let edge = Edge {
+            row: RowNo(number),
+            from: row.source,
+            to: group.wire,
+        };
+        add_row(taken, edge, group.tile, edges, places)?;
     }
     Ok(())
 }
 
-// The usable rows, in row order.
-fn usable_rows(alloc: Global, chip: &Chip, index: &Index) -> Result<Vec<Edge>, NoMemory>
+// The usable rows, in row order, and the tile of the group of each.
+fn usable_rows(
+    alloc: Global,
+    chip: &Chip,
+    index: &Index,
+) -> Result<(Vec<Edge>, Vec<TileAt>), NoMemory>
     requires { IsIndexOf chip.now index.now }
-    ensures { IfOk result (λ edges. edges.items ≡ usable_rows chip.now) }
+    ensures edges { IfOk result (λ r. r.0.items ≡ usable_rows chip.now) }
+    ensures places { IfOk result (λ r. r.1.items ≡ usable_places chip.now) }
 {
     let _wires = chip.wires();
     let mut edges = Vec::new(alloc);
+    let mut places = Vec::new(alloc);
     for group in chip.groups() {
-        add_group(chip, index, group, &mut edges)?;
+        add_group(chip, index, group, &mut edges, &mut places)?;
     }
-    Ok(edges)
+    Ok((edges, places))
 }
 
 /// The graph of the rows that a route may use, as `fabric` makes it, by the index of the chip's groups.
@@ -60,14 +87,15 @@ pub fn indexed_fabric(alloc: Global, chip: &Chip, index: &Index) -> Result<Graph
     requires { IsIndexOf chip.now index.now }
     ensures wires { IfOk result (λ graph. graph.wires ≡ chip.now.wires) }
     ensures edges { IfOk result (λ graph. graph.edges ≡ usable_rows chip.now) }
+    ensures places { IfOk result (λ graph. ArePlaces graph (usable_places chip.now)) }
 {
     let wires = chip.wires();
-    let edges = usable_rows(alloc, chip, index)?;
-    Graph::new(alloc, wires, edges)
+    let (edges, places) = usable_rows(alloc, chip, index)?;
+    Graph::placed(alloc, wires, edges, places)
 }
 
 /// The graph of the rows that a route may use: its wires are those of the chip, and its edges the usable rows, in the
-/// order of their numbers. A row is usable where these hold:
+/// order of their numbers, each at the tile of its group. A row is usable where these hold:
 ///
 /// - The groups of its tile into its wire share no bit with the groups there into another wire, nor with a foreign
 ///   function of the tile's kind.
@@ -79,6 +107,7 @@ pub fn indexed_fabric(alloc: Global, chip: &Chip, index: &Index) -> Result<Graph
 pub fn fabric(alloc: Global, chip: &Chip) -> Result<Graph, NoMemory>
     ensures wires { IfOk result (λ graph. graph.wires ≡ chip.now.wires) }
     ensures edges { IfOk result (λ graph. graph.edges ≡ usable_rows chip.now) }
+    ensures places { IfOk result (λ graph. ArePlaces graph (usable_places chip.now)) }
 {
     let index = index_of(alloc, chip)?;
     indexed_fabric(alloc, chip, &index)

@@ -1,9 +1,39 @@
-use Rattle.std.proofs.Common.{◌++◌, append-nil, map, ap, sym, ◌∙◌}
+use Rattle.std.proofs.lemmas.List.{drop_more}
+use Rattle.ice_rows.proofs.Taken.{taken}
+use Rattle.std.proofs.Common.{arith, ℕ, ◌≡◌, ◌<◌, length, ◌+◌, ◌++◌, ◌∷◌, List, append-nil, drop, map, ap, sym, subst, ◌∙◌}
+use Rattle.ice_chip.specs.declared.rows.Row.{Row}
+use Rattle.ice_chip.specs.Database.{SwitchGroup}
 use Rattle.ice_chip.specs.Views.{row_view, group_view}
-use Rattle.ice_fabric.proofs.GroupRows.{none}
+use Rattle.ice_fabric.specs.Edges.{edges_of, places_of}
+use Rattle.ice_fabric.proofs.GroupRows.{none, none_placed, row_more, place_more}
 use Rattle.ice_fabric.proofs.usable.add_group.Goals as goal
 
-pub returns-then-not-is_open : goal.returns-then-not-is_open
-returns-then-not-is_open c =
+pub returns-then-not-is_open-clause-edges : goal.returns-then-not-is_open-clause-edges
+returns-then-not-is_open-clause-edges c =
     sym (ap (λ xs. c.args.edges.now.items ++ xs) (none c.args.chip.now (group_view c.args.group.now) c.args.group.now.first.0 (map row_view c.args.group.now.rows.items) (sym c.is_open.ensures ∙ c.if-not-is_open.true))
     ∙ append-nil c.args.edges.now.items)
+
+pub returns-then-not-is_open-clause-places : goal.returns-then-not-is_open-clause-places
+returns-then-not-is_open-clause-places c =
+    sym (ap (λ xs. c.args.places.now.items ++ xs) (none_placed c.args.chip.now (group_view c.args.group.now) c.args.group.now.first.0 (map row_view c.args.group.now.rows.items) (sym c.is_open.ensures ∙ c.if-not-is_open.true))
+    ∙ append-nil c.args.places.now.items)
+
+pub loop-k-preserved : goal.loop-k-preserved
+loop-k-preserved c =
+    let i = c.loop-k.invariant in
+    let g : SwitchGroup = group_view c.args.group.now in
+    let n : ℕ = c.args.group.now.first.0 + c.loop-k.k in
+    let row : Row = c.index-row.result.now in
+    let lt : c.loop-k.k < length c.args.group.now.rows.items = omega (arith, c.loop-k-test.true, c.len-k-end.ensures) in
+    let rest : List Row = drop (c.loop-k.k + 1) c.args.group.now.rows.items in
+    let split : drop c.loop-k.k c.args.group.now.rows.items ≡ row ∷ rest = drop_more c.args.group.now.rows.items c.loop-k.k row lt ∙ ap (λ (x : Row). x ∷ rest) (sym c.index-row.ensures) in
+    let usable = c.is_taken-taken.ensures ∙ sym (taken c.args.chip.now g n (row_view row) (sym c.is_open.ensures ∙ c.if-not-is_open.false)) in
+    let next : n + 1 ≡ c.args.group.now.first.0 + (c.loop-k.k + 1) = omega arith in
+    record {
+      edges = subst (λ m. c.add_row.new.edges.items ++ edges_of c.args.chip.now g m (map row_view rest) ≡ c.args.edges.now.items ++ edges_of c.args.chip.now g c.args.group.now.first.0 (map row_view c.args.group.now.rows.items)) next
+          (row_more c.args.chip.now g n (row_view row) (map row_view rest) c.loop-k.edges.items c.add_row.new.edges.items c.is_taken-taken.result usable c.in_ok-add_row.ensures.edges
+          ∙ subst (λ (xs : List Row). c.loop-k.edges.items ++ edges_of c.args.chip.now g n (map row_view xs) ≡ c.args.edges.now.items ++ edges_of c.args.chip.now g c.args.group.now.first.0 (map row_view c.args.group.now.rows.items)) split i.edges);
+      places = subst (λ m. c.add_row.new.places.items ++ places_of c.args.chip.now g m (map row_view rest) ≡ c.args.places.now.items ++ places_of c.args.chip.now g c.args.group.now.first.0 (map row_view c.args.group.now.rows.items)) next
+          (place_more c.args.chip.now g n (row_view row) (map row_view rest) c.loop-k.places.items c.add_row.new.places.items c.is_taken-taken.result usable c.in_ok-add_row.ensures.places
+          ∙ subst (λ (xs : List Row). c.loop-k.places.items ++ places_of c.args.chip.now g n (map row_view xs) ≡ c.args.places.now.items ++ places_of c.args.chip.now g c.args.group.now.first.0 (map row_view c.args.group.now.rows.items)) split i.places);
+    }

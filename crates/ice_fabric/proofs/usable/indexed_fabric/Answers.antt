@@ -1,13 +1,17 @@
-use Rattle.std.proofs.Common.{sym, subst}
+use Rattle.std.proofs.Common.{◌∙◌, length, sym, subst, ap}
 use Rattle.ice_graph.specs.Network.{AreBetween, RowsRise}
 use Rattle.ice_fabric.specs.Edges.{usable_rows}
+use Rattle.ice_fabric.proofs.GroupRows.{placed}
 use Rattle.ice_fabric.proofs.Rising.{between, rise}
 use Rattle.ice_fabric.proofs.usable.indexed_fabric.Goals as goal
 
-pub new-requires-clause-between : goal.new-requires-clause-between
-new-requires-clause-between c =
-    subst (λ edges. AreBetween c.wires-wires.result edges) (sym c.in_ok-edges.ensures)
+pub placed-requires-clause-between : goal.placed-requires-clause-between
+placed-requires-clause-between c =
+    subst (λ edges. AreBetween c.wires-wires.result edges) (sym c.in_ok-edges.ensures.edges)
     (subst (λ wires. AreBetween wires (usable_rows c.args.chip.now)) (sym c.wires-wires.ensures.wires) (between c.args.chip.now c.wires-wires.ensures.chip.read))
 
-pub new-requires-clause-rise : goal.new-requires-clause-rise
-new-requires-clause-rise c = subst RowsRise (sym c.in_ok-edges.ensures) (rise c.args.chip.now c.wires-wires.ensures.chip.read)
+pub placed-requires-clause-rise : goal.placed-requires-clause-rise
+placed-requires-clause-rise c = subst RowsRise (sym c.in_ok-edges.ensures.edges) (rise c.args.chip.now c.wires-wires.ensures.chip.read)
+
+pub placed-requires-clause-places : goal.placed-requires-clause-places
+placed-requires-clause-places c = ap length c.in_ok-edges.ensures.places ∙ (placed c.args.chip.now ∙ sym (ap length c.in_ok-edges.ensures.edges))
