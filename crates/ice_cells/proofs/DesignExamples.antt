@@ -1,5 +1,5 @@
 -- The designs of small netlists, found by computing.
-use Rattle.std.proofs.Common.{◌≡◌, ℕ, true, false, List, [], ◌∷◌, Option, Some, None, length, refl}
+use Rattle.std.proofs.Common.{◌≡◌, ℕ, true, false, List, [], ◌∷◌, Option, Some, None, length, map, refl}
 use Rattle.ice_base.specs.declared.number.SignalNo.{SignalNo}
 use Rattle.ice_net.specs.declared.cell.Cell.{Cell}
 use Rattle.ice_net.specs.declared.drive.Drive.TheVariants.{Off, Low, High}
@@ -9,6 +9,8 @@ use Rattle.ice_net.specs.declared.kind.CellKind.TheVariants.{Lut, Cover, Carry, 
 use Rattle.ice_net.specs.declared.port.Port.{Port}
 use Rattle.ice_net.specs.declared.port.Way.TheVariants.{Input, Output}
 use Rattle.ice_net.specs.NetlistData.{NetlistData}
+use Rattle.ice_lut.specs.Tables.{table_of}
+use Rattle.ice_cells.specs.declared.cell.LogicCell.{LogicCell}
 use Rattle.ice_cells.specs.declared.root.Root.{Root}
 use Rattle.ice_cells.specs.declared.root.Root.TheVariants.{PadIn, CellOut}
 use Rattle.ice_cells.specs.Clusters.{need}
@@ -112,3 +114,19 @@ adder_cells = refl
 -- one and two, with a carry in
 adder_shows : shows (design_of adder) ((true ∷ false ∷ false ∷ true ∷ true ∷ false ∷ false ∷ false ∷ []) ∷ []) ≡ (Off ∷ Off ∷ Off ∷ Off ∷ Off ∷ Low ∷ Low ∷ High ∷ []) ∷ []
 adder_shows = refl
+
+-- A flip-flop 3 takes a flip-flop 2 and stands before it: each has a cell of its own. An inverter 4 of one input ignores the others.
+abbrev shift : NetlistData
+shift = record {
+  names = [] ∷ [] ∷ [] ∷ [] ∷ [] ∷ [];
+  ports = input 0 ∷ input 1 ∷ output 3 ∷ output 4 ∷ [];
+  cells = gate (Flop false false Nothing) (wire 0 ∷ wire 2 ∷ []) 3 ∷ gate (Flop false false Nothing) (wire 0 ∷ wire 1 ∷ []) 2 ∷ gate (Cover 1 1) (wire 1 ∷ []) 4 ∷ [];
+}
+
+shift_cells : map (λ (cell : LogicCell). cell.ins) (design_of shift).cells
+    ≡ (Some (CellOut 1) ∷ None ∷ None ∷ None ∷ []) ∷ (Some (PadIn 1) ∷ None ∷ None ∷ None ∷ []) ∷ (Some (PadIn 1) ∷ None ∷ None ∷ None ∷ []) ∷ []
+shift_cells = refl
+
+shift_tables : map (λ (cell : LogicCell). cell.table) (design_of shift).cells ≡ 43690 ∷ 43690 ∷ 21845 ∷ []
+unfolding table_of
+shift_tables = refl

@@ -14,7 +14,7 @@ use Rattle.ice_cells.specs.Pairs.{luts_of, roles_of}
 use Rattle.ice_cells.specs.Tables.{table, is_place, keep, scattered}
 use Rattle.ice_cells.specs.Uses.{dropped, maker, uses, taker_of}
 
--- What is known of the cells: what each is in a logic cell, the flip-flop that alone takes it, and the look-up table that a carry shares.
+-- What is known of the cells: what each is in a logic cell, the flip-flop that alone takes its output, and the look-up table that a carry shares.
 pub record Facts : Type 0 where
   pub parts : List Part
   pub takers : List (Option ℕ)
@@ -42,14 +42,15 @@ facts_of os cells bare = record {
 abbrev pub part : Facts → ℕ → Part
 part n j = slice_index_or n.parts j Nothing
 
-abbrev pub taker : Facts → ℕ → Option ℕ
-taker n j = slice_index_or n.takers j None
-
 abbrev pub is_table : Part → Bool
 is_table Table = true
 is_table (Flop taken) = false
 is_table Carry = false
 is_table Nothing = false
+
+-- the flip-flop that alone takes a look-up table
+abbrev pub taker : Facts → ℕ → Option ℕ
+taker n j = if is_table (part n j) then slice_index_or n.takers j None else None
 
 abbrev pub is_kept : Part → Bool
 is_kept Table = true

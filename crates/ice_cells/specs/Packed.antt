@@ -1,5 +1,5 @@
 -- The design of a netlist before its runs are made.
-use Rattle.std.specs.Prelude.{ℕ, ◌+◌, ◌||◌, not, Bool, true, false, List, [], ◌∷◌, ◌++◌, map, flat_map, length, Option, None, Some, if◌then◌else◌, slice_get, slice_index_or, is_some}
+use Rattle.std.specs.Prelude.{ℕ, nat_lt, ◌+◌, ◌||◌, not, Bool, true, false, List, [], ◌∷◌, ◌++◌, map, flat_map, length, Option, None, Some, if◌then◌else◌, slice_get, slice_index_or, is_some}
 use Rattle.std.specs.List.{list_any}
 use Rattle.std.specs.Option.{option_map_or}
 use Rattle.ice_base.specs.declared.number.SignalNo.{SignalNo}
@@ -13,7 +13,7 @@ use Rattle.ice_net.specs.declared.port.Way.TheVariants.{Input, Output, Both}
 use Rattle.ice_net.specs.NetlistData.{NetlistData}
 use Rattle.ice_net.specs.Drivers.{buffer_at}
 use Rattle.ice_net.specs.Drives.{input_type, output_type, pad_uses}
-use Rattle.ice_lut.specs.Tables.{folded}
+use Rattle.ice_lut.specs.Tables.{folded, rewired}
 use Rattle.ice_cells.specs.declared.cell.Control.{Control}
 use Rattle.ice_cells.specs.declared.cell.LogicCell.{LogicCell}
 use Rattle.ice_cells.specs.declared.design.Design.{Design}
@@ -142,9 +142,17 @@ flop_of p cells (Some f) = option_map_or (λ (cell : Cell). flop_by p cell.kind 
 abbrev pub ins_at : List Cell → ℕ → List (Option SignalNo)
 ins_at cells j = option_map_or (λ (cell : Cell). cell.ins) (slice_get cells j) []
 
+abbrev pub first_input : ℕ → ℕ → Option ℕ
+first_input k width = if nat_lt k width then Some k else None
+
+-- of four inputs, those that a cover of a width has
+abbrev pub first_inputs : ℕ → List (Option ℕ)
+first_inputs width = first_input 0 width ∷ first_input 1 width ∷ first_input 2 width ∷ first_input 3 width ∷ []
+
+-- the table of a cell; that of a cover ignores the inputs that it lacks
 abbrev pub table_by : CellKind → ℕ
 table_by (Lut t) = t
-table_by (Cover t width) = t
+table_by (Cover t width) = rewired t (first_inputs width)
 table_by Carry = 0
 table_by (Flop falling enable reset) = 0
 table_by (PadCell pin_type pullup) = 0
@@ -191,7 +199,7 @@ inputs_for p cells a part.Nothing = no_inputs
 
 -- the flip-flop and the carry of a logic cell
 abbrev pub flop_for : Plan → ℕ → Part → Option ℕ
-flop_for p a part.Table = slice_index_or p.facts.takers a None
+flop_for p a part.Table = homes_of.taker p.facts a
 flop_for p a (part.Flop taken) = Some a
 flop_for p a part.Carry = None
 flop_for p a part.Nothing = None
@@ -250,11 +258,20 @@ reads_one os (Flop falling enable reset) ins outs = has_level os true (set_input
 reads_one os (PadCell pin_type pullup) ins outs = list_any (has_level os true) (pad_uses pin_type ins)
 reads_one os Global ins outs = has_level os true (slice_index_or ins 0 None)
 
+abbrev pub zero_by : List Origin → Cell → Bool
+zero_by os cell = reads_zero os cell.kind cell.ins
+
+abbrev pub one_by : List Origin → Cell → Bool
+one_by os cell = reads_one os cell.kind cell.ins cell.outs
+
+abbrev pub port_one : List Origin → Port → Bool
+port_one os port = has_level os true (Some port.signal)
+
 abbrev pub needs_zero : List Origin → List Cell → Bool
-needs_zero os cells = list_any (λ (cell : Cell). reads_zero os cell.kind cell.ins) cells
+needs_zero os cells = list_any (zero_by os) cells
 
 abbrev pub needs_one : List Origin → List Cell → List Port → Bool
-needs_one os cells bare = list_any (λ (cell : Cell). reads_one os cell.kind cell.ins cell.outs) cells || list_any (λ (port : Port). has_level os true (Some port.signal)) bare
+needs_one os cells bare = list_any (one_by os) cells || list_any (port_one os) bare
 
 abbrev pub constant_if : Bool → Bool → List LogicCell
 constant_if needed level = if needed then constant_cell level ∷ [] else []
@@ -335,30 +352,30 @@ carries_from p hs j [] = []
 carries_from p hs j (cell ∷ cells) = carry_by p (slice_index_or hs j 0) cell.kind cell.ins cell.outs ++ carries_from p hs (j + 1) cells
 
 -- ---- the design
-abbrev pub plan_by : NetlistData → List Origin → Facts → Plan
-plan_by n os facts = record {
+abbrev pub plan_by : List Cell → List Origin → Facts → Plan
+plan_by cells os facts = record {
   origins = os;
   facts = facts;
   carriers = carriers_of facts;
-  roots = roots_from os (homes facts) 0 0 n.cells;
+  roots = roots_from os (homes facts) 0 0 cells;
   zero = length (openers facts);
-  one = length (openers facts) + one_if (needs_zero os n.cells);
+  one = length (openers facts) + one_if (needs_zero os cells);
 }
 
 abbrev pub facts : NetlistData → Facts
 facts n = facts_of (origins n) n.cells (bare_outputs n)
 
 abbrev pub plan_of : NetlistData → Plan
-plan_of n = plan_by n (origins n) (facts n)
+plan_of n = plan_by n.cells (origins n) (facts n)
 
-abbrev pub cells_by : NetlistData → Plan → List LogicCell
-cells_by n p =
-    map (cell_of p n.cells) (openers p.facts) ++ constant_if (needs_zero p.origins n.cells) false ++ constant_if (needs_one p.origins n.cells (bare_outputs n)) true
+-- all logic cells: those that are opened at the netlist's, and then those of constants
+abbrev pub cells_by : Plan → List Cell → List Port → List ℕ → List LogicCell
+cells_by p cells bare opened = map (cell_of p cells) opened ++ constant_if (needs_zero p.origins cells) false ++ constant_if (needs_one p.origins cells bare) true
 
 -- the design by a plan, before it is known which pads are read
 abbrev pub unread_by : NetlistData → Plan → Design
 unread_by n p = record {
-  cells = cells_by n p;
+  cells = cells_by p n.cells (bare_outputs n) (openers p.facts);
   runs = [];
   pads = pads_from p n.cells 0 n.ports;
   globals = globals_of p n.cells;
