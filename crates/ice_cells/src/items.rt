@@ -1,6 +1,7 @@
 //! Lists within designs.
-ghost use Rattle.std.specs.Prelude.{◌≡◌};
+ghost use Rattle.std.specs.Prelude.{◌≡◌, ◌++◌, ◌∷◌, [], OnOk, OnErr};
 
+use ice_base::NoMemory;
 use std::marker::Model;
 
 /// A list that is part of a design. Contracts see it as a list.
@@ -37,5 +38,16 @@ impl<T> Items<T> {
         ensures { result.now ≡ self.now }
     {
         self.items.as_slice()
+    }
+}
+
+impl<T: Drop> Items<T> {
+    /// Adds an item at the end.
+    pub fn push(&mut self, item: T) -> Result<(), NoMemory>
+        ensures added { OnOk result (self.new ≡ self.old ++ item ∷ []) }
+        ensures unchanged { OnErr result (self.new ≡ self.old) }
+    {
+        self.items.push(item)?;
+        Ok(())
     }
 }

@@ -8,6 +8,7 @@ mod design;
 mod follow;
 mod items;
 mod origin;
+mod pieces;
 mod root;
 mod share;
 
@@ -17,5 +18,6 @@ pub use design::{Design, DesignPad, Run};
 pub use follow::{Follow, Reader};
 pub use items::Items;
 pub use origin::{Origin, Use};
+pub use pieces::{control_at, first_control, piece, pieces_count, short};
 pub use root::{CarryIn, Root};
 pub use share::{Pair, Part, Role};

@@ -1,0 +1,6 @@
+mod Grouping
+mod Opening
+mod Tallies
+mod Counted
+mod SlotLaws
+mod ControlLaws

@@ -1,0 +1,5 @@
+use Rattle.ice_cluster.proofs.SlotLaws.{are_slots}
+use Rattle.ice_cluster.proofs.laws.cells_stand_in_one_slot.Goals as goal
+
+pub returns : goal.returns
+returns c d formed = are_slots d formed

@@ -1,0 +1,83 @@
+//! The clusters of a design.
+ghost use Rattle.std.specs.Prelude.{◌≡◌, ◌++◌, length, map, IfOk};
+ghost use Rattle.ice_cells.specs.Clusters.{slots, with_slots, clusters_of, need};
+ghost use Rattle.ice_cluster.specs.Groups.{groups_by};
+
+use crate::filling::{open_lists, open_plains, open_runs};
+use crate::sets::by_sets;
+use crate::sorting::loose_cells;
+use ice_base::NoMemory;
+use ice_cells::{Cluster, Clusters, Control, Design, Group, Items, LogicCell, Run};
+use std::alloc::Global;
+
+// The groups of cells that go into one tile each, by the cells that stand in no run.
+fn groups_in(
+    alloc: Global,
+    cells: &[LogicCell],
+    runs: &[Run],
+    flops: &[(u32, Control)],
+    plains: &[u32],
+) -> Result<Vec<Group>, NoMemory>
+    ensures { IfOk result (λ groups. groups.items ≡ groups_by cells.now runs.now flops.now plains.now) }
+{
+    let (sets, lists) = by_sets(alloc, flops)?;
+    let mut groups = Vec::new(alloc);
+    let rest = open_runs(alloc, &mut groups, cells, runs, plains)?;
+    let rest = open_lists(alloc, &mut groups, &sets, lists.as_slice(), rest)?;
+    open_plains(alloc, &mut groups, rest)?;
+    Ok(groups)
+}
+
+// The eight slots of a tile: cells, and behind them the free slots.
+fn slots_of(alloc: Global, cells: &[u32]) -> Result<Vec<Option<u32>>, NoMemory>
+    ensures { IfOk result (λ made. made.items ≡ slots cells.now) }
+{
+    let mut slots = Vec::new(alloc);
+    for c in cells {
+        slots.push(Some(*c))?;
+    }
+    for free in 0..8usize.saturating_sub(cells.len()) {
+        slots.push(None)?;
+    }
+    Ok(slots)
+}
+
+// The cluster of a group.
+fn cluster_of(alloc: Global, group: &Group) -> Result<Cluster, NoMemory>
+    ensures { IfOk result (λ cluster. cluster ≡ with_slots group.now) }
+{
+    Ok(Cluster {
+        cells: Items::from_vec(slots_of(alloc, group.cells.as_slice())?),
+        control: group.control,
+        run: group.run,
+    })
+}
+
+// The clusters of all groups.
+fn clusters_in(alloc: Global, groups: &[Group]) -> Result<Vec<Cluster>, NoMemory>
+    ensures { IfOk result (λ clusters. clusters.items ≡ map with_slots groups.now) }
+{
+    let mut clusters = Vec::new(alloc);
+    for group in groups {
+        clusters.push(cluster_of(alloc, group)?)?;
+    }
+    Ok(clusters)
+}
+
+/// The clusters of a design; as many as it needs. It fails for want of memory alone.
+pub fn cluster(alloc: Global, design: &Design) -> Result<Clusters, NoMemory>
+    ensures clusters { IfOk result (λ clusters. clusters ≡ clusters_of design.now) }
+    ensures need { IfOk result (λ clusters. length clusters.list ≡ need design.now) }
+{
+    let (flops, plains) = loose_cells(alloc, design.cells(), design.runs())?;
+    let groups = groups_in(
+        alloc,
+        design.cells(),
+        design.runs(),
+        flops.as_slice(),
+        plains.as_slice(),
+    )?;
+    Ok(Clusters {
+        list: Items::from_vec(clusters_in(alloc, groups.as_slice())?),
+    })
+}
