@@ -1,0 +1,14 @@
+-- What calls answer of what the definitions say.
+use Rattle.std.specs.Prelude.{◌≡◌, ℕ, Result, Ok, Err}
+use Rattle.ice_pads.specs.declared.fault.PinFault.{PinFault}
+use Rattle.ice_pads.specs.declared.fault.PinFault.TheVariants.{NoPackage, UnknownPin, UnknownPort, PinTwice, PortTwice, NoPadLeft, TooManyGlobals, PadLacks, NoMemory}
+
+-- want of memory may come at any time, and every other fault is what is said
+abbrev pub Stops : {A : Type 0} → PinFault → Result A PinFault → Type 0
+Stops NoMemory said = Unit {0}
+Stops fault said = said ≡ Err fault
+
+-- the value, or the fault, that is said, unless memory ran out
+abbrev pub Answers : {A : Type 0} → Result A PinFault → Result A PinFault → Type 0
+Answers (Ok value) said = said ≡ Ok value
+Answers (Err fault) said = Stops fault said

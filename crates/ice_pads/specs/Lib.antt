@@ -1,0 +1,9 @@
+pub mod Passing
+pub mod Wants
+pub mod PadWires
+pub mod Constraints
+pub mod Ports
+pub mod Globals
+pub mod Answers
+pub mod Tables
+pub mod Assign
