@@ -73,9 +73,8 @@ fn expect_faults(
     Ok(())
 }
 
-#[test]
-fn faults_of_two_lines_tell_both(rt: HostRuntime) -> Result<(), Fail> {
-    expect_faults(&rt, rt.alloc(), &FAULTS)?;
+fn faults_of_two_lines_tell_both(rt: &impl Abort, alloc: Global) -> Result<(), Fail> {
+    expect_faults(rt, alloc, &FAULTS)?;
     Ok(())
 }
 
@@ -164,12 +163,17 @@ fn expect_shared(
     Ok(())
 }
 
-#[test]
-fn lines_and_not_places_say_what_is_first(rt: HostRuntime) -> Result<(), Fail> {
-    let alloc = rt.alloc();
+fn lines_and_not_places_say_what_is_first(rt: &impl Abort, alloc: Global) -> Result<(), Fail> {
     let turned = b"logic NegClk 3 2 9\nlogic LC_0 1 2 7";
-    expect_shared(&rt, alloc, turned, (9, 7))?;
+    expect_shared(rt, alloc, turned, (9, 7))?;
     let three = b"logic NegClk 3 2 9\nlogic LC_0 1 2 7\nlogic NegClk 5 5 8";
-    expect_shared(&rt, alloc, three, (8, 8))?;
+    expect_shared(rt, alloc, three, (8, 8))?;
+    Ok(())
+}
+
+#[test]
+fn faults_have_the_lines_that_count(rt: HostRuntime) -> Result<(), Fail> {
+    faults_of_two_lines_tell_both(&rt, rt.alloc())?;
+    lines_and_not_places_say_what_is_first(&rt, rt.alloc())?;
     Ok(())
 }
