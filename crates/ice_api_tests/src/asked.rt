@@ -2,11 +2,12 @@
 use crate::bit_texts::{expect_function, expect_texts, expect_turned_on};
 use crate::circuits::expect_circuit;
 use crate::found::{Finding, expect_in};
+use crate::parts::expect_fault;
 use crate::routes::{Wanted, expect_in_fabric};
 use crate::sample_chips::expect_parts;
 use crate::small_chips::{Change, Sample, text_with};
 use crate::usable::expect_fabric;
-use ice_chip::Chip;
+use ice_chip::{Chip, ChipFault};
 use ice_chip_read::read_chip;
 use std::alloc::{AllocError, Global};
 use std::process::Abort;
@@ -30,6 +31,8 @@ pub enum Asked {
     TurnedOn,
     /// The parts of the sample chip of 14 by 18 tiles.
     Parts,
+    /// The words of the fault of the text, which is no chip.
+    Fault(&'static [u8]),
 }
 
 // Fails unless this is answered of the bits of a chip.
@@ -52,7 +55,16 @@ fn expect_chip(rt: &impl Abort, alloc: Global, chip: &Chip, asked: Asked) {
         Asked::Usable(wires, rows) => expect_fabric(rt, alloc, chip, wires, rows),
         Asked::Routed(wanted) => expect_in_fabric(rt, alloc, chip, wanted),
         Asked::Parts => expect_parts(rt, chip),
+        Asked::Fault(words) => panic!(rt; "no fault {words:?}"),
         _ => expect_bits(rt, alloc, chip, asked),
+    }
+}
+
+// Fails unless the fault of a text was asked, and this is it.
+fn expect_no_chip(rt: &impl Abort, fault: &ChipFault, asked: Asked) {
+    match asked {
+        Asked::Fault(words) => expect_fault(rt, fault, words),
+        _ => panic!(rt; "{fault}"),
     }
 }
 
@@ -60,7 +72,7 @@ fn expect_chip(rt: &impl Abort, alloc: Global, chip: &Chip, asked: Asked) {
 pub fn expect_of(rt: &impl Abort, alloc: Global, text: &[u8], asked: Asked) {
     match read_chip(alloc, text) {
         Ok(chip) => expect_chip(rt, alloc, &chip, asked),
-        Err(fault) => panic!(rt; "{fault}"),
+        Err(fault) => expect_no_chip(rt, &fault, asked),
     }
 }
 

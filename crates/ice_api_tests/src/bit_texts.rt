@@ -151,7 +151,12 @@ fn expect_text(
 }
 
 // Fails unless the text of each case is read and written again.
-fn expect_cases(rt: &impl Abort, alloc: Global, chip: &Chip, cases: &[Case]) -> Result<(), NoMemory> {
+fn expect_cases(
+    rt: &impl Abort,
+    alloc: Global,
+    chip: &Chip,
+    cases: &[Case],
+) -> Result<(), NoMemory> {
     for case in cases {
         let text = text_of(alloc, *case)?;
         expect_text(rt, alloc, chip, &text, *case)?;

@@ -365,21 +365,45 @@ fn said(rt: &impl Abort, alloc: Global, answer: &Result<Routed, RouteFault>) -> 
     }
 }
 
-// Draws a graph with this many edges and three nets, and fails unless both programs answer the same.
-fn compare_drawn(
+// What routing answers, in words, which counts in the tally.
+fn found_answer(
     rt: &impl Abort,
     alloc: Global,
-    seed: &mut u64,
-    count: u32,
-    tally: Tally,
-) -> Tally {
+    graph: &Graph,
+    nets: &[Net],
+    rounds: u32,
+    tally: &mut Tally,
+) -> String
+    requires wires { graph.now.wires ≡ 12 }
+    requires nets { AreNets graph.now nets.now }
+    requires few { length nets.now ≤ 65536 }
+    requires rounds { (1 ≤ rounds) × (rounds ≤ 64) }
+{
+    let found = negotiate(alloc, graph, nets, rounds, 1, &OpenGate);
+    *tally = tally_with(*tally, &found);
+    said(rt, alloc, &found)
+}
+
+// What the plain program answers, in words.
+fn wanted_answer(
+    rt: &impl Abort,
+    alloc: Global,
+    graph: &Graph,
+    nets: &[Net],
+    rounds: u32,
+) -> String {
+    let plain = plain_answer(rt, alloc, graph.edges(), nets, rounds);
+    said(rt, alloc, &plain)
+}
+
+// Draws a graph with this many edges and three nets, and fails unless both programs answer the same.
+fn compare_drawn(rt: &impl Abort, alloc: Global, seed: &mut u64, count: u32, tally: &mut Tally) {
     let graph = drawn_graph(rt, alloc, seed, count, WIRES, ROOTS);
     let nets = drawn_nets(alloc, seed, &graph).expect(rt, "memory");
     let rounds = 1 + draw(seed, 8);
-    let found = negotiate(alloc, &graph, &nets, rounds, 1, &OpenGate);
-    let plain = plain_answer(rt, alloc, graph.edges(), &nets, rounds);
-    assert_eq!(rt; said(rt, alloc, &found), said(rt, alloc, &plain));
-    tally_with(tally, &found)
+    let found = found_answer(rt, alloc, &graph, &nets, rounds, tally);
+    let wanted = wanted_answer(rt, alloc, &graph, &nets, rounds);
+    assert_eq!(rt; found, wanted);
 }
 
 #[test]
@@ -388,7 +412,7 @@ fn generated_nets_are_routed_alike(rt: HostRuntime) {
     let mut seed = 1;
     let mut tally = Tally::default();
     for turn in 0..400 {
-        tally = compare_drawn(&rt, alloc, &mut seed, 22 + turn % 40, tally);
+        compare_drawn(&rt, alloc, &mut seed, 22 + turn % 40, &mut tally);
     }
     println!(rt; "{tally:?}").expect(&rt, "said");
     assert!(rt;
