@@ -1,10 +1,10 @@
 //! Texts of bits that are read and written again, on a chip with a tile of each kind.
-use crate::small_chips::{Sample, count_words, number_at, text_with};
+use crate::asked::{Asked, expect};
+use crate::small_chips::{Sample, count_words, number_at};
 use ice_asc::{read_asc, write_asc};
 use ice_base::{BitAt, Line, NoMemory, RowNo, TileAt, lines_of};
 use ice_bits::{Bits, blank};
 use ice_chip::{Chip, Function, TileKind};
-use ice_chip_read::read_chip;
 use std::alloc::{AllocError, Global};
 use std::process::Abort;
 use std::test::Fail;
@@ -125,7 +125,7 @@ fn expect_bits(
     chip: &Chip,
     bits: &Bits,
     case: Case,
-) -> Result<(), Fail> {
+) -> Result<(), NoMemory> {
     for x in 0..4 {
         expect_tile(rt, bits, x, case.0);
     }
@@ -143,7 +143,7 @@ fn expect_text(
     chip: &Chip,
     text: &[u8],
     case: Case,
-) -> Result<(), Fail> {
+) -> Result<(), NoMemory> {
     match read_asc(alloc, text, chip) {
         Ok(bits) => expect_bits(rt, alloc, chip, &bits, case),
         Err(fault) => panic!(rt; "{fault}"),
@@ -151,30 +151,17 @@ fn expect_text(
 }
 
 // Fails unless the text of each case is read and written again.
-fn expect_cases(rt: &impl Abort, alloc: Global, chip: &Chip, cases: &[Case]) -> Result<(), Fail> {
+fn expect_cases(
+    rt: &impl Abort,
+    alloc: Global,
+    chip: &Chip,
+    cases: &[Case],
+) -> Result<(), NoMemory> {
     for case in cases {
         let text = text_of(alloc, *case)?;
         expect_text(rt, alloc, chip, &text, *case)?;
     }
     Ok(())
-}
-
-// Fails unless the texts of these cases are read and written again, and this text says the last case.
-fn expect_all(
-    rt: &impl Abort,
-    alloc: Global,
-    cases: &[Case],
-    other: &[u8],
-    last: Case,
-) -> Result<(), Fail> {
-    let text = text_with(alloc, Sample::FourKinds, &[])?;
-    match read_chip(alloc, &text) {
-        Ok(chip) => {
-            expect_cases(rt, alloc, &chip, cases)?;
-            expect_text(rt, alloc, &chip, other, last)
-        }
-        Err(fault) => panic!(rt; "{fault}"),
-    }
 }
 
 // No bits; those at the corners of each tile; bits of several tiles; and extra bits.
@@ -220,10 +207,11 @@ const OTHER: &[u8] = b".extra_bit 9 8 7
 .sym 0 lost
 .extra_bit 06 5 4";
 
-#[test]
-fn bits_are_read_and_written(rt: HostRuntime) -> Result<(), Fail> {
+/// Fails unless the texts of all cases are read and written again, and the other text says its bits.
+pub fn expect_texts(rt: &impl Abort, alloc: Global, chip: &Chip) -> Result<(), NoMemory> {
     let last: Case = (b"0 0 0 15 17", b".extra_bit 9 8 7\n.extra_bit 6 5 4\n");
-    expect_all(&rt, rt.alloc(), &CASES, OTHER, last)
+    expect_cases(rt, alloc, chip, &CASES)?;
+    expect_text(rt, alloc, chip, OTHER, last)
 }
 
 // ---- functions
@@ -260,20 +248,11 @@ fn expect_places(rt: &impl Abort, chip: &Chip, bits: &mut Bits, places: &[(usize
     }
 }
 
-// Fails unless the bits of the first logic cell stand in tiles of its kind alone.
-fn expect_function(rt: &impl Abort, alloc: Global, chip: &Chip) -> Result<(), Fail> {
+/// Fails unless the bits of the first logic cell stand in tiles of its kind alone.
+pub fn expect_function(rt: &impl Abort, alloc: Global, chip: &Chip) -> Result<(), NoMemory> {
     let mut bits = blank(alloc, chip)?;
     expect_places(rt, chip, &mut bits, &PLACES);
     Ok(())
-}
-
-#[test]
-fn a_function_has_bits_in_tiles_of_its_kind_alone(rt: HostRuntime) -> Result<(), Fail> {
-    let text = text_with(rt.alloc(), Sample::FourKinds, &[])?;
-    match read_chip(rt.alloc(), &text) {
-        Ok(chip) => expect_function(&rt, rt.alloc(), &chip),
-        Err(fault) => panic!(&rt; "{fault}"),
-    }
 }
 
 // ---- rows
@@ -304,8 +283,8 @@ fn expect_on(rt: &impl Abort, bits: &Bits) {
     assert!(rt; !bits.has(right, BitAt { row: 15, col: 18 }));
 }
 
-// Fails unless rows are turned on in bits that are copied.
-fn expect_rows(rt: &impl Abort, alloc: Global, chip: &Chip) -> Result<(), NoMemory> {
+/// Fails unless rows are turned on in bits that are copied.
+pub fn expect_turned_on(rt: &impl Abort, alloc: Global, chip: &Chip) -> Result<(), NoMemory> {
     let mut bits = blank(alloc, chip)?.copy(alloc)?;
     turn_on(chip, &mut bits);
     expect_on(rt, &bits);
@@ -313,11 +292,10 @@ fn expect_rows(rt: &impl Abort, alloc: Global, chip: &Chip) -> Result<(), NoMemo
 }
 
 #[test]
-fn rows_are_turned_on(rt: HostRuntime) -> Result<(), Fail> {
-    let text = text_with(rt.alloc(), Sample::TwoTiles, &[])?;
-    match read_chip(rt.alloc(), &text) {
-        Ok(chip) => expect_rows(&rt, rt.alloc(), &chip)?,
-        Err(fault) => panic!(&rt; "{fault}"),
-    }
+fn bits_are_read_set_and_written(rt: HostRuntime) -> Result<(), Fail> {
+    let alloc = rt.alloc();
+    expect(&rt, alloc, Sample::FourKinds, &[], Asked::Texts)?;
+    expect(&rt, alloc, Sample::FourKinds, &[], Asked::Settable)?;
+    expect(&rt, alloc, Sample::TwoTiles, &[], Asked::TurnedOn)?;
     Ok(())
 }

@@ -1,5 +1,6 @@
 //! What is found in chips by names and places: of rows that say one thing twice the first counts, and names count where a tile is.
-use crate::found::{Finding, expect_findings};
+use crate::asked::{Asked, expect};
+use crate::found::Finding;
 use crate::small_chips::{Change, Sample};
 use std::alloc::{AllocError, Global};
 use std::process::Abort;
@@ -190,46 +191,77 @@ const BLANKS: [Change; 6] = [
     (44, b"#"),
 ];
 
-// Fails unless the chip of a text has these answers.
-fn expect(
+fn chips_have_their_rows_and_parts(rt: &impl Abort, alloc: Global) -> Result<(), AllocError> {
+    expect(rt, alloc, Sample::TwoTiles, &[], Asked::Found(&TWO_TILES))?;
+    expect(rt, alloc, Sample::TwoWays, &[], Asked::Found(&TWO_WAYS))?;
+    expect(rt, alloc, Sample::OneWay, &[], Asked::Found(&ONE_WAY))?;
+    expect(rt, alloc, Sample::FourKinds, &[], Asked::Found(&KINDS))?;
+    expect(rt, alloc, Sample::OneWay, &SECTIONS, Asked::Found(&ONE_WAY))?;
+    expect(rt, alloc, Sample::OneWay, &BLANKS, Asked::Found(&ONE_WAY))?;
+    Ok(())
+}
+
+fn names_pads_and_functions_are_looked_up(
     rt: &impl Abort,
     alloc: Global,
-    sample: Sample,
-    findings: &[Finding],
 ) -> Result<(), AllocError> {
-    expect_findings(rt, alloc, sample, &[], findings)
+    expect(rt, alloc, Sample::TwoTiles, &[], Asked::Found(&LOOKED_UP))?;
+    expect(rt, alloc, Sample::TwoTiles, &[], Asked::Found(&WIRES))?;
+    expect(rt, alloc, Sample::TwoWays, &[], Asked::Found(&PADS))?;
+    expect(
+        rt,
+        alloc,
+        Sample::RepeatedRows,
+        &[],
+        Asked::Found(&PLACED_NAMES),
+    )?;
+    expect(rt, alloc, Sample::OneBuffer, &[], Asked::Found(&NO_BUFFERS))?;
+    Ok(())
 }
 
-#[test]
-fn chips_have_their_rows_and_parts(rt: HostRuntime) -> Result<(), Fail> {
-    let alloc = rt.alloc();
-    expect(&rt, alloc, Sample::TwoTiles, &TWO_TILES)?;
-    expect(&rt, alloc, Sample::TwoWays, &TWO_WAYS)?;
-    expect(&rt, alloc, Sample::OneWay, &ONE_WAY)?;
-    expect(&rt, alloc, Sample::FourKinds, &KINDS)?;
-    expect_findings(&rt, alloc, Sample::OneWay, &SECTIONS, &ONE_WAY)?;
-    expect_findings(&rt, alloc, Sample::OneWay, &BLANKS, &ONE_WAY)?;
+fn the_first_row_that_counts_is_taken(rt: &impl Abort, alloc: Global) -> Result<(), AllocError> {
+    expect(
+        rt,
+        alloc,
+        Sample::RepeatedPins,
+        &[],
+        Asked::Found(&FIRST_PIN),
+    )?;
+    expect(
+        rt,
+        alloc,
+        Sample::RepeatedPins,
+        &PADS_TWICE,
+        Asked::Found(&THREE_PINS),
+    )?;
+    expect(
+        rt,
+        alloc,
+        Sample::RepeatedRows,
+        &[],
+        Asked::Found(&FIRST_ROWS),
+    )?;
+    expect(
+        rt,
+        alloc,
+        Sample::RepeatedRows,
+        &OTHER_ROWS,
+        Asked::Found(&NEXT_ROWS),
+    )?;
+    expect(
+        rt,
+        alloc,
+        Sample::Pads,
+        &FOREIGN_TWICE,
+        Asked::Found(&FIRST_FUNCTION),
+    )?;
     Ok(())
 }
 
 #[test]
-fn names_pads_and_functions_are_looked_up(rt: HostRuntime) -> Result<(), Fail> {
-    let alloc = rt.alloc();
-    expect(&rt, alloc, Sample::TwoTiles, &LOOKED_UP)?;
-    expect(&rt, alloc, Sample::TwoTiles, &WIRES)?;
-    expect(&rt, alloc, Sample::TwoWays, &PADS)?;
-    expect(&rt, alloc, Sample::RepeatedRows, &PLACED_NAMES)?;
-    expect(&rt, alloc, Sample::OneBuffer, &NO_BUFFERS)?;
-    Ok(())
-}
-
-#[test]
-fn the_first_row_that_counts_is_taken(rt: HostRuntime) -> Result<(), Fail> {
-    let alloc = rt.alloc();
-    expect(&rt, alloc, Sample::RepeatedPins, &FIRST_PIN)?;
-    expect_findings(&rt, alloc, Sample::RepeatedPins, &PADS_TWICE, &THREE_PINS)?;
-    expect(&rt, alloc, Sample::RepeatedRows, &FIRST_ROWS)?;
-    expect_findings(&rt, alloc, Sample::RepeatedRows, &OTHER_ROWS, &NEXT_ROWS)?;
-    expect_findings(&rt, alloc, Sample::Pads, &FOREIGN_TWICE, &FIRST_FUNCTION)?;
+fn what_is_found_in_chips(rt: HostRuntime) -> Result<(), Fail> {
+    chips_have_their_rows_and_parts(&rt, rt.alloc())?;
+    names_pads_and_functions_are_looked_up(&rt, rt.alloc())?;
+    the_first_row_that_counts_is_taken(&rt, rt.alloc())?;
     Ok(())
 }

@@ -1,11 +1,11 @@
 //! Circuits of bits: which rows drive which wires, and how many points there are.
-use crate::small_chips::{Sample, count_lines, number_at, text_with};
+use crate::asked::{Asked, expect};
+use crate::small_chips::{Sample, count_lines, number_at};
 use ice_base::{BitAt, NoMemory, TileAt, WireNo, lines_of};
 use ice_bits::{Bits, blank};
 use ice_chip::Chip;
-use ice_chip_read::read_chip;
 use ice_decode::{Circuit, Driver, decode};
-use std::alloc::Global;
+use std::alloc::{AllocError, Global};
 use std::process::Abort;
 use std::test::Fail;
 
@@ -53,34 +53,26 @@ fn expect_driven(rt: &impl Abort, circuit: &Circuit, points: usize, driven: &[u8
     }
 }
 
-// Fails unless the bits of a chip have such a circuit.
-fn expect_circuit(
+/// Fails unless bits of a chip have this number of points and these driven wires.
+pub fn expect_circuit(
     rt: &impl Abort,
     alloc: Global,
     chip: &Chip,
-    case: &Case,
+    case: (&[u8], usize, &[u8]),
 ) -> Result<(), NoMemory> {
-    let bits = bits_with(alloc, chip, case.1)?;
+    let bits = bits_with(alloc, chip, case.0)?;
     match decode(alloc, chip, &bits) {
-        Ok(circuit) => expect_driven(rt, &circuit, case.2, case.3),
+        Ok(circuit) => expect_driven(rt, &circuit, case.1, case.2),
         Err(fault) => panic!(rt; "{fault}"),
     }
     Ok(())
 }
 
-// Fails unless the case has its circuit.
-fn expect(rt: &impl Abort, alloc: Global, case: &Case) -> Result<(), NoMemory> {
-    let text = text_with(alloc, case.0, &[])?;
-    match read_chip(alloc, &text) {
-        Ok(chip) => expect_circuit(rt, alloc, &chip, case),
-        Err(fault) => panic!(rt; "{fault}"),
-    }
-}
-
 // Fails unless each case has its circuit.
-fn expect_all(rt: &impl Abort, alloc: Global, cases: &[Case]) -> Result<(), NoMemory> {
+fn expect_all(rt: &impl Abort, alloc: Global, cases: &[Case]) -> Result<(), AllocError> {
     for case in cases {
-        expect(rt, alloc, case)?;
+        let (sample, ones, points, driven) = *case;
+        expect(rt, alloc, sample, &[], Asked::Driven(ones, points, driven))?;
     }
     Ok(())
 }
@@ -102,12 +94,6 @@ const PADS: [Case; 3] = [
     ),
 ];
 
-#[test]
-fn rows_that_are_on_drive_their_wires(rt: HostRuntime) -> Result<(), Fail> {
-    expect_all(&rt, rt.alloc(), &PADS)?;
-    Ok(())
-}
-
 // The values of the first row and of the third, and those of no row; a loop through a flip-flop; and carries of which one is off.
 const CELLS: [Case; 6] = [
     (Sample::Logic, b"1 0 10 3", 23, b"13 4"),
@@ -119,7 +105,8 @@ const CELLS: [Case; 6] = [
 ];
 
 #[test]
-fn the_first_row_of_equal_values_is_on(rt: HostRuntime) -> Result<(), Fail> {
+fn circuits_are_driven_by_the_rows_that_are_on(rt: HostRuntime) -> Result<(), Fail> {
+    expect_all(&rt, rt.alloc(), &PADS)?;
     expect_all(&rt, rt.alloc(), &CELLS)?;
     Ok(())
 }

@@ -5,6 +5,7 @@ use ice_desk::{
     read_whole, write_whole,
 };
 use std::alloc::{AllocError, Global};
+use std::process::Abort;
 use std::{fs, thread};
 
 /// A desk that moves at most three bytes a call, with the file `old` of the bytes `hello`.
@@ -18,56 +19,80 @@ fn small_desk(
     Ok(MemoryDesk::new(alloc, files, 3, fails))
 }
 
-#[test]
-fn what_is_written_is_read_within_the_limit(
-    rt: HostRuntime,
-) -> std::result::Result<(), AllocError> {
-    let alloc = rt.alloc();
-    let mut desk = small_desk(alloc, Vec::new(alloc))?;
-    assert!(rt; write_whole(&mut desk, "new", b"seven bytes") == Ok(()));
+// Fails unless what is written is read, within the limit.
+fn expect_whole(rt: &impl Abort, alloc: Global, desk: &mut MemoryDesk) {
+    assert!(rt; write_whole(desk, "new", b"seven bytes") == Ok(()));
     assert!(rt; desk.file("new") == Some(b"seven bytes".as_slice()));
-    match read_whole(alloc, &mut desk, "new", 11) {
+    match read_whole(alloc, desk, "new", 11) {
         Ok(text) => assert_eq!(rt; text.as_slice(), b"seven bytes".as_slice()),
         Err(_) => assert!(rt; false),
     }
     assert!(rt; desk.file("old") == Some(b"hello".as_slice()));
     assert!(rt; desk.file("absent").is_none());
-    assert!(rt; read_whole(alloc, &mut desk, "old", 5).is_ok());
-    assert!(rt; read_whole(alloc, &mut desk, "old", 4) == Err(ReadStop::TooLong { limit: 4 }));
-    assert!(rt; read_whole(alloc, &mut desk, "absent", 4) == Err(ReadStop::Failed));
-    Ok(())
 }
 
-#[test]
-fn named_calls_fail(rt: HostRuntime) -> std::result::Result<(), AllocError> {
-    let alloc = rt.alloc();
-    let mut fails = Vec::new(alloc);
-    fails.push((DeskCall::Put, 2))?;
-    fails.push((DeskCall::Read, 1))?;
-    fails.push((DeskCall::Say, 2))?;
-    let mut desk = small_desk(alloc, fails)?;
-    assert!(rt; write_whole(&mut desk, "old", b"longer") == Err(WriteStop::Failed { put: 2 }));
+// Fails unless a read ends with this, or well where it is nothing.
+fn expect_read(
+    rt: &impl Abort,
+    alloc: Global,
+    desk: &mut MemoryDesk,
+    name: &str,
+    limit: usize,
+    stop: Option<ReadStop>,
+) {
+    assert!(rt;
+        read_whole(alloc, desk, name, limit).err() == stop,
+        "of {name}"
+    );
+}
+
+// Fails unless named calls fail.
+fn expect_failing(rt: &impl Abort, desk: &mut MemoryDesk) {
+    assert!(rt; write_whole(desk, "old", b"longer") == Err(WriteStop::Failed { put: 2 }));
     assert!(rt; desk.file("old") == Some(b"lon".as_slice()));
-    assert!(rt; read_whole(alloc, &mut desk, "old", 9) == Err(ReadStop::Failed));
-    assert!(rt; read_whole(alloc, &mut desk, "old", 9).is_ok());
     assert!(rt; desk.say(b"one") == Ok(3));
     assert!(rt; desk.say(b"two") == Err(Failed));
     assert_eq!(rt; desk.said(), b"one".as_slice());
-    Ok(())
 }
 
-#[test]
-fn a_file_made_again_is_read_on(rt: HostRuntime) -> std::result::Result<(), AllocError> {
-    let alloc = rt.alloc();
-    let mut desk = small_desk(alloc, Vec::new(alloc))?;
+// Fails unless a file that is made again is read on.
+fn expect_read_on(rt: &impl Abort, desk: &mut MemoryDesk) {
     let mut piece = [0u8; 4];
     assert!(rt; desk.begin("old") == Ok(()));
     assert!(rt; desk.read(&mut piece) == Ok(3));
-    assert!(rt; write_whole(&mut desk, "old", b"new") == Ok(()));
+    assert!(rt; write_whole(desk, "old", b"new") == Ok(()));
     assert!(rt; desk.read(&mut piece) == Ok(2));
     assert_eq!(rt; &piece[..2], b"lo".as_slice());
     assert!(rt; desk.read(&mut piece) == Ok(0));
-    Ok(())
+}
+
+// Fails unless a desk without failing calls reads and writes.
+fn expect_good(rt: &impl Abort, alloc: Global) {
+    let mut desk = small_desk(alloc, Vec::new(alloc)).expect(rt, "memory");
+    expect_whole(rt, alloc, &mut desk);
+    expect_read(rt, alloc, &mut desk, "old", 5, None);
+    let stop = Some(ReadStop::TooLong { limit: 4 });
+    expect_read(rt, alloc, &mut desk, "old", 4, stop);
+    expect_read(rt, alloc, &mut desk, "absent", 4, Some(ReadStop::Failed));
+    expect_read_on(rt, &mut desk);
+}
+
+// Fails unless the second put, the first read and the second saying fail.
+fn expect_bad(rt: &impl Abort, alloc: Global) {
+    let mut fails = Vec::new(alloc);
+    fails.push((DeskCall::Put, 2)).expect(rt, "memory");
+    fails.push((DeskCall::Read, 1)).expect(rt, "memory");
+    fails.push((DeskCall::Say, 2)).expect(rt, "memory");
+    let mut desk = small_desk(alloc, fails).expect(rt, "memory");
+    expect_failing(rt, &mut desk);
+    expect_read(rt, alloc, &mut desk, "old", 9, Some(ReadStop::Failed));
+    expect_read(rt, alloc, &mut desk, "old", 9, None);
+}
+
+#[test]
+fn desks_read_and_write(rt: HostRuntime) {
+    expect_good(&rt, rt.alloc());
+    expect_bad(&rt, rt.alloc());
 }
 
 #[test]

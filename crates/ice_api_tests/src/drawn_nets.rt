@@ -1,10 +1,12 @@
-//! Generated graphs and nets, against a plain program that follows the definitions: labels are lowered along all
-//! edges until nothing changes, and each round leads to the next by recursion.
+//! Routes of nets in generated graphs, against a plain program in which each round leads to the next by recursion.
 ghost use Rattle.std.specs.Prelude.{◌≡◌, ◌<◌, ◌≤◌, IfOk, length};
-ghost use Rattle.ice_graph.specs.Network.{AreBetween, RowsRise};
+ghost use Rattle.ice_negotiate.specs.Rounds.{AreNets};
+ghost use Rattle.ice_negotiate.specs.Trees.{AreSinks};
 ghost use Rattle.ice_path.specs.Room.{AreWires};
 
-use ice_base::{NetNo, RowNo, WireNo};
+use crate::built::{add_net, add_sink, add_wire};
+use crate::drawn::{draw, drawn_graph, plain_way};
+use ice_base::{NetNo, Sink, WireNo};
 use ice_core::{Net, RoundLog};
 use ice_desk::OpenGate;
 use ice_graph::{Edge, Graph, Tree};
@@ -18,68 +20,58 @@ const WIRES: u32 = 12;
 // The first wires are the roots of the nets, and no edge enters them.
 const ROOTS: u32 = 3;
 
-// A number below the bound, from the next step of a generator.
-fn draw(seed: &mut u64, bound: u32) -> u32
-    requires { 0 < bound }
-    ensures { result < bound }
-{
-    *seed = seed
-        .wrapping_mul(6364136223846793005)
-        .wrapping_add(1442695040888963407);
-    ((*seed >> 33) as u32) % bound
-}
-
-// An edge in a row, between drawn wires.
-fn drawn_edge(seed: &mut u64, row: u32) -> Edge
-    ensures row { result.row.0 ≡ row }
-    ensures between { (result.from.0 < 12) × (result.to.0 < 12) }
-{
-    let from = draw(seed, WIRES);
-    let to = ROOTS + draw(seed, WIRES - ROOTS);
-    Edge {
-        row: RowNo(row),
-        from: WireNo(from),
-        to: WireNo(to),
-    }
-}
-
-// Drawn edges, in rows from 0 on.
-fn drawn_edges(alloc: Global, seed: &mut u64, count: u32) -> Result<Vec<Edge>, AllocError>
-    ensures between { IfOk result (λ edges. AreBetween 12 edges.items) }
-    ensures rise { IfOk result (λ edges. RowsRise edges.items) }
-{
-    let mut edges = Vec::new(alloc);
-    for row in 0..count {
-        edges.push(drawn_edge(seed, row))?;
-    }
-    Ok(edges)
-}
-
-// A graph with this many drawn edges.
-fn drawn_graph(rt: &impl Abort, alloc: Global, seed: &mut u64, count: u32) -> Graph
-    ensures { result.wires ≡ 12 }
-{
-    let edges = drawn_edges(alloc, seed, count).expect(rt, "memory");
-    let Ok(graph) = Graph::new(alloc, WIRES, edges) else {
-        panic!(rt; "memory");
-    };
-    graph
-}
-
-// A net with this number, which is also that of its root, and with two drawn sinks, which no net of another number
-// has.
-fn drawn_net(rt: &impl Abort, alloc: Global, seed: &mut u64, number: u32) -> Net
+// A drawn wire of the net of a number, which no net of another number has as a target.
+fn drawn_target(seed: &mut u64, number: u32) -> u32
     requires { number < 3 }
-    ensures root { result.root.0 < 12 }
-    ensures sinks { AreWires 12 result.sinks.items }
+    ensures { result < 12 }
 {
-    let (one, other) = (ROOTS + number + ROOTS * draw(seed, 3), draw(seed, WIRES));
-    let other = if other % ROOTS == number { other } else { one };
-    Net {
+    let one = ROOTS + number + ROOTS * draw(seed, 3);
+    let other = draw(seed, WIRES);
+    if other % ROOTS == number { other } else { one }
+}
+
+// The sink with one target, or with two.
+fn drawn_sink(alloc: Global, seed: &mut u64, number: u32, more: bool) -> Result<Sink, AllocError>
+    requires { number < 3 }
+    ensures some { IfOk result (λ sink. 0 < length sink) }
+    ensures targets { IfOk result (λ sink. AreWires 12 sink) }
+{
+    let mut targets = Vec::new(alloc);
+    if more {
+        add_wire(&mut targets, WIRES, drawn_target(seed, number))?;
+    }
+    add_wire(&mut targets, WIRES, drawn_target(seed, number))?;
+    Ok(Sink::from_targets(targets))
+}
+
+// A net with this number, which is also that of its root, and with two drawn sinks, of which the second has two targets. No net of another
+// number has one of the targets.
+fn drawn_net(alloc: Global, seed: &mut u64, number: u32) -> Result<Net, AllocError>
+    requires { number < 3 }
+    ensures root { IfOk result (λ net. net.root.0 < 12) }
+    ensures sinks { IfOk result (λ net. AreSinks 12 net.sinks.items) }
+{
+    let mut sinks = Vec::new(alloc);
+    add_sink(&mut sinks, WIRES, drawn_sink(alloc, seed, number, false)?)?;
+    add_sink(&mut sinks, WIRES, drawn_sink(alloc, seed, number, true)?)?;
+    Ok(Net {
         net: NetNo(number),
         root: WireNo(number),
-        sinks: vec![in alloc; WireNo(one), WireNo(other)].expect(rt, "memory"),
+        sinks,
+    })
+}
+
+// Three drawn nets.
+fn drawn_nets(alloc: Global, seed: &mut u64, graph: &Graph) -> Result<Vec<Net>, AllocError>
+    requires { graph.now.wires ≡ 12 }
+    ensures nets { IfOk result (λ nets. AreNets graph.now nets.items) }
+    ensures few { IfOk result (λ nets. length nets.items ≤ 65536) }
+{
+    let mut nets = Vec::new(alloc);
+    for number in 0..ROOTS {
+        add_net(&mut nets, graph, drawn_net(alloc, seed, number)?)?;
     }
+    Ok(nets)
 }
 
 // The place as a number.
@@ -119,93 +111,16 @@ fn plain_prices(
     prices
 }
 
-fn label_of(labels: &[Option<u64>], wire: WireNo) -> Option<u64> {
-    labels.get(wire.0 as usize).copied().flatten()
-}
-
-// The cost of the wire behind the edge by way of its source.
-fn by_way_of(labels: &[Option<u64>], prices: &[u64], edge: Edge) -> Option<u64> {
-    let label = label_of(labels, edge.from)?;
-    Some(label.saturating_add(prices.get(edge.to.0 as usize).copied()?))
-}
-
-// Lowers the labels along each edge once, and tells whether one changed.
-fn lower_all(edges: &[Edge], prices: &[u64], labels: &mut [Option<u64>]) -> bool {
-    let mut changed = false;
-    for edge in edges {
-        let Some(cost) = by_way_of(labels, prices, *edge) else {
-            continue;
-        };
-        let Some(slot) = labels.get_mut(edge.to.0 as usize) else {
-            continue;
-        };
-        if slot.is_none_or(|label| cost < label) {
-            *slot = Some(cost);
-            changed = true;
-        }
-    }
-    changed
-}
-
-// The least costs from these wires.
-fn plain_labels(
-    rt: &impl Abort,
-    alloc: Global,
-    edges: &[Edge],
-    prices: &[u64],
-    wires: &[WireNo],
-) -> Vec<Option<u64>> {
-    let mut labels = vec![in alloc; None; WIRES as usize].expect(rt, "memory");
-    for wire in wires {
-        if let Some(slot) = labels.get_mut(wire.0 as usize) {
-            *slot = Some(0);
-        }
-    }
-    for _turn in 0..WIRES {
-        if !lower_all(edges, prices, &mut labels) {
-            return labels;
-        }
-    }
-    labels
-}
-
-// The first of the edges into the wire that makes its label.
-fn plain_step(
-    edges: &[Edge],
-    prices: &[u64],
-    labels: &[Option<u64>],
-    wire: WireNo,
-) -> Option<Edge> {
-    let label = label_of(labels, wire)?;
-    for edge in edges {
-        if edge.to == wire && by_way_of(labels, prices, *edge) == Some(label) {
-            return Some(*edge);
-        }
-    }
-    None
-}
-
-// Joins the sink to the tree by the edges back from it. None where no walk leads there.
+// Joins a sink to the tree by the taken path to one of its targets. None where no walk leads there.
 fn plain_join(
     rt: &impl Abort,
     alloc: Global,
     edges: &[Edge],
     prices: &[u64],
-    sink: WireNo,
+    targets: &[WireNo],
     tree: &mut Tree,
 ) -> Option<u64> {
-    let labels = plain_labels(rt, alloc, edges, prices, &tree.wires);
-    let cost = label_of(&labels, sink)?;
-    let mut back = Vec::new(alloc);
-    let mut wire = sink;
-    for _step in 0..WIRES {
-        if tree.wires.contains(&wire) {
-            break;
-        }
-        let edge = plain_step(edges, prices, &labels, wire)?;
-        back.push(edge).expect(rt, "memory");
-        wire = edge.from;
-    }
+    let (cost, back) = plain_way(rt, alloc, edges, prices, &tree.wires, targets)?;
     for edge in back.iter().rev() {
         tree.wires.push(edge.to).expect(rt, "memory");
         tree.rows.push(edge.row).expect(rt, "memory");
@@ -213,7 +128,7 @@ fn plain_join(
     Some(cost)
 }
 
-// The tree of the net, or its first sink to which no walk leads.
+// The tree of the net, or the first target of its first sink to which no walk leads.
 fn plain_tree(
     rt: &impl Abort,
     alloc: Global,
@@ -226,8 +141,8 @@ fn plain_tree(
         rows: Vec::new(alloc),
     };
     for sink in &net.sinks {
-        if plain_join(rt, alloc, edges, prices, *sink, &mut tree).is_none() {
-            return Err(*sink);
+        if plain_join(rt, alloc, edges, prices, sink.targets(), &mut tree).is_none() {
+            return Err(sink.targets().first().copied().unwrap_or(net.root));
         }
     }
     Ok(tree)
@@ -440,27 +355,55 @@ fn tally_with(tally: Tally, answer: &Result<Routed, RouteFault>) -> Tally {
     next
 }
 
-// Draws a graph with this many edges and three nets, and fails unless both programs answer the same.
-fn compare_drawn(
+// What is answered, in words.
+fn said(rt: &impl Abort, alloc: Global, answer: &Result<Routed, RouteFault>) -> String {
+    match answer {
+        Ok(routed) => {
+            format!(in alloc; "{:?} {:?}", routed.trees, routed.logs).expect(rt, "memory")
+        }
+        Err(fault) => format!(in alloc; "{fault:?}").expect(rt, "memory"),
+    }
+}
+
+// What routing answers, in words, which counts in the tally.
+fn found_answer(
     rt: &impl Abort,
     alloc: Global,
-    seed: &mut u64,
-    count: u32,
-    tally: Tally,
-) -> Tally {
-    let graph = drawn_graph(rt, alloc, seed, count);
-    let nets = [
-        drawn_net(rt, alloc, seed, 0),
-        drawn_net(rt, alloc, seed, 1),
-        drawn_net(rt, alloc, seed, 2),
-    ];
+    graph: &Graph,
+    nets: &[Net],
+    rounds: u32,
+    tally: &mut Tally,
+) -> String
+    requires wires { graph.now.wires ≡ 12 }
+    requires nets { AreNets graph.now nets.now }
+    requires few { length nets.now ≤ 65536 }
+    requires rounds { (1 ≤ rounds) × (rounds ≤ 64) }
+{
+    let found = negotiate(alloc, graph, nets, rounds, 1, &OpenGate);
+    *tally = tally_with(*tally, &found);
+    said(rt, alloc, &found)
+}
+
+// What the plain program answers, in words.
+fn wanted_answer(
+    rt: &impl Abort,
+    alloc: Global,
+    graph: &Graph,
+    nets: &[Net],
+    rounds: u32,
+) -> String {
+    let plain = plain_answer(rt, alloc, graph.edges(), nets, rounds);
+    said(rt, alloc, &plain)
+}
+
+// Draws a graph with this many edges and three nets, and fails unless both programs answer the same.
+fn compare_drawn(rt: &impl Abort, alloc: Global, seed: &mut u64, count: u32, tally: &mut Tally) {
+    let graph = drawn_graph(rt, alloc, seed, count, WIRES, ROOTS);
+    let nets = drawn_nets(alloc, seed, &graph).expect(rt, "memory");
     let rounds = 1 + draw(seed, 8);
-    let found = negotiate(alloc, &graph, &nets, rounds, 1, &OpenGate);
-    let plain = plain_answer(rt, alloc, graph.edges(), &nets, rounds);
-    let said = format!(in alloc; "{found:?}").expect(rt, "memory");
-    let expected = format!(in alloc; "{plain:?}").expect(rt, "memory");
-    assert_eq!(rt; said, expected);
-    tally_with(tally, &found)
+    let found = found_answer(rt, alloc, &graph, &nets, rounds, tally);
+    let wanted = wanted_answer(rt, alloc, &graph, &nets, rounds);
+    assert_eq!(rt; found, wanted);
 }
 
 #[test]
@@ -469,7 +412,7 @@ fn generated_nets_are_routed_alike(rt: HostRuntime) {
     let mut seed = 1;
     let mut tally = Tally::default();
     for turn in 0..400 {
-        tally = compare_drawn(&rt, alloc, &mut seed, 22 + turn % 40, tally);
+        compare_drawn(&rt, alloc, &mut seed, 22 + turn % 40, &mut tally);
     }
     println!(rt; "{tally:?}").expect(&rt, "said");
     assert!(rt;

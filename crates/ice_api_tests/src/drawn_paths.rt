@@ -1,56 +1,19 @@
-//! Generated graphs, against a plain program that lowers the labels along all edges until none changes, and
-//! goes back by the definition.
-ghost use Rattle.std.specs.Prelude.{◌≡◌, ◌<◌, ◌≤◌, ℕ, Some, length, slice_index, IfOk};
+//! Costs and taken paths in generated graphs, against a plain search.
+ghost use Rattle.std.specs.Prelude.{◌≡◌, ◌<◌, ◌≤◌, ℕ, length, slice_index, IfOk};
 ghost use Rattle.ice_core.specs.Congestion.{ArePrices};
-ghost use Rattle.ice_graph.specs.Network.{AreBetween, RowsRise};
 ghost use Rattle.ice_path.specs.Room.{AreWires, IsFor};
 
-use ice_base::{RowNo, WireNo};
+use crate::built::add_wire;
+use crate::drawn::{draw, drawn_graph, plain_way};
+use ice_base::WireNo;
 use ice_core::Prices;
-use ice_graph::{Edge, Graph, Tree};
+use ice_graph::{Graph, Tree};
 use ice_path::{Scratch, connect, path};
 use std::alloc::{AllocError, Global};
 use std::process::Abort;
 use std::test::Fail;
 
 const WIRES: u32 = 7;
-
-// A number below the bound, from the next step of a generator.
-fn draw(seed: &mut u64, bound: u32) -> u32
-    requires { 0 < bound }
-    ensures { result < bound }
-{
-    *seed = seed
-        .wrapping_mul(6364136223846793005)
-        .wrapping_add(1442695040888963407);
-    ((*seed >> 33) as u32) % bound
-}
-
-// An edge in a row, between drawn wires.
-fn drawn_edge(seed: &mut u64, row: u32) -> Edge
-    ensures row { result.row.0 ≡ row }
-    ensures between { (result.from.0 < 7) × (result.to.0 < 7) }
-{
-    let from = draw(seed, WIRES);
-    let to = draw(seed, WIRES);
-    Edge {
-        row: RowNo(row),
-        from: WireNo(from),
-        to: WireNo(to),
-    }
-}
-
-// Drawn edges, in rows from 0 on.
-fn drawn_edges(alloc: Global, seed: &mut u64, count: u32) -> Result<Vec<Edge>, AllocError>
-    ensures between { IfOk result (λ edges. AreBetween 7 edges.items) }
-    ensures rise { IfOk result (λ edges. RowsRise edges.items) }
-{
-    let mut edges = Vec::new(alloc);
-    for row in 0..count {
-        edges.push(drawn_edge(seed, row))?;
-    }
-    Ok(edges)
-}
 
 // Drawn histories of the wires.
 fn drawn_history(rt: &impl Abort, alloc: Global, seed: &mut u64) -> Vec<u64>
@@ -85,160 +48,142 @@ fn drawn_prices(rt: &impl Abort, alloc: Global, seed: &mut u64) -> Prices
     }
 }
 
-// A tree of two drawn wires, which may be one.
-fn drawn_tree(rt: &impl Abort, alloc: Global, seed: &mut u64, wires: u32) -> Tree
+// Drawn wires of a graph.
+fn drawn_wires(
+    alloc: Global,
+    seed: &mut u64,
+    count: u32,
+    wires: u32,
+) -> Result<Vec<WireNo>, AllocError>
     requires { 0 < wires }
-    ensures { AreWires wires result.wires.items }
+    ensures { IfOk result (λ list. AreWires wires list.items) }
 {
-    let (one, other) = (draw(seed, wires), draw(seed, wires));
-    Tree {
-        wires: vec![in alloc; WireNo(one), WireNo(other)].expect(rt, "memory"),
-        rows: Vec::new(alloc),
+    let mut list = Vec::new(alloc);
+    for _ in 0..count {
+        add_wire(&mut list, wires, draw(seed, wires))?;
     }
+    Ok(list)
 }
 
-// What a wire costs, by the rule.
-fn plain_price(prices: &Prices, wire: WireNo) -> u64 {
-    let at = wire.0 as usize;
-    let history = prices.history.get(at).copied().unwrap_or(0);
-    let others = prices.others.get(at).copied().unwrap_or(0) as u64;
-    let weight = (prices.round as u64)
-        .saturating_sub(1)
-        .saturating_mul(others);
-    history
-        .saturating_add(1)
-        .saturating_mul(weight.saturating_add(1))
-}
-
-fn label_of(labels: &[Option<u64>], wire: WireNo) -> Option<u64> {
-    labels.get(wire.0 as usize).copied().flatten()
-}
-
-// The cost of the wire behind the edge by way of its source.
-fn by_way_of(labels: &[Option<u64>], prices: &Prices, edge: Edge) -> Option<u64> {
-    let label = label_of(labels, edge.from)?;
-    Some(label.saturating_add(plain_price(prices, edge.to)))
-}
-
-// Lowers the labels along each edge once.
-fn lower_all(edges: &[Edge], prices: &Prices, labels: &mut [Option<u64>]) {
-    for edge in edges {
-        let Some(cost) = by_way_of(labels, prices, *edge) else {
-            continue;
-        };
-        let Some(slot) = labels.get_mut(edge.to.0 as usize) else {
-            continue;
-        };
-        if slot.is_none_or(|label| cost < label) {
-            *slot = Some(cost);
-        }
+// What each wire costs, by the rule.
+fn plain_prices(alloc: Global, prices: &Prices) -> Result<Vec<u64>, AllocError> {
+    let mut list = Vec::new(alloc);
+    for (past, others) in prices.history.iter().zip(&prices.others) {
+        let weight = u64::from(prices.round)
+            .saturating_sub(1)
+            .saturating_mul(u64::from(*others));
+        let price = past
+            .saturating_add(1)
+            .saturating_mul(weight.saturating_add(1));
+        list.push(price)?;
     }
+    Ok(list)
 }
 
-// The least costs from the wires of the tree: as many turns as there are wires are enough.
-fn plain_labels(
-    rt: &impl Abort,
-    alloc: Global,
-    edges: &[Edge],
-    prices: &Prices,
-    tree: &Tree,
-) -> Vec<Option<u64>> {
-    let mut labels = vec![in alloc; None; WIRES as usize].expect(rt, "memory");
-    for wire in &tree.wires {
-        if let Some(slot) = labels.get_mut(wire.0 as usize) {
-            *slot = Some(0);
-        }
-    }
-    for _turn in 0..WIRES {
-        lower_all(edges, prices, &mut labels);
-    }
-    labels
-}
-
-// The first of the edges into the wire that makes its label.
-fn plain_step(
-    edges: &[Edge],
-    prices: &Prices,
-    labels: &[Option<u64>],
-    wire: WireNo,
-) -> Option<Edge> {
-    let label = label_of(labels, wire)?;
-    for edge in edges {
-        if edge.to == wire && by_way_of(labels, prices, *edge) == Some(label) {
-            return Some(*edge);
-        }
-    }
-    None
-}
-
-// The edges back from the wire, up to the first wire of the tree.
-fn plain_back(
-    rt: &impl Abort,
-    alloc: Global,
-    edges: &[Edge],
-    prices: &Prices,
-    labels: &[Option<u64>],
-    tree: &Tree,
-    target: WireNo,
-) -> Vec<Edge> {
-    let mut back = Vec::new(alloc);
-    let mut wire = target;
-    for _step in 0..WIRES {
-        if tree.wires.contains(&wire) {
-            return back;
-        }
-        let Some(edge) = plain_step(edges, prices, labels, wire) else {
-            return back;
-        };
-        back.push(edge).expect(rt, "memory");
-        wire = edge.from;
-    }
-    back
-}
-
-// Fails unless both give the same cost and the same path to each wire of the graph.
+// Fails unless both give the same cost and the same path to these targets.
 fn compare(
     rt: &impl Abort,
     alloc: Global,
     graph: &Graph,
     prices: &Prices,
     tree: &Tree,
+    targets: &[WireNo],
+    scratch: &mut Scratch,
+)
+    requires prices { ArePrices prices.now }
+    requires wires { length prices.now.history.items ≡ graph.now.wires }
+    requires tree { AreWires graph.now.wires tree.now.wires.items }
+    requires targets { AreWires graph.now.wires targets.now }
+    requires some { 0 < length targets.now }
+    requires scratch { IsFor graph.now scratch.old }
+    ensures { IsFor graph.now scratch.new }
+{
+    let plain = plain_prices(alloc, prices).expect(rt, "memory");
+    let wanted = plain_way(rt, alloc, graph.edges(), &plain, &tree.wires, targets);
+    match (connect(graph, prices, tree, targets, scratch), wanted) {
+        (Some(cost), Some((wanted, mut back))) => {
+            assert_eq!(rt; cost, wanted, "to {targets:?}");
+            back.reverse();
+            assert_eq!(rt; path(scratch), back.as_slice(), "to {targets:?}");
+        }
+        (None, None) => {}
+        _ => panic!(rt; "one way to {targets:?}"),
+    }
+}
+
+// Compares the ways to a target behind so many drawn ones.
+fn compare_to(
+    rt: &impl Abort,
+    alloc: Global,
+    graph: &Graph,
+    prices: &Prices,
+    tree: &Tree,
+    seed: &mut u64,
+    wanted: (u32, u32),
     scratch: &mut Scratch,
 )
     requires prices { ArePrices prices.now }
     requires wires { length prices.now.history.items ≡ graph.now.wires }
     requires tree { AreWires graph.now.wires tree.now.wires.items }
     requires scratch { IsFor graph.now scratch.old }
+    ensures { IsFor graph.now scratch.new }
 {
-    let labels = plain_labels(rt, alloc, graph.edges(), prices, tree);
+    let (count, target) = wanted;
+    assert!(rt; target < graph.wires());
+    let mut targets = drawn_wires(alloc, seed, count, graph.wires()).expect(rt, "memory");
+    add_wire(&mut targets, graph.wires(), target).expect(rt, "memory");
+    assert!(rt; !targets.is_empty());
+    compare(rt, alloc, graph, prices, tree, &targets, scratch);
+}
+
+// Compares the ways to each wire of the graph, alone and behind two drawn ones.
+fn compare_all(
+    rt: &impl Abort,
+    alloc: Global,
+    graph: &Graph,
+    prices: &Prices,
+    tree: &Tree,
+    seed: &mut u64,
+)
+    requires prices { ArePrices prices.now }
+    requires wires { length prices.now.history.items ≡ graph.now.wires }
+    requires tree { AreWires graph.now.wires tree.now.wires.items }
+{
+    let mut scratch = Scratch::new(alloc, graph).expect(rt, "memory");
     for target in 0..graph.wires() {
-        let cost = connect(graph, prices, tree, WireNo(target), scratch);
-        assert_eq!(rt; cost, label_of(&labels, WireNo(target)), "to {target}");
-        let Some(_cost) = cost else {
-            continue;
-        };
-        let mut back = plain_back(
+        compare_to(
             rt,
             alloc,
-            graph.edges(),
+            graph,
             prices,
-            &labels,
             tree,
-            WireNo(target),
+            seed,
+            (0, target),
+            &mut scratch,
         );
-        back.reverse();
-        assert_eq!(rt; path(scratch), back.as_slice(), "to {target}");
+        compare_to(
+            rt,
+            alloc,
+            graph,
+            prices,
+            tree,
+            seed,
+            (2, target),
+            &mut scratch,
+        );
     }
 }
 
-// Draws a graph with this many edges, prices and a tree, and compares.
+// Draws a graph with this many edges, prices and a tree of two wires, which may be one, and compares.
 fn compare_drawn(rt: &impl Abort, alloc: Global, seed: &mut u64, count: u32) {
-    let edges = drawn_edges(alloc, seed, count).expect(rt, "memory");
-    let graph = Graph::new(alloc, WIRES, edges).expect(rt, "memory");
+    let graph = drawn_graph(rt, alloc, seed, count, WIRES, 0);
     let prices = drawn_prices(rt, alloc, seed);
-    let tree = drawn_tree(rt, alloc, seed, graph.wires());
-    let mut scratch = Scratch::new(alloc, &graph).expect(rt, "memory");
-    compare(rt, alloc, &graph, &prices, &tree, &mut scratch);
+    let wires = drawn_wires(alloc, seed, 2, WIRES).expect(rt, "memory");
+    let tree = Tree {
+        wires,
+        rows: Vec::new(alloc),
+    };
+    compare_all(rt, alloc, &graph, &prices, &tree, seed);
 }
 
 #[test]

@@ -1,6 +1,9 @@
 //! The usable rows of small chips: by the bits of their groups, and by the names of a wire between two rows.
+use crate::asked::{Asked, expect};
 use crate::small_chips::Sample;
-use crate::usable::{Case, expect_cases, expect_rows};
+use crate::usable::{Case, expect_cases};
+use std::alloc::{AllocError, Global};
+use std::process::Abort;
 use std::test::Fail;
 
 const UNSOUND: [Case; 5] = [
@@ -118,33 +121,38 @@ const MEMORIES: [Case; 7] = [
     (b"3 0 lutff_0/lout\n", b""),
 ];
 
-#[test]
-fn small_chips_have_their_usable_rows(rt: HostRuntime) -> Result<(), Fail> {
-    let alloc = rt.alloc();
+fn small_chips_have_their_usable_rows(rt: &impl Abort, alloc: Global) -> Result<(), AllocError> {
     let rows = b"0 0 1  1 1 2  2 3 1";
-    expect_rows(&rt, alloc, Sample::TwoTiles, (0, b""), 4, rows)?;
+    expect(rt, alloc, Sample::TwoTiles, &[], Asked::Usable(4, rows))?;
     let rows = b"0 0 2  1 1 2  2 0 3  3 1 3  4 3 4  5 2 5  6 4 5  7 2 6  8 4 6";
-    expect_rows(&rt, alloc, Sample::TwoWays, (0, b""), 7, rows)?;
+    expect(rt, alloc, Sample::TwoWays, &[], Asked::Usable(7, rows))?;
     let rows = b"0 0 2  1 1 2  2 2 3  3 2 4";
-    expect_rows(&rt, alloc, Sample::OneWay, (0, b""), 5, rows)?;
+    expect(rt, alloc, Sample::OneWay, &[], Asked::Usable(5, rows))?;
+    Ok(())
+}
+
+fn rows_that_are_not_sound_are_left_out(rt: &impl Abort, alloc: Global) -> Result<(), AllocError> {
+    expect_cases(rt, alloc, Sample::Pads, 21, 6, &UNSOUND)?;
+    expect_cases(rt, alloc, Sample::Pads, 21, 6, &APART)?;
+    Ok(())
+}
+
+fn no_route_leaves_an_input_or_enters_an_output(
+    rt: &impl Abort,
+    alloc: Global,
+) -> Result<(), AllocError> {
+    expect_cases(rt, alloc, Sample::Named, 35, 3, &PADS)?;
+    expect_cases(rt, alloc, Sample::Named, 35, 3, &CELL_INPUTS)?;
+    expect_cases(rt, alloc, Sample::Named, 35, 3, &CELL_OUTPUTS)?;
+    expect_cases(rt, alloc, Sample::Named, 35, 3, &OPEN)?;
+    expect_cases(rt, alloc, Sample::Named, 35, 3, &MEMORIES)?;
     Ok(())
 }
 
 #[test]
-fn rows_that_are_not_sound_are_left_out(rt: HostRuntime) -> Result<(), Fail> {
-    let alloc = rt.alloc();
-    expect_cases(&rt, alloc, Sample::Pads, 21, 6, &UNSOUND)?;
-    expect_cases(&rt, alloc, Sample::Pads, 21, 6, &APART)?;
-    Ok(())
-}
-
-#[test]
-fn no_route_leaves_an_input_or_enters_an_output(rt: HostRuntime) -> Result<(), Fail> {
-    let alloc = rt.alloc();
-    expect_cases(&rt, alloc, Sample::Named, 35, 3, &PADS)?;
-    expect_cases(&rt, alloc, Sample::Named, 35, 3, &CELL_INPUTS)?;
-    expect_cases(&rt, alloc, Sample::Named, 35, 3, &CELL_OUTPUTS)?;
-    expect_cases(&rt, alloc, Sample::Named, 35, 3, &OPEN)?;
-    expect_cases(&rt, alloc, Sample::Named, 35, 3, &MEMORIES)?;
+fn usable_rows_are_found(rt: HostRuntime) -> Result<(), Fail> {
+    small_chips_have_their_usable_rows(&rt, rt.alloc())?;
+    rows_that_are_not_sound_are_left_out(&rt, rt.alloc())?;
+    no_route_leaves_an_input_or_enters_an_output(&rt, rt.alloc())?;
     Ok(())
 }

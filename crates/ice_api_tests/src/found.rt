@@ -1,8 +1,7 @@
 //! What is found in a chip, as questions and answers in words.
-use crate::small_chips::{Change, Sample, begins, count_words, number_at, text_with, word_at};
+use crate::small_chips::{begins, count_words, number_at, word_at};
 use ice_base::{Name, RowNo, TileAt, WireNo};
 use ice_chip::{Chip, Pad, TileKind};
-use ice_chip_read::read_chip;
 use std::alloc::{AllocError, Global};
 use std::process::Abort;
 
@@ -273,8 +272,8 @@ fn is_found(
     Ok(found == Some(true))
 }
 
-// Fails unless the chip has these answers.
-fn expect_in(
+/// Fails unless the chip has these answers.
+pub fn expect_in(
     rt: &impl Abort,
     alloc: Global,
     chip: &Chip,
@@ -285,29 +284,4 @@ fn expect_in(
         assert!(rt; found, "not {answer:?} for {question:?}");
     }
     Ok(())
-}
-
-// Fails unless the chip of a text has these answers.
-fn expect_of(
-    rt: &impl Abort,
-    alloc: Global,
-    text: &[u8],
-    findings: &[Finding],
-) -> Result<(), AllocError> {
-    match read_chip(alloc, text) {
-        Ok(chip) => expect_in(rt, alloc, &chip, findings),
-        Err(fault) => panic!(rt; "{fault}"),
-    }
-}
-
-/// Fails unless the chip of a text with these changes has these answers.
-pub fn expect_findings(
-    rt: &impl Abort,
-    alloc: Global,
-    sample: Sample,
-    changes: &[Change],
-    findings: &[Finding],
-) -> Result<(), AllocError> {
-    let text = text_with(alloc, sample, changes)?;
-    expect_of(rt, alloc, &text, findings)
 }

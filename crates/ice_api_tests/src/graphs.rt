@@ -1,56 +1,89 @@
-//! The rows of each wire of a small graph.
-ghost use Rattle.std.specs.Prelude.{◌≡◌};
-
-use ice_base::{RowNo, WireNo};
+//! The rows of each wire of a small graph, and how far its wires are apart.
+use crate::built::{graph_of, placed_graph, sink_of};
+use crate::small_chips::{count_words, line_at, number_at};
+use ice_base::WireNo;
 use ice_graph::{Edge, Graph};
+use std::alloc::Global;
 use std::process::Abort;
 use std::test::Fail;
 
-// The rows into each wire and those from it.
-const INTO: [&[u32]; 7] = [&[], &[], &[0, 1], &[2, 3], &[4], &[5, 9], &[7, 12]];
+/// Two wires from which two wires are reached over a short wire, 2, and over two more wires, 3 and 4.
+pub const TWO_WAYS: &[u8] = b"0 0 2  1 1 2  2 0 3  3 1 3  4 3 4  5 2 5  6 4 5  7 2 6  8 4 6";
 
-const FROM: [&[u32]; 7] = [&[0, 2], &[1, 3], &[5, 7], &[4], &[9, 12], &[], &[]];
+/// The columns of these edges in the chip with the short and the long way.
+pub const COLUMNS: &[u8] = b"0 0 0 0 1 1 1 1 1";
 
-/// An edge by the numbers of its row and its wires.
-pub fn edge(row: u32, from: u32, to: u32) -> Edge
-    ensures row { result.row.0 ≡ row }
-    ensures from { result.from.0 ≡ from }
-    ensures to { result.to.0 ≡ to }
-{
-    Edge {
-        row: RowNo(row),
-        from: WireNo(from),
-        to: WireNo(to),
+// The same ways, whose rows are not all there.
+const SPARSE: &[u8] = b"0 0 2  1 1 2  2 0 3  3 1 3  4 3 4  5 2 5  7 2 6  9 4 5  12 4 6";
+
+// On each line the rows into a wire.
+const INTO: &[u8] = b"\n\n0 1\n2 3\n4\n5 9\n7 12";
+
+// On each line the rows from a wire.
+const FROM: &[u8] = b"0 2\n1 3\n5 7\n4\n9 12\n\n";
+
+// Fails unless these are the rows of the edges.
+fn expect_rows(rt: &impl Abort, edges: &[Edge], rows: &[u8]) {
+    assert_eq!(rt; edges.len(), count_words(rows), "of rows {rows:?}");
+    let mut place: usize = 0;
+    for edge in edges {
+        assert_eq!(rt; edge.row.0, number_at(rows, place), "of rows {rows:?}");
+        place = place.saturating_add(1);
     }
 }
 
-// Fails unless these are the rows of the edges.
-fn expect_rows(rt: &impl Abort, edges: &[Edge], rows: &[u32]) {
-    assert_eq!(rt; edges.len(), rows.len(), "of rows {rows:?}");
-    for (edge, row) in edges.iter().zip(rows) {
-        assert_eq!(rt; edge.row.0, *row, "of rows {rows:?}");
+// Fails unless each wire has its rows.
+fn expect_graph(rt: &impl Abort, graph: &Graph) {
+    assert_eq!(rt; (graph.wires(), graph.edges().len()), (7, 9));
+    for wire in 0..graph.wires() {
+        expect_rows(
+            rt,
+            graph.rows_into(WireNo(wire)),
+            line_at(INTO, wire as usize),
+        );
+        expect_rows(
+            rt,
+            graph.rows_from(WireNo(wire)),
+            line_at(FROM, wire as usize),
+        );
     }
+}
+
+// Two wires and their bound.
+const APART: [(u32, u32, u64); 7] = [
+    (0, 0, 0),
+    // The two wires stand in one column each.
+    (0, 5, 2),
+    (5, 0, 2),
+    // One of them stands in both columns.
+    (0, 2, 1),
+    (3, 5, 1),
+    (4, 6, 1),
+    (1, 6, 2),
+];
+
+// Fails unless the wires are so far apart: in two columns a greatest half perimeter of 0 would make each bound 0 or 1.
+fn expect_apart(rt: &impl Abort, graph: &Graph, cases: &[(u32, u32, u64)]) {
+    for case in cases {
+        let (wire, target, bound) = *case;
+        assert!(rt; wire < graph.wires() && target < graph.wires());
+        let found = graph.bound(WireNo(wire), WireNo(target));
+        assert_eq!(rt; found, bound, "from {wire} to {target}");
+    }
+}
+
+// Fails unless the least of the bounds to three wires is that of the nearest.
+fn expect_least(rt: &impl Abort, alloc: Global, graph: &Graph) {
+    let sink = sink_of(rt, alloc, graph.wires(), b"5 2 6");
+    assert!(rt; graph.wires() > 0);
+    assert_eq!(rt; graph.least_bound(WireNo(0), sink.targets()), 1);
 }
 
 #[test]
-fn the_rows_of_a_wire_stand_in_order(rt: HostRuntime) {
+fn rows_and_bounds_are_those_of_the_edges(rt: HostRuntime) {
     let alloc = rt.alloc();
-    let edges = vec![in alloc;
-        edge(0, 0, 2),
-        edge(1, 1, 2),
-        edge(2, 0, 3),
-        edge(3, 1, 3),
-        edge(4, 3, 4),
-        edge(5, 2, 5),
-        edge(7, 2, 6),
-        edge(9, 4, 5),
-        edge(12, 4, 6),
-    ]
-    .expect(&rt, "memory");
-    let graph = Graph::new(alloc, 7, edges).expect(&rt, "memory");
-    assert_eq!(rt; (graph.wires(), graph.edges().len()), (7, 9));
-    for wire in 0..7 {
-        expect_rows(&rt, graph.rows_into(WireNo(wire)), INTO[wire as usize]);
-        expect_rows(&rt, graph.rows_from(WireNo(wire)), FROM[wire as usize]);
-    }
+    expect_graph(&rt, &graph_of(&rt, alloc, 7, SPARSE));
+    let graph = placed_graph(&rt, alloc, 7, TWO_WAYS, COLUMNS);
+    expect_apart(&rt, &graph, &APART);
+    expect_least(&rt, alloc, &graph);
 }

@@ -3,13 +3,19 @@
 #![tactic(auto)]
 
 #[cfg(test)]
+mod asked;
+#[cfg(test)]
 mod bit_texts;
+#[cfg(test)]
+mod built;
 #[cfg(test)]
 mod chips;
 #[cfg(test)]
 mod circuits;
 #[cfg(test)]
 mod desks;
+#[cfg(test)]
+mod drawn;
 #[cfg(test)]
 mod drawn_nets;
 #[cfg(test)]

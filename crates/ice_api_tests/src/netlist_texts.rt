@@ -114,12 +114,11 @@ fn expect_cell(rt: &impl Abort, netlist: &Netlist, at: usize, kind: CellKind, li
     assert_eq!(rt; cell.line, line);
 }
 
-#[test]
-fn counter_is_read(rt: HostRuntime) {
-    let netlist = netlist_of(&rt, rt.alloc(), COUNTER);
+fn counter_is_read(rt: &impl Abort, alloc: Global) {
+    let netlist = netlist_of(rt, alloc, COUNTER);
     assert_eq!(rt; netlist.signals(), 10);
     assert_eq!(rt; netlist.cells().len(), 11);
-    let port = netlist.ports().get(2).expect(&rt, "a port");
+    let port = netlist.ports().get(2).expect(rt, "a port");
     assert!(rt;
         *port
             == Port {
@@ -127,9 +126,9 @@ fn counter_is_read(rt: HostRuntime) {
                 way: Way::Output
             }
     );
-    expect_cell(&rt, &netlist, 1, CellKind::Cover { table: 1, width: 0 }, 6);
+    expect_cell(rt, &netlist, 1, CellKind::Cover { table: 1, width: 0 }, 6);
     expect_cell(
-        &rt,
+        rt,
         &netlist,
         3,
         CellKind::PadCell {
@@ -138,29 +137,28 @@ fn counter_is_read(rt: HostRuntime) {
         },
         9,
     );
-    expect_cell(&rt, &netlist, 4, CellKind::Global, 12);
-    expect_cell(&rt, &netlist, 6, CellKind::Lut { table: 0x0ff0 }, 17);
-    let carry = netlist.cells().get(7).expect(&rt, "a carry");
+    expect_cell(rt, &netlist, 4, CellKind::Global, 12);
+    expect_cell(rt, &netlist, 6, CellKind::Lut { table: 0x0ff0 }, 17);
+    let carry = netlist.cells().get(7).expect(rt, "a carry");
     assert!(rt; carry.outs.as_slice() == [None].as_slice());
     assert!(rt;
         carry.ins.as_slice() == [Some(SignalNo(5)), Some(SignalNo(1)), Some(SignalNo(3))].as_slice()
     );
 }
 
-#[test]
-fn texts_of_yosys_are_read(rt: HostRuntime) {
-    let adder = netlist_of(&rt, rt.alloc(), ADDER);
+fn texts_of_yosys_are_read(rt: &impl Abort, alloc: Global) {
+    let adder = netlist_of(rt, alloc, ADDER);
     assert_eq!(rt; adder.signals(), 14);
     assert_eq!(rt; adder.ports().len(), 6);
-    expect_cell(&rt, &adder, 3, CellKind::Carry, 10);
-    expect_cell(&rt, &adder, 5, CellKind::Lut { table: 0x6996 }, 14);
-    let pads = netlist_of(&rt, rt.alloc(), PADS);
+    expect_cell(rt, &adder, 3, CellKind::Carry, 10);
+    expect_cell(rt, &adder, 5, CellKind::Lut { table: 0x6996 }, 14);
+    let pads = netlist_of(rt, alloc, PADS);
     assert!(rt; pads.signals() > 2);
     assert!(rt; pads.name(SignalNo(2)) == b"d[0]".as_slice());
-    let pin = pads.ports().get(4).expect(&rt, "a port");
+    let pin = pads.ports().get(4).expect(rt, "a port");
     assert!(rt; pin.way == Way::Both);
     expect_cell(
-        &rt,
+        rt,
         &pads,
         3,
         CellKind::PadCell {
@@ -174,12 +172,11 @@ fn texts_of_yosys_are_read(rt: HostRuntime) {
         enable: true,
         reset: Reset::Nothing,
     };
-    expect_cell(&rt, &pads, 4, enabled, 15);
-    expect_cell(&rt, &pads, 6, CellKind::Cover { table: 2, width: 1 }, 21);
+    expect_cell(rt, &pads, 4, enabled, 15);
+    expect_cell(rt, &pads, 6, CellKind::Cover { table: 2, width: 1 }, 21);
 }
 
-#[test]
-fn the_last_cell_has_its_rows_and_parameters(rt: HostRuntime) {
+fn the_last_cell_has_its_rows_and_parameters(rt: &impl Abort, alloc: Global) {
     for (text, kind, line) in [
         (
             b".model t\n.names a b y\n1- 1\n-1 1\n.end\n".as_slice(),
@@ -218,10 +215,17 @@ fn the_last_cell_has_its_rows_and_parameters(rt: HostRuntime) {
             2,
         ),
     ] {
-        let netlist = netlist_of(&rt, rt.alloc(), text);
+        let netlist = netlist_of(rt, alloc, text);
         assert_eq!(rt; netlist.cells().len(), 1);
-        expect_cell(&rt, &netlist, 0, kind, line);
+        expect_cell(rt, &netlist, 0, kind, line);
     }
+}
+
+#[test]
+fn netlists_are_read(rt: HostRuntime) {
+    counter_is_read(&rt, rt.alloc());
+    texts_of_yosys_are_read(&rt, rt.alloc());
+    the_last_cell_has_its_rows_and_parameters(&rt, rt.alloc());
 }
 
 // Fails unless the cells of a sound netlist are evaluated in this order, and each signal is known.

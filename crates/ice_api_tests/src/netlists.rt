@@ -1,11 +1,12 @@
 //! Netlists as they are built.
-use ice_base::SignalNo;
+use crate::small_chips::{number_at, word_at};
+use ice_base::{SignalNo, lines_of, words_of};
 use ice_net::{Cell, CellKind, Netlist, Port, Signals, Way, kind_named};
-use std::test::Fail;
+use std::alloc::Global;
+use std::process::Abort;
 
-#[test]
-fn names_are_numbered_as_they_are_met(rt: HostRuntime) -> Result<(), Fail> {
-    let mut netlist = Netlist::new(rt.alloc());
+// Fails unless the names of an empty netlist are numbered as they are met.
+fn expect_names_in(rt: &impl Abort, netlist: &mut Netlist) {
     for (name, number) in [
         (b"b".as_slice(), 0),
         (b"a", 1),
@@ -14,83 +15,113 @@ fn names_are_numbered_as_they_are_met(rt: HostRuntime) -> Result<(), Fail> {
         (b"a", 1),
     ] {
         assert!(rt; netlist.has_room_for_name());
-        assert!(rt; netlist.signal(name)? == SignalNo(number), "of {name:?}");
+        let found = netlist.signal(name).expect(rt, "memory");
+        assert!(rt; found == SignalNo(number), "of {name:?}");
     }
     assert_eq!(rt; netlist.signals(), 3);
     assert!(rt; netlist.name(SignalNo(1)) == b"a".as_slice());
     assert!(rt; netlist.find(b"b") == Some(SignalNo(0)));
     assert!(rt; netlist.find(b"c").is_none());
-    Ok(())
 }
 
-#[test]
-fn ports_and_cells_stand_in_order(rt: HostRuntime) -> Result<(), Fail> {
-    let mut netlist = Netlist::new(rt.alloc());
+// Fails unless names are numbered as they are met.
+fn expect_names(rt: &impl Abort, alloc: Global) {
+    let mut netlist = Netlist::new(alloc);
+    expect_names_in(rt, &mut netlist);
+}
+
+// A cell of a global buffer in line 7 with this input.
+fn cell_of(rt: &impl Abort, alloc: Global, signal: SignalNo) -> Cell {
+    let kind = kind_named(b"SB_GB").expect(rt, "a kind");
+    let ins = Signals::from_vec(vec![in alloc; Some(signal)].expect(rt, "memory"));
+    let outs = Signals::from_vec(vec![in alloc; None].expect(rt, "memory"));
+    Cell {
+        kind,
+        line: 7,
+        ins,
+        outs,
+    }
+}
+
+// Fails unless a cell is added.
+fn expect_added(rt: &impl Abort, netlist: &mut Netlist, cell: Cell) {
+    assert!(rt; cell.is_formed(netlist.signals()));
+    assert!(rt; netlist.has_room_for_cell());
+    netlist.cell(cell).expect(rt, "memory");
+    assert_eq!(rt; netlist.cells().len(), 1);
+}
+
+// Fails unless a port has the way that it was given last, once.
+fn expect_port(rt: &impl Abort, netlist: &mut Netlist) -> SignalNo {
     assert!(rt; netlist.has_room_for_name());
-    let signal = netlist.signal(b"pin")?;
-    netlist.port(signal, Way::Output)?;
+    let signal = netlist.signal(b"pin").expect(rt, "memory");
+    netlist.port(signal, Way::Output).expect(rt, "memory");
     assert!(rt; netlist.way_of(signal) == Some(Way::Output));
-    netlist.port(signal, Way::Input)?;
+    netlist.port(signal, Way::Input).expect(rt, "memory");
     let port = Port {
         signal,
         way: Way::Both,
     };
     assert!(rt; netlist.ports() == [port].as_slice());
-    let kind = kind_named(b"SB_GB").expect(&rt, "a kind");
-    let cell = Cell {
-        kind,
-        line: 7,
-        ins: Signals::from_vec(vec![in rt.alloc(); Some(signal)]?),
-        outs: Signals::from_vec(vec![in rt.alloc(); None]?),
-    };
-    assert!(rt; cell.is_formed(netlist.signals()));
-    assert!(rt; netlist.has_room_for_cell());
-    netlist.cell(cell)?;
-    assert_eq!(rt; netlist.cells().len(), 1);
-    Ok(())
+    signal
+}
+
+// Fails unless ports and cells stand in order.
+fn expect_ports_and_cells(rt: &impl Abort, alloc: Global) {
+    let mut netlist = Netlist::new(alloc);
+    let signal = expect_port(rt, &mut netlist);
+    expect_added(rt, &mut netlist, cell_of(rt, alloc, signal));
+}
+
+// The flip-flops, each with the number of its inputs.
+const FLIP_FLOPS: &[u8] = b"SB_DFF 2
+SB_DFFE 3
+SB_DFFSR 3
+SB_DFFR 3
+SB_DFFSS 3
+SB_DFFS 3
+SB_DFFESR 4
+SB_DFFER 4
+SB_DFFESS 4
+SB_DFFES 4
+SB_DFFN 2
+SB_DFFNE 3
+SB_DFFNSR 3
+SB_DFFNR 3
+SB_DFFNSS 3
+SB_DFFNS 3
+SB_DFFNESR 4
+SB_DFFNER 4
+SB_DFFNESS 4
+SB_DFFNES 4
+";
+
+// Fails unless a flip-flop has so many inputs, and its output behind them.
+fn expect_flip_flop(rt: &impl Abort, word: &[u8], ins: usize) {
+    let kind = kind_named(word).expect(rt, "a flip-flop");
+    assert_eq!(rt; kind.ins_count(), ins, "of {word:?}");
+    assert!(rt; kind.port_place(b"Q") == Some(ins), "of {word:?}");
+}
+
+// Fails unless these words name flip-flops with so many inputs, and no others do.
+fn expect_flip_flops(rt: &impl Abort, lines: &[u8], others: &[u8]) {
+    for line in lines_of(lines) {
+        expect_flip_flop(rt, word_at(line.text, 0), number_at(line.text, 1) as usize);
+    }
+    for word in words_of(others) {
+        assert!(rt; kind_named(word).is_none(), "of {word:?}");
+    }
+    let cover = CellKind::Cover { table: 0, width: 1 };
+    assert!(rt; cover.port_place(b"I0").is_none());
 }
 
 #[test]
-fn the_twenty_flip_flops_have_their_ports(rt: HostRuntime) {
-    for (word, ins) in [
-        (b"SB_DFF".as_slice(), 2),
-        (b"SB_DFFE", 3),
-        (b"SB_DFFSR", 3),
-        (b"SB_DFFR", 3),
-        (b"SB_DFFSS", 3),
-        (b"SB_DFFS", 3),
-        (b"SB_DFFESR", 4),
-        (b"SB_DFFER", 4),
-        (b"SB_DFFESS", 4),
-        (b"SB_DFFES", 4),
-        (b"SB_DFFN", 2),
-        (b"SB_DFFNE", 3),
-        (b"SB_DFFNSR", 3),
-        (b"SB_DFFNR", 3),
-        (b"SB_DFFNSS", 3),
-        (b"SB_DFFNS", 3),
-        (b"SB_DFFNESR", 4),
-        (b"SB_DFFNER", 4),
-        (b"SB_DFFNESS", 4),
-        (b"SB_DFFNES", 4),
-    ] {
-        let kind = kind_named(word).expect(&rt, "a flip-flop");
-        assert_eq!(rt; kind.ins_count(), ins, "of {word:?}");
-        assert!(rt; kind.port_place(b"Q") == Some(ins), "of {word:?}");
-    }
-    for word in [
-        b"SB_DFFNN".as_slice(),
-        b"SB_DFFSE",
-        b"SB_DFFEE",
-        b"DFF",
-        b"SB_LUT",
-        b"$_DFF_P_",
-    ] {
-        assert!(rt; kind_named(word).is_none(), "of {word:?}");
-    }
-    assert!(rt;
-        CellKind::Cover { table: 0, width: 1 }
-            .port_place(b"I0")
-            .is_none()
+fn netlists_are_built(rt: HostRuntime) {
+    expect_names(&rt, rt.alloc());
+    expect_ports_and_cells(&rt, rt.alloc());
+    expect_flip_flops(
+        &rt,
+        FLIP_FLOPS,
+        b"SB_DFFNN SB_DFFSE SB_DFFEE DFF SB_LUT $_DFF_P_",
     );
 }

@@ -78,34 +78,26 @@ fn expect_cycle(
     }
 }
 
-#[test]
-fn points_stand_after_what_they_depend_on(rt: HostRuntime) -> Result<(), Fail> {
+fn points_stand_after_what_they_depend_on(rt: &impl Abort, alloc: Global) -> Result<(), Fail> {
     // Nothing, one source, a chain down and a chain up.
-    expect_ordered(rt.alloc(), &rt, &[], &[])?;
-    expect_ordered(rt.alloc(), &rt, &[&[]], &[0])?;
-    expect_ordered(rt.alloc(), &rt, &[&[1], &[2], &[]], &[2, 1, 0])?;
-    expect_ordered(rt.alloc(), &rt, &[&[], &[0], &[1]], &[0, 1, 2])?;
+    expect_ordered(alloc, rt, &[], &[])?;
+    expect_ordered(alloc, rt, &[&[]], &[0])?;
+    expect_ordered(alloc, rt, &[&[1], &[2], &[]], &[2, 1, 0])?;
+    expect_ordered(alloc, rt, &[&[], &[0], &[1]], &[0, 1, 2])?;
     // A diamond, and a point that reads one point twice.
-    expect_ordered(rt.alloc(), &rt, &[&[1, 2], &[3], &[3], &[]], &[3, 1, 2, 0])?;
-    expect_ordered(rt.alloc(), &rt, &[&[1, 1], &[]], &[1, 0])
+    expect_ordered(alloc, rt, &[&[1, 2], &[3], &[3], &[]], &[3, 1, 2, 0])?;
+    expect_ordered(alloc, rt, &[&[1, 1], &[]], &[1, 0])
 }
 
-#[test]
-fn a_cycle_stands_against_an_order(rt: HostRuntime) -> Result<(), Fail> {
+fn a_cycle_stands_against_an_order(rt: &impl Abort, alloc: Global) -> Result<(), Fail> {
     // A loop of two, a point that depends on itself, and a loop of three behind a point that is on none.
-    expect_cycle(rt.alloc(), &rt, &[&[1], &[0]], &[0, 1])?;
-    expect_cycle(rt.alloc(), &rt, &[&[], &[0, 1]], &[1])?;
-    expect_cycle(
-        rt.alloc(),
-        &rt,
-        &[&[3], &[2], &[3, 0], &[4, 1], &[]],
-        &[1, 2, 3],
-    )
+    expect_cycle(alloc, rt, &[&[1], &[0]], &[0, 1])?;
+    expect_cycle(alloc, rt, &[&[], &[0, 1]], &[1])?;
+    expect_cycle(alloc, rt, &[&[3], &[2], &[3, 0], &[4, 1], &[]], &[1, 2, 3])
 }
 
-#[test]
-fn a_graph_knows_its_points(rt: HostRuntime) -> Result<(), Fail> {
-    let mut graph = Graph::new(rt.alloc());
+fn a_graph_knows_its_points(rt: &impl Abort, alloc: Global) -> Result<(), Fail> {
+    let mut graph = Graph::new(alloc);
     assert!(rt; graph.is_empty());
     graph.push(&[0, 2])?;
     graph.push(&[])?;
@@ -117,18 +109,26 @@ fn a_graph_knows_its_points(rt: HostRuntime) -> Result<(), Fail> {
     Ok(())
 }
 
-#[test]
-fn a_row_of_100000_points_has_an_order(rt: HostRuntime) -> Result<(), Fail> {
-    let mut graph = Graph::new(rt.alloc());
+fn a_row_of_100000_points_has_an_order(rt: &impl Abort, alloc: Global) -> Result<(), Fail> {
+    let mut graph = Graph::new(alloc);
     for point in 1..100_000 {
         graph.push(&[point])?;
     }
     graph.push(&[])?;
     assert!(rt; graph.is_within());
-    match order(rt.alloc(), &graph)? {
-        Outcome::Order(order) => expect_order(rt.alloc(), &rt, &graph, &order),
+    match order(alloc, &graph)? {
+        Outcome::Order(order) => expect_order(alloc, rt, &graph, &order),
         Outcome::Cycle(cycle) => panic!(rt; "a cycle: {cycle:?}"),
     }
+}
+
+#[test]
+fn orders_and_cycles_are_found(rt: HostRuntime) -> Result<(), Fail> {
+    points_stand_after_what_they_depend_on(&rt, rt.alloc())?;
+    a_cycle_stands_against_an_order(&rt, rt.alloc())?;
+    a_graph_knows_its_points(&rt, rt.alloc())?;
+    a_row_of_100000_points_has_an_order(&rt, rt.alloc())?;
+    Ok(())
 }
 
 // ---- values

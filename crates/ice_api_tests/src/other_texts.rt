@@ -27,12 +27,11 @@ fn expect_constraints(rt: &impl Abort, pcf: &Pcf, expected: &[Expected<'_>]) {
     }
 }
 
-#[test]
-fn constraints_are_read_in_their_order(rt: HostRuntime) -> Result<(), Fail> {
+fn constraints_are_read_in_their_order(rt: &impl Abort, alloc: Global) -> Result<(), Fail> {
     let text = b"set_frequency clk 12\nset_io --warn-no-port spare 9\nset_io -pullup yes clk 1\n";
-    let pcf = read_pcf(rt.alloc(), text)?;
+    let pcf = read_pcf(alloc, text)?;
     expect_constraints(
-        &rt,
+        rt,
         &pcf,
         &[
             (2, b"spare", b"9", true, None),
@@ -42,9 +41,9 @@ fn constraints_are_read_in_their_order(rt: HostRuntime) -> Result<(), Fail> {
 
     let text =
         b"set_io -nowarn -pullup yes -nowarn -pullup no a 1\nset_io -pullup no -pullup yes b 2\nset_io c 3";
-    let pcf = read_pcf(rt.alloc(), text)?;
+    let pcf = read_pcf(alloc, text)?;
     expect_constraints(
-        &rt,
+        rt,
         &pcf,
         &[
             (1, b"a", b"1", true, Some(false)),
@@ -55,9 +54,9 @@ fn constraints_are_read_in_their_order(rt: HostRuntime) -> Result<(), Fail> {
 
     let text =
         b"set_io a -x\nset_io b -pullup\nset_io -pullup no set_io --warn-no-port\nset_io yes no";
-    let pcf = read_pcf(rt.alloc(), text)?;
+    let pcf = read_pcf(alloc, text)?;
     expect_constraints(
-        &rt,
+        rt,
         &pcf,
         &[
             (1, b"a", b"-x", false, None),
@@ -69,14 +68,14 @@ fn constraints_are_read_in_their_order(rt: HostRuntime) -> Result<(), Fail> {
 
     let text =
         b"# pins\r\n\r\n\tset_io  a\t1 # b 2\r\n set_frequency\n#set_io\nset_frequency a -x b\nset_io b#c 2";
-    let pcf = read_pcf(rt.alloc(), text)?;
+    let pcf = read_pcf(alloc, text)?;
     expect_constraints(
-        &rt,
+        rt,
         &pcf,
         &[(3, b"a", b"1", false, None), (7, b"b#c", b"2", false, None)],
     );
-    let none = read_pcf(rt.alloc(), b"")?;
-    expect_constraints(&rt, &none, &[]);
+    let none = read_pcf(alloc, b"")?;
+    expect_constraints(rt, &none, &[]);
     Ok(())
 }
 
@@ -114,8 +113,7 @@ fn expect_read(
     Ok(())
 }
 
-#[test]
-fn a_step_is_a_line_of_one_word(rt: HostRuntime) -> Result<(), Fail> {
+fn a_step_is_a_line_of_one_word(rt: &impl Abort, alloc: Global) -> Result<(), Fail> {
     for (text, ports, expected) in [
         ("", 2, ""),
         ("\n \t\r\n# 01\n", 0, ""),
@@ -123,7 +121,14 @@ fn a_step_is_a_line_of_one_word(rt: HostRuntime) -> Result<(), Fail> {
         (" 1 # 0\n\n0\r\n", 1, "1 0"),
         ("100 #\n# 2\n011\n", 3, "100 011"),
     ] {
-        expect_read(&rt, rt.alloc(), text, ports, expected)?;
+        expect_read(rt, alloc, text, ports, expected)?;
     }
+    Ok(())
+}
+
+#[test]
+fn constraints_and_levels_are_read(rt: HostRuntime) -> Result<(), Fail> {
+    constraints_are_read_in_their_order(&rt, rt.alloc())?;
+    a_step_is_a_line_of_one_word(&rt, rt.alloc())?;
     Ok(())
 }

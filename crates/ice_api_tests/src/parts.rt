@@ -1,9 +1,9 @@
 //! Faults of chip texts with both their lines, and of databases whose rows stand in another order than their lines.
+use crate::asked::{Asked, expect};
 use crate::found::kind_of;
-use crate::small_chips::{Change, Sample, number_at, text_with, word_at};
+use crate::small_chips::{Change, Sample, number_at, word_at};
 use ice_base::{BitAt, Line, NoMemory, TileAt, lines_of, name_of, words_of};
 use ice_chip::{ChipFault, ChipParts, Function, TileKind, TileLine};
-use ice_chip_read::read_chip;
 use std::alloc::{AllocError, Global};
 use std::process::Abort;
 use std::test::Fail;
@@ -21,12 +21,9 @@ fn fault_of(words: &[u8]) -> ChipFault {
     ChipFault::SharedFunction { line, other }
 }
 
-// Fails unless a text has the fault that these words tell.
-fn expect_fault(rt: &impl Abort, alloc: Global, text: &[u8], words: &[u8]) {
-    match read_chip(alloc, text) {
-        Ok(_) => panic!(rt; "no fault {words:?}"),
-        Err(fault) => assert!(rt; fault == fault_of(words), "{fault} for {words:?}"),
-    }
+/// Fails unless a fault is the one that these words tell.
+pub fn expect_fault(rt: &impl Abort, fault: &ChipFault, words: &[u8]) {
+    assert!(rt; *fault == fault_of(words), "{fault} for {words:?}");
 }
 
 // A change of the chip with a tile of each kind, and the fault with both lines.
@@ -64,18 +61,22 @@ const FAULTS: [(Change, &[u8]); 9] = [
 fn expect_faults(
     rt: &impl Abort,
     alloc: Global,
-    cases: &[(Change, &[u8])],
+    cases: &[(Change, &'static [u8])],
 ) -> Result<(), AllocError> {
     for (change, words) in cases {
-        let text = text_with(alloc, Sample::FourKinds, &[*change])?;
-        expect_fault(rt, alloc, &text, words);
+        expect(
+            rt,
+            alloc,
+            Sample::FourKinds,
+            &[*change],
+            Asked::Fault(*words),
+        )?;
     }
     Ok(())
 }
 
-#[test]
-fn faults_of_two_lines_tell_both(rt: HostRuntime) -> Result<(), Fail> {
-    expect_faults(&rt, rt.alloc(), &FAULTS)?;
+fn faults_of_two_lines_tell_both(rt: &impl Abort, alloc: Global) -> Result<(), Fail> {
+    expect_faults(rt, alloc, &FAULTS)?;
     Ok(())
 }
 
@@ -164,12 +165,17 @@ fn expect_shared(
     Ok(())
 }
 
-#[test]
-fn lines_and_not_places_say_what_is_first(rt: HostRuntime) -> Result<(), Fail> {
-    let alloc = rt.alloc();
+fn lines_and_not_places_say_what_is_first(rt: &impl Abort, alloc: Global) -> Result<(), Fail> {
     let turned = b"logic NegClk 3 2 9\nlogic LC_0 1 2 7";
-    expect_shared(&rt, alloc, turned, (9, 7))?;
+    expect_shared(rt, alloc, turned, (9, 7))?;
     let three = b"logic NegClk 3 2 9\nlogic LC_0 1 2 7\nlogic NegClk 5 5 8";
-    expect_shared(&rt, alloc, three, (8, 8))?;
+    expect_shared(rt, alloc, three, (8, 8))?;
+    Ok(())
+}
+
+#[test]
+fn faults_have_the_lines_that_count(rt: HostRuntime) -> Result<(), Fail> {
+    faults_of_two_lines_tell_both(&rt, rt.alloc())?;
+    lines_and_not_places_say_what_is_first(&rt, rt.alloc())?;
     Ok(())
 }

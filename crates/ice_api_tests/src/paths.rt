@@ -1,168 +1,152 @@
-//! Costs and taken paths in small graphs.
-ghost use Rattle.std.specs.Prelude.{◌≡◌, ◌<◌, ◌≤◌, length};
+//! Costs, taken paths and settled wires in small graphs.
+ghost use Rattle.std.specs.Prelude.{◌≡◌, ◌≤◌, length, IsSome, OnSome};
 ghost use Rattle.ice_core.specs.Congestion.{ArePrices};
-ghost use Rattle.ice_path.specs.Room.{IsFor, AreWires};
+ghost use Rattle.ice_path.specs.Room.{IsFor};
 
-use crate::graphs::edge;
+use crate::built::{graph_of, placed_graph, prices_at, sink_of, wires_of};
+use crate::graphs::{COLUMNS, TWO_WAYS};
+use crate::small_chips::{count_words, number_at};
 use ice_base::WireNo;
 use ice_core::Prices;
-use ice_graph::{Graph, Tree};
-use ice_path::{Scratch, connect, path};
+use ice_graph::{Edge, Graph, Tree};
+use ice_path::{Scratch, connect, path, settled};
 use std::alloc::Global;
 use std::process::Abort;
 use std::test::Fail;
 
-// The cost of the taken path from these wires, and its rows.
-fn way(
+// The wires of a tree, the targets, and the cost of the taken path and its rows, or nothing where none is there.
+type Way = (&'static [u8], &'static [u8], &'static [u8], &'static [u8]);
+
+// Fails unless these are the rows of the edges.
+fn expect_rows(rt: &impl Abort, edges: &[Edge], rows: &[u8]) {
+    assert_eq!(rt; edges.len(), count_words(rows), "of rows {rows:?}");
+    let mut place: usize = 0;
+    for edge in edges {
+        assert_eq!(rt; edge.row.0, number_at(rows, place), "of rows {rows:?}");
+        place = place.saturating_add(1);
+    }
+}
+
+// The cost of the taken path from the wires of a tree to a sink.
+fn cost_of(
     rt: &impl Abort,
     alloc: Global,
     graph: &Graph,
     prices: &Prices,
-    wires: &[WireNo],
-    target: u32,
+    way: Way,
     scratch: &mut Scratch,
-) -> Option<(u64, Vec<u32>)>
+) -> Option<u64>
     requires prices { ArePrices prices.now }
     requires wires { length prices.now.history.items ≡ graph.now.wires }
-    requires tree { AreWires graph.now.wires wires.now }
-    requires target { target < graph.now.wires }
+    requires scratch { IsFor graph.now scratch.old }
+    ensures scratch { IsFor graph.now scratch.new }
+    ensures path { OnSome result (IsSome scratch.new.path) }
+{
+    let wires = wires_of(rt, alloc, graph.wires(), way.0).expect(rt, "memory");
+    let tree = Tree {
+        wires,
+        rows: Vec::new(alloc),
+    };
+    let sink = sink_of(rt, alloc, graph.wires(), way.1);
+    connect(graph, prices, &tree, sink.targets(), scratch)
+}
+
+// Fails unless the taken path has this cost and these rows.
+fn expect_way(
+    rt: &impl Abort,
+    alloc: Global,
+    graph: &Graph,
+    prices: &Prices,
+    way: Way,
+    scratch: &mut Scratch,
+)
+    requires prices { ArePrices prices.now }
+    requires wires { length prices.now.history.items ≡ graph.now.wires }
     requires scratch { IsFor graph.now scratch.old }
     ensures { IsFor graph.now scratch.new }
 {
-    let tree = Tree {
-        wires: Vec::from_slice(alloc, wires).expect(rt, "memory"),
-        rows: Vec::new(alloc),
-    };
-    let Some(cost) = connect(graph, prices, &tree, WireNo(target), scratch) else {
-        return None;
-    };
-    let mut rows = Vec::new(alloc);
-    for edge in path(scratch) {
-        rows.push(edge.row.0).expect(rt, "memory");
-    }
-    Some((cost, rows))
-}
-
-// Fails unless the way has this cost and these rows.
-fn expect_way(rt: &impl Abort, way: Option<(u64, Vec<u32>)>, cost: u64, rows: &[u32]) {
-    let Some((found, taken)) = way else {
-        panic!(rt; "no way, but rows {rows:?}");
-    };
-    assert_eq!(rt; found, cost, "of rows {rows:?}");
-    assert_eq!(rt; taken.as_slice(), rows);
-}
-
-// What seven wires cost, of which wire 2 has a history and is held by others.
-fn prices_at(rt: &impl Abort, alloc: Global, round: u32, history: u8, others: u8) -> Prices
-    requires { (1 ≤ round) × (round ≤ 64) }
-    ensures prices { ArePrices result }
-    ensures length { length result.history.items ≡ 7 }
-{
-    Prices {
-        round,
-        history: vec![in alloc; 0, 0, history as u64, 0, 0, 0, 0].expect(rt, "memory"),
-        others: vec![in alloc; 0, 0, others as u32, 0, 0, 0, 0].expect(rt, "memory"),
+    match cost_of(rt, alloc, graph, prices, way, scratch) {
+        Some(cost) => {
+            assert_eq!(rt; cost, u64::from(number_at(way.2, 0)), "of rows {:?}", way.3);
+            expect_rows(rt, path(scratch), way.3);
+        }
+        None => assert!(rt; count_words(way.2) == 0, "no way, but rows {:?}", way.3),
     }
 }
 
-// Two wires from which two wires are reached over a short wire, 2, and over two more wires, 3 and 4.
-fn two_ways(rt: &impl Abort, alloc: Global) -> Graph
-    ensures { result.wires ≡ 7 }
-{
-    let edges = vec![in alloc;
-        edge(0, 0, 2),
-        edge(1, 1, 2),
-        edge(2, 0, 3),
-        edge(3, 1, 3),
-        edge(4, 3, 4),
-        edge(5, 2, 5),
-        edge(6, 4, 5),
-        edge(7, 2, 6),
-        edge(8, 4, 6),
-    ]
-    .expect(rt, "memory");
-    Graph::new(alloc, 7, edges).expect(rt, "memory")
+// Fails unless each taken path has its cost and its rows, in the prices of a round in which wire 2 has this history and
+// is held by so many others.
+fn expect_ways(rt: &impl Abort, alloc: Global, graph: &Graph, at: (u32, u8, u8), ways: &[Way]) {
+    assert!(rt; graph.wires() == 7 && at.0 >= 1 && at.0 <= 64);
+    let prices = prices_at(rt, alloc, at.0, at.1, at.2);
+    let mut scratch = Scratch::new(alloc, graph).expect(rt, "memory");
+    for way in ways {
+        expect_way(rt, alloc, graph, &prices, *way, &mut scratch);
+    }
 }
 
-// The same wires with the way over the short wire alone.
-fn short_way(rt: &impl Abort, alloc: Global) -> Graph
-    ensures { result.wires ≡ 7 }
-{
-    let edges = vec![in alloc; edge(0, 0, 2), edge(1, 1, 2), edge(5, 2, 5), edge(7, 2, 6)].expect(
-        rt, "memory",
-    );
-    Graph::new(alloc, 7, edges).expect(rt, "memory")
+// Where all wires cost the same: from one wire, from two, within the tree, to no wire, and to the first of the nearest targets.
+const PLAIN: [Way; 9] = [
+    (b"0", b"5", b"2", b"0 5"),
+    (b"0", b"2", b"1", b"0"),
+    (b"0 3", b"6", b"2", b"0 7"),
+    (b"0 3", b"3", b"0", b""),
+    (b"0 3", b"1", b"", b""),
+    (b"0", b"1 5", b"2", b"0 5"),
+    (b"0", b"5 6 3 2", b"1", b"2"),
+    (b"0", b"5 6 2 3", b"1", b"0"),
+    (b"0 3", b"5 3 2 0", b"0", b""),
+];
+
+// Where wire 2 costs as much as the long way.
+const TIED: [Way; 1] = [(b"0", b"5", b"3", b"0 5")];
+
+// Where wire 2 costs more than the long way.
+const CROWDED: [Way; 3] = [
+    (b"0 3", b"6", b"2", b"4 8"),
+    (b"0", b"5", b"3", b"2 4 6"),
+    (b"0", b"2 5", b"3", b"2 4 6"),
+];
+
+// Where only the way over wire 2 is there.
+const SHORT: [Way; 2] = [(b"0", b"2", b"4", b"0"), (b"0", b"5", b"5", b"0 5")];
+
+// The first row goes before the shorter walk.
+const FIRST_ROW: [Way; 1] = [(b"0", b"4", b"3", b"3 4 6")];
+
+#[test]
+fn the_cheapest_way_is_taken(rt: HostRuntime) {
+    let alloc = rt.alloc();
+    let graph = graph_of(&rt, alloc, 7, TWO_WAYS);
+    expect_ways(&rt, alloc, &graph, (1, 0, 0), &PLAIN);
+    expect_ways(&rt, alloc, &graph, (2, 1, 0), &TIED);
+    expect_ways(&rt, alloc, &graph, (2, 1, 1), &CROWDED);
+    let graph = graph_of(&rt, alloc, 7, b"0 0 2  1 1 2  5 2 5  7 2 6");
+    expect_ways(&rt, alloc, &graph, (2, 1, 1), &SHORT);
+    let graph = graph_of(&rt, alloc, 7, b"3 0 1  4 1 3  6 3 4  7 0 2  9 2 4");
+    expect_ways(&rt, alloc, &graph, (1, 1, 0), &FIRST_ROW);
+}
+
+// Fails unless exactly these wires are settled.
+fn expect_settled(rt: &impl Abort, found: &[WireNo], wires: &[u8]) {
+    assert_eq!(rt; found.len(), count_words(wires));
+    for place in 0..count_words(wires) {
+        let wire = WireNo(number_at(wires, place));
+        assert!(rt; found.contains(&wire), "{wire:?} is not settled");
+    }
 }
 
 #[test]
-fn a_short_way_and_a_long_way(rt: HostRuntime) {
+fn wires_within_the_cost_are_settled(rt: HostRuntime) {
     let alloc = rt.alloc();
-    let graph = two_ways(&rt, alloc);
+    let graph = placed_graph(&rt, alloc, 7, TWO_WAYS, COLUMNS);
+    let prices = prices_at(&rt, alloc, 1, 0, 0);
     let mut scratch = Scratch::new(alloc, &graph).expect(&rt, "memory");
-    let plain = prices_at(&rt, alloc, 1, 0, 0);
-    let tied = prices_at(&rt, alloc, 2, 1, 0);
-    let one = [WireNo(0)];
-    let way_of = way(&rt, alloc, &graph, &plain, &one, 5, &mut scratch);
-    expect_way(&rt, way_of, 2, &[0, 5]);
-    let way_of = way(&rt, alloc, &graph, &tied, &one, 5, &mut scratch);
-    expect_way(&rt, way_of, 3, &[0, 5]);
-    let way_of = way(&rt, alloc, &graph, &plain, &one, 2, &mut scratch);
-    expect_way(&rt, way_of, 1, &[0]);
-}
-
-#[test]
-fn ways_from_a_tree_of_two_wires(rt: HostRuntime) {
-    let alloc = rt.alloc();
-    let graph = two_ways(&rt, alloc);
-    let mut scratch = Scratch::new(alloc, &graph).expect(&rt, "memory");
-    let plain = prices_at(&rt, alloc, 1, 0, 0);
-    let crowded = prices_at(&rt, alloc, 2, 1, 1);
-    let two = [WireNo(0), WireNo(3)];
-    let way_of = way(&rt, alloc, &graph, &plain, &two, 6, &mut scratch);
-    expect_way(&rt, way_of, 2, &[0, 7]);
-    let way_of = way(&rt, alloc, &graph, &crowded, &two, 6, &mut scratch);
-    expect_way(&rt, way_of, 2, &[4, 8]);
-    let way_of = way(&rt, alloc, &graph, &plain, &two, 3, &mut scratch);
-    expect_way(&rt, way_of, 0, &[]);
-    assert!(rt; way(&rt, alloc, &graph, &plain, &two, 1, &mut scratch).is_none());
-}
-
-#[test]
-fn a_crowded_wire_is_left_for_a_longer_way(rt: HostRuntime) {
-    let alloc = rt.alloc();
-    let crowded = prices_at(&rt, alloc, 2, 1, 1);
-    let one = [WireNo(0)];
-    let graph = short_way(&rt, alloc);
-    let mut scratch = Scratch::new(alloc, &graph).expect(&rt, "memory");
-    let way_of = way(&rt, alloc, &graph, &crowded, &one, 2, &mut scratch);
-    expect_way(&rt, way_of, 4, &[0]);
-    let way_of = way(&rt, alloc, &graph, &crowded, &one, 5, &mut scratch);
-    expect_way(&rt, way_of, 5, &[0, 5]);
-    let graph = two_ways(&rt, alloc);
-    let mut scratch = Scratch::new(alloc, &graph).expect(&rt, "memory");
-    let way_of = way(&rt, alloc, &graph, &crowded, &one, 5, &mut scratch);
-    expect_way(&rt, way_of, 3, &[2, 4, 6]);
-}
-
-#[test]
-fn the_first_row_goes_before_the_shorter_walk(rt: HostRuntime) {
-    let alloc = rt.alloc();
-    let edges = vec![in alloc;
-        edge(3, 0, 1),
-        edge(4, 1, 3),
-        edge(6, 3, 4),
-        edge(7, 0, 2),
-        edge(9, 2, 4),
-    ]
-    .expect(&rt, "memory");
-    let graph = Graph::new(alloc, 7, edges).expect(&rt, "memory");
-    let mut scratch = Scratch::new(alloc, &graph).expect(&rt, "memory");
-    let prices = prices_at(&rt, alloc, 1, 1, 0);
-    let tree = [WireNo(0)];
-    expect_way(
-        &rt,
-        way(&rt, alloc, &graph, &prices, &tree, 4, &mut scratch),
-        3,
-        &[3, 4, 6],
-    );
+    let way: Way = (b"0", b"5", b"2", b"0 5");
+    let cost = cost_of(&rt, alloc, &graph, &prices, way, &mut scratch);
+    let Some(2) = cost else {
+        panic!(&rt; "{cost:?}");
+    };
+    expect_rows(&rt, path(&scratch), b"0 5");
+    expect_settled(&rt, settled(&scratch), b"0 2 3 5");
 }

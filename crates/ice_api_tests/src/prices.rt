@@ -8,21 +8,19 @@ use std::alloc::Global;
 use std::process::Abort;
 use std::test::Fail;
 
-#[test]
-fn prices_rise_with_history_round_and_others(rt: HostRuntime) {
-    let alloc = rt.alloc();
+fn prices_rise_with_history_round_and_others(rt: &impl Abort, alloc: Global) {
     let prices = Prices {
         round: 3,
-        history: vec![in alloc; 0, 3, 4128705].expect(&rt, "memory"),
-        others: vec![in alloc; 2, 0, 5].expect(&rt, "memory"),
+        history: vec![in alloc; 0, 3, 4128705].expect(rt, "memory"),
+        others: vec![in alloc; 2, 0, 5].expect(rt, "memory"),
     };
     assert_eq!(rt; prices.of(WireNo(0)), 5);
     assert_eq!(rt; prices.of(WireNo(1)), 4);
     assert_eq!(rt; prices.of(WireNo(2)), 45415766);
     let mut early = Prices {
         round: 1,
-        history: vec![in alloc; 1, 0, 1].expect(&rt, "memory"),
-        others: vec![in alloc; 1, 1, 0].expect(&rt, "memory"),
+        history: vec![in alloc; 1, 0, 1].expect(rt, "memory"),
+        others: vec![in alloc; 1, 1, 0].expect(rt, "memory"),
     };
     assert_eq!(rt; early.of(WireNo(0)), 2);
     assert_eq!(rt; early.of(WireNo(1)), 1);
@@ -33,8 +31,8 @@ fn prices_rise_with_history_round_and_others(rt: HostRuntime) {
     assert_eq!(rt; early.of(WireNo(2)), 2);
     let highest = Prices {
         round: 64,
-        history: vec![in alloc; 4128705].expect(&rt, "memory"),
-        others: vec![in alloc; 65535].expect(&rt, "memory"),
+        history: vec![in alloc; 4128705].expect(rt, "memory"),
+        others: vec![in alloc; 65535].expect(rt, "memory"),
     };
     assert_eq!(rt; highest.of(WireNo(0)), 17046213234436);
 }
@@ -49,23 +47,24 @@ fn tree(rt: &impl Abort, alloc: Global, wires: &[WireNo]) -> Tree
     }
 }
 
-#[test]
-fn history_holders_and_movers_are_counted(rt: HostRuntime) {
-    let alloc = rt.alloc();
+fn history_holders_and_movers_are_counted(rt: &impl Abort, alloc: Global) {
     let mut history = [0, 2, 5];
     raise(&mut history, &[0, 3, 1]);
     assert_eq!(rt; history, [0, 4, 5]);
     let trees = [
-        tree(&rt, alloc, &[WireNo(0), WireNo(2)]),
-        tree(&rt, alloc, &[WireNo(2), WireNo(2)]),
+        tree(rt, alloc, &[WireNo(0), WireNo(2)]),
+        tree(rt, alloc, &[WireNo(2), WireNo(2)]),
     ];
-    let counts = holders(alloc, 4, &trees).expect(&rt, "memory");
+    let counts = holders(alloc, 4, &trees).expect(rt, "memory");
     assert_eq!(rt; counts.as_slice(), [1, 0, 2, 0].as_slice());
-    let pair = [
-        tree(&rt, alloc, &[WireNo(0)]),
-        tree(&rt, alloc, &[WireNo(0)]),
-    ];
-    let nets = movers(alloc, 1, &[2], &pair).expect(&rt, "memory");
+    let pair = [tree(rt, alloc, &[WireNo(0)]), tree(rt, alloc, &[WireNo(0)])];
+    let nets = movers(alloc, 1, &[2], &pair).expect(rt, "memory");
     assert_eq!(rt; nets.len(), 1);
     assert_eq!(rt; nets[0].0, 0);
+}
+
+#[test]
+fn prices_and_movers_follow_the_rule(rt: HostRuntime) {
+    prices_rise_with_history_round_and_others(&rt, rt.alloc());
+    history_holders_and_movers_are_counted(&rt, rt.alloc());
 }

@@ -1,17 +1,19 @@
 //! Nets of small chips that are routed over the usable rows: the short way, the long way, and no way.
 ghost use Rattle.std.specs.Prelude.{◌≡◌, ◌≤◌};
 
-use crate::small_chips::{Change, Sample, text_with};
+use crate::asked::{Asked, expect};
+use crate::built::{graph_of, nets_of};
+use crate::small_chips::Sample;
+use crate::trees::{expect_rows, expect_wires};
 use crate::usable::next_number;
-use ice_base::{NetNo, RowNo, WireNo, WordIter, lines_of, words_of};
+use ice_base::{NetNo, WireNo, WordIter, lines_of, words_of};
 use ice_chip::Chip;
-use ice_chip_read::read_chip;
-use ice_core::{Net, RoundLog};
+use ice_core::RoundLog;
 use ice_desk::OpenGate;
 use ice_fabric::fabric;
 use ice_graph::{Graph, Tree};
 use ice_negotiate::{RouteFault, Routed, negotiate};
-use std::alloc::{AllocError, Global};
+use std::alloc::Global;
 use std::process::Abort;
 use std::test::Fail;
 
@@ -48,28 +50,14 @@ fn expect_over(rt: &impl Abort, over: &[(WireNo, u32)], numbers: &[u8]) {
     expect_end(rt, words);
 }
 
-// Fails unless the next words are these rows, and no word is left.
-fn expect_rows(rt: &impl Abort, rows: &[RowNo], mut words: WordIter<'_>) {
-    for row in rows {
-        assert_eq!(rt; row.0, next_number(&mut words));
-    }
-    expect_end(rt, words);
-}
-
-// Fails unless these are the wires.
-fn expect_wires(rt: &impl Abort, wires: &[WireNo], numbers: &[u8]) {
-    let mut words = words_of(numbers);
-    for wire in wires {
-        assert_eq!(rt; wire.0, next_number(&mut words), "of {numbers:?}");
-    }
-    expect_end(rt, words);
-}
-
 // Fails unless this net moved and got these rows.
 fn expect_net(rt: &impl Abort, net: NetNo, tree: &Tree, numbers: &[u8]) {
     let mut words = words_of(numbers);
     assert_eq!(rt; net.0, next_number(&mut words), "of {numbers:?}");
-    expect_rows(rt, &tree.rows, words);
+    for row in &tree.rows {
+        assert_eq!(rt; row.0, next_number(&mut words), "of {numbers:?}");
+    }
+    expect_end(rt, words);
 }
 
 // Fails unless these nets moved.
@@ -99,52 +87,24 @@ fn expect_logs(rt: &impl Abort, logs: &[RoundLog], rounds: &[Round]) {
 fn expect_tree(rt: &impl Abort, trees: &[Tree], number: usize, wires: &[u8], rows: &[u8]) {
     let tree = trees.get(number).expect(rt, "a tree");
     expect_wires(rt, &tree.wires, wires);
-    expect_rows(rt, &tree.rows, words_of(rows));
+    expect_rows(rt, &tree.rows, rows);
 }
 
-// A net of this number and root, with these sinks.
-fn net(rt: &impl Abort, alloc: Global, number: u32, root: u32, sinks: &[WireNo]) -> Net
-    ensures root { result.root.0 ≡ root }
-    ensures sinks { result.sinks.items ≡ sinks.now }
-{
-    Net {
-        net: NetNo(number),
-        root: WireNo(root),
-        sinks: Vec::from_slice(alloc, sinks).expect(rt, "memory"),
-    }
-}
-
-// What is answered for two nets, from wires 0 and 1 to these wires.
-fn route_two(
+// What is answered for nets, of which that of each number goes from the wire of that number to these sinks.
+fn route(
     rt: &impl Abort,
     alloc: Global,
     graph: &Graph,
-    sinks: (WireNo, WireNo),
+    sinks: &[&[u8]],
     rounds: u32,
     workers: u32,
 ) -> Result<Routed, RouteFault>
     requires rounds { (1 ≤ rounds) × (rounds ≤ 64) }
     requires workers { (1 ≤ workers) × (workers ≤ 8) }
 {
-    assert!(rt; graph.wires() <= 262_144 && graph.wires() > 1);
-    assert!(rt; sinks.0.0 < graph.wires() && sinks.1.0 < graph.wires());
-    let nets = [
-        net(rt, alloc, 0, 0, &[sinks.0]),
-        net(rt, alloc, 1, 1, &[sinks.1]),
-    ];
+    let nets = nets_of(rt, alloc, graph, sinks).expect(rt, "memory");
+    assert!(rt; graph.wires() <= 1_048_576 && nets.len() <= 65_536);
     negotiate(alloc, graph, &nets, rounds, workers, &OpenGate)
-}
-
-// What is answered for one net from wire 0.
-fn route_one(
-    rt: &impl Abort,
-    alloc: Global,
-    graph: &Graph,
-    sink: WireNo,
-) -> Result<Routed, RouteFault> {
-    assert!(rt; graph.wires() <= 262_144 && sink.0 < graph.wires());
-    let nets = [net(rt, alloc, 0, 0, &[sink])];
-    negotiate(alloc, graph, &nets, 64, 1, &OpenGate)
 }
 
 // Both nets take the short wire 2, and then the first takes the long way over wires 3 and 4.
@@ -162,7 +122,7 @@ fn expect_long_way(rt: &impl Abort, routed: &Routed) {
 fn expect_routed(rt: &impl Abort, alloc: Global, graph: &Graph, workers: u32)
     requires { (1 ≤ workers) × (workers ≤ 8) }
 {
-    match route_two(rt, alloc, graph, (WireNo(5), WireNo(6)), 64, workers) {
+    match route(rt, alloc, graph, &[b"5", b"6"], 64, workers) {
         Ok(routed) => expect_long_way(rt, &routed),
         Err(fault) => panic!(rt; "{fault}"),
     }
@@ -185,7 +145,7 @@ fn expect_given_up(rt: &impl Abort, fault: &RouteFault, rounds: &[Round]) {
 
 // Fails unless two nets are not routed in three rounds.
 fn expect_no_way_round(rt: &impl Abort, alloc: Global, graph: &Graph) {
-    match route_two(rt, alloc, graph, (WireNo(3), WireNo(4)), 3, 1) {
+    match route(rt, alloc, graph, &[b"3", b"4"], 3, 1) {
         Ok(_) => panic!(rt; "routed"),
         Err(fault) => expect_given_up(rt, &fault, &NO_WAY_ROUND),
     }
@@ -199,22 +159,28 @@ fn expect_unreachable(rt: &impl Abort, fault: &RouteFault, wanted: (NetNo, WireN
     }
 }
 
-// Fails unless a net from wire 0 doesn't reach wire 2.
-fn expect_cut(rt: &impl Abort, alloc: Global, graph: &Graph) {
-    match route_one(rt, alloc, graph, WireNo(2)) {
+// Fails unless of these nets this one doesn't reach this sink.
+fn expect_cut(
+    rt: &impl Abort,
+    alloc: Global,
+    graph: &Graph,
+    sinks: &[&[u8]],
+    wanted: (NetNo, WireNo),
+) {
+    match route(rt, alloc, graph, sinks, 64, 1) {
         Ok(_) => panic!(rt; "routed"),
-        Err(fault) => expect_unreachable(rt, &fault, (NetNo(0), WireNo(2))),
+        Err(fault) => expect_unreachable(rt, &fault, wanted),
     }
 }
 
-// What is answered for nets.
+/// What is answered for nets.
 #[derive(Clone, Copy)]
-enum Wanted {
-    // Two nets are routed, one of them over the long way.
+pub enum Wanted {
+    /// Two nets are routed, one of them over the long way.
     LongWay,
-    // Two nets have no two ways.
+    /// Two nets have no two ways.
     NoWayRound,
-    // One net has no way.
+    /// One net has no way.
     Cut,
 }
 
@@ -227,44 +193,55 @@ fn expect_answer(rt: &impl Abort, alloc: Global, graph: &Graph, wanted: Wanted) 
             expect_routed(rt, alloc, graph, 8);
         }
         Wanted::NoWayRound => expect_no_way_round(rt, alloc, graph),
-        Wanted::Cut => expect_cut(rt, alloc, graph),
+        Wanted::Cut => expect_cut(rt, alloc, graph, &[b"2"], (NetNo(0), WireNo(2))),
     }
 }
 
-// Fails unless this is answered over the usable rows of a chip.
-fn expect_in_fabric(rt: &impl Abort, alloc: Global, chip: &Chip, wanted: Wanted) {
+/// Fails unless this is answered over the usable rows of a chip.
+pub fn expect_in_fabric(rt: &impl Abort, alloc: Global, chip: &Chip, wanted: Wanted) {
     match fabric(alloc, chip) {
         Ok(graph) => expect_answer(rt, alloc, &graph, wanted),
         Err(_) => panic!(rt; "want of memory"),
     }
 }
 
-// Fails unless this is answered on the chip of a text.
-fn expect_in_chip(rt: &impl Abort, alloc: Global, text: &[u8], wanted: Wanted) {
-    match read_chip(alloc, text) {
-        Ok(chip) => expect_in_fabric(rt, alloc, &chip, wanted),
-        Err(fault) => panic!(rt; "{fault}"),
-    }
-}
-
-// Fails unless this is answered on the chip of a text with this change.
-fn expect_in(
-    rt: &impl Abort,
-    alloc: Global,
-    sample: Sample,
-    change: Change,
-    wanted: Wanted,
-) -> Result<(), AllocError> {
-    let text = text_with(alloc, sample, &[change])?;
-    expect_in_chip(rt, alloc, &text, wanted);
-    Ok(())
+// Fails unless the net of the least number is named, and of it the first target of the first sink.
+fn expect_least_cut(rt: &impl Abort, alloc: Global) {
+    let graph = graph_of(rt, alloc, 5, b"0 0 2");
+    expect_cut(rt, alloc, &graph, &[b"2", b"4 3\n3"], (NetNo(1), WireNo(4)));
+    expect_cut(
+        rt,
+        alloc,
+        &graph,
+        &[b"3 2\n3 4", b"4"],
+        (NetNo(0), WireNo(3)),
+    );
 }
 
 #[test]
 fn nets_take_the_long_way_or_none(rt: HostRuntime) -> Result<(), Fail> {
     let alloc = rt.alloc();
-    expect_in(&rt, alloc, Sample::TwoWays, (0, b""), Wanted::LongWay)?;
-    expect_in(&rt, alloc, Sample::OneWay, (0, b""), Wanted::NoWayRound)?;
-    expect_in(&rt, alloc, Sample::TwoTiles, (37, b"0 0\n"), Wanted::Cut)?;
+    expect(
+        &rt,
+        alloc,
+        Sample::TwoWays,
+        &[],
+        Asked::Routed(Wanted::LongWay),
+    )?;
+    expect(
+        &rt,
+        alloc,
+        Sample::OneWay,
+        &[],
+        Asked::Routed(Wanted::NoWayRound),
+    )?;
+    expect(
+        &rt,
+        alloc,
+        Sample::TwoTiles,
+        &[(37, b"0 0\n")],
+        Asked::Routed(Wanted::Cut),
+    )?;
+    expect_least_cut(&rt, alloc);
     Ok(())
 }

@@ -1,8 +1,8 @@
 //! Sample chips, line by line and by their counts. What is expected was worked out by hand from the rule, and the beginning
 //! of the smallest chip besides by another program.
+use crate::asked::{Asked, expect_of};
 use ice_base::lines_of;
 use ice_chip::{Chip, TileKind};
-use ice_chip_read::read_chip;
 use ice_sample::sample_chip;
 use std::alloc::Global;
 use std::process::Abort;
@@ -204,20 +204,25 @@ fn expect_smallest(rt: &impl Abort, text: &[u8]) {
     expect_carries(rt, text);
 }
 
-#[test]
-fn the_smallest_chip_has_its_lines(rt: HostRuntime) -> Result<(), Fail> {
-    let text = smallest(rt.alloc())?;
-    expect_smallest(&rt, &text);
+fn the_smallest_chip_has_its_lines(rt: &impl Abort, alloc: Global) -> Result<(), Fail> {
+    let text = smallest(alloc)?;
+    expect_smallest(rt, &text);
+    Ok(())
+}
+
+fn a_chip_is_appended(rt: &impl Abort, alloc: Global) -> Result<(), Fail> {
+    let length = smallest(alloc)?.len();
+    let mut out = Vec::from_slice(alloc, b"# old\n")?;
+    sample_chip(alloc, 4, 4, &mut out)?;
+    assert_eq!(rt; out.len(), 6 + length);
+    assert!(rt; out.starts_with(b"# old\n.device 1k 4 4 1040\n.pins sample\n".as_slice()));
     Ok(())
 }
 
 #[test]
-fn a_chip_is_appended(rt: HostRuntime) -> Result<(), Fail> {
-    let length = smallest(rt.alloc())?.len();
-    let mut out = Vec::from_slice(rt.alloc(), b"# old\n")?;
-    sample_chip(rt.alloc(), 4, 4, &mut out)?;
-    assert_eq!(rt; out.len(), 6 + length);
-    assert!(rt; out.starts_with(b"# old\n.device 1k 4 4 1040\n.pins sample\n".as_slice()));
+fn sample_chips_have_their_lines(rt: HostRuntime) -> Result<(), Fail> {
+    the_smallest_chip_has_its_lines(&rt, rt.alloc())?;
+    a_chip_is_appended(&rt, rt.alloc())?;
     Ok(())
 }
 
@@ -228,8 +233,8 @@ fn tiles_of(chip: &Chip, kind: TileKind) -> usize {
     chip.tiles().iter().filter(|tile| tile.kind == kind).count()
 }
 
-// Fails unless the chip has as many parts as one of 14 by 18 tiles.
-fn expect_parts(rt: &impl Abort, chip: &Chip) {
+/// Fails unless the chip has as many parts as one of 14 by 18 tiles.
+pub fn expect_parts(rt: &impl Abort, chip: &Chip) {
     assert_eq!(rt; chip.wires(), 26_256);
     assert_eq!(rt; chip.rows(), 225_652);
     assert_eq!(rt; tiles_of(chip, TileKind::Logic), 192);
@@ -239,19 +244,11 @@ fn expect_parts(rt: &impl Abort, chip: &Chip) {
     assert_eq!(rt; bonded.pads.len(), 112);
 }
 
-// Fails unless the text and its chip have as many parts as one of 14 by 18 tiles.
-fn expect_wide(rt: &impl Abort, alloc: Global, text: &[u8]) {
-    expect_counts(rt, text);
-    match read_chip(alloc, text) {
-        Ok(chip) => expect_parts(rt, &chip),
-        Err(fault) => panic!(rt; "{fault}"),
-    }
-}
-
 #[test]
 fn counts_are_those_of_the_size(rt: HostRuntime) -> Result<(), Fail> {
     let mut text = Vec::new(rt.alloc());
     sample_chip(rt.alloc(), 14, 18, &mut text)?;
-    expect_wide(&rt, rt.alloc(), &text);
+    expect_counts(&rt, &text);
+    expect_of(&rt, rt.alloc(), &text, Asked::Parts);
     Ok(())
 }

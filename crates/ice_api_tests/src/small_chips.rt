@@ -531,6 +531,18 @@ pub fn number_at(text: &[u8], place: usize) -> u32 {
     number_of(word_at(text, place)).unwrap_or(0)
 }
 
+/// The line at a place of a text, or no byte where none is.
+pub fn line_at(text: &[u8], place: usize) -> &[u8] {
+    let mut left = place;
+    for line in lines_of(text) {
+        if left == 0 {
+            return line.text;
+        }
+        left -= 1;
+    }
+    &[]
+}
+
 /// Whether this is the first word of a text.
 pub fn begins(text: &[u8], word: &[u8]) -> bool {
     match words_of(text).next() {

@@ -1,124 +1,91 @@
-//! Trees of a small net, and nets that are not routed.
-ghost use Rattle.std.specs.Prelude.{◌≡◌, length};
-ghost use Rattle.ice_core.specs.Congestion.{ArePrices};
-
-use crate::graphs::edge;
-use ice_base::{NetNo, RowNo, WireNo};
-use ice_core::{Net, Prices};
-use ice_desk::OpenGate;
+//! Trees of small nets.
+use crate::built::{graph_of, prices_at, sinks_of};
+use crate::graphs::TWO_WAYS;
+use crate::small_chips::{count_words, number_at};
+use ice_base::{RowNo, WireNo};
 use ice_graph::{Graph, Tree};
-use ice_negotiate::{RouteFault, TreeStop, negotiate, tree_of};
+use ice_negotiate::{TreeStop, tree_of};
 use ice_path::Scratch;
 use std::alloc::Global;
 use std::process::Abort;
 use std::test::Fail;
 
-// Fails unless the tree has these wires and rows.
-fn expect_tree(rt: &impl Abort, tree: &Tree, wires: &[WireNo], rows: &[RowNo]) {
-    assert_eq!(rt; tree.wires.as_slice(), wires);
-    assert_eq!(rt; tree.rows.as_slice(), rows);
-}
+// On each line the targets of a sink; and the wires and the rows of the tree, or the first target of the sink that is not reached.
+type Case = (&'static [u8], &'static [u8], &'static [u8]);
 
-// A net of this number and root, with these sinks.
-fn net(rt: &impl Abort, alloc: Global, number: u32, root: u32, sinks: &[WireNo]) -> Net
-    ensures root { result.root.0 ≡ root }
-    ensures sinks { result.sinks.items ≡ sinks.now }
-{
-    Net {
-        net: NetNo(number),
-        root: WireNo(root),
-        sinks: Vec::from_slice(alloc, sinks).expect(rt, "memory"),
+/// Fails unless these are the wires.
+pub fn expect_wires(rt: &impl Abort, wires: &[WireNo], numbers: &[u8]) {
+    assert_eq!(rt; wires.len(), count_words(numbers), "of {numbers:?}");
+    let mut place: usize = 0;
+    for wire in wires {
+        assert_eq!(rt; wire.0, number_at(numbers, place), "of {numbers:?}");
+        place = place.saturating_add(1);
     }
 }
 
-// A graph of six wires, in which two ways lead to wire 3, and none to wire 5.
-fn six_wires(rt: &impl Abort, alloc: Global) -> Graph
-    ensures { result.wires ≡ 6 }
-{
-    let edges = vec![in alloc;
-        edge(0, 0, 1),
-        edge(1, 0, 2),
-        edge(2, 1, 3),
-        edge(3, 2, 3),
-        edge(4, 2, 4),
-    ]
-    .expect(rt, "memory");
-    Graph::new(alloc, 6, edges).expect(rt, "memory")
-}
-
-// What six wires cost in the first round.
-fn first_prices(rt: &impl Abort, alloc: Global) -> Prices
-    ensures prices { ArePrices result }
-    ensures length { length result.history.items ≡ 6 }
-{
-    Prices {
-        round: 1,
-        history: vec![in alloc; 0, 0, 0, 0, 0, 0].expect(rt, "memory"),
-        others: vec![in alloc; 0, 0, 0, 0, 0, 0].expect(rt, "memory"),
+/// Fails unless these are the rows.
+pub fn expect_rows(rt: &impl Abort, rows: &[RowNo], numbers: &[u8]) {
+    assert_eq!(rt; rows.len(), count_words(numbers), "of {numbers:?}");
+    let mut place: usize = 0;
+    for row in rows {
+        assert_eq!(rt; row.0, number_at(numbers, place), "of {numbers:?}");
+        place = place.saturating_add(1);
     }
 }
+
+// Fails unless this is the tree of a case, or why there is none.
+fn expect_answer(rt: &impl Abort, answer: Result<Tree, TreeStop>, case: Case) {
+    match answer {
+        Ok(tree) => {
+            expect_wires(rt, &tree.wires, case.1);
+            expect_rows(rt, &tree.rows, case.2);
+        }
+        Err(TreeStop::Unreachable { sink }) => {
+            assert_eq!(rt; case.1, b"none".as_slice());
+            assert_eq!(rt; sink.0, number_at(case.2, 0));
+        }
+        Err(TreeStop::NoMemory) => panic!(rt; "want of memory"),
+    }
+}
+
+// Fails unless the net from wire 0 has the tree of a case in the first round.
+fn expect_tree(rt: &impl Abort, alloc: Global, graph: &Graph, case: Case) {
+    assert!(rt; graph.wires() == 7);
+    let mut scratch = Scratch::new(alloc, graph).expect(rt, "memory");
+    let prices = prices_at(rt, alloc, 1, 0, 0);
+    let sinks = sinks_of(rt, alloc, graph.wires(), case.0).expect(rt, "memory");
+    let answer = tree_of(alloc, graph, &prices, WireNo(0), &sinks, &mut scratch);
+    expect_answer(rt, answer, case);
+}
+
+// Fails unless each net has its tree in a graph of these edges.
+fn expect_trees(rt: &impl Abort, alloc: Global, edges: &[u8], cases: &[Case]) {
+    let graph = graph_of(rt, alloc, 7, edges);
+    for case in cases {
+        expect_tree(rt, alloc, &graph, *case);
+    }
+}
+
+// Two ways lead to wire 3, and none to wire 5.
+const SIX_WIRES: &[u8] = b"0 0 1  1 0 2  2 1 3  3 2 3  4 2 4";
+
+const ONE_TARGET: [Case; 3] = [
+    (b"3\n4\n1", b"0 1 3 2 4", b"0 2 1 4"),
+    (b"4\n3", b"0 2 4 3", b"1 4 3"),
+    (b"3\n5\n4", b"none", b"5"),
+];
+
+// Of four targets the first with the least label is taken. A sink of which the tree holds a target adds no row.
+const MORE_TARGETS: [Case; 5] = [
+    (b"6 5 3 2", b"0 3", b"2"),
+    (b"6 5 2 3", b"0 2", b"0"),
+    (b"3\n5 3", b"0 3", b"2"),
+    (b"5 6 4 3\n4 6\n1 0", b"0 3 4", b"2 4"),
+    (b"6\n1\n5", b"none", b"1"),
+];
 
 #[test]
 fn sinks_are_joined_in_order(rt: HostRuntime) {
-    let alloc = rt.alloc();
-    let graph = six_wires(&rt, alloc);
-    let mut scratch = Scratch::new(alloc, &graph).expect(&rt, "memory");
-    let prices = first_prices(&rt, alloc);
-    let one = [WireNo(3), WireNo(4), WireNo(1)];
-    let tree = tree_of(alloc, &graph, &prices, WireNo(0), &one, &mut scratch).expect(&rt, "a tree");
-    expect_tree(
-        &rt,
-        &tree,
-        &[WireNo(0), WireNo(1), WireNo(3), WireNo(2), WireNo(4)],
-        &[RowNo(0), RowNo(2), RowNo(1), RowNo(4)],
-    );
-    let other = [WireNo(4), WireNo(3)];
-    let tree = tree_of(alloc, &graph, &prices, WireNo(0), &other, &mut scratch).expect(
-        &rt, "a tree",
-    );
-    expect_tree(
-        &rt,
-        &tree,
-        &[WireNo(0), WireNo(2), WireNo(4), WireNo(3)],
-        &[RowNo(1), RowNo(4), RowNo(3)],
-    );
-}
-
-#[test]
-fn the_first_sink_that_is_not_reached_is_named(rt: HostRuntime) {
-    let alloc = rt.alloc();
-    let graph = six_wires(&rt, alloc);
-    let mut scratch = Scratch::new(alloc, &graph).expect(&rt, "memory");
-    let prices = first_prices(&rt, alloc);
-    let far = [WireNo(3), WireNo(5), WireNo(4)];
-    let stop = tree_of(alloc, &graph, &prices, WireNo(0), &far, &mut scratch).err();
-    assert_eq!(rt; stop, Some(TreeStop::Unreachable { sink: WireNo(5) }));
-}
-
-// Fails unless the nets are not routed since this net can't reach this sink.
-fn expect_unreachable(rt: &impl Abort, fault: Option<RouteFault>, net: NetNo, sink: WireNo) {
-    let Some(
-        RouteFault::Unreachable {
-            net: found,
-            sink: cut,
-        },
-    ) = fault
-    else {
-        panic!(rt; "another answer");
-    };
-    assert_eq!(rt; found, net);
-    assert_eq!(rt; cut, sink);
-}
-
-#[test]
-fn the_least_unreachable_net_is_named(rt: HostRuntime) {
-    let alloc = rt.alloc();
-    let edges = vec![in alloc; edge(0, 0, 2)].expect(&rt, "memory");
-    let graph = Graph::new(alloc, 5, edges).expect(&rt, "memory");
-    let nets = [
-        net(&rt, alloc, 0, 0, &[WireNo(2)]),
-        net(&rt, alloc, 1, 1, &[WireNo(4), WireNo(3)]),
-    ];
-    let fault = negotiate(alloc, &graph, &nets, 3, 1, &OpenGate).err();
-    expect_unreachable(&rt, fault, NetNo(1), WireNo(4));
+    expect_trees(&rt, rt.alloc(), SIX_WIRES, &ONE_TARGET);
+    expect_trees(&rt, rt.alloc(), TWO_WAYS, &MORE_TARGETS);
 }

@@ -1,8 +1,8 @@
 //! Usable rows, as numbers in a text.
-use crate::small_chips::{Change, Sample, text_with};
+use crate::asked::{Asked, expect};
+use crate::small_chips::Sample;
 use ice_base::{WordIter, number_of, words_of};
 use ice_chip::Chip;
-use ice_chip_read::read_chip;
 use ice_fabric::fabric;
 use ice_graph::{Edge, Graph};
 use std::alloc::{AllocError, Global};
@@ -36,34 +36,12 @@ fn expect_graph(rt: &impl Abort, graph: &Graph, wires: u32, rows: &[u8]) {
     expect_edges(rt, graph.edges(), rows);
 }
 
-// Fails unless the chip has this many wires and these usable rows.
-fn expect_fabric(rt: &impl Abort, alloc: Global, chip: &Chip, wires: u32, rows: &[u8]) {
+/// Fails unless the chip has this many wires and these usable rows.
+pub fn expect_fabric(rt: &impl Abort, alloc: Global, chip: &Chip, wires: u32, rows: &[u8]) {
     match fabric(alloc, chip) {
         Ok(graph) => expect_graph(rt, &graph, wires, rows),
         Err(_) => panic!(rt; "want of memory"),
     }
-}
-
-// Fails unless the chip of a text has this many wires and these usable rows.
-fn expect_chip(rt: &impl Abort, alloc: Global, text: &[u8], wires: u32, rows: &[u8]) {
-    match read_chip(alloc, text) {
-        Ok(chip) => expect_fabric(rt, alloc, &chip, wires, rows),
-        Err(fault) => panic!(rt; "{fault}"),
-    }
-}
-
-/// Fails unless the chip of a text with this change has this many wires and these usable rows.
-pub fn expect_rows(
-    rt: &impl Abort,
-    alloc: Global,
-    sample: Sample,
-    change: Change,
-    wires: u32,
-    rows: &[u8],
-) -> Result<(), AllocError> {
-    let text = text_with(alloc, sample, &[change])?;
-    expect_chip(rt, alloc, &text, wires, rows);
-    Ok(())
 }
 
 /// Fails unless the chip of a text has this many wires, and the usable rows of each case with its lines in place of this line.
@@ -76,7 +54,13 @@ pub fn expect_cases(
     cases: &[Case],
 ) -> Result<(), AllocError> {
     for (lines, rows) in cases {
-        expect_rows(rt, alloc, sample, (line, *lines), wires, rows)?;
+        expect(
+            rt,
+            alloc,
+            sample,
+            &[(line, *lines)],
+            Asked::Usable(wires, rows),
+        )?;
     }
     Ok(())
 }

@@ -5,6 +5,7 @@ ghost use Rattle.ice_base.specs.Text.{lines, numbered, words};
 ghost use Rattle.ice_base.specs.Comments.{begins_with};
 
 use ice_base::{begins_with, lines_of, name_of, no_words, number_of, plain_words_of, words_of};
+use std::alloc::Global;
 use std::process::Abort;
 use std::test::Fail;
 
@@ -31,23 +32,22 @@ fn expect_words(rt: &impl Abort, text: &[u8], expected: &[&[u8]]) {
     assert!(rt; found.next().is_none(), "too many words in {text:?}");
 }
 
-#[test]
-fn texts_have_lines_and_words(rt: HostRuntime) {
-    expect_lines(&rt, b"", &[]);
-    expect_lines(&rt, b"a", &[b"a"]);
-    expect_lines(&rt, b"a\n", &[b"a"]);
-    expect_lines(&rt, b"\n\n", &[b"", b""]);
-    expect_lines(&rt, b"a\n\nb c", &[b"a", b"", b"b c"]);
-    expect_lines(&rt, b"a\r\nb\r", &[b"a\r", b"b\r"]);
-    expect_words(&rt, b"", &[]);
-    expect_words(&rt, b" \t\r\n ", &[]);
-    expect_words(&rt, b"  ab\tc\r\nd ", &[b"ab", b"c", b"d"]);
+fn texts_have_lines_and_words(rt: &impl Abort) {
+    expect_lines(rt, b"", &[]);
+    expect_lines(rt, b"a", &[b"a"]);
+    expect_lines(rt, b"a\n", &[b"a"]);
+    expect_lines(rt, b"\n\n", &[b"", b""]);
+    expect_lines(rt, b"a\n\nb c", &[b"a", b"", b"b c"]);
+    expect_lines(rt, b"a\r\nb\r", &[b"a\r", b"b\r"]);
+    expect_words(rt, b"", &[]);
+    expect_words(rt, b" \t\r\n ", &[]);
+    expect_words(rt, b"  ab\tc\r\nd ", &[b"ab", b"c", b"d"]);
     expect_words(
-        &rt,
+        rt,
         b"a\x0cb\x0bc\x80 d\x00",
         &[b"a\x0cb\x0bc\x80", b"d\x00"],
     );
-    expect_words(&rt, b"a # b", &[b"a", b"#", b"b"]);
+    expect_words(rt, b"a # b", &[b"a", b"#", b"b"]);
     assert!(rt; no_words().next().is_none());
 }
 
@@ -62,16 +62,14 @@ fn expect_plain_words(rt: &impl Abort, line: &[u8], expected: &[&[u8]]) {
     assert!(rt; found.next().is_none(), "words behind the end in {line:?}");
 }
 
-#[test]
-fn comments_run_to_the_end_of_the_line(rt: HostRuntime) {
-    expect_plain_words(&rt, b"a b", &[b"a", b"b"]);
-    expect_plain_words(&rt, b"# a b", &[]);
-    expect_plain_words(&rt, b"a #b c", &[b"a"]);
-    expect_plain_words(&rt, b"a b#c d", &[b"a", b"b#c", b"d"]);
+fn comments_run_to_the_end_of_the_line(rt: &impl Abort) {
+    expect_plain_words(rt, b"a b", &[b"a", b"b"]);
+    expect_plain_words(rt, b"# a b", &[]);
+    expect_plain_words(rt, b"a #b c", &[b"a"]);
+    expect_plain_words(rt, b"a b#c d", &[b"a", b"b#c", b"d"]);
 }
 
-#[test]
-fn numbers_have_one_to_ten_digits(rt: HostRuntime) {
+fn numbers_have_one_to_ten_digits(rt: &impl Abort) {
     assert_eq!(rt; number_of(b"0"), Some(0));
     assert_eq!(rt; number_of(b"1070"), Some(1070));
     assert_eq!(rt; number_of(b"0000000001"), Some(1));
@@ -90,11 +88,10 @@ fn numbers_have_one_to_ten_digits(rt: HostRuntime) {
     }
 }
 
-#[test]
-fn names_are_copies(rt: HostRuntime) -> Result<(), Fail> {
-    let name = name_of(rt.alloc(), b"led[0]")?;
+fn names_are_copies(rt: &impl Abort, alloc: Global) -> Result<(), Fail> {
+    let name = name_of(alloc, b"led[0]")?;
     assert_eq!(rt; name.as_bytes(), b"led[0]".as_slice());
-    let empty = name_of(rt.alloc(), b"")?;
+    let empty = name_of(alloc, b"")?;
     assert_eq!(rt; empty.as_bytes(), b"".as_slice());
     assert!(rt; name != empty);
     assert!(rt; empty < name);
@@ -125,11 +122,20 @@ fn has_word(text: &[u8], word: &[u8]) -> bool
     false
 }
 
-#[test]
-fn loops_go_over_what_is_left(rt: HostRuntime) {
+fn loops_go_over_what_is_left(rt: &impl Abort) {
     let text = b"a b\n.end\n";
     assert!(rt; has_heading(text));
     assert!(rt; has_word(text, b"b"));
     assert!(rt; !has_word(text, b"end"));
     assert!(rt; !has_heading(b" .end"));
+}
+
+#[test]
+fn words_numbers_and_names(rt: HostRuntime) -> Result<(), Fail> {
+    texts_have_lines_and_words(&rt);
+    comments_run_to_the_end_of_the_line(&rt);
+    numbers_have_one_to_ten_digits(&rt);
+    names_are_copies(&rt, rt.alloc())?;
+    loops_go_over_what_is_left(&rt);
+    Ok(())
 }

@@ -1,16 +1,7 @@
 use Rattle.std.proofs.Common.{◌≡◌, ℕ, zero, suc, List, [], ◌∷◌, ◌++◌, Some, length, slice_get, ap, subst, arith, inl, inr, ◌⊎◌}
+use Rattle.ice_api_tests.proofs.Pushing.{pushed}
 use Rattle.ice_graph.specs.declared.edge.Edge.{Edge}
-use Rattle.ice_api_tests.proofs.drawn_nets.drawn_edges.Goals as goal
-
--- an element after a push was there before, or is the one pushed
-pushed : (xs : List Edge) (x e : Edge) (k : ℕ) → slice_get (xs ++ x ∷ []) k ≡ Some e → (slice_get xs k ≡ Some e) ⊎ ((k ≡ length xs) × (e ≡ x))
-pushed [] x e zero at = (let same : e ≡ x = (cc) in inr (omega arith, same))
-pushed [] x e (suc k) at = absurd (cc)
-pushed (y ∷ xs) x e zero at = inl at
-pushed (y ∷ xs) x e (suc k) at = elim (pushed xs x e k at) [
-  | inl before ↦ inl before
-  | inr t ↦ inr (omega (arith, t.0), t.1)
-]
+use Rattle.ice_api_tests.proofs.drawn.drawn_edges.Goals as goal
 
 pub loop-row-preserved : goal.loop-row-preserved
 loop-row-preserved c =
