@@ -1,5 +1,5 @@
 //! Graphs, wires, sinks, nets and prices from texts of numbers.
-ghost use Rattle.std.specs.Prelude.{◌≡◌, ◌<◌, ◌≤◌, ◌+◌, length, IfOk};
+ghost use Rattle.std.specs.Prelude.{◌≡◌, ◌<◌, ◌≤◌, ◌+◌, length, IfOk, OnOk};
 ghost use Rattle.ice_core.specs.Congestion.{ArePrices};
 ghost use Rattle.ice_graph.specs.Network.{AreBetween, RowsRise};
 ghost use Rattle.ice_negotiate.specs.Rounds.{AreNets};
@@ -90,7 +90,8 @@ pub fn placed_graph(
 pub fn add_wire(list: &mut Vec<WireNo>, wires: u32, wire: u32) -> Result<(), AllocError>
     requires list { AreWires wires list.old.items }
     requires wire { wire < wires }
-    ensures { AreWires wires list.new.items }
+    ensures wires { AreWires wires list.new.items }
+    ensures some { OnOk result (0 < length list.new.items) }
 {
     list.push(WireNo(wire))?;
     Ok(())

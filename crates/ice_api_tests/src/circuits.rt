@@ -25,7 +25,9 @@ fn bits_with(alloc: Global, chip: &Chip, ones: &[u8]) -> Result<Bits, NoMemory> 
             row: number_at(line.text, 2).min(255) as u8,
             col: number_at(line.text, 3).min(255) as u8,
         };
-        bits.set(tile, bit, true);
+        if bits.has(tile, bit) {
+            bits.set(tile, bit, true);
+        }
     }
     Ok(bits)
 }

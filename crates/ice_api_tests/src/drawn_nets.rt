@@ -37,8 +37,9 @@ fn drawn_sink(alloc: Global, seed: &mut u64, number: u32, more: bool) -> Result<
     ensures targets { IfOk result (λ sink. AreWires 12 sink) }
 {
     let mut targets = Vec::new(alloc);
-    if more {
-        add_wire(&mut targets, WIRES, drawn_target(seed, number))?;
+    add_wire(&mut targets, WIRES, drawn_target(seed, number))?;
+    if !more {
+        return Ok(Sink::from_targets(targets));
     }
     add_wire(&mut targets, WIRES, drawn_target(seed, number))?;
     Ok(Sink::from_targets(targets))
@@ -396,14 +397,38 @@ fn wanted_answer(
     said(rt, alloc, &plain)
 }
 
+// Fails unless both programs answer the same for these nets.
+fn compare_nets(
+    rt: &impl Abort,
+    alloc: Global,
+    graph: &Graph,
+    nets: &[Net],
+    rounds: u32,
+    tally: &mut Tally,
+)
+    requires wires { graph.now.wires ≡ 12 }
+    requires nets { AreNets graph.now nets.now }
+    requires few { length nets.now ≤ 65536 }
+    requires rounds { (1 ≤ rounds) × (rounds ≤ 64) }
+{
+    let found = found_answer(rt, alloc, graph, nets, rounds, tally);
+    let wanted = wanted_answer(rt, alloc, graph, nets, rounds);
+    assert_eq!(rt; found, wanted);
+}
+
+// Draws three nets of a graph, and fails unless both programs answer the same.
+fn compare_in(rt: &impl Abort, alloc: Global, seed: &mut u64, graph: &Graph, tally: &mut Tally)
+    requires { graph.now.wires ≡ 12 }
+{
+    let nets = drawn_nets(alloc, seed, graph).expect(rt, "memory");
+    let rounds = 1 + draw(seed, 8);
+    compare_nets(rt, alloc, graph, &nets, rounds, tally);
+}
+
 // Draws a graph with this many edges and three nets, and fails unless both programs answer the same.
 fn compare_drawn(rt: &impl Abort, alloc: Global, seed: &mut u64, count: u32, tally: &mut Tally) {
     let graph = drawn_graph(rt, alloc, seed, count, WIRES, ROOTS);
-    let nets = drawn_nets(alloc, seed, &graph).expect(rt, "memory");
-    let rounds = 1 + draw(seed, 8);
-    let found = found_answer(rt, alloc, &graph, &nets, rounds, tally);
-    let wanted = wanted_answer(rt, alloc, &graph, &nets, rounds);
-    assert_eq!(rt; found, wanted);
+    compare_in(rt, alloc, seed, &graph, tally);
 }
 
 #[test]

@@ -1,8 +1,10 @@
 //! Trees of small nets.
+ghost use Rattle.ice_negotiate.specs.Trees.{AreSinks};
+
 use crate::built::{graph_of, prices_at, sinks_of};
 use crate::graphs::TWO_WAYS;
 use crate::small_chips::{count_words, number_at};
-use ice_base::{RowNo, WireNo};
+use ice_base::{RowNo, Sink, WireNo};
 use ice_graph::{Graph, Tree};
 use ice_negotiate::{TreeStop, tree_of};
 use ice_path::Scratch;
@@ -48,14 +50,21 @@ fn expect_answer(rt: &impl Abort, answer: Result<Tree, TreeStop>, case: Case) {
     }
 }
 
-// Fails unless the net from wire 0 has the tree of a case in the first round.
-fn expect_tree(rt: &impl Abort, alloc: Global, graph: &Graph, case: Case) {
+// Fails unless the net from wire 0 to these sinks has the tree of a case in the first round.
+fn expect_joined(rt: &impl Abort, alloc: Global, graph: &Graph, sinks: &[Sink], case: Case)
+    requires { AreSinks graph.now.wires sinks.now }
+{
     assert!(rt; graph.wires() == 7);
     let mut scratch = Scratch::new(alloc, graph).expect(rt, "memory");
     let prices = prices_at(rt, alloc, 1, 0, 0);
-    let sinks = sinks_of(rt, alloc, graph.wires(), case.0).expect(rt, "memory");
-    let answer = tree_of(alloc, graph, &prices, WireNo(0), &sinks, &mut scratch);
+    let answer = tree_of(alloc, graph, &prices, WireNo(0), sinks, &mut scratch);
     expect_answer(rt, answer, case);
+}
+
+// Fails unless the net from wire 0 has the tree of a case in the first round.
+fn expect_tree(rt: &impl Abort, alloc: Global, graph: &Graph, case: Case) {
+    let sinks = sinks_of(rt, alloc, graph.wires(), case.0).expect(rt, "memory");
+    expect_joined(rt, alloc, graph, &sinks, case);
 }
 
 // Fails unless each net has its tree in a graph of these edges.
