@@ -1,4 +1,4 @@
-use Rattle.std.proofs.Common.{◌≡◌, ◌<◌, ℕ, ◌∷◌, [], ◌++◌, Some, length, slice_get, subst, sym, ap, arith, inl, inr}
+use Rattle.std.proofs.Common.{◌≡◌, ◌<◌, ℕ, ◌∷◌, [], ◌++◌, Some, List, length, slice_get, subst, sym, ap, arith, inl, inr}
 use Rattle.ice_graph.specs.declared.edge.Edge.{Edge}
 use Rattle.ice_api_tests.proofs.Pushing.{pushed}
 use Rattle.ice_api_tests.proofs.built.edges_of.Goals as goal
@@ -10,9 +10,8 @@ loop-place-preserved g c =
     let edge = c.edge_at-edge.result in
     let items = c.in_ok-push.ensures.items in
     let long = c.in_ok-push.ensures.len in
-    let split = λ (k : ℕ) (e : Edge) at. pushed c.loop-place.edges.items edge e k (subst (λ xs. slice_get xs k ≡ Some e) items at) in
     record {
-      each = λ k e at. elim (split k e at) [
+      each = λ k e at. elim (pushed c.loop-place.edges.items edge e k (subst (λ (xs : List Edge). slice_get xs k ≡ Some e) items at)) [
         | inl before ↦ (let t = i.each k e before in (omega (arith, t.0, long), omega (arith, t.1, new.least), t.2, t.3))
         | inr t ↦ (
             let row : e.row.0 ≡ edge.row.0 = ap (λ (x : Edge). x.row.0) t.1 in
@@ -20,12 +19,12 @@ loop-place-preserved g c =
             let to : e.to.0 ≡ edge.to.0 = ap (λ (x : Edge). x.to.0) t.1 in
             (omega (arith, t.0, long), omega (arith, row, new.row), omega (arith, from, new.between.0), omega (arith, to, new.between.1)))
       ];
-      rise = λ j k d e lt at bt. elim (split j d at) [
-        | inl early ↦ elim (split k e bt) [
+      rise = λ j k d e lt at bt. elim (pushed c.loop-place.edges.items edge d j (subst (λ (xs : List Edge). slice_get xs j ≡ Some d) items at)) [
+        | inl early ↦ elim (pushed c.loop-place.edges.items edge e k (subst (λ (xs : List Edge). slice_get xs k ≡ Some e) items bt)) [
           | inl before ↦ i.rise j k d e lt early before
           | inr t ↦ (let row : e.row.0 ≡ edge.row.0 = ap (λ (x : Edge). x.row.0) t.1 in omega (arith, row, (i.each j d early).1, new.least))
         ]
-        | inr t ↦ elim (split k e bt) [
+        | inr t ↦ elim (pushed c.loop-place.edges.items edge e k (subst (λ (xs : List Edge). slice_get xs k ≡ Some e) items bt)) [
           | inl before ↦ absurd (omega (arith, lt, t.0, (i.each k e before).0))
           | inr s ↦ absurd (omega (arith, lt, t.0, s.0))
         ]
