@@ -1,0 +1,7 @@
+mod Following
+mod Chaining
+pub mod ChainLaws
+pub mod FollowLaws
+pub mod ChainEnds
+pub mod HeadLaws
+pub mod DesignLaws
