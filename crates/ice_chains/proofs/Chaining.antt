@@ -1,12 +1,10 @@
 -- Chains, step by step, and the order of runs.
-use Rattle.std.proofs.Common.{◌≡◌, ℕ, zero, suc, ◌+◌, ◌-◌, ◌<◌, ◌≤◌, Bool, true, false, cond, Option, None, Some, List, [], ◌∷◌, ◌++◌, length, map, refl, ap, sym, ◌∙◌, replicate, arith}
-use Rattle.std.specs.List.{fold, find, filter_map, cons_option, range_with_len}
+use Rattle.std.proofs.Common.{◌≡◌, ℕ, suc, ◌+◌, ◌-◌, ◌<◌, ◌≤◌, Bool, true, false, cond, Option, None, Some, List, [], ◌∷◌, length, map, refl, ap, ◌∙◌, replicate, arith}
+use Rattle.std.specs.List.{find, filter_map, cons_option, range_with_len}
 use Rattle.std.specs.Option.{option_map_or, option_or}
-use Rattle.std.specs.Prelude.{min}
-use Rattle.ice_cells.specs.declared.root.CarryIn.{CarryIn}
-use Rattle.ice_cells.specs.Chains.{Head, next, chain, end, lowest, leads, leader, heads, keep_first, all_led, present_of, Fed, place_at, number_at, number_by, numbers_by, all_noted}
+use Rattle.ice_cells.specs.Chains.{Head, next, chain, end, leads, leader, heads, keep_first, all_led, present_of, Fed, place_at, number_at, numbers_by, all_noted}
 use Rattle.ice_cells.specs.declared.follow.Follow.{Follow}
-use Rattle.ice_cells.specs.Tables.{table, is_place, gathered, scattered}
+use Rattle.ice_cells.specs.Tables.{is_place, gathered}
 use Rattle.ice_cells.proofs.TableLaws.{replicate_table, scattered_table, scattered_kept, table_same}
 
 one_more : (i k : ℕ) → i < k → k - i ≡ suc (k - (i + 1))

@@ -1,5 +1,5 @@
 -- The carries of a design: who follows whom comes from what comes into them.
-use Rattle.std.proofs.Common.{◌≡◌, ◌⊎◌, ℕ, zero, suc, ◌+◌, ◌<◌, ◌≤◌, Bool, true, false, cond, Option, None, Some, List, [], ◌∷◌, ◌++◌, length, map, get_or, refl, ap, sym, ◌∙◌, subst, arith, inl, inr, eqb}
+use Rattle.std.proofs.Common.{◌≡◌, ◌⊎◌, ℕ, zero, suc, ◌+◌, ◌<◌, ◌≤◌, Bool, true, false, Option, None, Some, List, [], ◌∷◌, ◌++◌, length, map, get_or, refl, ap, sym, ◌∙◌, subst, arith, inl, inr}
 use Rattle.std.specs.Prelude.{slice_get, flat_map, ◌||◌, not}
 use Rattle.std.specs.List.{list_any}
 use Rattle.std.proofs.lemmas.Bool.{cases_lt, eq-eqb}
@@ -17,14 +17,14 @@ use Rattle.ice_cells.specs.declared.root.Root.TheVariants.{CarryOut}
 use Rattle.ice_cells.specs.declared.design.Design.{Design}
 use Rattle.ice_cells.specs.Readings.{Reading, plain, carry_reading, control_readings, cell_readings, cells_readings, pad_readings, readings}
 use Rattle.ice_cells.specs.Follows.{follow, follows}
-use Rattle.ice_cells.specs.Chains.{Head, next, next_by, is_first, is_behind}
+use Rattle.ice_cells.specs.Chains.{Head, next, next_by, is_first}
 use Rattle.ice_cells.specs.declared.follow.Follow.{Follow}
 use Rattle.ice_cells.specs.declared.follow.Follow.TheVariants.{Nobody, Next, Other}
 use Rattle.ice_cells.specs.declared.follow.Reader.{Reader}
 use Rattle.ice_cells.specs.declared.follow.Reader.TheVariants.{Into, Last, Else}
 use Rattle.ice_chains.proofs.ChainLaws.{IsHead, FollowsOne}
 use Rattle.ice_chains.proofs.FollowLaws.{next_back}
-use Rattle.ice_cells.specs.Tables.{table, is_place}
+use Rattle.ice_cells.specs.Tables.{is_place}
 use Rattle.ice_cells.proofs.TableLaws.{length-table, get_or-table}
 
 abbrev is_into : Reader → Bool

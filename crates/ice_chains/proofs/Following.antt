@@ -1,12 +1,12 @@
 -- Marks, one reading after another.
-use Rattle.std.proofs.Common.{◌≡◌, ℕ, zero, suc, ◌+◌, ◌<◌, List, [], ◌∷◌, ◌++◌, length, get_or, drop, map, refl, ap, sym, ◌∙◌, replicate}
+use Rattle.std.proofs.Common.{◌≡◌, ℕ, List, [], ◌∷◌, ◌++◌, length, map, refl, ap, sym, ◌∙◌, replicate}
 use Rattle.std.specs.List.{flat_map}
 use Rattle.ice_cells.specs.Readings.{Reading, readings, carry_reading, cells_readings, pad_readings, plain}
-use Rattle.ice_cells.specs.Follows.{marked, carry_read, after, follows, follow}
+use Rattle.ice_cells.specs.Follows.{marked, carry_read, after, follows}
 use Rattle.ice_cells.specs.declared.design.Design.{Design}
 use Rattle.ice_cells.specs.declared.follow.Follow.{Follow}
 use Rattle.ice_cells.specs.declared.follow.Follow.TheVariants.{Nobody}
-use Rattle.ice_cells.specs.Tables.{table, gathered, scattered, put_at}
+use Rattle.ice_cells.specs.Tables.{table, gathered, put_at}
 use Rattle.ice_cells.proofs.TableLaws.{replicate_table, scattered_table}
 
 pub marked_append : (marks : List Follow) (rs ts : List Reading) → marked marks (rs ++ ts) ≡ marked (marked marks rs) ts

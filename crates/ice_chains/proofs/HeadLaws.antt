@@ -1,11 +1,11 @@
 -- Each first carry has a run: it stands among the heads.
-use Rattle.std.proofs.Common.{◌≡◌, ◌⊎◌, ℕ, zero, suc, ◌+◌, ◌<◌, ◌≤◌, Bool, true, false, cond, Option, None, Some, List, [], ◌∷◌, ◌++◌, length, refl, ap, sym, ◌∙◌, subst, arith, inl, inr, eqb}
+use Rattle.std.proofs.Common.{◌≡◌, ◌⊎◌, ℕ, zero, suc, ◌+◌, ◌<◌, ◌≤◌, Bool, true, false, cond, Option, None, Some, List, [], ◌∷◌, length, refl, ap, sym, ◌∙◌, subst, arith, inl, inr}
 use Rattle.std.specs.Prelude.{slice_get, min}
 use Rattle.std.specs.List.{fold, find, filter_map, cons_option, range_with_len}
 use Rattle.std.proofs.lemmas.Bool.{cases_lt, eq-eqb, eqb-true}
 use Rattle.std.proofs.lemmas.Option.{same_Some, slice_get-get_or}
 use Rattle.std.proofs.lemmas.List.FromFn.{length-range_with_len, get_or-range_with_len}
-use Rattle.ice_cells.specs.Chains.{Head, next, chain, lowest, is_first, leads, leader, heads}
+use Rattle.ice_cells.specs.Chains.{Head, chain, lowest, is_first, leads, leader, heads}
 use Rattle.ice_cells.specs.declared.follow.Follow.{Follow}
 use Rattle.ice_chains.proofs.ChainLaws.{behind, chain_at, IsHead, FollowsOne, one_head}
 use Rattle.ice_cells.specs.Tables.{is_place}

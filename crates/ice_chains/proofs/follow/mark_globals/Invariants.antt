@@ -1,6 +1,5 @@
-use Rattle.std.proofs.Common.{◌≡◌, drop, map, ◌+◌}
-use Rattle.std.specs.List.{flat_map}
-use Rattle.ice_cells.specs.Readings.{carry_reading, cells_readings, pad_readings, plain}
+use Rattle.std.proofs.Common.{◌≡◌, drop, map}
+use Rattle.ice_cells.specs.Readings.{plain}
 use Rattle.ice_cells.specs.Follows.{marked}
 use Rattle.ice_chains.proofs.follow.mark_globals.Given as goal
 
