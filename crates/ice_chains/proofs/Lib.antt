@@ -5,3 +5,7 @@ pub mod FollowLaws
 pub mod ChainEnds
 pub mod HeadLaws
 pub mod DesignLaws
+pub mod RunLists
+pub mod RunsOnce
+pub mod HeadPlaces
+pub mod LastInputs
