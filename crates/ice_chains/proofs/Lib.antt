@@ -9,3 +9,5 @@ pub mod RunLists
 pub mod RunsOnce
 pub mod HeadPlaces
 pub mod LastInputs
+pub mod DesignChains
+pub mod CellsAfter
