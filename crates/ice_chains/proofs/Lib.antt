@@ -11,3 +11,4 @@ pub mod HeadPlaces
 pub mod LastInputs
 pub mod DesignChains
 pub mod CellsAfter
+pub mod DesignRuns
