@@ -12,3 +12,5 @@ pub mod LastInputs
 pub mod DesignChains
 pub mod CellsAfter
 pub mod DesignRuns
+pub mod FedNumbers
+pub mod IntoRuns
