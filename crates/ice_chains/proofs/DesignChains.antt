@@ -176,7 +176,7 @@ module _ (d : Design) (ready : IsBeforeRuns d) where
     pub behind_it : behind (follows d) place head.0 ≡ Some c
     pub within : place < length (follows d)
 
-  few : (h i c : ℕ) → HasCarry d h → behind (follows d) i h ≡ Some c → i < length (follows d)
+  pub few : (h i c : ℕ) → HasCarry d h → behind (follows d) i h ≡ Some c → i < length (follows d)
   few h i c has e =
       subst (λ n. i < n) (sym long)
       (behind_few (follows d) (length d.cells) h (λ k. chain_short (follows d) rank rises (length d.cells) next_below k h (carry_below h has)) i c e)

@@ -14,3 +14,4 @@ pub mod CellsAfter
 pub mod DesignRuns
 pub mod FedNumbers
 pub mod IntoRuns
+pub mod DesignFed
