@@ -35,7 +35,7 @@ use Rattle.ice_chains.proofs.RunLists.{feeds_before, takes_first, carries_inner,
 none_more : (k : ℕ) → k + 0 ≡ k
 none_more k = omega arith
 
-next_place : (b j : ℕ) → b + suc j ≡ suc (b + j)
+pub next_place : (b j : ℕ) → b + suc j ≡ suc (b + j)
 next_place b j = omega arith
 
 one_place : (b l i : ℕ) → b + l ≡ suc (b + i) → b + l ≡ suc (b + i)
@@ -98,7 +98,7 @@ module _ (d : Design) (ready : IsBeforeRuns d) where
   fed_is : (k : ℕ) → k < length d.cells → slice_index_or (fed_numbers d) k None ≡ number_by pairs k
   fed_is k lt = get_or-table (number_by pairs) (length (cells_fed d)) k None (within_more k (length d.cells) (length (cells_fed d)) lt few_cells)
 
-  mark_is : (k : ℕ) → k < length d.cells → slice_index_or (follows d) k Nobody ≡ follow d k
+  pub mark_is : (k : ℕ) → k < length d.cells → slice_index_or (follows d) k Nobody ≡ follow d k
   mark_is k lt = get_or-table (follow d) (length d.cells) k Nobody lt
 
   -- a carry that is read otherwise than by one that follows is passed on

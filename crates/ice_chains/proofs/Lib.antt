@@ -15,3 +15,4 @@ pub mod DesignRuns
 pub mod FedNumbers
 pub mod IntoRuns
 pub mod DesignFed
+pub mod DesignLast
