@@ -11,11 +11,11 @@ abbrev pub behind : List Follow → ℕ → ℕ → Option ℕ
 behind marks zero h = Some h
 behind marks (suc i) h = option_and_then (next marks) (behind marks i h)
 
-behind_shift : (marks : List Follow) (i h d : ℕ) → next marks h ≡ Some d → behind marks (suc i) h ≡ behind marks i d
+pub behind_shift : (marks : List Follow) (i h d : ℕ) → next marks h ≡ Some d → behind marks (suc i) h ≡ behind marks i d
 behind_shift marks zero h d e = e
 behind_shift marks (suc i) h d e = ap (option_and_then (next marks)) (behind_shift marks i h d e)
 
-behind_none : (marks : List Follow) (i h : ℕ) → next marks h ≡ None → behind marks (suc i) h ≡ None
+pub behind_none : (marks : List Follow) (i h : ℕ) → next marks h ≡ None → behind marks (suc i) h ≡ None
 behind_none marks zero h e = e
 behind_none marks (suc i) h e = ap (option_and_then (next marks)) (behind_none marks i h e)
 
@@ -40,7 +40,7 @@ chain_has marks (suc k) h (suc i) c lt e = by (next marks h) refl (λ d. chain_h
     by (Some d) f rest = rest d (sym (behind_shift marks i h d f) ∙ e)
 
 -- the one before
-before : (marks : List Follow) (i h c : ℕ) → behind marks (suc i) h ≡ Some c → (d : ℕ) × (behind marks i h ≡ Some d) × (next marks d ≡ Some c)
+pub before : (marks : List Follow) (i h c : ℕ) → behind marks (suc i) h ≡ Some c → (d : ℕ) × (behind marks i h ≡ Some d) × (next marks d ≡ Some c)
 before marks i h c e = by (behind marks i h) refl e
   where
     by : (o : Option ℕ) → behind marks i h ≡ o → option_and_then (next marks) o ≡ Some c → (d : ℕ) × (behind marks i h ≡ Some d) × (next marks d ≡ Some c)

@@ -122,3 +122,41 @@ next_only j c (r ∷ rs) u e zero x at = by u (sym (on_place j u r rs x at) ∙ 
     by (Next d) f = second d x f
     by Other f = absurd (never j rs c f)
 next_only j c (r ∷ rs) u e (suc i) x at = next_only j c rs (cond (is_place j (carry_read r)) (after u r) u) e i x at
+
+-- ---- a carry that is read is not one that nothing reads
+abbrev pub is_marked : Follow → Bool
+is_marked Nobody = false
+is_marked (Next d) = true
+is_marked Other = true
+
+after_marks : (u : Follow) (r : Reading) → is_marked (after u r) ≡ true
+after_marks Nobody r = by r.1
+  where
+    by : (x : Reader) → is_marked (first_after x) ≡ true
+    by (Into d) = refl
+    by (Last d) = refl
+    by Else = refl
+after_marks (Next d) r = by r.1
+  where
+    test : (b : Bool) → is_marked (cond b (Next d) Other) ≡ true
+    test true = refl
+    test false = refl
+
+    by : (x : Reader) → is_marked (next_after d x) ≡ true
+    by (Into e) = refl
+    by (Last e) = test (d == e)
+    by Else = refl
+after_marks Other r = refl
+
+stays_marked : (j : ℕ) (rs : List Reading) (u : Follow) → is_marked u ≡ true → is_marked (followed j u rs) ≡ true
+stays_marked j [] u e = e
+stays_marked j (r ∷ rs) u e = stays_marked j rs (cond (is_place j (carry_read r)) (after u r) u) (by (is_place j (carry_read r)))
+  where
+    by : (b : Bool) → is_marked (cond b (after u r) u) ≡ true
+    by true = after_marks u r
+    by false = e
+
+pub read_marked : (j : ℕ) (rs : List Reading) (u : Follow) (i : ℕ) (x : Reader) → slice_get rs i ≡ Some (Some (CarryOut j), x) → is_marked (followed j u rs) ≡ true
+read_marked j [] u i x at = cc
+read_marked j (r ∷ rs) u zero x at = ap is_marked (on_place j u r rs x at) ∙ stays_marked j rs (after u (Some (CarryOut j), x)) (after_marks u (Some (CarryOut j), x))
+read_marked j (r ∷ rs) u (suc i) x at = read_marked j rs (cond (is_place j (carry_read r)) (after u r) u) i x at

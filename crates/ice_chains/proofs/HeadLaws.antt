@@ -46,7 +46,7 @@ pub record IsFound {X : Type 0} (p : X → Bool) (xs : List X) (x : X) : Type 0 
   pub at : slice_get xs place ≡ Some x
   pub passes : p x ≡ true
 
-find_back : {X : Type 0} (p : X → Bool) (xs : List X) (x : X) → find p xs ≡ Some x → IsFound p xs x
+pub find_back : {X : Type 0} (p : X → Bool) (xs : List X) (x : X) → find p xs ≡ Some x → IsFound p xs x
 find_back p [] x e = cc
 find_back p (z ∷ xs) x e = by (p z) refl e (find_back p xs x)
   where
@@ -64,7 +64,7 @@ mapped {X} f (z ∷ xs) k c x at e = by (f z) refl k at (λ j. mapped f xs j c x
     by None g (suc j) at rest = rest j at e
     by (Some y) g (suc j) at rest = (let r = rest j at e in (suc r.0, r.1))
 
-range_at : (n c : ℕ) → c < n → slice_get (range_with_len 0 n) c ≡ Some c
+pub range_at : (n c : ℕ) → c < n → slice_get (range_with_len 0 n) c ≡ Some c
 range_at n c lt =
     let long : c < length (range_with_len 0 n) = let l = length-range_with_len 0 n in omega arith in
     slice_get-get_or (range_with_len 0 n) c 0 long ∙ ap Some (get_or-range_with_len 0 n c 0 lt ∙ (let z : 0 + c ≡ c = omega arith in z))
@@ -73,7 +73,7 @@ range_at n c lt =
 leads_first : (marks : List Follow) (x : Head) → is_first marks x.0 x.1 ≡ true → leads marks x ≡ Some (lowest marks x.0)
 leads_first marks x e = ap (λ b. cond b (Some (lowest marks x.0)) None) e
 
-leads_back : (marks : List Follow) (x : Head) (low : ℕ) → is_place low (leads marks x) ≡ true → (is_first marks x.0 x.1 ≡ true) × (lowest marks x.0 ≡ low)
+pub leads_back : (marks : List Follow) (x : Head) (low : ℕ) → is_place low (leads marks x) ≡ true → (is_first marks x.0 x.1 ≡ true) × (lowest marks x.0 ≡ low)
 leads_back marks x low e = by (is_first marks x.0 x.1) refl e
   where
     by : (b : Bool) → is_first marks x.0 x.1 ≡ b → is_place low (cond b (Some (lowest marks x.0)) None) ≡ true → (is_first marks x.0 x.1 ≡ true) × (lowest marks x.0 ≡ low)
