@@ -1,0 +1,2 @@
+pub mod AreRuns
+pub mod RunLaws

@@ -1,0 +1,23 @@
+-- The laws of runs.
+use Rattle.std.specs.Prelude.{◌≡◌, ℕ, ◌<◌, Bool, Some, List, length}
+use Rattle.ice_value.specs.Order.{Has}
+use Rattle.ice_cells.specs.declared.design.Design.{Design}
+use Rattle.ice_cells.specs.declared.root.Root.TheVariants.{CellOut, GlobalOut}
+use Rattle.ice_cells.specs.Meaning.{shows}
+use Rattle.ice_cells.specs.Readings.{roots_read}
+use Rattle.ice_cells.specs.Runs.{fed_numbers, moved_numbers, runs_of}
+use Rattle.ice_chains.specs.Before.{IsBeforeRuns}
+use Rattle.ice_carry_laws.specs.AreRuns.{AreRuns}
+
+-- no cell and no global buffer is read that is not there
+pub record ReadsWithin (d : Design) : Type 0 where
+  pub outputs : (c : ℕ) → Has (roots_read d) (Some (CellOut c)) → c < length d.cells
+  pub buffers : (g : ℕ) → Has (roots_read d) (Some (GlobalOut g)) → g < length d.globals
+
+-- each carry comes to the carry or the last input that read it, all else reads the cell that passes it on, and a flip-flop is read where it went
+abbrev pub RunsAreTied : Type 0
+RunsAreTied = (d : Design) → IsBeforeRuns d → AreRuns d (runs_of d) (moved_numbers d) (fed_numbers d)
+
+-- with its runs a design shows what it shows without, for each list of levels
+abbrev pub RunsShowTheSame : Type 0
+RunsShowTheSame = (d : Design) → IsBeforeRuns d → ReadsWithin d → (levels : List (List Bool)) → shows (runs_of d) levels ≡ shows d levels

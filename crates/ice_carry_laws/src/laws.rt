@@ -1,0 +1,12 @@
+//! The laws of runs, each as the contract of a function that does nothing.
+ghost use Rattle.ice_carry_laws.specs.RunLaws.{RunsAreTied, RunsShowTheSame};
+
+/// Each carry comes to what read it, directly or through a cell that passes it on, and each flip-flop is read where it went.
+pub fn runs_are_tied()
+    ensures { RunsAreTied }
+{}
+
+/// With its runs a design shows, step by step, what it shows without.
+pub fn runs_show_the_same()
+    ensures { RunsShowTheSame }
+{}
