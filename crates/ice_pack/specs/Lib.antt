@@ -1,0 +1,3 @@
+pub mod Marks
+pub mod Buffered
+pub mod Parts
