@@ -1,0 +1,5 @@
+mod Marks
+mod Counting
+mod Taking
+mod Openers
+mod OriginSteps
