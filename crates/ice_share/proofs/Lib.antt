@@ -3,3 +3,6 @@ mod Counting
 mod Taking
 mod Openers
 mod OriginSteps
+pub mod UseLaws
+pub mod LutLaws
+pub mod HomeLaws

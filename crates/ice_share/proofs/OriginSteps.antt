@@ -1,6 +1,6 @@
 -- The origins of signals along an order of evaluation.
-use Rattle.std.proofs.Common.{◌≡◌, ◌⊎◌, ℕ, suc, ◌+◌, ◌<◌, Bool, true, false, Option, None, Some, List, [], ◌∷◌, length, get_or, set, map, cond, inl, inr, refl, sym, ap, ◌∙◌, subst, eqb, arith, replicate}
-use Rattle.std.specs.Prelude.{◌&&◌, slice_get, slice_index_or, unwrap_or}
+use Rattle.std.proofs.Common.{◌≡◌, ℕ, suc, ◌+◌, ◌<◌, ◌≤◌, Bool, true, false, Option, None, Some, List, [], ◌∷◌, length, get_or, set, map, cond, inl, inr, refl, sym, ap, ◌∙◌, subst, eqb, arith, replicate}
+use Rattle.std.specs.Prelude.{slice_get, slice_index_or, unwrap_or}
 use Rattle.std.specs.Option.{option_map_or}
 use Rattle.std.proofs.lemmas.Bool.{and_parts, eqb-true, cases_lt, cases_eq}
 use Rattle.std.proofs.lemmas.List.{length-set, get_or-set_same, get_or-set_other, length-replicate}
@@ -18,7 +18,7 @@ use Rattle.ice_net.specs.declared.driver.Driver.{Driver}
 use Rattle.ice_net.specs.declared.driver.Driver.TheVariants.{Nothing, Output}
 use Rattle.ice_net.specs.declared.driver.Driver.TheVariants as driver
 use Rattle.ice_net.specs.NetlistData.{NetlistData}
-use Rattle.ice_net.specs.Drivers.{number, numbers, driver_of}
+use Rattle.ice_net.specs.Drivers.{numbers, driver_of}
 use Rattle.ice_net.specs.Meaning.{reads, reads_by, cell_reads, depends_on}
 use Rattle.ice_check.specs.Tables.{AreDrivers}
 use Rattle.ice_cells.specs.declared.origin.Origin.{Origin}
@@ -111,9 +111,9 @@ module _ (n : NetlistData) (order : List ℕ) (sorted : IsOrder (length n.names)
       (λ q has. let before = falls i s q at has in are.found_are before.0 q before.1 before.2))
       ∙ sym (origin_meets s (sorted.within i s at))
 
-  pub found_more : (drivers : List Driver) (i s : ℕ) (old new : List Origin) → AreDrivers n drivers → At order i s → AreFound n order i old
-      → new ≡ set old s (made_of n.cells old (slice_index_or drivers s Nothing)) → AreFound n order (i + 1) new
-  found_more drivers i s old new table at are e = subst (AreFound n order (i + 1)) (sym e) (record {
+  pub found_more : (cells : List Cell) (drivers : List Driver) (i s : ℕ) (old new : List Origin) → cells ≡ n.cells → AreDrivers n drivers → At order i s → AreFound n order i old
+      → new ≡ set old s (made_of cells old (slice_index_or drivers s Nothing)) → AreFound n order (i + 1) new
+  found_more cells drivers i s old new same_cells table at are e = subst (AreFound n order (i + 1)) (sym e) (record {
     long = length-set old s x ∙ are.long;
     found_are = λ j t lt here. elim (cases_eq t s) [
       | inl same ↦ ap (λ k. get_or (set old s x) k (Fixed false)) same ∙ get_or-set_same old s x (Fixed false) (let l = are.long in omega (arith, below, l)) ∙ is ∙ ap (origin n) (sym same)
@@ -122,13 +122,13 @@ module _ (n : NetlistData) (order : List ℕ) (sorted : IsOrder (length n.names)
   })
     where
       x : Origin
-      x = made_of n.cells old (slice_index_or drivers s Nothing)
+      x = made_of cells old (slice_index_or drivers s Nothing)
 
       below : s < length n.names
       below = sorted.within i s at
 
       is : x ≡ origin n s
-      is = ap (made_of n.cells old) (table.drivers s below) ∙ made_there i s old at are
+      is = ap (λ (xs : List Cell). made_of xs old (slice_index_or drivers s Nothing)) same_cells ∙ ap (made_of n.cells old) (table.drivers s below) ∙ made_there i s old at are
 
       before : (j t : ℕ) → j < i + 1 → At order j t → (t ≡ s → ⊥) → j < i
       before j t lt here other = elim (cases_lt j i) [
@@ -136,7 +136,7 @@ module _ (n : NetlistData) (order : List ℕ) (sorted : IsOrder (length n.names)
         | inr past ↦ absurd (other (same_Some t s (sym here ∙ ap (slice_get order) (let f : j ≡ i = omega arith in f) ∙ at)))
       ]
 
-  pub all_found : (found : List Origin) → AreFound n order (length order) found → found ≡ origins n
-  all_found found are =
+  pub all_found : (i : ℕ) (found : List Origin) → length order ≤ i → AreFound n order i found → found ≡ origins n
+  all_found i found all are =
       table_from (origin n) (length n.names) found (Fixed false) are.long
-      (λ s lt. let stands = sorted.each s lt in are.found_are stands.0 s (slice_get_within order stands.0 s stands.1) stands.1)
+      (λ s lt. let stands = sorted.each s lt in are.found_are stands.0 s (let inside : stands.0 < length order = slice_get_within order stands.0 s stands.1 in omega arith) stands.1)

@@ -1,5 +1,5 @@
 -- Look-up tables by their turns, and what carries take.
-use Rattle.std.proofs.Common.{◌≡◌, ℕ, zero, suc, ◌+◌, ◌<◌, ◌≤◌, Bool, true, false, cond, Option, None, Some, List, [], ◌∷◌, ◌++◌, append-nil, length, get_or, refl, ap, sym, ◌∙◌, eqb, arith, inl, inr}
+use Rattle.std.proofs.Common.{◌≡◌, ℕ, zero, suc, ◌+◌, ◌<◌, ◌≤◌, Bool, true, false, cond, Option, Some, List, [], ◌∷◌, ◌++◌, append-nil, length, get_or, refl, ap, sym, ◌∙◌, eqb, arith, inl, inr}
 use Rattle.std.specs.Prelude.{◌&&◌, ◌==◌, if◌then◌else◌, slice_get}
 use Rattle.std.specs.List.{filter, range_with_len}
 use Rattle.std.proofs.lemmas.Bool.{eq-eqb, ne_eqb, cases_eq}
@@ -8,7 +8,7 @@ use Rattle.std.proofs.lemmas.List.FromFn.{map-range_with_len_more, length-range_
 use Rattle.ice_cells.specs.declared.share.Pair.{Pair}
 use Rattle.ice_cells.specs.declared.share.Role.{Role}
 use Rattle.ice_cells.specs.declared.share.Role.TheVariants.{Gives, Takes, Neither}
-use Rattle.ice_cells.specs.Pairs.{gives, takes, role, givers, takers, lut_by, lut_of}
+use Rattle.ice_cells.specs.Pairs.{gives, takes, role, givers, lut_by, lut_of}
 use Rattle.ice_cells.specs.Tables.{table}
 use Rattle.ice_cells.proofs.RangeFilters.{filter_more}
 use Rattle.ice_share.specs.declared.pairing.Turn.{Turn}

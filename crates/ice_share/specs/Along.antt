@@ -1,5 +1,5 @@
 -- The origins of signals, one after another along an order of evaluation.
-use Rattle.std.specs.Prelude.{◌≡◌, ℕ, ◌<◌, false, List, [], length, map, Option, slice_get, slice_index_or}
+use Rattle.std.specs.Prelude.{◌≡◌, ℕ, ◌<◌, false, List, length, map, Option, slice_get, slice_index_or}
 use Rattle.std.specs.Option.{option_map_or}
 use Rattle.ice_value.specs.Inputs.{reading}
 use Rattle.ice_value.specs.Order.{At}

@@ -83,11 +83,7 @@ fn part_of(origins: &[Origin], cell: &Cell) -> Part
 }
 
 // What each cell is in a logic cell.
-fn find_parts(
-    alloc: Global,
-    cells: &[Cell],
-    origins: &[Origin],
-) -> Result<Vec<Part>, NoMemory>
+fn find_parts(alloc: Global, cells: &[Cell], origins: &[Origin]) -> Result<Vec<Part>, NoMemory>
     ensures { IfOk result (λ parts. parts.items ≡ map (part_of origins.now) cells.now) }
 {
     let mut parts = Vec::new(alloc);
@@ -107,6 +103,17 @@ fn taker_of(read: Use) -> Option<usize>
     }
 }
 
+// The flip-flops that alone take the outputs of cells, by how these are read.
+fn takers_by(alloc: Global, uses: &[Use]) -> Result<Vec<Option<usize>>, NoMemory>
+    ensures { IfOk result (λ takers. takers.items ≡ map taker_of uses.now) }
+{
+    let mut takers = Vec::new(alloc);
+    for read in uses {
+        takers.push(taker_of(*read))?;
+    }
+    Ok(takers)
+}
+
 // The flip-flop that alone takes each cell's output.
 fn find_takers(
     alloc: Global,
@@ -117,10 +124,7 @@ fn find_takers(
     ensures { IfOk result (λ takers. takers.items ≡ map taker_of (uses origins.now cells.now bare.now)) }
 {
     let uses = find_uses(alloc, cells, origins, bare)?;
-    let mut takers = Vec::new(alloc);
-    for read in &uses {
-        takers.push(taker_of(*read))?;
-    }
+    let takers = takers_by(alloc, &uses)?;
     Ok(takers)
 }
 

@@ -4,6 +4,7 @@
 
 mod inputs;
 mod known;
+pub mod laws;
 mod marking;
 mod pairing;
 mod placing;

@@ -110,7 +110,14 @@ fn mark_cells(uses: &mut Vec<Use>, origins: &[Origin], cells: &[Cell])
     ensures { uses.new.items ≡ marked uses.old.items (cells_read origins.now 0 cells.now) }
 {
     for (j, cell) in cells.iter().enumerate() {
-        mark_cell(uses, origins, j, cell.kind, cell.ins.as_slice(), cell.outs.as_slice());
+        mark_cell(
+            uses,
+            origins,
+            j,
+            cell.kind,
+            cell.ins.as_slice(),
+            cell.outs.as_slice(),
+        );
     }
 }
 

@@ -51,11 +51,7 @@ fn role_of(origins: &[Origin], cell: &Cell) -> Role
 }
 
 // What each cell is where carries and look-up tables are brought together.
-fn roles_of(
-    alloc: Global,
-    cells: &[Cell],
-    origins: &[Origin],
-) -> Result<Vec<Role>, NoMemory>
+fn roles_of(alloc: Global, cells: &[Cell], origins: &[Origin]) -> Result<Vec<Role>, NoMemory>
     ensures { IfOk result (λ roles. roles.items ≡ roles_of origins.now cells.now) }
 {
     let mut roles = Vec::new(alloc);

@@ -1,7 +1,6 @@
-use Rattle.std.proofs.Common.{◌≡◌, map, length}
-use Rattle.std.specs.List.{range_with_len}
+use Rattle.std.proofs.Common.{◌≡◌}
 use Rattle.ice_cells.specs.Pairs.{takes, lut_of}
-use Rattle.ice_share.specs.Turns.{AreByTurn, AreCounted}
+use Rattle.ice_share.specs.Turns.{AreCounted}
 use Rattle.ice_cells.specs.Tables.{table}
 use Rattle.ice_share.proofs.pairing.pair_carries.Given as goal
 

@@ -1,7 +1,6 @@
 use Rattle.std.proofs.Common.{◌≡◌, Some, Bool, cond, subst}
 use Rattle.std.specs.Map.{lookup}
 use Rattle.ice_share.specs.declared.pairing.Turn.{Turn}
-use Rattle.ice_share.specs.contracts.pairing.TurnPartialEq.TheImpl as turns
 use Rattle.ice_share.proofs.Counting.{turns_equal}
 use Rattle.ice_share.proofs.pairing.put_lut.Goals as goal
 
