@@ -1,0 +1,8 @@
+mod Marks
+mod Counting
+mod Taking
+mod Openers
+mod OriginSteps
+pub mod UseLaws
+pub mod LutLaws
+pub mod HomeLaws

@@ -2,12 +2,16 @@
 //! the same inputs.
 #![tactic(auto)]
 
+mod inputs;
 mod known;
+pub mod laws;
 mod marking;
+mod pairing;
 mod placing;
+mod ports;
 mod tracing;
 
 pub use known::{Facts, facts_of};
-pub use marking::bare_outputs;
 pub use placing::{Homes, homes_of};
+pub use ports::bare_outputs;
 pub use tracing::origins;

@@ -1,0 +1,14 @@
+use Rattle.std.proofs.Common.{ap, ◌∙◌}
+use Rattle.std.proofs.lemmas.Option.{slice_get-get_or}
+use Rattle.ice_net.specs.NetlistData.{NetlistData}
+use Rattle.ice_share.proofs.OriginSteps.{found_more, all_found}
+use Rattle.ice_share.proofs.tracing.origins.Goals as goal
+
+pub loop-s-preserved : goal.loop-s-preserved
+loop-s-preserved c =
+    found_more c.args.sound.now c.signal_order-order.result.now c.signal_order-order.ensures c.cells-cells.result.now c.drivers-drivers.result.now c.loop-s.s-index _
+    c.loop-s.found.items c.settle.new.found.items (c.cells-cells.ensures.cells ∙ ap (λ (n : NetlistData). n.cells) c.netlist.ensures.netlist) c.drivers-drivers.ensures
+    (slice_get-get_or c.signal_order-order.result.now c.loop-s.s-index 0 c.loop-s-test.true) c.loop-s.invariant c.in_ok-settle.ensures
+
+pub returns : goal.returns
+returns c = all_found c.args.sound.now c.signal_order-order.result.now c.signal_order-order.ensures c.loop-s.s-index c.loop-s.found.items c.loop-s-test.false c.loop-s.invariant
