@@ -1,25 +1,23 @@
 -- The chunks of runs stand first among the clusters of a design, run by run.
-use Rattle.std.proofs.Common.{◌≡◌, ◌⊎◌, inl, inr, ℕ, zero, suc, ◌+◌, ◌-◌, ◌<◌, ◌≤◌, Bool, true, false, Option, Some, None, List, [], ◌∷◌, ◌++◌, length, map, take, drop, get_or, refl, ap, sym, ◌∙◌, subst, append_assoc, arith}
+use Rattle.std.proofs.Common.{◌≡◌, ◌⊎◌, inl, inr, ℕ, zero, suc, ◌+◌, ◌-◌, ◌<◌, ◌≤◌, Option, Some, None, List, [], ◌∷◌, ◌++◌, length, map, take, drop, get_or, refl, ap, sym, ◌∙◌, subst, append_assoc, arith}
 use Rattle.std.specs.Prelude.{slice_get, flat_map}
 use Rattle.std.specs.List.{range_with_len}
 use Rattle.std.proofs.lemmas.Bool.{cases_lt}
-use Rattle.std.proofs.lemmas.Option.{slice_get-get_or, slice_get_within}
+use Rattle.std.proofs.lemmas.Option.{slice_get-get_or}
 use Rattle.std.proofs.lemmas.List.{map-append, length-append}
 use Rattle.std.proofs.lemmas.List.FromFn.{length-map-range_with_len, get_or-map-range_with_len}
 use Rattle.ice_base.specs.declared.number.TileAt.{TileAt}
 use Rattle.ice_cells.specs.declared.cell.Control.{Control}
 use Rattle.ice_cells.specs.declared.cell.LogicCell.{LogicCell}
-use Rattle.ice_cells.specs.declared.cluster.Cluster.{Cluster}
-use Rattle.ice_cells.specs.declared.cluster.Clusters.{Clusters}
 use Rattle.ice_cells.specs.declared.cluster.Group.{Group}
 use Rattle.ice_cells.specs.declared.design.Design.{Design}
 use Rattle.ice_cells.specs.declared.design.Run.{Run}
-use Rattle.ice_cells.specs.Clusters.{run_piece, run_pieces, runs_pieces, set_piece, set_pieces, sets_pieces, plain_piece, plain_pieces, filled, left, filled_one, room, opened, groups_of, with_slots, clusters_of, loose_flops, loose_plains}
+use Rattle.ice_cells.specs.Clusters.{run_piece, run_pieces, runs_pieces, set_piece, set_pieces, sets_pieces, plain_piece, plain_pieces, filled, left, room, opened, groups_of, with_slots, clusters_of, loose_flops, loose_plains}
 use Rattle.ice_cells.specs.Pieces.{pieces_count}
 use Rattle.ice_cells.specs.Sets.{FlopCell, sets_of, cells_with}
 use Rattle.ice_place.specs.Fit.{chunks}
 use Rattle.ice_place.specs.Place.{lengths, chunks_of, joined}
-use Rattle.ice_place.proofs.Weights.{total, total_none, total_cons, weight, weight_length, one, total_joined}
+use Rattle.ice_place.proofs.Weights.{total, total_none, total_cons, weight_length, one}
 
 abbrev Chunk : Type 0
 Chunk = Option (ℕ × ℕ)

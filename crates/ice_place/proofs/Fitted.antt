@@ -1,12 +1,11 @@
 -- What first fit gives: nothing is lost, each run has as many sites as it has chunks, one above the other in a stretch.
-use Rattle.std.proofs.Common.{◌≡◌, ◌≢◌, ◌⊎◌, inl, inr, ℕ, zero, suc, ◌+◌, ◌<◌, ◌≤◌, Bool, true, false, eqb, nat_le, Option, Some, None, Result, Ok, Err, List, [], ◌∷◌, ◌++◌, length, get_or, set, take, drop, replicate, refl, ap, sym, ◌∙◌, subst, arith}
-use Rattle.std.specs.List.{position}
+use Rattle.std.proofs.Common.{◌≡◌, ◌≢◌, ◌⊎◌, inl, inr, ℕ, zero, suc, ◌+◌, ◌<◌, ◌≤◌, true, false, eqb, nat_le, Option, Some, None, Ok, List, [], ◌∷◌, length, get_or, set, take, drop, refl, ap, sym, ◌∙◌, subst, arith}
 use Rattle.std.proofs.lemmas.Bool.{leb-true, cases_lt}
 use Rattle.std.proofs.lemmas.Bool.Decides.{eqb_tells}
 use Rattle.std.proofs.lemmas.List.{length-set, length-replicate, length-take-le, get_or-set_same, get_or-set_other, get_or-replicate, get_or_past, drop-drop}
 use Rattle.std.proofs.lemmas.List.Quantifiers.{position-Some}
 use Rattle.ice_base.specs.declared.number.TileAt.{TileAt}
-use Rattle.ice_place.specs.Fit.{Fitting, chunks, with_run, fit_at, first_room, fit_run, fit, ◌>>=◌}
+use Rattle.ice_place.specs.Fit.{Fitting, chunks, with_run, fit_at, first_room, fit, ◌>>=◌}
 use Rattle.ice_place.specs.Place.{none_taken}
 use Rattle.ice_place.proofs.Weights.{weight, total, weight_none, weight_cut, total_none, total_cons, total_set}
 use Rattle.ice_place.proofs.Orders.{Each, each_none, each_head, each_tail, each_cons, each_both, Apart, apart_head, apart_tail}

@@ -1,27 +1,26 @@
 -- The first placement is legal.
-use Rattle.std.proofs.Common.{◌≡◌, ◌⊎◌, inl, inr, ℕ, zero, suc, ◌+◌, ◌*◌, ◌/◌, ◌<◌, ◌≤◌, ◌==◌, ◌&&◌, Bool, true, false, cond, ltb, Option, Some, None, Result, Ok, Err, IfOk, List, [], ◌∷◌, ◌++◌, length, min, take, drop, get_or, refl, ap, sym, ◌∙◌, subst, arith}
+use Rattle.std.proofs.Common.{◌≡◌, ◌⊎◌, inl, inr, ℕ, zero, suc, ◌+◌, ◌*◌, ◌<◌, ◌≤◌, ◌==◌, Bool, true, false, cond, ltb, Option, Some, None, Result, Ok, Err, IfOk, List, [], ◌∷◌, ◌++◌, length, drop, get_or, refl, ap, sym, ◌∙◌, subst, arith}
 use Rattle.std.specs.Prelude.{slice_get}
-use Rattle.std.specs.List.{All}
 use Rattle.std.proofs.lemmas.Bool.{cases_lt, and_parts, eqb-true}
 use Rattle.std.proofs.lemmas.Bool.Decides.{leb_tells}
-use Rattle.std.proofs.lemmas.Option.{slice_get-get_or, slice_get_within}
-use Rattle.std.proofs.lemmas.List.{length-append, length-map, length-take-le}
+use Rattle.std.proofs.lemmas.Option.{slice_get-get_or}
+use Rattle.std.proofs.lemmas.List.{length-map, length-take-le}
 use Rattle.ice_base.specs.declared.number.TileAt.{TileAt}
 use Rattle.ice_cells.specs.declared.cluster.Cluster.{Cluster}
 use Rattle.ice_cells.specs.declared.cluster.Clusters.{Clusters}
 use Rattle.ice_cells.specs.declared.design.Design.{Design}
 use Rattle.ice_cells.specs.Clusters.{clusters_of}
-use Rattle.ice_sites.specs.Legal.{Stands, IsAmong, Follows, is_next, chunk_of, tile_at, IsLegal}
+use Rattle.ice_sites.specs.Legal.{Follows, is_next, chunk_of, tile_at, IsLegal}
 use Rattle.ice_place.specs.declared.fault.PlaceFault.{PlaceFault}
 use Rattle.ice_place.specs.declared.fault.PlaceFault.TheVariants.{RunTooLong, Overfull}
-use Rattle.ice_place.specs.Fit.{Fitting, chunks, by_size, fit, ◌>>=◌}
+use Rattle.ice_place.specs.Fit.{Fitting, chunks, by_size, ◌>>=◌}
 use Rattle.ice_place.specs.Place.{AreStretches, lengths, chunks_of, longest, sites_count, too_long, overfull, or_else, refusal, none_taken, fitted, joined, placed, unless, place_by, place_of}
 use Rattle.ice_place.specs.Answers.{Answers}
 use Rattle.ice_place.proofs.Weights.{weight, total, weight_append, weight_take, weight_length, total_joined, total_count, one}
-use Rattle.ice_place.proofs.Orders.{Each, each_weaker, Apart, Listed, by_size_listed, by_size_apart, by_size_has}
+use Rattle.ice_place.proofs.Orders.{each_weaker, Listed, by_size_listed, by_size_apart, by_size_has}
 use Rattle.ice_place.proofs.Fitted.{IsPiece, IsFitted, Has, Ends, all_fitted, begins, all_free, none_has}
 use Rattle.ice_place.proofs.SitesOnce.{mark, once_stretches, some_stretch, stands_once, one_place}
-use Rattle.ice_place.proofs.ChunkPlaces.{AreChunks, AreLong, are_long, chunks_count, runs_chunks, chunks_stand, Pair, next_chunks, get_taken, get_dropped}
+use Rattle.ice_place.proofs.ChunkPlaces.{AreChunks, AreLong, are_long, chunks_stand, next_chunks, get_taken, get_dropped}
 
 -- ---- what is not refused
 not_too_long : (tallest : ℕ) (runs : List ℕ) → too_long tallest runs ≡ None → (r : ℕ) → r < length runs → get_or runs r 0 ≤ tallest

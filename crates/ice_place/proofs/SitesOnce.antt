@@ -1,7 +1,7 @@
 -- The sites of a chip: each stands once in its stretches, and there are at most 65536.
-use Rattle.std.proofs.Common.{◌≡◌, ◌≢◌, ◌⊎◌, inl, inr, ℕ, zero, suc, ◌+◌, ◌*◌, ◌<◌, ◌≤◌, Bool, true, false, cond, eqb, Option, Some, None, List, [], ◌∷◌, ◌++◌, length, refl, ap, sym, ◌∙◌, subst, arith}
+use Rattle.std.proofs.Common.{◌≡◌, ◌≢◌, ◌⊎◌, inl, inr, ℕ, zero, suc, ◌+◌, ◌*◌, ◌<◌, ◌≤◌, Bool, true, false, cond, eqb, Some, List, [], ◌∷◌, ◌++◌, length, refl, ap, sym, ◌∙◌, subst, arith}
 use Rattle.std.specs.Prelude.{slice_get}
-use Rattle.std.specs.List.{All, AllByRecursion, filter}
+use Rattle.std.specs.List.{All, AllByRecursion}
 use Rattle.std.proofs.lemmas.Bool.{cases_lt}
 use Rattle.std.proofs.lemmas.Bool.Decides.{eqb_tells}
 use Rattle.std.proofs.lemmas.List.Elements.{All-from_recursion}
@@ -11,7 +11,7 @@ use Rattle.ice_base.proofs.Keys.{tile_same, tile_self}
 use Rattle.ice_chip.specs.Database.{Parts}
 use Rattle.ice_sites.specs.Site.{is_site, is_link}
 use Rattle.ice_sites.specs.Stretches.{column, columns, sites_in_order, goes_on, cut, stretches_of}
-use Rattle.ice_sites.specs.Legal.{Stands, IsAmong}
+use Rattle.ice_sites.specs.Legal.{IsAmong}
 use Rattle.ice_place.specs.Place.{AreStretches, sites_count}
 use Rattle.ice_place.proofs.Weights.{weight, total, weight_none, weight_one, weight_cons, weight_append, weight_filter, total_none, total_cons, one, weight_length, total_count}
 

@@ -1,12 +1,8 @@
 use Rattle.std.proofs.Common.{◌≡◌, ◌≤◌, Result, List, length, sym, ap, ◌∙◌, subst}
 use Rattle.std.specs.List.{All}
 use Rattle.ice_base.specs.declared.number.TileAt.{TileAt}
-use Rattle.ice_sites.specs.Legal.{IsLegal}
-use Rattle.ice_cells.specs.declared.cluster.Clusters.{Clusters}
-use Rattle.ice_cells.specs.declared.design.Design.{Design}
-use Rattle.ice_cells.specs.Clusters.{clusters_of}
 use Rattle.ice_place.specs.declared.fault.PlaceFault.{PlaceFault}
-use Rattle.ice_place.specs.Place.{AreStretches, lengths, chunks_of, sites_count, place_by}
+use Rattle.ice_place.specs.Place.{lengths, sites_count, place_by}
 use Rattle.ice_place.specs.Answers.{Answers}
 use Rattle.ice_place.proofs.SitesOnce.{few_sites, short_stretches}
 use Rattle.ice_place.proofs.Placing.{answers_legal}
