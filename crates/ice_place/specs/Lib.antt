@@ -1,0 +1,4 @@
+pub mod Fit
+pub mod Place
+pub mod Answers
+pub mod Views
