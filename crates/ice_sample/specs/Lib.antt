@@ -6,4 +6,5 @@ pub mod Bits
 pub mod Wires
 pub mod Groups
 pub mod Chip
+pub mod Netlist
 pub mod Laws

@@ -1,4 +1,4 @@
-//! The sample chip: a chip database of any size, made by rule, for tests and measurements.
+//! The sample chip and the sample netlist: a chip database and a netlist of any size, made by rule, for tests and measurements.
 #![tactic(auto)]
 
 mod bits;
@@ -6,6 +6,7 @@ mod chip;
 mod grid;
 mod groups;
 mod laws;
+mod netlist;
 mod pads;
 mod pins;
 mod sections;
@@ -16,3 +17,4 @@ mod wires;
 
 pub use chip::sample_chip;
 pub use laws::{names_are_at_places, worked_numbers};
+pub use netlist::sample_net;
