@@ -1,23 +1,20 @@
 -- The bits of functions that are set, and no others.
-use Rattle.std.proofs.Common.{◌≡◌, ◌⊎◌, ℕ, Bool, true, false, Option, None, Some, List, [], ◌∷◌, inl, inr, refl, sym, ap, ◌∙◌, subst}
-use Rattle.std.specs.Prelude.{◌&&◌, ◌||◌, slice_get}
-use Rattle.std.specs.List.{list_any}
+use Rattle.std.proofs.Common.{◌≡◌, ℕ, true, false, Option, None, Some, List, refl, sym, ap, ◌∙◌, subst}
+use Rattle.std.specs.Prelude.{slice_get}
 use Rattle.std.specs.Option.{option_map_or, option_and_then}
-use Rattle.std.proofs.lemmas.Bool.{or_cases, or_right, or_left, false_from_ne_true, and_parts, cases_Bool}
+use Rattle.std.proofs.lemmas.Bool.{and_parts}
 use Rattle.ice_base.specs.declared.number.TileAt.{TileAt}
 use Rattle.ice_base.specs.declared.number.BitAt.{BitAt}
-use Rattle.ice_value.specs.Order.{At, Has}
-use Rattle.ice_chip.specs.Database.{Parts, SwitchGroup, FunctionRow}
-use Rattle.ice_chip.specs.Functions.{is_read, is_foreign}
+use Rattle.ice_value.specs.Order.{Has}
+use Rattle.ice_chip.specs.Database.{Parts}
+use Rattle.ice_chip.specs.Functions.{is_read}
 use Rattle.ice_chip.specs.Lookups.{kind_at, function_of}
 use Rattle.ice_chip.specs.Places.{same_tile}
 use Rattle.ice_chip.specs.declared.rows.TileKind.{TileKind}
-use Rattle.ice_chip_laws.specs.Bits.{function_place, IsReadAt, HasOwnBits}
-use Rattle.ice_bits.specs.Configuration.{Bits, same_place}
-use Rattle.ice_bits.specs.Settings.{function_bit, set_at}
-use Rattle.ice_decode.specs.declared.driver.Switch.{Switch}
-use Rattle.ice_rows.specs.Sound.{sets}
-use Rattle.ice_wiring.specs.Wanted.{sets_switch, set_bits, AreWanted, AreNoGroups, IsRowOf}
+use Rattle.ice_chip_laws.specs.Bits.{function_place, HasOwnBits}
+use Rattle.ice_bits.specs.Configuration.{same_place}
+use Rattle.ice_bits.specs.Settings.{function_bit}
+use Rattle.ice_wiring.specs.Wanted.{AreNoGroups}
 use Rattle.ice_wiring.specs.Settings.{Setting, sets_one, function_bits, AreRead}
 use Rattle.ice_value.proofs.Members.{Has_any, any_none}
 use Rattle.ice_base.proofs.Keys.{tile_same, tile_self, place_same, place_self}

@@ -1,10 +1,10 @@
 -- What a sound row is apart from, and that its values turn it on alone in its bundle.
-use Rattle.std.proofs.Common.{◌≡◌, ◌⊎◌, ℕ, zero, suc, ◌+◌, ◌<◌, ◌≤◌, Bool, true, false, eqb, Option, None, Some, List, [], ◌∷◌, ◌++◌, length, map, cond, inl, inr, refl, sym, ap, ◌∙◌, subst, arith}
-use Rattle.std.specs.Prelude.{◌&&◌, ◌||◌, not, filter, filter_map, slice_get}
+use Rattle.std.proofs.Common.{◌≡◌, ℕ, zero, suc, ◌+◌, Bool, true, false, eqb, None, Some, List, [], ◌∷◌, map, cond, inl, inr, refl, sym, ap, ◌∙◌, subst, arith}
+use Rattle.std.specs.Prelude.{◌&&◌, not}
 use Rattle.std.specs.Cmp.Lexicographic.{pointwise}
 use Rattle.std.proofs.Math.Bool.{beq}
 use Rattle.std.specs.List.{list_any}
-use Rattle.std.proofs.lemmas.Bool.{or_cases, or_right, or_left, false_from_ne_true, and_parts, eqb-true, eq-eqb, cases_Bool}
+use Rattle.std.proofs.lemmas.Bool.{or_cases, and_parts, eqb-true, eq-eqb}
 use Rattle.std.proofs.lemmas.Option.{same_Some}
 use Rattle.ice_base.specs.declared.number.TileAt.{TileAt}
 use Rattle.ice_base.specs.declared.number.BitAt.{BitAt}
@@ -16,9 +16,7 @@ use Rattle.ice_chip_laws.specs.Groups.{HasRows}
 use Rattle.ice_bits.specs.Configuration.{Bits, same_place}
 use Rattle.ice_bits.specs.RowsOn.{values_of, number_with, row_on, rows_on}
 use Rattle.ice_rows.specs.Bundles.{groups_into, bundle, has_bit, is_of_other, is_shared, shares_bit, is_private}
-use Rattle.ice_rows.specs.Sound.{value_at, sets, is_one, is_alone, is_sound}
-use Rattle.ice_rows.specs.WireNames.{has_memory_name}
-use Rattle.ice_wiring.specs.Wanted.{IsRowOf}
+use Rattle.ice_rows.specs.Sound.{value_at, sets, is_one, is_alone}
 use Rattle.ice_value.proofs.Together.{Has_head, Has_tail}
 use Rattle.ice_value.proofs.Members.{Has_any, Has_filter, filter_Has}
 use Rattle.ice_wiring.proofs.Mapped.{Has_mapped_by, mapped_by_Has}

@@ -1,25 +1,22 @@
 -- Points that carry nodes have the nodes' values.
-use Rattle.std.proofs.Common.{◌≡◌, ◌⊎◌, ℕ, zero, suc, ◌+◌, ◌<◌, ◌≤◌, Bool, true, false, Option, None, Some, List, [], ◌∷◌, length, map, cond, inl, inr, refl, sym, ap, ◌∙◌, subst, arith}
-use Rattle.std.specs.Prelude.{◌&&◌, option_map, is_some, slice_get, slice_index_or, codes}
+use Rattle.std.proofs.Common.{◌≡◌, ℕ, zero, suc, ◌<◌, Bool, true, false, Option, None, Some, List, [], ◌∷◌, map, cond, refl, sym, ap, ◌∙◌, subst, arith}
+use Rattle.std.specs.Prelude.{◌&&◌, is_some, slice_index_or}
 use Rattle.std.specs.Option.{option_map_or}
 use Rattle.std.proofs.lemmas.Option.{same_Some}
 use Rattle.ice_base.specs.declared.number.TileAt.{TileAt}
 use Rattle.ice_base.specs.declared.number.WireNo.{WireNo}
-use Rattle.ice_value.specs.System.{value}
 use Rattle.ice_value.specs.Order.{At, Has}
-use Rattle.ice_value.specs.Inputs.{reading, gapped}
+use Rattle.ice_value.specs.Inputs.{reading}
 use Rattle.ice_value.specs.Arriving.{HasValue, HaveValues}
 use Rattle.ice_value.proofs.Arriving.{value_made}
 use Rattle.ice_chip.specs.Database.{Parts}
 use Rattle.ice_chip.specs.declared.rows.Pad.{Pad}
 use Rattle.ice_bits.specs.Configuration.{Bits}
-use Rattle.ice_bits.specs.Settings.{set_at}
-use Rattle.ice_net.specs.Meaning.{number_of, table_bit, majority}
+use Rattle.ice_net.specs.Meaning.{majority}
 use Rattle.ice_decode.specs.declared.point.Point.{Point}
 use Rattle.ice_decode.specs.declared.point.Point.TheVariants.{Wire, Carry}
 use Rattle.ice_decode.specs.declared.role.Role.{Role}
 use Rattle.ice_decode.specs.declared.role.Role.TheVariants as role
-use Rattle.ice_decode.specs.declared.driver.Switch.{Switch}
 use Rattle.ice_decode.specs.declared.driver.Driver.{Driver}
 use Rattle.ice_decode.specs.declared.driver.Driver.TheVariants.{Nothing, By}
 use Rattle.ice_decode.specs.Cells.{has_flop, has_carry, looked_up}
@@ -27,8 +24,7 @@ use Rattle.ice_decode.specs.Drivers.{driver}
 use Rattle.ice_decode.specs.Meaning as chip
 use Rattle.ice_decode.specs.Meaning.{passes, kept_at, driven_makes, makes}
 use Rattle.ice_chip.specs.WireNames.{input_name}
-use Rattle.ice_decode.specs.Pads.{pad_gives}
-use Rattle.ice_decode.specs.Reads.{wire_point, at_pin, global_feed, carry_into, cell_inputs, carry_inputs, driven_reads, reads}
+use Rattle.ice_decode.specs.Reads.{at_pin, global_feed, carry_into, cell_inputs, carry_inputs, driven_reads, reads}
 use Rattle.ice_decode.specs.Roles.{role_of}
 use Rattle.ice_net.specs.declared.kind.Reset.{Reset}
 use Rattle.ice_cells.specs.declared.cell.Control.{Control}
@@ -41,7 +37,7 @@ use Rattle.ice_cells.specs.Nodes as node
 use Rattle.ice_cells.specs.Nodes.{Node, Net, Level, net}
 use Rattle.ice_cells.specs.Meaning as design
 use Rattle.ice_cells.specs.Meaning.{input, last_input, node_reads, node_makes}
-use Rattle.ice_wiring.specs.Carried.{Reaches, Here, ByRow, ByCarry, IsSet, Starts, AtCell, AtCarry, AtPad, AtGlobal, AtMux, AtOpen}
+use Rattle.ice_wiring.specs.Carried.{Reaches, Here, ByRow, ByCarry, Starts, AtCell, AtCarry, AtPad, AtGlobal, AtMux, AtOpen}
 
 module _ (parts : Parts) (bits : Bits) (bonded : List Pad) (levels kept : List Bool) where
   abbrev HasLevel : Point → Bool → Type 0
@@ -129,6 +125,10 @@ module _ (parts : Parts) (bits : Bits) (bonded : List Pad) (levels kept : List B
           (fed_value p2 (input x 2) (subst (λ (p : Option Point). Feeds p (input x 2)) e2 f2.2) (λ n e. lower n (Has_at ins 2 (input x 2) refl n e)) (p3 ∷ []) _
           (fed_value p3 (last_input d c x) (subst (λ (p : Option Point). Feeds p (last_input d c x)) e3 f3.2) (λ n e. lower n (Has_at ins 3 (last_input d c x) refl n e)) [] [] tt)))
 
+      -- what the output of a cell makes, with this flip-flop or none
+      abbrev made : ℕ → LogicCell → Option (Control × Reset) → Bool
+      made c x f = design.output_makes x f (slice_index_or kept_cells c false) (map read (design.output_reads f (design.cell_inputs d c x)))
+
       -- a node has its value where it starts
       pub arrives : (bound : ℕ) (n : Node) → rank n < bound → (q : Point) → StartsAt q n → HasLevel q (v n)
       arrives zero n lt q starts = absurd (omega arith)
@@ -146,10 +146,7 @@ module _ (parts : Parts) (bits : Bits) (bonded : List Pad) (levels kept : List B
               (sym (meets (Net (GlobalOut g)) ∙ ap (λ ns. slice_index_or (map read ns) 0 false) one))
           at q n (AtCell w c x here driven is set keeps) lower = by x.flop refl
             where
-              abbrev made : Option (Control × Reset) → Bool
-              made f = design.output_makes x f (slice_index_or kept_cells c false) (map read (design.output_reads f (design.cell_inputs d c x)))
-
-              value_is : v (Net (CellOut c)) ≡ made x.flop
+              value_is : v (Net (CellOut c)) ≡ made c x x.flop
               value_is =
                   meets (Net (CellOut c))
                   ∙ ap (λ o. option_map_or (λ (cell : LogicCell). design.output_makes cell cell.flop (slice_index_or kept_cells c false) (map read (option_map_or (λ (cell : LogicCell). design.output_reads cell.flop (design.cell_inputs d c cell)) o []))) o false) here
@@ -159,7 +156,7 @@ module _ (parts : Parts) (bits : Bits) (bonded : List Pad) (levels kept : List B
                   let flop : has_flop parts bits (slot c).0 (slot c).1 ≡ true = set.flop ∙ ap (λ (o : Option (Control × Reset)). is_some o) e in
                   wire_made w Nothing (role.Output (slot c).0 (slot c).1) [] (v (Net (CellOut c))) driven is
                   (subst (λ (b : Bool). HaveLevels (cond b [] (cell_inputs parts (slot c).0 (slot c).1)) []) (sym flop) tt)
-                  (ap (λ b. cond b (kept_at parts kept (slot c).0 (slot c).1) (looked_up parts bits (slot c).0 (slot c).1 [])) flop ∙ keeps ∙ sym (value_is ∙ ap made e))
+                  (ap (λ b. cond b (kept_at parts kept (slot c).0 (slot c).1) (looked_up parts bits (slot c).0 (slot c).1 [])) flop ∙ keeps ∙ sym (value_is ∙ ap (made c x) e))
               by None e =
                   let flop : has_flop parts bits (slot c).0 (slot c).1 ≡ false = set.flop ∙ ap (λ (o : Option (Control × Reset)). is_some o) e in
                   let ins : node_reads d (Net (CellOut c)) ≡ design.cell_inputs d c x
@@ -167,7 +164,7 @@ module _ (parts : Parts) (bits : Bits) (bonded : List Pad) (levels kept : List B
                   wire_made w Nothing (role.Output (slot c).0 (slot c).1) (map read (design.cell_inputs d c x)) (v (Net (CellOut c))) driven is
                   (subst (λ (b : Bool). HaveLevels (cond b [] (cell_inputs parts (slot c).0 (slot c).1)) (map read (design.cell_inputs d c x))) (sym flop) (cell_values c x here (λ m has p. lower m (subst (λ (ns : List (Option Node)). Has ns (Some m)) (sym ins) has) p)))
                   (ap (λ b. cond b (kept_at parts kept (slot c).0 (slot c).1) (looked_up parts bits (slot c).0 (slot c).1 (map read (design.cell_inputs d c x)))) flop
-                  ∙ set.table (map read (design.cell_inputs d c x)) refl ∙ sym (value_is ∙ ap made e))
+                  ∙ set.table (map read (design.cell_inputs d c x)) refl ∙ sym (value_is ∙ ap (made c x) e))
           at q n (AtCarry c x here set on) lower =
               let ins : node_reads d (Net (root.CarryOut c)) ≡ input x 1 ∷ input x 2 ∷ node.carry_into d c ∷ [] = ap (λ o. option_map_or (design.carry_reads d c) o []) here ∙ ap (λ b. cond b (input x 1 ∷ input x 2 ∷ node.carry_into d c ∷ []) []) on in
               let carry : has_carry parts bits (slot c).0 (slot c).1 ≡ true = set.carry ∙ on in
@@ -184,9 +181,9 @@ module _ (parts : Parts) (bits : Bits) (bonded : List Pad) (levels kept : List B
               let down : (m : Node) → Has (input x 1 ∷ input x 2 ∷ node.carry_into d c ∷ []) (Some m) → (p : Point) → StartsAt p m → HasLevel p (v m) = λ m has p. lower m (subst (λ (ns : List (Option Node)). Has ns (Some m)) (sym ins) has) p in
               let three = input x 1 ∷ input x 2 ∷ node.carry_into d c ∷ [] in
               let all : HaveLevels (carry_inputs parts t i) (map read three)
-                  = fed_value p1 (input x 1) (subst (λ (p : Option Point). Feeds p (input x 1)) e1 f1.2) (λ m e. down m (Has_at three 0 (input x 1) refl m e)) (p2 ∷ carry_into parts t i ∷ []) _
-                  (fed_value p2 (input x 2) (subst (λ (p : Option Point). Feeds p (input x 2)) e2 f2.2) (λ m e. down m (Has_at three 1 (input x 2) refl m e)) (carry_into parts t i ∷ []) _
-                  (fed_value (carry_into parts t i) (node.carry_into d c) (fed.carry c x here on) (λ m e. down m (Has_at three 2 (node.carry_into d c) refl m e)) [] [] tt)) in
+              = fed_value p1 (input x 1) (subst (λ (p : Option Point). Feeds p (input x 1)) e1 f1.2) (λ m e. down m (Has_at three 0 (input x 1) refl m e)) (p2 ∷ carry_into parts t i ∷ []) _
+              (fed_value p2 (input x 2) (subst (λ (p : Option Point). Feeds p (input x 2)) e2 f2.2) (λ m e. down m (Has_at three 1 (input x 2) refl m e)) (carry_into parts t i ∷ []) _
+              (fed_value (carry_into parts t i) (node.carry_into d c) (fed.carry c x here on) (λ m e. down m (Has_at three 2 (node.carry_into d c) refl m e)) [] [] tt)) in
               value_made (reads parts bits) false (makes parts bits bonded levels kept) (Carry t i) (map read three) (v (Net (root.CarryOut c)))
               (subst (λ (ps : List (Option Point)). HaveLevels ps (map read three)) (sym (ap (λ b. cond b (carry_inputs parts t i) []) carry)) all)
               (sym (meets (Net (root.CarryOut c)) ∙ ap (λ ns. majority (slice_index_or (map read ns) 0 false) (slice_index_or (map read ns) 1 false) (slice_index_or (map read ns) 2 false)) ins))

@@ -1,11 +1,10 @@
 -- Which rows the wanted switches turn on, and what drives each wire.
-use Rattle.std.proofs.Common.{◌≡◌, ◌⊎◌, ℕ, zero, suc, ◌+◌, ◌<◌, ◌≤◌, Bool, true, false, eqb, Option, None, Some, List, [], ◌∷◌, ◌-◌, length, map, cond, inl, inr, refl, sym, ap, ◌∙◌, subst, arith}
-use Rattle.std.specs.Prelude.{◌&&◌, ◌||◌, not, filter, filter_map, option_map, slice_get}
+use Rattle.std.proofs.Common.{◌≡◌, ◌⊎◌, ℕ, zero, suc, ◌+◌, ◌<◌, ◌≤◌, Bool, true, false, eqb, Option, None, Some, List, [], ◌∷◌, ◌-◌, length, inl, inr, refl, sym, ap, ◌∙◌, subst, arith}
+use Rattle.std.specs.Prelude.{◌&&◌, ◌||◌, not, option_map, slice_get}
 use Rattle.std.specs.Option.{option_and_then}
 use Rattle.std.specs.List.{list_any}
-use Rattle.std.proofs.lemmas.Bool.{or_cases, false_from_ne_true, and_parts, eqb-true, eq-eqb, cases_Bool}
+use Rattle.std.proofs.lemmas.Bool.{or_cases, and_parts, eqb-true, eq-eqb, cases_Bool}
 use Rattle.std.proofs.lemmas.Option.{same_Some}
-use Rattle.std.proofs.lemmas.List.{length-map}
 use Rattle.ice_base.specs.declared.number.TileAt.{TileAt}
 use Rattle.ice_base.specs.declared.number.BitAt.{BitAt}
 use Rattle.ice_value.specs.Order.{At, Has}
@@ -16,11 +15,9 @@ use Rattle.ice_chip_laws.specs.Groups.{HasRows}
 use Rattle.ice_bits.specs.Configuration.{Bits}
 use Rattle.ice_bits.specs.RowsOn.{row_on}
 use Rattle.ice_decode.specs.declared.driver.Switch.{Switch}
-use Rattle.ice_decode.specs.declared.driver.Driver.{Driver}
-use Rattle.ice_decode.specs.declared.driver.Driver.TheVariants.{Nothing, By, Several}
-use Rattle.ice_decode.specs.Drivers.{switch, switch_at, switch_on, switches_on, into, driver_among, driver}
+use Rattle.ice_decode.specs.Drivers.{switch, switch_at, switch_on, switches_on, into, driver_among}
 use Rattle.ice_rows.specs.Bundles.{is_private}
-use Rattle.ice_rows.specs.Sound.{sets, is_alone, is_sound}
+use Rattle.ice_rows.specs.Sound.{sets, is_alone}
 use Rattle.ice_rows.specs.WireNames.{has_memory_name}
 use Rattle.ice_wiring.specs.Wanted.{IsRowOf, sets_of, sets_switch, set_bits, AreWanted, AreNoGroups, IsWired}
 use Rattle.ice_value.proofs.Members.{any_Has, Has_any, any_none}

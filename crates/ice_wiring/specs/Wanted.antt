@@ -1,15 +1,13 @@
 -- Rows that are wanted, and what they set.
-use Rattle.std.specs.Prelude.{◌≡◌, ℕ, ◌+◌, ◌||◌, Bool, true, false, Option, None, Some, List, slice_get}
+use Rattle.std.specs.Prelude.{◌≡◌, ℕ, ◌+◌, ◌||◌, true, false, Option, None, Some, List, slice_get}
 use Rattle.std.specs.List.{list_any}
-use Rattle.ice_base.specs.declared.number.TileAt.{TileAt}
 use Rattle.ice_base.specs.declared.number.BitAt.{BitAt}
 use Rattle.ice_value.specs.Order.{At, Has}
 use Rattle.ice_chip.specs.Database.{Parts, SwitchGroup, SwitchRow}
 use Rattle.ice_chip.specs.Lookups.{rows_of}
 use Rattle.ice_bits.specs.Configuration.{Bits}
 use Rattle.ice_decode.specs.declared.driver.Switch.{Switch}
-use Rattle.ice_decode.specs.declared.driver.Driver.{Driver}
-use Rattle.ice_decode.specs.declared.driver.Driver.TheVariants.{Nothing, By, Several}
+use Rattle.ice_decode.specs.declared.driver.Driver.TheVariants.{Nothing, By}
 use Rattle.ice_decode.specs.Drivers.{driver, switches_on}
 use Rattle.ice_rows.specs.Sound.{sets, is_sound}
 
