@@ -1,5 +1,5 @@
 -- The nets of a placed design.
-use Rattle.std.specs.Prelude.{ℕ, ◌+◌, Bool, true, false, Option, None, Some, List, [], ◌∷◌, ◌++◌, map, filter_map, length, option_map, slice_get, if◌then◌else◌}
+use Rattle.std.specs.Prelude.{ℕ, Option, None, Some, List, [], ◌∷◌, ◌++◌, map, filter_map, length, slice_get, if◌then◌else◌}
 use Rattle.std.specs.List.{range_with_len}
 use Rattle.std.specs.Option.{option_and_then}
 use Rattle.ice_base.specs.declared.number.WireNo.{WireNo}
@@ -13,7 +13,7 @@ use Rattle.ice_cells.specs.Same.{same_root}
 use Rattle.ice_core.specs.declared.net.Net.{Net}
 use Rattle.ice_pads.specs.Globals.{global_wire}
 use Rattle.ice_plan.specs.Plan.{Plan, Slot, slot_of}
-use Rattle.ice_nets.specs.Ends.{End, wire_no, ends}
+use Rattle.ice_nets.specs.Ends.{End, ends}
 
 -- ---- roots
 abbrev pub pad_wire : Parts → Pad → Option ℕ
