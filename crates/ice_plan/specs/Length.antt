@@ -1,5 +1,5 @@
 -- The wire length of a placed design: the half perimeters of its nets, in tiles.
-use Rattle.std.specs.Prelude.{ℕ, ◌+◌, ◌-◌, Bool, Option, None, Some, List, [], ◌∷◌, map, filter, fold, min, max, length}
+use Rattle.std.specs.Prelude.{ℕ, ◌+◌, ◌-◌, Bool, List, map, filter, fold, min, max, length}
 use Rattle.std.specs.List.{range_with_len}
 use Rattle.std.specs.Option.{option_map_or}
 use Rattle.ice_base.specs.declared.number.TileAt.{TileAt}

@@ -1,0 +1,4 @@
+pub mod Arrivals
+pub mod Links
+pub mod Functions
+pub mod Written

@@ -1,0 +1,2 @@
+//! The nets of a placed design.
+#![tactic(auto)]

@@ -1,0 +1,5 @@
+pub mod Mapped
+pub mod SoundRows
+pub mod Wired
+pub mod SetBits
+pub mod Values
