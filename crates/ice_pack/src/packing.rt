@@ -1,6 +1,5 @@
 //! Netlists are packed.
-ghost use Rattle.std.specs.Prelude.{◌≡◌, ◌+◌, All, length, map, IfOk};
-ghost use Rattle.ice_net.specs.Drivers.{pin_of};
+ghost use Rattle.std.specs.Prelude.{◌≡◌, ◌+◌, All, length, IfOk};
 ghost use Rattle.ice_check.specs.Sound.{AreBuffers};
 ghost use Rattle.ice_cells.specs.Homes.{carriers_of, homes, openers};
 ghost use Rattle.ice_cells.specs.Origins.{origins};

@@ -1,6 +1,6 @@
 //! The logic cells of a design.
 ghost use Rattle.std.specs.Prelude.{◌≡◌, IfOk};
-ghost use Rattle.ice_cells.specs.Packed.{no_inputs, lut_inputs, data_input, table_for, inputs_for, flop_for, carry_for, with_carry, cell_by, cell_of, cells_by};
+ghost use Rattle.ice_cells.specs.Packed.{lut_inputs, data_input, table_for, inputs_for, flop_for, carry_for, with_carry, cell_by, cell_of, cells_by};
 ghost use Rattle.ice_sinks.specs.Plans.{plan};
 
 use crate::Slices;

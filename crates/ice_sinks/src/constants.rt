@@ -2,7 +2,7 @@
 ghost use Rattle.std.specs.Prelude.{◌≡◌, ◌++◌, true, OnOk};
 ghost use Rattle.std.specs.List.{list_any};
 ghost use Rattle.ice_net.specs.Drives.{pad_uses};
-ghost use Rattle.ice_cells.specs.Packed.{constant_cell, constant_if, is_level, has_level, reads_zero, reads_one, zero_by, one_by, port_one, needs_zero, needs_one};
+ghost use Rattle.ice_cells.specs.Packed.{constant_cell, constant_if, has_level, reads_zero, reads_one, zero_by, one_by, port_one, needs_zero, needs_one};
 
 use crate::flops::{enable_input, set_input};
 use crate::inputs::{input_at, input_level, is_dropped};

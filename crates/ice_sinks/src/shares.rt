@@ -1,6 +1,6 @@
 //! Which cells share a logic cell.
 ghost use Rattle.std.specs.Prelude.{◌≡◌, None, slice_index_or};
-ghost use Rattle.ice_cells.specs.Homes.{part, is_table, taker, taken_anchor, anchor};
+ghost use Rattle.ice_cells.specs.Homes.{part, taker, taken_anchor, anchor};
 ghost use Rattle.ice_sinks.specs.Plans.{plan};
 
 use crate::Slices;
