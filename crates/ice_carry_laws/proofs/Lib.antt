@@ -6,3 +6,5 @@ mod Steps
 mod MovedNumbers
 mod TiedRuns
 mod Shown
+mod NewCells
+mod AllValues

@@ -3,7 +3,7 @@ use Rattle.std.specs.Prelude.{◌≡◌, ℕ, ◌<◌, Bool, Some, List, length}
 use Rattle.ice_value.specs.Order.{Has}
 use Rattle.ice_cells.specs.declared.design.Design.{Design}
 use Rattle.ice_cells.specs.declared.root.Root.TheVariants.{CellOut, GlobalOut}
-use Rattle.ice_cells.specs.Meaning.{shows}
+use Rattle.ice_cells.specs.Meaning.{HasValues, shows}
 use Rattle.ice_cells.specs.Readings.{roots_read}
 use Rattle.ice_cells.specs.Runs.{fed_numbers, moved_numbers, runs_of}
 use Rattle.ice_chains.specs.Before.{IsBeforeRuns}
@@ -21,3 +21,7 @@ RunsAreTied = (d : Design) → IsBeforeRuns d → AreRuns d (runs_of d) (moved_n
 -- with its runs a design shows what it shows without, for each list of levels
 abbrev pub RunsShowTheSame : Type 0
 RunsShowTheSame = (d : Design) → IsBeforeRuns d → ReadsWithin d → (levels : List (List Bool)) → shows (runs_of d) levels ≡ shows d levels
+
+-- each node of a design with runs has a value, whatever the levels and whatever is kept
+abbrev pub RunsHaveValues : Type 0
+RunsHaveValues = (d : Design) → IsBeforeRuns d → ReadsWithin d → HasValues (runs_of d)

@@ -1,5 +1,5 @@
 //! The laws of runs, each as the contract of a function that does nothing.
-ghost use Rattle.ice_carry_laws.specs.RunLaws.{RunsAreTied, RunsShowTheSame};
+ghost use Rattle.ice_carry_laws.specs.RunLaws.{RunsAreTied, RunsHaveValues, RunsShowTheSame};
 
 /// Each carry comes to what read it, directly or through a cell that passes it on, and each flip-flop is read where it went.
 pub fn runs_are_tied()
@@ -9,4 +9,9 @@ pub fn runs_are_tied()
 /// With its runs a design shows, step by step, what it shows without.
 pub fn runs_show_the_same()
     ensures { RunsShowTheSame }
+{}
+
+/// With its runs a design has no loop, as it had none without: each node has a value.
+pub fn runs_have_values()
+    ensures { RunsHaveValues }
 {}
