@@ -5,7 +5,7 @@ use Rattle.std.specs.List.{list_any}
 use Rattle.std.proofs.lemmas.Bool.{and_parts, and_from, or_cases, or_parts, both_ways, eq-eqb, eqb-true, not-true, not-false}
 use Rattle.std.proofs.lemmas.Option.{slice_get_within}
 use Rattle.ice_base.specs.declared.number.BitAt.{BitAt}
-use Rattle.ice_flow.specs.Lists.{At, Has}
+use Rattle.ice_value.specs.Order.{At, Has}
 use Rattle.ice_flow.specs.Database.{SwitchGroup}
 use Rattle.ice_flow.specs.ChipText.{IsOfForm}
 use Rattle.ice_flow.specs.Switches.{same_value, same_values}
@@ -16,8 +16,8 @@ use Rattle.ice_flow.specs.RowIndex.{holder_at, HasShape, HasKey, IsHeld, IsIndex
 use Rattle.ice_flow.specs.declared.place.Place.{Place}
 use Rattle.ice_flow.specs.declared.index.Holder.{Holder}
 use Rattle.ice_flow.specs.declared.index.Index.{Index}
-use Rattle.ice_flow.proofs.LevelTables.{has_read}
-use Rattle.ice_flow.proofs.ListFacts.{Has_head, Has_tail}
+use Rattle.ice_value.proofs.Members.{Has_read}
+use Rattle.ice_value.proofs.Together.{Has_head, Has_tail}
 use Rattle.ice_flow.proofs.ValueLists.{same_values-true, same_values-refl}
 
 -- reading value by value
@@ -68,11 +68,11 @@ map_along f g (p ∷ ps) same =
 -- what the form says of the row at a place
 
 pub row_bits : (gs : List SwitchGroup) (form : IsOfForm gs) (p : Place) → IsWithin gs p → AreSwitchBits (row_at gs p).bits
-row_bits gs form p in' b has = form.bits (get_or gs p.group no_group) b (has_read gs p.group no_group in'.group) has
+row_bits gs form p in' b has = form.bits (get_or gs p.group no_group) b (Has_read gs p.group no_group in'.group) has
 
 pub row_paired : (gs : List SwitchGroup) (form : IsOfForm gs) (p : Place) → IsWithin gs p → length (row_at gs p).values ≡ length (row_at gs p).bits
-row_paired gs form p in' = form.paired (get_or gs p.group no_group) (get_or (get_or gs p.group no_group).rows p.row no_row) (has_read gs p.group no_group in'.group)
-    (has_read (get_or gs p.group no_group).rows p.row no_row in'.row)
+row_paired gs form p in' = form.paired (get_or gs p.group no_group) (get_or (get_or gs p.group no_group).rows p.row no_row) (Has_read gs p.group no_group in'.group)
+    (Has_read (get_or gs p.group no_group).rows p.row no_row in'.row)
 
 module _ (gs : List SwitchGroup) (form : IsOfForm gs) (places : List Place) (within : (i : ℕ) (q : Place) → At places i q → IsWithin gs q)
     (index : Index) (ix : IsIndexOf gs places index) (n : ℕ) (p : Place) (at : At places n p)

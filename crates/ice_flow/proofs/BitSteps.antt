@@ -5,8 +5,8 @@ use Rattle.std.specs.List.{list_any, list_all}
 use Rattle.std.proofs.lemmas.Option.{slice_get-get_or}
 use Rattle.ice_base.specs.declared.number.BitAt.{BitAt}
 use Rattle.ice_bits.specs.Configuration.{bit_in}
-use Rattle.ice_flow.specs.Lists.{Has}
-use Rattle.ice_flow.specs.Database.{same_bit}
+use Rattle.ice_value.specs.Order.{Has}
+use Rattle.ice_base.specs.Places.{same_place}
 use Rattle.ice_flow.specs.Routes.{value_at}
 
 pub both : (a b : Bool) → (a && b) ≡ true → (a ≡ true) × (b ≡ true)
@@ -38,7 +38,7 @@ or_assoc true b x = refl
 or_assoc false b x = refl
 
 value_drop : (ps : List BitAt) (vs : List Bool) (k : ℕ) (b p : BitAt) (v : Bool) → k < length ps → length vs ≡ length ps → p ≡ get_or ps k p → v ≡ get_or vs k v
-    → value_at (drop k ps) (drop k vs) b ≡ ((same_bit p b && v) || value_at (drop (suc k) ps) (drop (suc k) vs) b)
+    → value_at (drop k ps) (drop k vs) b ≡ ((same_place p b && v) || value_at (drop (suc k) ps) (drop (suc k) vs) b)
 value_drop [] vs k b p v lt same at val = absurd (omega arith)
 value_drop (q ∷ ps) [] k b p v lt same at val = absurd (omega arith)
 value_drop (q ∷ ps) (w ∷ vs) zero b p v lt same at val = rw (at, val)
@@ -56,11 +56,11 @@ one_set false false q v = refl
 
 -- one bit of a row more
 pub row_more : (ps : List BitAt) (vs : List Bool) (k : ℕ) (b p : BitAt) (v o n t a : Bool) → k < length ps → length vs ≡ length ps → p ≡ get_or ps k p → v ≡ get_or vs k v
-    → n ≡ (o || (t && (same_bit p b && v))) → (o || (t && value_at (drop k ps) (drop k vs) b)) ≡ a
+    → n ≡ (o || (t && (same_place p b && v))) → (o || (t && value_at (drop k ps) (drop k vs) b)) ≡ a
     → (n || (t && value_at (drop (k + 1) ps) (drop (k + 1) vs) b)) ≡ a
 row_more ps vs k b p v o n t a lt same at val set so_far =
     let here = value_drop ps vs k b p v lt same at val in
-    let step = one_set o t (same_bit p b && v) (value_at (drop (suc k) ps) (drop (suc k) vs) b) in
+    let step = one_set o t (same_place p b && v) (value_at (drop (suc k) ps) (drop (suc k) vs) b) in
     let e : k + 1 ≡ suc k = omega arith in
     rw e (ap (λ z. z || (t && value_at (drop (suc k) ps) (drop (suc k) vs) b)) set ∙ (step ∙ (ap (λ z. o || (t && z)) (sym here) ∙ so_far)))
 

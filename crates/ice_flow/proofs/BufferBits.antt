@@ -6,8 +6,9 @@ use Rattle.std.specs.List.{list_any}
 use Rattle.std.proofs.lemmas.Bool.{and_parts}
 use Rattle.ice_base.specs.declared.number.TileAt.{TileAt}
 use Rattle.ice_base.specs.declared.number.BitAt.{BitAt}
-use Rattle.ice_flow.specs.Lists.{At, Has}
-use Rattle.ice_flow.specs.Database.{SwitchGroup, Row, Database, same_tile, has_tile, function_bit}
+use Rattle.ice_value.specs.Order.{At, Has}
+use Rattle.ice_base.specs.Places.{same_tile}
+use Rattle.ice_flow.specs.Database.{SwitchGroup, Row, Database, has_tile, function_bit}
 use Rattle.ice_flow.specs.Names.{has_output_name}
 use Rattle.ice_flow.specs.Switches.{Bits}
 use Rattle.ice_flow.specs.Routes.{value_at, sets, IsWalk, IsSimple}
@@ -15,7 +16,7 @@ use Rattle.ice_flow.specs.Written.{Plan, wants, io_functions, is_this_bit, writt
 use Rattle.ice_flow.specs.FirstForm.{database_with, left_pad, right_pad}
 use Rattle.ice_flow.specs.ChipText.{IsOfForm}
 use Rattle.ice_flow.specs.BufferForm.{buffer_plan}
-use Rattle.ice_flow.proofs.ListFacts.{any_none}
+use Rattle.ice_value.proofs.Members.{any_none}
 use Rattle.ice_flow.proofs.PlaceFacts.{row_group}
 use Rattle.ice_flow.proofs.DrivenWires.{value_has, IsRouted}
 use Rattle.ice_flow.proofs.WalkFacts.{walk_usable}

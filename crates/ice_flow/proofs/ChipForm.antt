@@ -6,22 +6,27 @@ use Rattle.ice_base.specs.Comments.{begins_with}
 use Rattle.ice_base.specs.Numbers.{number_in}
 use Rattle.ice_base.specs.declared.number.TileAt.{TileAt}
 use Rattle.ice_base.specs.declared.number.BitAt.{BitAt}
-use Rattle.ice_flow.specs.Lists.{At, Has, all_known}
+use Rattle.ice_value.specs.Order.{At, Has}
+use Rattle.ice_base.specs.Lists.{all_known}
 use Rattle.ice_flow.specs.Database.{SwitchRow, SwitchGroup, group_rows, rows_from}
 use Rattle.ice_flow.specs.FirstForm.{left_tile, right_tile}
-use Rattle.ice_flow.specs.ChipText.{number_below, column_in, place, place_in, bit_in, bits_in, cut_at, tile_at, group_without_rows, group_in, heading_in, digit_value, row_in, Groups, most_rows, with_heading, with_row, with_line, with_lines, begun, all_groups, groups_of, groups_in, header_lines, lines_behind, IsOfForm}
-use Rattle.ice_flow.specs.PlainLines.{plain_lines}
+use Rattle.ice_base.specs.Numbers.{number_below}
+use Rattle.ice_base.specs.BitNames.{column_named, place_named, bit_named, bits_named, cut_at, digit_value, values_in}
+use Rattle.ice_base.specs.Places.{bit_place, tile_at}
+use Rattle.ice_chip.specs.Limits.{most_rows}
+use Rattle.ice_flow.specs.ChipText.{bits_in, group_without_rows, group_in, heading_in, row_in, Groups, with_heading, with_row, with_line, with_lines, begun, all_groups, groups_of, groups_in, header_lines, lines_behind, IsOfForm}
+use Rattle.ice_base.specs.PlainLines.{plain_lines}
 use Rattle.ice_base.specs.Text.{lines, numbered}
 use Rattle.ice_flow.specs.Views.{groups_view}
 use Rattle.ice_flow.specs.Readers.{Gives}
 use Rattle.ice_flow.specs.declared.chip.Group.{Group}
 use Rattle.ice_flow.specs.declared.chip_text.ChipStop.{ChipStop}
-use Rattle.ice_flow.proofs.OptionFacts.{chained, mapped, passes, fails}
+use Rattle.ice_base.proofs.Options.{and_then_some, option_map_some, test_passes, test_fails}
 
 below : (limit : ℕ) (word : List ℕ) (n : ℕ) → number_below limit word ≡ Some n → n < limit
 below limit word n e =
-    let a = chained (λ (n : ℕ). if nat_lt n limit then Some n else None) (number_in word) n e in
-    let b = passes (nat_lt a.0 limit) (Some a.0) n a.2 in
+    let a = and_then_some (λ (n : ℕ). if nat_lt n limit then Some n else None) (number_in word) n e in
+    let b = test_passes (nat_lt a.0 limit) (Some a.0) n a.2 in
     let same : a.0 ≡ n = (let two : Some a.0 ≡ Some n = b.1 in cc) in
     let lt : a.0 < limit = (let test : nat_lt a.0 limit ≡ true = b.0 in search (rules, tests)) in
     subst (λ (m : ℕ). m < limit) same lt
@@ -43,7 +48,7 @@ has_last xs y x h = at_last xs y x h.0 h.1
 known_cons : {A : Type 0} (o : Option A) (os : List (Option A)) (ys : List A) → all_known (o ∷ os) ≡ Some ys
     → (x : A) × (xs : List A) × (o ≡ Some x) × (all_known os ≡ Some xs) × (ys ≡ x ∷ xs)
 known_cons None os ys e = absurd (cc)
-known_cons (Some x) os ys e = let m = mapped (λ xs. x ∷ xs) (all_known os) ys e in (x, m.0, refl, m.1, sym m.2)
+known_cons (Some x) os ys e = let m = option_map_some (λ xs. x ∷ xs) (all_known os) ys e in (x, m.0, refl, m.1, sym m.2)
 
 known_length : {A B : Type 0} (f : A → Option B) (xs : List A) (ys : List B) → all_known (map f xs) ≡ Some ys → length ys ≡ length xs
 known_length f [] ys e = let s : [] ≡ ys = cc in ap length (sym s)
@@ -62,22 +67,22 @@ known_has f (x ∷ xs) ys y (suc i) e at =
     known_has f xs k.1 y i k.3 (ap (λ l. slice_get l (suc i)) (sym k.4) ∙ at)
 
 -- ---- bits, rows and headings
-bit_form : (word : List ℕ) (b : BitAt) → bit_in word ≡ Some b → (b.row < 16) × (b.col < 17)
+bit_form : (word : List ℕ) (b : BitAt) → bit_named 17 word ≡ Some b → (b.row < 16) × (b.col < 17)
 bit_form [] b e = absurd (cc)
 bit_form (c ∷ bytes) b e =
-    let named = passes (c == 66) _ b e in
-    let cut = chained (λ (cut : List ℕ × List ℕ). place_in cut.0 cut.1) (cut_at 91 bytes) b named.1 in
+    let named = test_passes (c == 66) _ b e in
+    let cut = and_then_some (λ (cut : List ℕ × List ℕ). place_named 17 cut.0 cut.1) (cut_at 91 bytes) b named.1 in
     place_form cut.0.0 cut.0.1 b cut.2
   where
-    column_form : (column rest : List ℕ) (n : ℕ) → column_in column rest ≡ Some n → n < 17
+    column_form : (column rest : List ℕ) (n : ℕ) → column_named 17 column rest ≡ Some n → n < 17
     column_form column [] n e = below 17 column n e
     column_form column (c ∷ rest) n e = absurd (cc)
 
-    place_form : (row rest : List ℕ) (b : BitAt) → place_in row rest ≡ Some b → (b.row < 16) × (b.col < 17)
+    place_form : (row rest : List ℕ) (b : BitAt) → place_named 17 row rest ≡ Some b → (b.row < 16) × (b.col < 17)
     place_form row rest b e =
-        let r = chained (λ (row : ℕ). option_map (place row) (option_and_then (λ cut. column_in cut.0 cut.1) (cut_at 93 rest))) (number_below 16 row) b e in
-        let c = mapped (place r.0) (option_and_then (λ cut. column_in cut.0 cut.1) (cut_at 93 rest)) b r.2 in
-        let k = chained (λ (cut : List ℕ × List ℕ). column_in cut.0 cut.1) (cut_at 93 rest) c.0 c.1 in
+        let r = and_then_some (λ (row : ℕ). option_map (bit_place row) (option_and_then (λ cut. column_named 17 cut.0 cut.1) (cut_at 93 rest))) (number_below 16 row) b e in
+        let c = option_map_some (bit_place r.0) (option_and_then (λ cut. column_named 17 cut.0 cut.1) (cut_at 93 rest)) b r.2 in
+        let k = and_then_some (λ (cut : List ℕ × List ℕ). column_named 17 cut.0 cut.1) (cut_at 93 rest) c.0 c.1 in
         let row_lt : r.0 < 16 = below 16 row r.0 r.1 in
         let col_lt : c.0 < 17 = column_form k.0.0 k.0.1 c.0 k.2 in
         subst (λ (b : BitAt). (b.row < 16) × (b.col < 17)) c.2 (row_lt, col_lt)
@@ -87,9 +92,9 @@ row_form bits [] r e = absurd (cc)
 row_form bits (digits ∷ []) r e = absurd (cc)
 row_form bits (digits ∷ source ∷ word ∷ words) r e = absurd (cc)
 row_form bits (digits ∷ source ∷ []) r e =
-    let p = passes (length digits == bits) _ r e in
-    let s = chained (λ (source : ℕ). option_map (λ values. record { values = values; source = source }) (all_known (map digit_value digits))) (number_below 4 source) r p.1 in
-    let v = mapped (λ values. record { values = values; source = s.0 }) (all_known (map digit_value digits)) r s.2 in
+    let p = test_passes (length digits == bits) _ r e in
+    let s = and_then_some (λ (source : ℕ). option_map (λ values. record { values = values; source = source }) (values_in digits)) (number_below 4 source) r p.1 in
+    let v = option_map_some (λ values. record { values = values; source = s.0 }) (values_in digits) r s.2 in
     let long : length digits ≡ bits = (let test : (length digits == bits) ≡ true = p.0 in search (rules, tests)) in
     let lt : s.0 < 4 = below 4 source s.0 s.1 in
     subst (λ (r : SwitchRow). (r.source < 4) × (length r.values ≡ bits)) v.2 (lt, known_length digit_value digits v.0 v.1 ∙ long)
@@ -112,13 +117,13 @@ tile_form (suc x) (suc y) a b = absurd (omega arith)
 
 bits_form : (names : List (List ℕ)) (bits : List BitAt) → bits_in names ≡ Some bits → (0 < length bits) × ((b : BitAt) → Has bits b → (b.row < 16) × (b.col < 17))
 bits_form names bits e =
-    let k = chained (λ (bits : List BitAt). if length bits == 0 then None else Some bits) (all_known (map bit_in names)) bits e in
-    let n = fails (length k.0 == 0) (Some k.0) bits k.2 in
+    let k = and_then_some (λ (bits : List BitAt). if length bits == 0 then None else Some bits) (bits_named 17 names) bits e in
+    let n = test_fails (length k.0 == 0) (Some k.0) bits k.2 in
     let same : k.0 ≡ bits = (let two : Some k.0 ≡ Some bits = n.1 in cc) in
-    let all : all_known (map bit_in names) ≡ Some bits = k.1 ∙ ap Some same in
+    let all : bits_named 17 names ≡ Some bits = k.1 ∙ ap Some same in
     let some : 0 < length k.0 = (let test : (length k.0 == 0) ≡ false = n.0 in search (rules, tests)) in (
       subst (λ (bits : List BitAt). 0 < length bits) same some,
-      λ b h. let found = known_has bit_in names bits b h.0 all h.1 in bit_form found.0 b found.1,
+      λ b h. let found = known_has (bit_named 17) names bits b h.0 all h.1 in bit_form found.0 b found.1,
     )
 
 -- a group that is begun
@@ -143,8 +148,8 @@ begun_form tile wire bits t w some places = record {
 wire_form : (tile : TileAt) (wire : List ℕ) (names : List (List ℕ)) (g : SwitchGroup) → (tile ≡ left_tile) ⊎ (tile ≡ right_tile)
     → option_and_then (λ wire. option_map (group_without_rows tile wire) (bits_in names)) (number_below 4 wire) ≡ Some g → IsBegun g
 wire_form tile wire names g t e =
-    let c = chained (λ (wire : ℕ). option_map (group_without_rows tile wire) (bits_in names)) (number_below 4 wire) g e in
-    let d = mapped (group_without_rows tile c.0) (bits_in names) g c.2 in
+    let c = and_then_some (λ (wire : ℕ). option_map (group_without_rows tile wire) (bits_in names)) (number_below 4 wire) g e in
+    let d = option_map_some (group_without_rows tile c.0) (bits_in names) g c.2 in
     let places = bits_form names d.0 d.1 in
     subst IsBegun d.2 (begun_form tile c.0 d.0 t (below 4 wire c.0 c.1) places.0 places.1)
 
@@ -153,13 +158,13 @@ group_form [] g e = absurd (cc)
 group_form (x ∷ []) g e = absurd (cc)
 group_form (x ∷ y ∷ []) g e = absurd (cc)
 group_form (x ∷ y ∷ wire ∷ names) g e =
-    let a = chained _ (number_below 2 x) g e in
-    let b = chained _ (number_below 1 y) g a.2 in
+    let a = and_then_some _ (number_below 2 x) g e in
+    let b = and_then_some _ (number_below 1 y) g a.2 in
     wire_form (tile_at a.0 b.0) wire names g (tile_form a.0 b.0 (below 2 x a.0 a.1) (below 1 y b.0 b.1)) b.2
 
 heading_form : (words : List (List ℕ)) (g : SwitchGroup) → heading_in words ≡ Some g → IsBegun g
 heading_form [] g e = absurd (cc)
-heading_form (name ∷ words) g e = group_form words g (passes (bytes_eq name (codes ".buffer")) (group_in words) g e).1
+heading_form (name ∷ words) g e = group_form words g (test_passes (bytes_eq name (codes ".buffer")) (group_in words) g e).1
 
 -- ---- numbers of rows
 length-group_rows : (g : SwitchGroup) (n : ℕ) (earlier : List (List Bool)) (rows : List SwitchRow) → length (group_rows g n earlier rows) ≡ length rows
@@ -224,11 +229,11 @@ line_keeps s t (word ∷ words) h e = by_kind (begins_with 46 word) e
   where
     by_kind : (dot : Bool) → (if dot then option_map (with_heading s) (heading_in (word ∷ words)) else (if nat_lt s.count most_rows then option_map (with_row s) (row_in (length s.last.bits) (word ∷ words)) else None)) ≡ Some t → IsGroupsOfForm t
     by_kind true e =
-        let m = mapped (with_heading s) (heading_in (word ∷ words)) t e in
+        let m = option_map_some (with_heading s) (heading_in (word ∷ words)) t e in
         subst IsGroupsOfForm m.2 (heading_keeps s m.0 h (heading_form (word ∷ words) m.0 m.1))
     by_kind false e =
-        let p = passes (nat_lt s.count most_rows) _ t e in
-        let m = mapped (with_row s) (row_in (length s.last.bits) (word ∷ words)) t p.1 in
+        let p = test_passes (nat_lt s.count most_rows) _ t e in
+        let m = option_map_some (with_row s) (row_in (length s.last.bits) (word ∷ words)) t p.1 in
         let f = row_form (length s.last.bits) (word ∷ words) m.0 m.1 in
         let room : s.count < most_rows = (let test : nat_lt s.count most_rows ≡ true = p.0 in search (rules, tests)) in
         subst IsGroupsOfForm m.2 (row_keeps s m.0 h f.0 f.1 room)
@@ -236,7 +241,7 @@ line_keeps s t (word ∷ words) h e = by_kind (begins_with 46 word) e
 lines_keep : (s t : Groups) (rest : List (ℕ × List (List ℕ))) → IsGroupsOfForm s → with_lines s rest ≡ Some t → IsGroupsOfForm t
 lines_keep s t [] h e = let same : s ≡ t = cc in subst IsGroupsOfForm same h
 lines_keep s t (line ∷ rest) h e =
-    let c = chained (λ (more : Groups). with_lines more rest) (with_line s line.1) t e in
+    let c = and_then_some (λ (more : Groups). with_lines more rest) (with_line s line.1) t e in
     lines_keep c.0 t rest (line_keeps s c.0 line.1 h c.1) c.2
 
 -- ---- the whole
@@ -281,14 +286,14 @@ first_form g h = record {
 groups_form : (rest : List (ℕ × List (List ℕ))) (gs : List SwitchGroup) → groups_of rest ≡ Some gs → IsOfForm gs
 groups_form [] gs e = let same : [] ≡ gs = cc in subst IsOfForm same no_groups
 groups_form (line ∷ rest) gs e =
-    let g = chained (λ (group : SwitchGroup). option_map all_groups (with_lines (begun group) rest)) (heading_in line.1) gs e in
-    let s = mapped all_groups (with_lines (begun g.0) rest) gs g.2 in
+    let g = and_then_some (λ (group : SwitchGroup). option_map all_groups (with_lines (begun group) rest)) (heading_in line.1) gs e in
+    let s = option_map_some all_groups (with_lines (begun g.0) rest) gs g.2 in
     subst IsOfForm s.2 (all_form s.0 (lines_keep (begun g.0) s.0 rest (first_form g.0 (heading_form line.1 g.0 g.1)) s.1))
 
 -- the groups of a text are of the form
 pub text_form : (text : List ℕ) (gs : List SwitchGroup) → groups_in text ≡ Some gs → IsOfForm gs
 text_form text gs e =
-    let l = chained (λ (rest : List (ℕ × List ℕ)). groups_of (plain_lines rest)) (lines_behind header_lines (numbered 1 (lines text))) gs e in
+    let l = and_then_some (λ (rest : List (ℕ × List ℕ)). groups_of (plain_lines rest)) (lines_behind header_lines (numbered 1 (lines text))) gs e in
     groups_form (plain_lines l.0) gs l.2
 
 -- so are those that a reader answers

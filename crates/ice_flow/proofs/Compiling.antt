@@ -20,7 +20,7 @@ use Rattle.ice_flow.specs.declared.chip_text.ChipStop.{ChipStop}
 use Rattle.ice_flow.specs.declared.chip_text.ChipStop.TheVariants as chip_stop
 use Rattle.ice_flow.specs.declared.pin_pads.PinsStop.{PinsStop}
 use Rattle.ice_flow.specs.declared.pin_pads.PinsStop.TheVariants as pins_stop
-use Rattle.ice_flow.specs.Lists.{At, Has}
+use Rattle.ice_value.specs.Order.{At, Has}
 use Rattle.ice_flow.specs.Database.{Pad, SwitchGroup, Row, is_among_tiles}
 use Rattle.ice_flow.specs.Routes.{IsUsable, IsWalk, IsSimple}
 use Rattle.ice_flow.specs.FirstForm.{database_with, left_tile, right_tile, left_pad, right_pad}

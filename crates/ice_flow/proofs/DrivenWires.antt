@@ -4,15 +4,18 @@ use Rattle.std.specs.Prelude.{◌&&◌}
 use Rattle.std.specs.List.{list_any}
 use Rattle.std.proofs.lemmas.Bool.{and_parts, or_cases, eqb-true, eq-eqb, cases_Bool}
 use Rattle.ice_base.specs.declared.number.BitAt.{BitAt}
-use Rattle.ice_flow.specs.Lists.{At, Has}
-use Rattle.ice_flow.specs.Database.{SwitchGroup, Row, rows_from, same_bit, same_tile}
+use Rattle.ice_value.specs.Order.{At, Has}
+use Rattle.ice_base.specs.Places.{same_place, same_tile}
+use Rattle.ice_flow.specs.Database.{SwitchGroup, Row, rows_from}
 use Rattle.ice_flow.specs.Switches.{Bits, Nothing, By, same_value, same_values, is_fresh, is_on, driver, driver_among}
 use Rattle.ice_flow.specs.Routes.{value_at, sets, IsUsable}
 use Rattle.ice_flow.specs.Written.{Plan, written}
 use Rattle.ice_flow.specs.FirstForm.{database_with}
 use Rattle.ice_flow.specs.ChipText.{IsOfForm}
-use Rattle.ice_flow.proofs.ListFacts.{Has_head, Has_tail, any_has, has_any, any_none, filter_none, filter_one}
-use Rattle.ice_flow.proofs.PlaceFacts.{same_tile-true, same_bit-true, rows_number, row_group}
+use Rattle.ice_value.proofs.Together.{Has_head, Has_tail}
+use Rattle.ice_value.proofs.Members.{any_Has, Has_any, any_none, filter_none, filter_one}
+use Rattle.ice_base.proofs.Keys.{tile_same, place_same}
+use Rattle.ice_flow.proofs.PlaceFacts.{rows_number, row_group}
 use Rattle.ice_flow.proofs.FunctionBits.{written_before_last}
 
 -- ---- the bits of one row
@@ -20,8 +23,8 @@ use Rattle.ice_flow.proofs.FunctionBits.{written_before_last}
 pub value_has : (ps : List BitAt) (vs : List Bool) (b : BitAt) → value_at ps vs b ≡ true → Has ps b
 value_has [] vs b e = cc e
 value_has (p ∷ ps) [] b e = cc e
-value_has (p ∷ ps) (v ∷ vs) b e = elim (or_cases (same_bit p b && v) (value_at ps vs b) e) [
-  | inl here ↦ let same : p ≡ b = same_bit-true p b (and_parts (same_bit p b) v here).0 in (0, ap Some same)
+value_has (p ∷ ps) (v ∷ vs) b e = elim (or_cases (same_place p b && v) (value_at ps vs b) e) [
+  | inl here ↦ let same : p ≡ b = place_same p b (and_parts (same_place p b) v here).0 in (0, ap Some same)
   | inr there ↦ Has_tail p b ps (value_has ps vs b there)
 ]
 
@@ -64,7 +67,7 @@ module _ (groups : List SwitchGroup) (plan : Plan) (form : IsOfForm groups) (rou
   setter : (r s : Row) (b : BitAt) → Has (rows_from 0 groups) r → Has r.bits b → Has plan.rows s → sets s r.tile b ≡ true → (s.tile ≡ r.tile) × (s.target ≡ r.target)
   setter r s b has in' want set =
       let parts = and_parts (same_tile s.tile r.tile) (value_at s.bits s.values b) set in
-      let tile = same_tile-true s.tile r.tile parts.0 in
+      let tile = tile_same s.tile r.tile parts.0 in
       let u = (routed.usable s want).sound in
       let gr = row_group 0 groups has.0 r has.1 in
       let gs = row_group 0 groups u.present.0 s u.present.1 in
@@ -73,8 +76,8 @@ module _ (groups : List SwitchGroup) (plan : Plan) (form : IsOfForm groups) (rou
       let w : gr.0.wire ≡ s.target = u.private.apart gs.0 gr.0 b gs.2 gr.2 (sym gs.4.tile) (sym gs.4.target) (sym gr.4.tile ∙ sym tile) in_s in_r in
       (tile, sym w ∙ sym gr.4.target)
 
-  same_place : (r s : Row) → Has plan.rows r → Has plan.rows s → r.target ≡ s.target → r ≡ s
-  same_place r s hr hs e =
+  one_row : (r s : Row) → Has plan.rows r → Has plan.rows s → r.target ≡ s.target → r ≡ s
+  one_row r s hr hs e =
       let i = routed.once hr.0 hs.0 r s hr.1 hs.1 e in
       let at : At plan.rows hs.0 r = subst (λ n. At plan.rows n r) i hr.1 in
       let both : Some r ≡ Some s = sym at ∙ hs.1 in cc
@@ -84,9 +87,9 @@ module _ (groups : List SwitchGroup) (plan : Plan) (form : IsOfForm groups) (rou
   as_alone r s want has tile target = on_same (written (database_with groups) plan) (sets r) s (λ b in'. at_switch s b has in' ∙ one b in' (cases_Bool (sets r s.tile b)))
     where
       one : (b : BitAt) → Has s.bits b → (sets r s.tile b ≡ true) ⊎ (sets r s.tile b ≡ false) → list_any (λ x. sets x s.tile b) plan.rows ≡ sets r s.tile b
-      one b in' (inl e) = rw e (has_any (λ x. sets x s.tile b) plan.rows r want.0 want.1 e)
+      one b in' (inl e) = rw e (Has_any (λ x. sets x s.tile b) plan.rows r want.0 want.1 e)
       one b in' (inr e) = rw e (any_none (λ x. sets x s.tile b) plan.rows (λ x hx set.
-          let same = same_place r x want hx (sym target ∙ sym (setter s x b has in' hx set).1) in
+          let same = one_row r x want hx (sym target ∙ sym (setter s x b has in' hx set).1) in
           let f : sets x s.tile b ≡ false = subst (λ (y : Row). sets y s.tile b ≡ false) same e in cc (f, set)))
 
   -- a row is on exactly where it is of the routes
@@ -98,7 +101,7 @@ module _ (groups : List SwitchGroup) (plan : Plan) (form : IsOfForm groups) (rou
       let bits = written (database_with groups) plan in
       let parts = and_parts (same_values (map (λ b. bits r.tile b) r.bits) r.values) (list_any (λ v. v) r.values && is_fresh r) on in
       let bit = set_bit (bits r.tile) r.bits r.values parts.0 (and_parts (list_any (λ v. v) r.values) (is_fresh r) parts.1).0 in
-      let by = any_has (λ s. sets s r.tile bit.0) plan.rows (sym (at_switch r bit.0 has bit.1) ∙ bit.2) in
+      let by = any_Has (λ s. sets s r.tile bit.0) plan.rows (sym (at_switch r bit.0 has bit.1) ∙ bit.2) in
       let bundle = setter r by.0 bit.0 has bit.1 by.1 by.2 in
       let u = (routed.usable by.0 by.1).sound in
       let same = u.alone r has (sym bundle.0) (sym bundle.1) (sym (as_alone by.0 r by.1 has (sym bundle.0) (sym bundle.1)) ∙ on) in
@@ -113,7 +116,7 @@ module _ (groups : List SwitchGroup) (plan : Plan) (form : IsOfForm groups) (rou
       (rw (on_wanted r want) (eq-eqb r.target r.target refl))
       (λ j s at e.
       let parts = and_parts (is_on bits s) (eqb s.target r.target) e in
-      let same = same_place s r (wanted_on s (j, at) parts.0) want (eqb-true s.target r.target parts.1) in
+      let same = one_row s r (wanted_on s (j, at) parts.0) want (eqb-true s.target r.target parts.1) in
       let n : s.number ≡ 0 + j = rows_number 0 groups j s at in
       let m : r.number ≡ 0 + u.present.0 = rows_number 0 groups u.present.0 r u.present.1 in
       let k : s.number ≡ r.number = ap (λ (x : Row). x.number) same in
@@ -131,6 +134,6 @@ module _ (groups : List SwitchGroup) (plan : Plan) (form : IsOfForm groups) (rou
   -- which of the two it is
   pub driven_cases : (w : ℕ) → ((r : Row) × Has plan.rows r × (r.target ≡ w)) ⊎ ((r : Row) → Has plan.rows r → r.target ≡ w → ⊥)
   driven_cases w = elim (cases_Bool (list_any (λ (r : Row). eqb r.target w) plan.rows)) [
-    | inl e ↦ let got = any_has (λ (r : Row). eqb r.target w) plan.rows e in inl (got.0, got.1, eqb-true got.0.target w got.2)
-    | inr e ↦ inr (λ r has same. let f = has_any (λ (s : Row). eqb s.target w) plan.rows r has.0 has.1 (eq-eqb r.target w same) in cc (e, f))
+    | inl e ↦ let got = any_Has (λ (r : Row). eqb r.target w) plan.rows e in inl (got.0, got.1, eqb-true got.0.target w got.2)
+    | inr e ↦ inr (λ r has same. let f = Has_any (λ (s : Row). eqb s.target w) plan.rows r has.0 has.1 (eq-eqb r.target w same) in cc (e, f))
   ]

@@ -4,14 +4,16 @@ use Rattle.std.specs.Prelude.{◌||◌, not}
 use Rattle.std.specs.List.{list_any}
 use Rattle.std.proofs.lemmas.Bool.{and_parts, and_from, eqb-true, eq-eqb, cases_lt, both_ways}
 use Rattle.ice_base.specs.declared.number.TileAt.{TileAt}
-use Rattle.ice_flow.specs.Lists.{At}
-use Rattle.ice_flow.specs.Database.{SwitchRow, SwitchGroup, Row, rows_from, same_tile}
+use Rattle.ice_value.specs.Order.{At}
+use Rattle.ice_base.specs.Places.{same_tile}
+use Rattle.ice_flow.specs.Database.{SwitchRow, SwitchGroup, Row, rows_from}
 use Rattle.ice_flow.specs.Switches.{same_values, is_fresh}
 use Rattle.ice_flow.specs.Bundles.{is_of_bundle}
 use Rattle.ice_flow.specs.Places.{no_group, no_row, row_in_group, row_at}
 use Rattle.ice_flow.specs.RowLists.{rows_before, IsFirstRow, AreFirstRows}
 use Rattle.ice_flow.specs.declared.place.Place.{Place}
-use Rattle.ice_flow.proofs.PlaceFacts.{same_tile-true, same_tile-refl}
+use Rattle.ice_base.proofs.Keys.{tile_same}
+use Rattle.ice_flow.proofs.PlaceFacts.{same_tile-refl}
 use Rattle.ice_flow.proofs.RowPlaces.{rows_at}
 
 pub push_cases : {X : Type 0} (xs : List X) (y : X) (j : ℕ) (x : X) → At (xs ++ y ∷ []) j x → At xs j x ⊎ ((j ≡ length xs) × (y ≡ x))
@@ -125,7 +127,7 @@ module _ (gs : List SwitchGroup) (t : TileAt) (w : ℕ) where
       subst (λ j. At (rows_from 0 gs) j (row_in_group (get_or gs i no_group) k (number + k))) f
       (subst (λ m. At (rows_from 0 gs) (rows_before gs i + k) (row_in_group (get_or gs i no_group) k m)) e (rows_at 0 gs i k li lk))) in
       let sides = and_parts (same_tile (get_or gs i no_group).tile t) (eqb (get_or gs i no_group).wire w) of in
-      by b seen result at (same_tile-true (get_or gs i no_group).tile t sides.0) (eqb-true (get_or gs i no_group).wire w sides.1)
+      by b seen result at (tile_same (get_or gs i no_group).tile t sides.0) (eqb-true (get_or gs i no_group).wire w sides.1)
     where
       by : (b : Bool)
           → b ≡ list_any (λ vs. same_values vs (get_or (get_or gs i no_group).rows k no_row).values) (map (λ (x : SwitchRow). x.values) (take k (get_or gs i no_group).rows))

@@ -9,7 +9,7 @@ use Rattle.ice_bits.specs.Configuration.{Configuration, Bits, bits_of, bit_in, b
 use Rattle.ice_bits.specs.Written.{with_bit}
 use Rattle.ice_bits.specs.Rewriting.{Rewrites}
 use Rattle.ice_bits.proofs.Forms.{blank_is_of, places_are}
-use Rattle.ice_flow.specs.Database.{same_tile, same_bit}
+use Rattle.ice_base.specs.Places.{same_tile, same_place}
 use Rattle.ice_flow.specs.FirstForm.{left_tile, right_tile}
 use Rattle.ice_flow.specs.FormChip.{parts_with}
 use Rattle.ice_flow.specs.Writing.{AreFormBits, IsInTile, is_io_tile}
@@ -45,8 +45,8 @@ one_bit false p true v is = refl
 one_bit false p false v is = refl
 
 -- the bits with one more that is 1
-pub with_one : (bits : Bits) (tile : TileAt) (at : BitAt) (v : Bool) (t : TileAt) (b : BitAt) → v ≡ true → with_bit tile at true bits t b ≡ (bits t b || (same_tile tile t && (same_bit at b && v)))
-with_one bits tile at v t b is = one_bit (same_tile tile t) (same_bit at b) (bits t b) v is
+pub with_one : (bits : Bits) (tile : TileAt) (at : BitAt) (v : Bool) (t : TileAt) (b : BitAt) → v ≡ true → with_bit tile at true bits t b ≡ (bits t b || (same_tile tile t && (same_place at b && v)))
+with_one bits tile at v t b is = one_bit (same_tile tile t) (same_place at b) (bits t b) v is
 
 -- bits of the form stay so
 pub form_stays : (old new : Configuration) (wanted : Bits) → AreFormBits old → Rewrites old new wanted → AreFormBits new

@@ -36,7 +36,8 @@ use Rattle.ice_flow.specs.Buffers.{buffer_in}
 use Rattle.ice_flow.specs.BufferForm.{buffer_plan}
 use Rattle.ice_flow.specs.FormChip.{plain_group, chip_pad, parts_with}
 use Rattle.ice_flow.specs.Shown.{ShowsSame}
-use Rattle.ice_flow.proofs.ListFacts.{Has_head, Has_tail, any_has}
+use Rattle.ice_value.proofs.Together.{Has_head, Has_tail}
+use Rattle.ice_value.proofs.Members.{any_Has}
 use Rattle.ice_flow.proofs.DrivenWires.{wanted_on}
 use Rattle.ice_flow.proofs.WalkFacts.{walk_starts, walk_goes_on, rank_from, rank_falls, no_cycle}
 use Rattle.ice_flow.proofs.BufferMeaning.{buffer_shows, buffer_ports}
@@ -154,7 +155,7 @@ module _ (gs : List chip.SwitchGroup) (rows : List Row) (are : AreNumbered 0 gs)
   unread = false_from_ne_true (is_read parts bits (Some 3)) (λ e.
       let mapped : list_any (λ (s : Switch). s.source.0 == 3) (map as_switch (filter (is_on bits) (rows_from 0 groups))) ≡ true
       = ap (list_any (λ (s : Switch). s.source.0 == 3)) (rows_are_switches bits 0 gs are) ∙ e in
-      let got = any_has (λ (r : Row). is_on bits r && (r.source == 3)) (rows_from 0 groups) (any_mapped (λ (s : Switch). s.source.0 == 3) as_switch (is_on bits) (rows_from 0 groups) mapped) in
+      let got = any_Has (λ (r : Row). is_on bits r && (r.source == 3)) (rows_from 0 groups) (any_mapped (λ (s : Switch). s.source.0 == 3) as_switch (is_on bits) (rows_from 0 groups) mapped) in
       let both = and_parts (is_on bits got.0) (eqb got.0.source 3) got.2 in
       leaves got.0 (wanted_on groups (buffer_plan left_pad right_pad rows) form (routed groups rows form walk simple) got.0 got.1 both.0) (eqb-true got.0.source 3 both.1))
 

@@ -1,5 +1,5 @@
 -- What a chip text of the form says of its words and lines is what the general reader reads of them.
-use Rattle.std.proofs.Common.{◌≡◌, ℕ, ◌<◌, ◌≤◌, ◌==◌, Bool, true, false, List, [], ◌∷◌, ◌++◌, length, map, refl, sym, ap, subst, ◌∙◌, Option, None, Some, option_map, nat_lt, if◌then◌else◌, arith, rules, tests, Result, Ok, Err}
+use Rattle.std.proofs.Common.{◌≡◌, ℕ, ◌<◌, ◌≤◌, ◌==◌, true, false, List, [], ◌∷◌, ◌++◌, length, map, refl, ap, subst, ◌∙◌, Option, None, Some, option_map, nat_lt, if◌then◌else◌, arith, rules, tests, Result, Ok, Err}
 use Rattle.std.specs.Option.{option_and_then}
 use Rattle.std.specs.Str.{bytes_eq}
 use Rattle.ice_base.specs.Comments.{uncommented}
@@ -7,17 +7,17 @@ use Rattle.ice_base.specs.Numbers.{number_in}
 use Rattle.ice_base.specs.Text.{words, numbered, next_number}
 use Rattle.ice_base.specs.declared.number.BitAt.{BitAt}
 use Rattle.ice_chip.specs.declared.fault.ChipFault.{ChipFault}
-use Rattle.ice_base.specs.BitNames as general
-use Rattle.ice_base.specs.Lists as general_lists
-use Rattle.ice_base.specs.Numbers as general_numbers
 use Rattle.ice_chip_read.specs.Faults.{◌>>=◌}
 use Rattle.ice_chip_read.specs.Lines.{line_says, lines_say, first_says, plain_says}
-use Rattle.ice_base.specs.PlainLines as general_lines
 use Rattle.ice_chip_read.specs.Reading.{Reading}
-use Rattle.ice_flow.specs.Lists.{all_known}
-use Rattle.ice_flow.specs.ChipText.{number_below, onto_front, cut_at, place, column_in, place_in, bit_in, bits_in, digit_value, lines_behind}
-use Rattle.ice_flow.specs.PlainLines.{with_words, plain_lines}
-use Rattle.ice_flow.proofs.OptionFacts.{chained, mapped, passes, fails}
+use Rattle.ice_base.specs.Lists.{all_known}
+use Rattle.ice_base.specs.Numbers.{number_below}
+use Rattle.ice_base.specs.BitNames.{cut_at, column_named, place_named, bit_named, bits_named}
+use Rattle.ice_base.specs.Places.{bit_place}
+use Rattle.ice_flow.specs.ChipText.{bits_in, lines_behind}
+use Rattle.ice_base.specs.PlainLines.{with_words, plain_lines}
+use Rattle.ice_base.proofs.Keys.{bytes_same}
+use Rattle.ice_base.proofs.Options.{and_then_some, option_map_some, test_passes, test_fails}
 
 -- where the whole is read, its first part is
 pub read_on : {A B : Type 0} (m : Result A ChipFault) (f : A → Result B ChipFault) (y : B) → (m >>= f) ≡ Ok y → (x : A) × (m ≡ Ok x) × (f x ≡ Ok y)
@@ -28,106 +28,84 @@ read_on (Err fault) f y e = absurd (cc)
 -- a number below a limit
 pub known_number : (limit : ℕ) (word : List ℕ) (n : ℕ) → number_below limit word ≡ Some n → (number_in word ≡ Some n) × (n < limit)
 known_number limit word n e =
-    let a = chained (λ (n : ℕ). if nat_lt n limit then Some n else None) (number_in word) n e in
-    let b = passes (nat_lt a.0 limit) (Some a.0) n a.2 in
+    let a = and_then_some (λ (n : ℕ). if nat_lt n limit then Some n else None) (number_in word) n e in
+    let b = test_passes (nat_lt a.0 limit) (Some a.0) n a.2 in
     let lt : a.0 < limit = (let test : nat_lt a.0 limit ≡ true = b.0 in search (rules, tests)) in
     let same : a.0 ≡ n = (let two : Some a.0 ≡ Some n = b.1 in cc) in
     (a.1 ∙ b.1, subst (λ m. m < limit) same lt)
 
 -- it is below a greater limit too
-wider_number : (limit wider : ℕ) (word : List ℕ) (n : ℕ) → limit ≤ wider → number_below limit word ≡ Some n → general_numbers.number_below wider word ≡ Some n
+wider_number : (limit wider : ℕ) (word : List ℕ) (n : ℕ) → limit ≤ wider → number_below limit word ≡ Some n → number_below wider word ≡ Some n
 wider_number limit wider word n le e =
     let k = known_number limit word n e in
     let lt : n < wider = (let below = k.1 in omega arith) in
     let test : nat_lt n wider ≡ true = search (rules, tests) in
     ap (option_and_then (λ n. if nat_lt n wider then Some n else None)) k.0 ∙ ap (λ b. if b then Some n else None) test
 
--- bytes are cut at the same place
-same_cut : (b : ℕ) (bytes : List ℕ) → cut_at b bytes ≡ general.cut_at b bytes
-same_cut b [] = refl
-same_cut b (c ∷ bytes) = ap (λ o. if c == b then Some ([], bytes) else option_map (onto_front c) o) (same_cut b bytes)
-
 -- a column of 17 is one of 54
-wider_column : (column rest : List ℕ) (n : ℕ) → column_in column rest ≡ Some n → general.column_named 54 column rest ≡ Some n
+wider_column : (column rest : List ℕ) (n : ℕ) → column_named 17 column rest ≡ Some n → column_named 54 column rest ≡ Some n
 wider_column column [] n e = wider_number 17 54 column n (omega arith) e
 wider_column column (b ∷ rest) n e = absurd (cc)
 
 -- a place among 17 columns is one among 54
-wider_place : (row rest : List ℕ) (b : BitAt) → place_in row rest ≡ Some b → general.place_named 54 row rest ≡ Some b
+wider_place : (row rest : List ℕ) (b : BitAt) → place_named 17 row rest ≡ Some b → place_named 54 row rest ≡ Some b
 wider_place row rest b e =
-    let r = chained (λ (row : ℕ). option_map (place row) (option_and_then (λ cut. column_in cut.0 cut.1) (cut_at 93 rest))) (number_below 16 row) b e in
-    let c = mapped (place r.0) (option_and_then (λ cut. column_in cut.0 cut.1) (cut_at 93 rest)) b r.2 in
-    let k = chained (λ (cut : List ℕ × List ℕ). column_in cut.0 cut.1) (cut_at 93 rest) c.0 c.1 in
-    ap (option_and_then (λ row. option_map (place row) (option_and_then (λ cut. general.column_named 54 cut.0 cut.1) (general.cut_at 93 rest)))) (wider_number 16 16 row r.0 (omega arith) r.1)
-    ∙ ap (λ cut. option_map (place r.0) (option_and_then (λ cut. general.column_named 54 cut.0 cut.1) cut)) (sym (same_cut 93 rest) ∙ k.1)
-    ∙ ap (option_map (place r.0)) (wider_column k.0.0 k.0.1 c.0 k.2)
+    let r = and_then_some (λ (row : ℕ). option_map (bit_place row) (option_and_then (λ cut. column_named 17 cut.0 cut.1) (cut_at 93 rest))) (number_below 16 row) b e in
+    let c = option_map_some (bit_place r.0) (option_and_then (λ cut. column_named 17 cut.0 cut.1) (cut_at 93 rest)) b r.2 in
+    let k = and_then_some (λ (cut : List ℕ × List ℕ). column_named 17 cut.0 cut.1) (cut_at 93 rest) c.0 c.1 in
+    ap (option_and_then (λ row. option_map (bit_place row) (option_and_then (λ cut. column_named 54 cut.0 cut.1) (cut_at 93 rest)))) (wider_number 16 16 row r.0 (omega arith) r.1)
+    ∙ ap (λ cut. option_map (bit_place r.0) (option_and_then (λ cut. column_named 54 cut.0 cut.1) cut)) k.1
+    ∙ ap (option_map (bit_place r.0)) (wider_column k.0.0 k.0.1 c.0 k.2)
     ∙ ap Some c.2
 
 -- the name of a bit among 17 columns is one among 54
-wider_bit : (word : List ℕ) (b : BitAt) → bit_in word ≡ Some b → general.bit_named 54 word ≡ Some b
+wider_bit : (word : List ℕ) (b : BitAt) → bit_named 17 word ≡ Some b → bit_named 54 word ≡ Some b
 wider_bit [] b e = absurd (cc)
 wider_bit (c ∷ bytes) b e =
-    let named = passes (c == 66) (option_and_then (λ cut. place_in cut.0 cut.1) (cut_at 91 bytes)) b e in
-    let k = chained (λ (cut : List ℕ × List ℕ). place_in cut.0 cut.1) (cut_at 91 bytes) b named.1 in
-    ap (λ t. if t then option_and_then (λ cut. general.place_named 54 cut.0 cut.1) (general.cut_at 91 bytes) else None) named.0
-    ∙ ap (option_and_then (λ cut. general.place_named 54 cut.0 cut.1)) (sym (same_cut 91 bytes) ∙ k.1)
+    let named = test_passes (c == 66) (option_and_then (λ cut. place_named 17 cut.0 cut.1) (cut_at 91 bytes)) b e in
+    let k = and_then_some (λ (cut : List ℕ × List ℕ). place_named 17 cut.0 cut.1) (cut_at 91 bytes) b named.1 in
+    ap (λ t. if t then option_and_then (λ cut. place_named 54 cut.0 cut.1) (cut_at 91 bytes) else None) named.0
+    ∙ ap (option_and_then (λ cut. place_named 54 cut.0 cut.1)) k.1
     ∙ wider_place k.0.0 k.0.1 b k.2
 
 -- the first of values that are all known, and the others
 known_first : {A : Type 0} (o : Option A) (os : List (Option A)) (ys : List A) → all_known (o ∷ os) ≡ Some ys
     → (x : A) × (xs : List A) × (o ≡ Some x) × (all_known os ≡ Some xs) × (x ∷ xs ≡ ys)
 known_first None os ys e = absurd (cc)
-known_first (Some x) os ys e = let m = mapped (λ xs. x ∷ xs) (all_known os) ys e in (x, m.0, refl, m.1, m.2)
+known_first (Some x) os ys e = let m = option_map_some (λ xs. x ∷ xs) (all_known os) ys e in (x, m.0, refl, m.1, m.2)
 
 -- values that one test knows are known by a wider one
 wider_values : {A B : Type 0} (f g : A → Option B) → ((x : A) (y : B) → f x ≡ Some y → g x ≡ Some y) → (xs : List A) (ys : List B)
-    → all_known (map f xs) ≡ Some ys → general_lists.all_known (map g xs) ≡ Some ys
+    → all_known (map f xs) ≡ Some ys → all_known (map g xs) ≡ Some ys
 wider_values f g wider [] ys e = e
 wider_values f g wider (x ∷ xs) ys e =
     let k = known_first (f x) (map f xs) ys e in
-    ap (λ o. general_lists.all_known (o ∷ map g xs)) (wider x k.0 k.2) ∙ ap (option_map (λ xs. k.0 ∷ xs)) (wider_values f g wider xs k.1 k.3) ∙ ap Some k.4
+    ap (λ o. all_known (o ∷ map g xs)) (wider x k.0 k.2) ∙ ap (option_map (λ xs. k.0 ∷ xs)) (wider_values f g wider xs k.1 k.3) ∙ ap Some k.4
 
 -- the bits of a heading, of which there are some
-pub bits_are_read : (names : List (List ℕ)) (bits : List BitAt) → bits_in names ≡ Some bits → (general.bits_named 54 names ≡ Some bits) × ((length bits == 0) ≡ false)
+pub bits_are_read : (names : List (List ℕ)) (bits : List BitAt) → bits_in names ≡ Some bits → (bits_named 54 names ≡ Some bits) × ((length bits == 0) ≡ false)
 bits_are_read names bits e =
-    let k = chained (λ (bits : List BitAt). if length bits == 0 then None else Some bits) (all_known (map bit_in names)) bits e in
-    let n = fails (length k.0 == 0) (Some k.0) bits k.2 in
+    let k = and_then_some (λ (bits : List BitAt). if length bits == 0 then None else Some bits) (bits_named 17 names) bits e in
+    let n = test_fails (length k.0 == 0) (Some k.0) bits k.2 in
     let same : k.0 ≡ bits = (let two : Some k.0 ≡ Some bits = n.1 in cc) in
-    (wider_values bit_in (general.bit_named 54) wider_bit names bits (k.1 ∙ n.1), subst (λ (bits : List BitAt). (length bits == 0) ≡ false) same n.0)
-
--- the values of a row
-pub values_are_read : (digits : List ℕ) (values : List Bool) → all_known (map digit_value digits) ≡ Some values → general.values_in digits ≡ Some values
-values_are_read digits values e = wider_values digit_value general.digit_value (λ d v is. is) digits values e
+    (wider_values (bit_named 17) (bit_named 54) wider_bit names bits (k.1 ∙ n.1), subst (λ (bits : List BitAt). (length bits == 0) ≡ false) same n.0)
 
 -- ---- lines
 -- a line more stands before all lines behind it
-words_before : (n : ℕ) (ws : List (List ℕ)) (a b : List (ℕ × List (List ℕ))) → general_lines.with_words n ws (a ++ b) ≡ general_lines.with_words n ws a ++ b
+words_before : (n : ℕ) (ws : List (List ℕ)) (a b : List (ℕ × List (List ℕ))) → with_words n ws (a ++ b) ≡ with_words n ws a ++ b
 words_before n [] a b = refl
 words_before n (w ∷ ws) a b = refl
 
 -- the lines with words of two parts of a text
-pub plain_parts : (a b : List (ℕ × List ℕ)) → general_lines.plain_lines (a ++ b) ≡ general_lines.plain_lines a ++ general_lines.plain_lines b
+pub plain_parts : (a b : List (ℕ × List ℕ)) → plain_lines (a ++ b) ≡ plain_lines a ++ plain_lines b
 plain_parts [] b = refl
 plain_parts (l ∷ ls) b =
-    ap (general_lines.with_words l.0 (uncommented (words l.1))) (plain_parts ls b)
-    ∙ words_before l.0 (uncommented (words l.1)) (general_lines.plain_lines ls) (general_lines.plain_lines b)
-
-same_words : (n : ℕ) (ws : List (List ℕ)) (others : List (ℕ × List (List ℕ))) → with_words n ws others ≡ general_lines.with_words n ws others
-same_words n [] others = refl
-same_words n (w ∷ ws) others = refl
-
--- the lines with words are the same for both readers
-pub same_plain : (ls : List (ℕ × List ℕ)) → plain_lines ls ≡ general_lines.plain_lines ls
-same_plain [] = refl
-same_plain (l ∷ ls) =
-    ap (with_words l.0 (uncommented (words l.1))) (same_plain ls) ∙ same_words l.0 (uncommented (words l.1)) (general_lines.plain_lines ls)
-
-same_bytes : (a b : List ℕ) → bytes_eq a b ≡ true → a ≡ b
-same_bytes a b e = search (rules, tests)
+    ap (with_words l.0 (uncommented (words l.1))) (plain_parts ls b)
+    ∙ words_before l.0 (uncommented (words l.1)) (plain_lines ls) (plain_lines b)
 
 -- a word that is a name
 pub named : {A : Type 0} (word name : List ℕ) (o : Option A) (x : A) → (if bytes_eq word name then o else None) ≡ Some x → (word ≡ name) × (o ≡ Some x)
-named word name o x e = let p = passes (bytes_eq word name) o x e in (same_bytes word name p.0, p.1)
+named word name o x e = let p = test_passes (bytes_eq word name) o x e in (bytes_same word name p.0, p.1)
 
 -- the lines of a text that begins with these are these and the ones behind them
 pub text_begins : (n : ℕ) (first all : List (List ℕ)) (rest : List (ℕ × List ℕ)) → lines_behind first (numbered n all) ≡ Some rest → numbered n all ≡ numbered n first ++ rest

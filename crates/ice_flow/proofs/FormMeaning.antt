@@ -34,7 +34,7 @@ use Rattle.ice_flow.specs.ChipText.{IsOfForm}
 use Rattle.ice_flow.specs.BufferForm.{buffer_plan}
 use Rattle.ice_flow.specs.FormChip.{plain_group, chip_pad, parts_with}
 use Rattle.ice_flow.specs.Shown.{port_levels, ShowsSame}
-use Rattle.ice_flow.proofs.ListFacts.{Has_head, Has_tail}
+use Rattle.ice_value.proofs.Together.{Has_head, Has_tail}
 use Rattle.ice_flow.proofs.DrivenWires.{driver_wanted, driver_unwanted, driven_cases}
 use Rattle.ice_flow.proofs.BufferMeaning.{buffer_drives}
 use Rattle.ice_flow.proofs.BufferBits.{routed, two_at_most, at_function}

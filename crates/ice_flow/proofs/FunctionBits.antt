@@ -6,14 +6,15 @@ use Rattle.std.specs.List.{list_any, list_all}
 use Rattle.std.proofs.lemmas.Bool.{and_parts, eqb-true}
 use Rattle.ice_base.specs.declared.number.TileAt.{TileAt}
 use Rattle.ice_base.specs.declared.number.BitAt.{BitAt}
-use Rattle.ice_flow.specs.Lists.{At, Has}
+use Rattle.ice_value.specs.Order.{At, Has}
 use Rattle.ice_flow.specs.Database.{IoFunction, NamedBit, SwitchGroup, bit_among, function_bit, function_name, has_tile}
 use Rattle.ice_flow.specs.FirstForm as form
 use Rattle.ice_flow.specs.FirstForm.{database_with}
 use Rattle.ice_flow.specs.Written.{Plan, wants, io_functions, is_this_bit, written}
 use Rattle.ice_flow.specs.Routes.{sets}
-use Rattle.ice_flow.proofs.ListFacts.{any_none, Has_tail}
-use Rattle.ice_flow.proofs.PlaceFacts.{same_bit-true}
+use Rattle.ice_value.proofs.Members.{any_none}
+use Rattle.ice_value.proofs.Together.{Has_tail}
+use Rattle.ice_base.proofs.Keys.{place_same}
 
 pub all_has : {X : Type 0} (test : X → Bool) (xs : List X) → list_all test xs ≡ true → (i : ℕ) (x : X) → At xs i x → test x ≡ true
 all_has test [] e i x at = cc at
@@ -38,7 +39,7 @@ function_column groups f b e = by (function_bit (database_with groups) f) refl
     by : (o : Option BitAt) → function_bit (database_with groups) f ≡ o → b.col ≡ 17
     by None is = let n : false ≡ true = rw is at e in cc n
     by (Some a) is =
-        let same : a ≡ b = same_bit-true a b (rw is at e) in
+        let same : a ≡ b = place_same a b (rw is at e) in
         let got = among_has form.io_functions (function_name f) a is in
         let last = eqb-true got.0.bit.col 17 (all_has (λ (g : NamedBit). g.bit.col == 17) form.io_functions in_last got.1.0 got.0 got.1.1) in
         let at_a : a.col ≡ 17 = subst (λ (x : BitAt). x.col ≡ 17) got.2 last in

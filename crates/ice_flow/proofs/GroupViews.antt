@@ -3,7 +3,7 @@ use Rattle.std.proofs.Common.{◌≡◌, ℕ, ◌+◌, ◌<◌, inl, inr, List, 
 use Rattle.std.proofs.lemmas.List.{get_or-map, length-map}
 use Rattle.std.proofs.lemmas.Option.{slice_get-get_or}
 use Rattle.std.proofs.lemmas.Bool.{cases_eq}
-use Rattle.ice_flow.specs.Lists.{At, Has}
+use Rattle.ice_value.specs.Order.{At, Has}
 use Rattle.ice_flow.specs.Database.{SwitchRow, SwitchGroup}
 use Rattle.ice_flow.specs.Views.{row_view, group_view, groups_view}
 use Rattle.ice_flow.specs.declared.chip.Row as chip_row

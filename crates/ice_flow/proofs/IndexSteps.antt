@@ -5,40 +5,41 @@ use Rattle.std.specs.Borrow.{Bor}
 use Rattle.std.specs.Cmp.Lexicographic.{pointwise}
 use Rattle.std.proofs.lemmas.Bool.{and_parts, and_from, cases_Bool, cases_eq, both_ways, eq-eqb}
 use Rattle.ice_base.specs.declared.number.BitAt.{BitAt}
-use Rattle.ice_flow.specs.Lists.{At}
-use Rattle.ice_flow.specs.Database.{SwitchGroup, same_bit}
+use Rattle.ice_value.specs.Order.{At}
+use Rattle.ice_base.specs.Places.{same_place}
+use Rattle.ice_flow.specs.Database.{SwitchGroup}
 use Rattle.ice_flow.specs.Places.{row_at}
 use Rattle.ice_flow.specs.RowIndex.{is_key, with_row, HasShape, HasKey, IsHeld}
 use Rattle.ice_flow.specs.declared.place.Place.{Place}
 use Rattle.ice_flow.specs.declared.index.Holder.{Holder}
-use Rattle.ice_flow.proofs.PlaceFacts.{same_bit-true}
+use Rattle.ice_base.proofs.Keys.{place_same}
 use Rattle.ice_flow.proofs.ValueLists.{same_values-pointwise, same_values-true, same_values-refl}
 use Rattle.ice_flow.proofs.FirstRowSteps.{push_cases, push_old, push_new, at_same}
 
-pub same_bits-true : (xs ys : List BitAt) → pointwise same_bit xs ys ≡ true → xs ≡ ys
+pub same_bits-true : (xs ys : List BitAt) → pointwise same_place xs ys ≡ true → xs ≡ ys
 same_bits-true [] [] e = refl
 same_bits-true [] (y ∷ ys) e = cc e
 same_bits-true (x ∷ xs) [] e = cc e
 same_bits-true (x ∷ xs) (y ∷ ys) e =
-    let parts = and_parts (same_bit x y) (pointwise same_bit xs ys) e in
-    let head : x ≡ y = same_bit-true x y parts.0 in
+    let parts = and_parts (same_place x y) (pointwise same_place xs ys) e in
+    let head : x ≡ y = place_same x y parts.0 in
     let tail : xs ≡ ys = same_bits-true xs ys parts.1 in
     cc
 
-pub same_bits-refl : (xs : List BitAt) → pointwise same_bit xs xs ≡ true
+pub same_bits-refl : (xs : List BitAt) → pointwise same_place xs xs ≡ true
 same_bits-refl [] = refl
 same_bits-refl (x ∷ xs) =
-    and_from (same_bit x x) (pointwise same_bit xs xs)
+    and_from (same_place x x) (pointwise same_place xs xs)
     (and_from (Rattle.std.proofs.Common.eqb x.row x.row) (Rattle.std.proofs.Common.eqb x.col x.col) (eq-eqb x.row x.row refl) (eq-eqb x.col x.col refl))
     (same_bits-refl xs)
 
 key_true : (bits : List BitAt) (values : List Bool) (b : List BitAt) (v : List Bool) → is_key bits values b v ≡ true → (bits ≡ b) × (values ≡ v)
 key_true bits values b v e =
-    let parts = and_parts (pointwise same_bit bits b) (pointwise beq values v) e in
+    let parts = and_parts (pointwise same_place bits b) (pointwise beq values v) e in
     (same_bits-true bits b parts.0, same_values-true values v (sym (same_values-pointwise values v) ∙ parts.1))
 
 key_refl : (bits : List BitAt) (values : List Bool) → is_key bits values bits values ≡ true
-key_refl bits values = and_from (pointwise same_bit bits bits) (pointwise beq values values) (same_bits-refl bits) (same_values-pointwise values values ∙ same_values-refl values)
+key_refl bits values = and_from (pointwise same_place bits bits) (pointwise beq values values) (same_bits-refl bits) (same_values-pointwise values values ∙ same_values-refl values)
 
 module _ (gs : List SwitchGroup) (places : List Place) where
   pub none_held : (b : List BitAt) (v : List Bool) → IsHeld gs places 0 b v None
@@ -139,9 +140,9 @@ known_cases x true z e f = inl refl
 known_cases x false z e f = inr (sym e ∙ f)
 
 -- the bits that a set knows after one list more
-pub known_more : (new old : List BitAt → Bool) (shapes : List (Bor (List BitAt))) (bits : List BitAt) → ((b : List BitAt) → new b ≡ cond (pointwise same_bit bits b) true (old b))
+pub known_more : (new old : List BitAt → Bool) (shapes : List (Bor (List BitAt))) (bits : List BitAt) → ((b : List BitAt) → new b ≡ cond (pointwise same_place bits b) true (old b))
     → HasShape shapes bits → ((b : List BitAt) → old b ≡ true → HasShape shapes b) → (b : List BitAt) → new b ≡ true → HasShape shapes b
-known_more new old shapes bits updates own before b e = elim (known_cases (new b) (pointwise same_bit bits b) (old b) (updates b) e) [
+known_more new old shapes bits updates own before b e = elim (known_cases (new b) (pointwise same_place bits b) (old b) (updates b) e) [
   | inl same ↦ subst (λ x. HasShape shapes x) (same_bits-true bits b same) own
   | inr known ↦ before b known
 ]

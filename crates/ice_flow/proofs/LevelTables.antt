@@ -1,20 +1,10 @@
 -- One bit more in a table of levels.
-use Rattle.std.proofs.Common.{◌≡◌, ℕ, zero, suc, ◌+◌, ◌<◌, Bool, true, false, List, [], ◌∷◌, length, get_or, drop, replicate, refl, ap, sym, ◌∙◌, arith}
+use Rattle.std.proofs.Common.{◌≡◌, ℕ, zero, suc, ◌+◌, ◌<◌, Bool, true, false, List, [], ◌∷◌, length, get_or, drop, refl, ap, sym, ◌∙◌, arith}
 use Rattle.std.specs.Prelude.{◌&&◌, ◌||◌}
 use Rattle.std.specs.List.{list_any}
-use Rattle.std.proofs.lemmas.Option.{slice_get-get_or}
 use Rattle.ice_base.specs.declared.number.BitAt.{BitAt}
-use Rattle.ice_flow.specs.Lists.{Has}
-use Rattle.ice_flow.specs.Database.{same_bit}
+use Rattle.ice_base.specs.Places.{same_place}
 use Rattle.ice_flow.specs.Routes.{value_at}
-
-pub all_low : (n i : ℕ) → get_or (replicate n false) i false ≡ false
-all_low zero i = refl
-all_low (suc n) zero = refl
-all_low (suc n) (suc i) = all_low n i
-
-pub has_read : {X : Type 0} (xs : List X) (k : ℕ) (d : X) → k < length xs → Has xs (get_or xs k d)
-has_read xs k d lt = (k, slice_get-get_or xs k d lt)
 
 pub or_false : (x : Bool) → (x || false) ≡ x
 or_false true = refl
@@ -30,7 +20,7 @@ any_drop f (y ∷ xs) zero d lt = refl
 any_drop f (y ∷ xs) (suc k) d lt = any_drop f xs k d (omega arith)
 
 value_drop : (ps : List BitAt) (vs : List Bool) (k : ℕ) (p b : BitAt) (v : Bool) → k < length ps → length vs ≡ length ps
-    → value_at (drop k ps) (drop k vs) b ≡ ((same_bit (get_or ps k p) b && get_or vs k v) || value_at (drop (suc k) ps) (drop (suc k) vs) b)
+    → value_at (drop k ps) (drop k vs) b ≡ ((same_place (get_or ps k p) b && get_or vs k v) || value_at (drop (suc k) ps) (drop (suc k) vs) b)
 value_drop [] vs k p b v lt same = absurd (omega arith)
 value_drop (q ∷ ps) [] k p b v lt same = absurd (omega arith)
 value_drop (q ∷ ps) (w ∷ vs) zero p b v lt same = refl
@@ -47,11 +37,11 @@ any_more f xs k d o n a lt new so_far =
     rw e (step o (f (get_or xs k d)) n (list_any f (drop k xs)) (list_any f (drop (suc k) xs)) a new (any_drop f xs k d lt) so_far)
 
 pub value_more : (ps : List BitAt) (vs : List Bool) (k : ℕ) (p b : BitAt) (v o n a : Bool) → k < length ps → length vs ≡ length ps
-    → n ≡ (o || (same_bit (get_or ps k p) b && get_or vs k v))
+    → n ≡ (o || (same_place (get_or ps k p) b && get_or vs k v))
     → (o || value_at (drop k ps) (drop k vs) b) ≡ a → (n || value_at (drop (k + 1) ps) (drop (k + 1) vs) b) ≡ a
 value_more ps vs k p b v o n a lt same new so_far =
     let e : k + 1 ≡ suc k = omega arith in
-    rw e (step o (same_bit (get_or ps k p) b && get_or vs k v) n (value_at (drop k ps) (drop k vs) b) (value_at (drop (suc k) ps) (drop (suc k) vs) b) a new
+    rw e (step o (same_place (get_or ps k p) b && get_or vs k v) n (value_at (drop k ps) (drop k vs) b) (value_at (drop (suc k) ps) (drop (suc k) vs) b) a new
     (value_drop ps vs k p b v lt same) so_far)
 
 gone : {X : Type 0} (xs : List X) (k : ℕ) → length xs ≡ k → drop k xs ≡ []

@@ -1,14 +1,10 @@
-pub mod OptionFacts
-pub mod ListFacts
 pub mod PlaceFacts
 pub mod FunctionBits
 pub mod DrivenWires
 pub mod WalkFacts
 pub mod BufferMeaning
 pub mod Compiling
-pub mod ChipCuts
 pub mod ChipHeader
-pub mod KnownLists
 pub mod ChipForm
 pub mod BitSteps
 pub mod FormBits

@@ -4,7 +4,8 @@ use Rattle.std.specs.Prelude.{◌&&◌, ◌||◌}
 use Rattle.std.specs.List.{list_any}
 use Rattle.std.proofs.lemmas.Bool.Decides.{eqb_tells}
 use Rattle.ice_base.specs.declared.number.TileAt.{TileAt}
-use Rattle.ice_flow.specs.Database.{Pad, same_tile, same_pad}
+use Rattle.ice_base.specs.Places.{same_tile}
+use Rattle.ice_flow.specs.Database.{Pad, same_pad}
 use Rattle.ice_flow.specs.FirstForm.{left_tile, right_tile, left_pad, right_pad}
 use Rattle.ice_flow.specs.Written.{PortPad, is_among_pads}
 

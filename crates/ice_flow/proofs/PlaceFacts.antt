@@ -1,23 +1,12 @@
 -- Equal tiles, bits and pads by their tests, and rows by their groups.
-use Rattle.std.proofs.Common.{◌≡◌, ℕ, zero, suc, ◌+◌, Bool, true, eqb, Option, None, Some, List, [], ◌∷◌, ◌++◌, length, inl, inr, refl, ap, sym, ◌∙◌, arith}
-use Rattle.std.proofs.lemmas.Bool.{and_parts, eqb-true, eq-eqb}
+use Rattle.std.proofs.Common.{◌≡◌, ℕ, zero, suc, ◌+◌, Bool, true, Option, None, Some, List, [], ◌∷◌, ◌++◌, length, inl, inr, refl, ap, sym, ◌∙◌, arith}
+use Rattle.std.proofs.lemmas.Bool.{eq-eqb}
 use Rattle.ice_base.specs.declared.number.TileAt.{TileAt}
-use Rattle.ice_base.specs.declared.number.BitAt.{BitAt}
-use Rattle.ice_flow.specs.Lists.{At, Has}
-use Rattle.ice_flow.specs.Database.{SwitchRow, SwitchGroup, Row, same_tile, same_bit, group_rows, rows_from}
-use Rattle.ice_flow.proofs.ListFacts.{at_append, Has_head, Has_tail}
-
-tile_along : (a b : TileAt) → a.x ≡ b.x → a.y ≡ b.y → a ≡ b
-tile_along a b p q = let f : (x y : ℕ) → TileAt = λ x y. record { x = x; y = y } in ap (λ x. f x a.y) p ∙ ap (λ y. f b.x y) q
-
-bit_along : (a b : BitAt) → a.row ≡ b.row → a.col ≡ b.col → a ≡ b
-bit_along a b p q = let f : (x y : ℕ) → BitAt = λ x y. record { row = x; col = y } in ap (λ x. f x a.col) p ∙ ap (λ y. f b.row y) q
-
-pub same_tile-true : (a b : TileAt) → same_tile a b ≡ true → a ≡ b
-same_tile-true a b e = let parts = and_parts (eqb a.x b.x) (eqb a.y b.y) e in tile_along a b (eqb-true a.x b.x parts.0) (eqb-true a.y b.y parts.1)
-
-pub same_bit-true : (a b : BitAt) → same_bit a b ≡ true → a ≡ b
-same_bit-true a b e = let parts = and_parts (eqb a.row b.row) (eqb a.col b.col) e in bit_along a b (eqb-true a.row b.row parts.0) (eqb-true a.col b.col parts.1)
+use Rattle.ice_value.specs.Order.{At, Has}
+use Rattle.ice_base.specs.Places.{same_tile}
+use Rattle.ice_flow.specs.Database.{SwitchRow, SwitchGroup, Row, group_rows, rows_from}
+use Rattle.ice_value.proofs.Members.{At_parts}
+use Rattle.ice_value.proofs.Together.{Has_head, Has_tail}
 
 pub same_tile-refl : (a b : TileAt) → a ≡ b → same_tile a b ≡ true
 same_tile-refl a b e = rw (eq-eqb a.x b.x (ap (λ (t : TileAt). t.x) e), eq-eqb a.y b.y (ap (λ (t : TileAt). t.y) e)) refl
@@ -38,7 +27,7 @@ group_rows_length g n before (x ∷ xs) = ap suc (group_rows_length g (n + 1) (b
 
 pub rows_number : (n : ℕ) (gs : List SwitchGroup) (i : ℕ) (r : Row) → At (rows_from n gs) i r → r.number ≡ n + i
 rows_number n [] i r at = cc at
-rows_number n (g ∷ gs) i r at = elim (at_append (group_rows g n [] g.rows) (rows_from (n + length g.rows) gs) i r at) [
+rows_number n (g ∷ gs) i r at = elim (At_parts (group_rows g n [] g.rows) (rows_from (n + length g.rows) gs) i r at) [
   | inl here ↦ group_rows_number g n [] g.rows i r here
   | inr there ↦
       let e : r.number ≡ (n + length g.rows) + there.0 = rows_number (n + length g.rows) gs there.0 r there.2 in
@@ -63,7 +52,7 @@ group_rows_group g n before (x ∷ xs) (suc i) r at = let got = group_rows_group
 -- each row is of a group
 pub row_group : (n : ℕ) (gs : List SwitchGroup) (i : ℕ) (r : Row) → At (rows_from n gs) i r → (g : SwitchGroup) × (x : SwitchRow) × Has gs g × Has g.rows x × IsOfGroup g x r
 row_group n [] i r at = cc at
-row_group n (g ∷ gs) i r at = elim (at_append (group_rows g n [] g.rows) (rows_from (n + length g.rows) gs) i r at) [
+row_group n (g ∷ gs) i r at = elim (At_parts (group_rows g n [] g.rows) (rows_from (n + length g.rows) gs) i r at) [
   | inl here ↦ let got = group_rows_group g n [] g.rows i r here in (g, got.0, Has_head g gs, got.1, got.2)
   | inr there ↦ let got = row_group (n + length g.rows) gs there.0 r there.2 in (got.0, got.1, Has_tail g got.0 gs got.2, got.3, got.4)
 ]

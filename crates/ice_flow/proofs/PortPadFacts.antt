@@ -1,5 +1,5 @@
 -- Constraints of the form give each of a buffer's ports its pad, by the definitions for any package.
-use Rattle.std.proofs.Common.{◌≡◌, ◌<◌, ℕ, zero, suc, Bool, true, false, cond, Option, None, Some, List, [], ◌∷◌, map, length, refl, sym, ap, ◌∙◌, subst, rules, tests}
+use Rattle.std.proofs.Common.{◌≡◌, ◌<◌, ℕ, zero, suc, Bool, true, false, cond, Option, None, Some, List, [], ◌∷◌, map, length, refl, sym, ap, ◌∙◌, subst}
 use Rattle.std.specs.Prelude.{◌&&◌, ◌||◌, not, codes, Result, Ok, Err, option_map, bytes_eq, All}
 use Rattle.std.specs.List.{IsDistinct}
 use Rattle.std.proofs.lemmas.Bool.{and_parts}
@@ -17,7 +17,8 @@ use Rattle.ice_pcf.specs.declared.constraint.Constraint.{Constraint}
 use Rattle.ice_chip.specs.Database as chip
 use Rattle.ice_chip.specs.Lookups.{package_of}
 use Rattle.ice_chip.specs.Places.{same_pad}
-use Rattle.ice_flow.specs.Lists.{Has}
+use Rattle.ice_base.proofs.Keys.{bytes_same}
+use Rattle.ice_value.specs.Order.{Has}
 use Rattle.ice_flow.specs.Database.{Pad, Database, SwitchGroup}
 use Rattle.ice_flow.specs.Database as flow
 use Rattle.ice_flow.specs.FirstForm.{database_with, tiny, left_pad, right_pad}
@@ -85,9 +86,6 @@ ends_second c p q e =
     )
 
 -- ---- the constraints of the two ports
-bytes_same : (a b : List ℕ) → bytes_eq a b ≡ true → a ≡ b
-bytes_same a b e = search (rules, tests)
-
 -- of two constraints with different names, the first is the only one of its name, and so is the second
 only_first : (p q : Constraint) (a y : List ℕ) → bytes_eq q.name y ≡ true → (a ≡ y → ⊥) → (other : Constraint) → Has (p ∷ q ∷ []) other → other.name ≡ a → other ≡ p
 only_first p q a y named differ other (zero, at) e = let same : p ≡ other = cc at in sym same

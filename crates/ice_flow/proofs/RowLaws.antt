@@ -1,5 +1,5 @@
 -- When each answer comes, from what each cause says.
-use Rattle.std.proofs.Common.{◌≡◌, ◌⊎◌, ◌∙◌, ℕ, Option, None, Some, List, [], ◌∷◌, true, inl, inr, refl, sym, ap, subst}
+use Rattle.std.proofs.Common.{◌≡◌, ◌∙◌, ℕ, Option, None, Some, List, [], ◌∷◌, true, inl, inr, refl, sym, ap, subst}
 use Rattle.ice_desk.specs.Desk.{Meaning}
 use Rattle.ice_answer.specs.declared.cause.Cause.{Cause}
 use Rattle.ice_answer.specs.declared.cause.Cause.TheVariants.{Good, Usage, BadBlif, BadPcf, BadChip, BadNet, BadPin, Unreachable, ReadFault, WriteFault, NoMemory, BadAsc, BadBits, TooLong, BadLevels, NotBuilt}
@@ -7,11 +7,11 @@ use Rattle.ice_answer.specs.declared.cause.Done.{Done}
 use Rattle.ice_answer.specs.declared.cause.FileRole.TheVariants.{Chip, Pcf, Blif, Asc, Levels, Pins, Report, Standard}
 use Rattle.ice_answer.specs.declared.cause.PinFault.TheVariants as pin_fault
 use Rattle.ice_answer.specs.Causes.{no_places, status_of}
-use Rattle.ice_answer.specs.Commands.{Command, IsDone, IsRefusal, IsTrueOf}
+use Rattle.ice_answer.specs.Commands.{IsDone, IsRefusal, IsTrueOf}
 use Rattle.ice_answer.specs.Reading.{TellsLong}
 use Rattle.ice_answer.specs.Refusals.{IsKnown}
 use Rattle.ice_answer.specs.Rows.{ComesExactly}
-use Rattle.ice_answer.specs.Texts.{OfTexts, text_at}
+use Rattle.ice_answer.specs.Texts.{OfTexts}
 use Rattle.ice_answer.proofs.CommandRows as answers
 use Rattle.ice_answer.proofs.CommandRows.{Lawful, comes, done_where, known, asked}
 use Rattle.ice_answer.proofs.Standings.{of_done}
@@ -27,7 +27,7 @@ use Rattle.ice_flow.specs.Routes.{IsWalk}
 use Rattle.ice_flow.specs.Command.{Build, Request, ForBuild, ForPlayNet, ForPlayBits}
 use Rattle.ice_flow.specs.Standing.{Standing, FaultyChip, FaultyPins, FaultyNetlist, OtherChip, OtherNetlist, OtherPins, UnknownPin, Ready, AreEnds, IsApart, IsRoutable}
 use Rattle.ice_flow.specs.Built as built
-use Rattle.ice_flow.specs.Answers.{files_of, standing_at, unreachable_at, IsAnswerOf, IsMade, build, Stands, Apart, Routable}
+use Rattle.ice_flow.specs.Answers.{files_of, standing_at, unreachable_at, IsAnswerOf, build, Stands, Apart, Routable}
 use Rattle.ice_flow.specs.Rows.{asked_for, Caused, UsageRow, ChipRow, OtherChipRow, BlifRow, PcfRow, OtherNetlistRow, OtherPinsRow, PinRow, UnreachableRow, DoneRow, NoMemoryRow, HeadlineRow, SaidByWords, KeptRow, MadeRow, SilentRow, GivenRow}
 use Rattle.ice_flow.specs.Run.{IsAnswer}
 

@@ -1,7 +1,7 @@
 -- The rows of a database by the places of their groups.
 use Rattle.std.proofs.Common.{◌≡◌, ℕ, zero, suc, ◌+◌, ◌<◌, ◌≤◌, Bool, List, [], ◌∷◌, ◌++◌, Some, length, get_or, take, map, refl, ap, sym, ◌∙◌, subst, append_assoc, arith, length-append}
 use Rattle.std.proofs.lemmas.List.{append-nil}
-use Rattle.ice_flow.specs.Lists.{At}
+use Rattle.ice_value.specs.Order.{At}
 use Rattle.ice_flow.specs.Database.{SwitchRow, SwitchGroup, Row, group_rows, rows_from}
 use Rattle.ice_flow.specs.Places.{no_group, no_row, row_in_group}
 use Rattle.ice_flow.specs.Views.{groups_view}

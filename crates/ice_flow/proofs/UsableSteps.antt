@@ -7,7 +7,7 @@ use Rattle.std.proofs.lemmas.Bool.{and_parts, and_from, not-true, not_from_false
 use Rattle.std.proofs.lemmas.List.{get_or-set_same, get_or-set_other, length-set}
 use Rattle.std.proofs.lemmas.Option.{slice_get_within}
 use Rattle.ice_base.specs.declared.number.TileAt.{TileAt}
-use Rattle.ice_flow.specs.Lists.{At, Has}
+use Rattle.ice_value.specs.Order.{At, Has}
 use Rattle.ice_flow.specs.Database.{SwitchGroup, Row, rows_from}
 use Rattle.ice_flow.specs.Names.{has_input_name, has_output_name, has_closed_name}
 use Rattle.ice_flow.specs.FirstForm.{left_tile, right_tile, database_with}

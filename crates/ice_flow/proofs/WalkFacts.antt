@@ -2,10 +2,10 @@
 use Rattle.std.proofs.Common.{◌≡◌, ◌≢◌, ℕ, zero, suc, ◌+◌, ◌-◌, ◌<◌, ◌≤◌, true, eqb, Some, List, [], ◌∷◌, length, inl, inr, refl, ap, sym, ◌∙◌, subst, arith}
 use Rattle.std.specs.Prelude.{◌==◌, if◌then◌else◌}
 use Rattle.std.proofs.lemmas.Bool.{eqb-true, eq-eqb, cases_Bool}
-use Rattle.ice_flow.specs.Lists.{At, Has, IsCycle}
+use Rattle.ice_value.specs.Order.{At, Has, IsCycle}
 use Rattle.ice_flow.specs.Database.{Row, Database}
 use Rattle.ice_flow.specs.Routes.{IsUsable, IsWalk, IsSimple}
-use Rattle.ice_flow.proofs.ListFacts.{Has_head, Has_tail}
+use Rattle.ice_value.proofs.Together.{Has_head, Has_tail}
 
 pub walk_usable : (c : Database) (start end : ℕ) (rows : List Row) → IsWalk c start rows end → (i : ℕ) (r : Row) → At rows i r → IsUsable c r
 walk_usable c start end [] w i r at = cc at

@@ -11,7 +11,8 @@ use Rattle.ice_bits.specs.Configuration.{Configuration, bits_of, IsOf}
 use Rattle.ice_asc.specs.Grammar.{asc_in}
 use Rattle.ice_asc.specs.RoundTrip.{IsSmall, WrittenIsRead}
 use Rattle.ice_asc.specs.Text.{asc_text}
-use Rattle.ice_flow.specs.Database.{Pad, Row, SwitchGroup, same_tile, has_tile, function_bit}
+use Rattle.ice_base.specs.Places.{same_tile}
+use Rattle.ice_flow.specs.Database.{Pad, Row, SwitchGroup, has_tile, function_bit}
 use Rattle.ice_flow.specs.FirstForm.{database_with}
 use Rattle.ice_flow.specs.FormChip.{parts_with}
 use Rattle.ice_flow.specs.Routes.{sets, value_at}

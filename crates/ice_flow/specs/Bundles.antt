@@ -3,7 +3,8 @@ use Rattle.std.specs.Prelude.{ℕ, ◌==◌, Bool, not, ◌&&◌, List}
 use Rattle.std.specs.List.{list_any}
 use Rattle.ice_base.specs.declared.number.TileAt.{TileAt}
 use Rattle.ice_base.specs.declared.number.BitAt.{BitAt}
-use Rattle.ice_flow.specs.Database.{SwitchGroup, same_tile, same_bit}
+use Rattle.ice_base.specs.Places.{same_tile, same_place}
+use Rattle.ice_flow.specs.Database.{SwitchGroup}
 use Rattle.ice_flow.specs.Levels.{level_in}
 
 -- the group is of the bundle of a tile and a wire
@@ -12,7 +13,7 @@ is_of_bundle t w g = same_tile g.tile t && (g.wire == w)
 
 -- the bit is among these
 abbrev pub is_among_bits : List BitAt → BitAt → Bool
-is_among_bits bits b = list_any (λ p. same_bit p b) bits
+is_among_bits bits b = list_any (λ p. same_place p b) bits
 
 -- the bit is of the bundle
 abbrev pub is_bundle_bit : TileAt → ℕ → List SwitchGroup → BitAt → Bool

@@ -1,16 +1,19 @@
 -- The chip text of the form that is built so far, and the groups of switches in it.
-use Rattle.std.specs.Prelude.{◌≡◌, ◌⊎◌, ℕ, ◌+◌, ◌<◌, ◌≤◌, ◌==◌, Bool, true, false, Option, None, Some, List, [], ◌∷◌, ◌++◌, length, map, if◌then◌else◌, nat_lt, option_map, codes}
+use Rattle.std.specs.Prelude.{◌≡◌, ◌⊎◌, ℕ, ◌+◌, ◌<◌, ◌≤◌, ◌==◌, Option, None, Some, List, [], ◌∷◌, ◌++◌, length, map, if◌then◌else◌, nat_lt, option_map, codes}
 use Rattle.std.specs.Option.{option_and_then}
 use Rattle.std.specs.Str.{bytes_eq}
 use Rattle.ice_base.specs.Text.{lines, numbered}
 use Rattle.ice_base.specs.Comments.{begins_with}
-use Rattle.ice_base.specs.Numbers.{number_in}
+use Rattle.ice_base.specs.BitNames.{bits_named, values_in}
+use Rattle.ice_base.specs.Numbers.{number_below}
+use Rattle.ice_base.specs.Places.{tile_at}
+use Rattle.ice_base.specs.PlainLines.{plain_lines}
 use Rattle.ice_base.specs.declared.number.TileAt.{TileAt}
 use Rattle.ice_base.specs.declared.number.BitAt.{BitAt}
-use Rattle.ice_flow.specs.Lists.{Has, all_known}
+use Rattle.ice_value.specs.Order.{Has}
+use Rattle.ice_chip.specs.Limits.{most_rows}
 use Rattle.ice_flow.specs.Database.{SwitchRow, SwitchGroup, Database, rows_from}
 use Rattle.ice_flow.specs.FirstForm.{database_with, left_tile, right_tile}
-use Rattle.ice_flow.specs.PlainLines.{plain_lines}
 
 -- the lines up to the first switch, byte for byte: device, pins, input enables, tiles, bits of functions, names of wires
 abbrev pub header_lines : List (List ℕ)
@@ -41,42 +44,9 @@ lines_behind [] lines = Some lines
 lines_behind (first ∷ others) [] = None
 lines_behind (first ∷ others) (line ∷ lines) = if bytes_eq line.1 first then lines_behind others lines else None
 
--- a number below a limit
-abbrev pub number_below : ℕ → List ℕ → Option ℕ
-number_below limit word = option_and_then (λ n. if nat_lt n limit then Some n else None) (number_in word)
-
-abbrev pub onto_front : ℕ → List ℕ × List ℕ → List ℕ × List ℕ
-onto_front b cut = (b ∷ cut.0, cut.1)
-
--- the bytes before the first such byte, and those behind it
-abbrev pub cut_at : ℕ → List ℕ → Option (List ℕ × List ℕ)
-cut_at b [] = None
-cut_at b (c ∷ bytes) = if c == b then Some ([], bytes) else option_map (onto_front c) (cut_at b bytes)
-
-abbrev pub place : ℕ → ℕ → BitAt
-place row column = record { row = row; col = column }
-
--- the number of the column in `column]`, cut at its `]`, behind which nothing may stand
-abbrev pub column_in : List ℕ → List ℕ → Option ℕ
-column_in column [] = number_below 17 column
-column_in column (b ∷ bytes) = None
-
--- the place in `row[column]`, cut at its first `[`; 93 is `]`
-abbrev pub place_in : List ℕ → List ℕ → Option BitAt
-place_in row rest =
-    option_and_then (λ row. option_map (place row) (option_and_then (λ cut. column_in cut.0 cut.1) (cut_at 93 rest))) (number_below 16 row)
-
--- the place of the bit that is named `Brow[column]`: 66 is `B`, 91 is `[`
-abbrev pub bit_in : List ℕ → Option BitAt
-bit_in [] = None
-bit_in (b ∷ bytes) = if b == 66 then option_and_then (λ cut. place_in cut.0 cut.1) (cut_at 91 bytes) else None
-
 -- the places of the bits with these names, of which there is at least one
 abbrev pub bits_in : List (List ℕ) → Option (List BitAt)
-bits_in names = option_and_then (λ bits. if length bits == 0 then None else Some bits) (all_known (map bit_in names))
-
-abbrev pub tile_at : ℕ → ℕ → TileAt
-tile_at x y = record { x = x; y = y }
+bits_in names = option_and_then (λ bits. if length bits == 0 then None else Some bits) (bits_named 17 names)
 
 abbrev pub group_without_rows : TileAt → ℕ → List BitAt → SwitchGroup
 group_without_rows tile wire bits = record { tile = tile; wire = wire; bits = bits; rows = [] }
@@ -93,15 +63,11 @@ abbrev pub heading_in : List (List ℕ) → Option SwitchGroup
 heading_in [] = None
 heading_in (name ∷ words) = if bytes_eq name (codes ".buffer") then group_in words else None
 
--- the value of a digit: 48 is `0`, 49 is `1`
-abbrev pub digit_value : ℕ → Option Bool
-digit_value b = if b == 48 then Some false else (if b == 49 then Some true else None)
-
 -- the row `VALUES SOURCE` of a group with this number of bits, which has one digit for each
 abbrev pub row_in : ℕ → List (List ℕ) → Option SwitchRow
 row_in bits (digits ∷ source ∷ []) =
     if length digits == bits then
-    option_and_then (λ source. option_map (λ values. record { values = values; source = source }) (all_known (map digit_value digits)))
+    option_and_then (λ source. option_map (λ values. record { values = values; source = source }) (values_in digits))
     (number_below 4 source)
     else None
 row_in bits words = None
@@ -111,10 +77,6 @@ pub record Groups : Type 0 where
   pub before : List SwitchGroup
   pub last : SwitchGroup
   pub count : ℕ
-
--- a text has no more rows
-abbrev pub most_rows : ℕ
-most_rows = 16777216
 
 -- a heading begins the next group
 abbrev pub with_heading : Groups → SwitchGroup → Groups

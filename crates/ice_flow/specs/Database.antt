@@ -1,6 +1,7 @@
 -- A chip database as data: tiles, functions of bits, names of wires, groups of switches, packages.
 use Rattle.std.specs.Prelude.{ℕ, ◌+◌, ◌==◌, Bool, false, ◌&&◌, ◌||◌, Option, None, Some, List, [], ◌∷◌, ◌++◌, length, if◌then◌else◌, codes}
 use Rattle.std.specs.Str.{bytes_eq}
+use Rattle.ice_base.specs.Places.{same_tile}
 use Rattle.ice_base.specs.declared.number.TileAt.{TileAt}
 use Rattle.ice_base.specs.declared.number.BitAt.{BitAt}
 
@@ -8,12 +9,6 @@ use Rattle.ice_base.specs.declared.number.BitAt.{BitAt}
 pub record Pad : Type 0 where
   pub tile : TileAt
   pub pio : ℕ
-
-abbrev pub same_tile : TileAt → TileAt → Bool
-same_tile a b = (a.x == b.x) && (a.y == b.y)
-
-abbrev pub same_bit : BitAt → BitAt → Bool
-same_bit a b = (a.row == b.row) && (a.col == b.col)
 
 abbrev pub same_pad : Pad → Pad → Bool
 same_pad a b = same_tile a.tile b.tile && (a.pio == b.pio)

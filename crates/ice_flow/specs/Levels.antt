@@ -1,7 +1,7 @@
 -- Levels of the bits of a tile that switches may have, in a table.
 use Rattle.std.specs.Prelude.{◌+◌, ◌*◌, ◌<◌, Bool, false, List, slice_index_or}
 use Rattle.ice_base.specs.declared.number.BitAt.{BitAt}
-use Rattle.ice_flow.specs.Lists.{Has}
+use Rattle.ice_value.specs.Order.{Has}
 
 -- a bit that a switch may have
 abbrev pub IsSwitchBit : BitAt → Type 0

@@ -1,4 +1,3 @@
-pub mod Lists
 pub mod Database
 pub mod Names
 pub mod Switches
@@ -7,7 +6,6 @@ pub mod FirstForm
 pub mod Written
 pub mod Views
 pub mod BufferForm
-pub mod PlainLines
 pub mod ChipText
 pub mod Buffers
 pub mod PinPads

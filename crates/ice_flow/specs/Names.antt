@@ -2,6 +2,7 @@
 use Rattle.std.specs.Prelude.{ℕ, Bool, false, ◌||◌, ◌&&◌, List, [], ◌∷◌, ◌++◌, codes, ◌==◌, nat_eq}
 use Rattle.std.specs.Str.{bytes_eq}
 use Rattle.std.specs.List.{starts_with, list_any}
+use Rattle.ice_chip.specs.PinNames.{is_memory_name}
 use Rattle.ice_flow.specs.Database.{WireName, Database, digit, has_tile}
 
 -- the wire that has the level of a pad, the wire that a pad drives out, and the wire that enables its output
@@ -25,10 +26,6 @@ is_input_name name =
 abbrev pub is_output_name : List ℕ → Bool
 is_output_name name =
     bytes_eq name (pad_input_name 0) || bytes_eq name (pad_input_name 1) || starts_with nat_eq name (codes "glb_netwk_")
-
--- a wire of the memory tiles
-abbrev pub is_memory_name : List ℕ → Bool
-is_memory_name name = starts_with nat_eq name (codes "ram/")
 
 -- the wire that joins the look-up tables of neighbouring cells
 abbrev pub is_cascade_name : List ℕ → Bool

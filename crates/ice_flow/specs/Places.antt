@@ -1,6 +1,6 @@
 -- Rows of a database by their places.
 use Rattle.std.specs.Prelude.{ℕ, ◌<◌, List, [], length, map, take, slice_index_or}
-use Rattle.ice_flow.specs.Lists.{At}
+use Rattle.ice_value.specs.Order.{At}
 use Rattle.ice_flow.specs.FirstForm.{left_tile}
 use Rattle.ice_flow.specs.Database.{SwitchRow, SwitchGroup, Row, rows_from}
 use Rattle.ice_flow.specs.declared.place.Place.{Place}

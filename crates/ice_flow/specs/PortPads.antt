@@ -8,7 +8,7 @@ use Rattle.ice_chip.specs.Places.{same_pad}
 use Rattle.ice_chip.specs.declared.rows.Pad.{Pad}
 use Rattle.ice_pcf.specs.Grammar.{text_says}
 use Rattle.ice_pcf.specs.declared.constraint.Constraint.{Constraint}
-use Rattle.ice_flow.specs.Lists.{Has}
+use Rattle.ice_value.specs.Order.{Has}
 use Rattle.ice_flow.specs.Buffers.{signal_name}
 
 -- the pad of a pin of the package

@@ -4,7 +4,6 @@ use Rattle.ice_flow.specs.Database.{Pad}
 use Rattle.ice_flow.specs.ChipText.{Groups}
 use Rattle.ice_flow.specs.PinPads.{PinsFault, OtherForm, UnknownPin, Matched, InputFirst, OutputFirst}
 use Rattle.ice_flow.specs.Views.{group_view, groups_view, pad_view}
-use Rattle.ice_flow.specs.declared.plain.PlainLine.{PlainLine}
 use Rattle.ice_flow.specs.declared.chip_text.ChipStop.{ChipStop}
 use Rattle.ice_flow.specs.declared.chip_text.ChipStop.TheVariants as chip_stop
 use Rattle.ice_flow.specs.declared.chip_text.Reading.{Reading}
@@ -15,10 +14,6 @@ use Rattle.ice_flow.specs.declared.pin_pads.PinsStop.{PinsStop}
 use Rattle.ice_flow.specs.declared.pin_pads.PinsStop.TheVariants as pins_stop
 use Rattle.ice_flow.specs.declared.pin_pads.Matched as rust_matched
 use Rattle.ice_flow.specs.declared.pin_pads.Matched.TheVariants as rust_match
-
--- the number and the words of a line
-abbrev pub plain_line_view : PlainLine → ℕ × List (List ℕ)
-plain_line_view line = (line.number, line.first.now ∷ line.others)
 
 -- ---- chip texts
 abbrev pub Stops : {Y : Type 0} → ChipStop → Option Y → Type 0

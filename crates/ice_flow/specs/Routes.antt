@@ -2,8 +2,9 @@
 use Rattle.std.specs.Prelude.{◌≡◌, ◌≢◌, ℕ, Bool, true, false, ◌&&◌, ◌||◌, List, [], ◌∷◌}
 use Rattle.ice_base.specs.declared.number.TileAt.{TileAt}
 use Rattle.ice_base.specs.declared.number.BitAt.{BitAt}
-use Rattle.ice_flow.specs.Lists.{At, Has}
-use Rattle.ice_flow.specs.Database.{Database, NamedBit, SwitchGroup, Row, rows_of, same_tile, same_bit}
+use Rattle.ice_value.specs.Order.{At, Has}
+use Rattle.ice_base.specs.Places.{same_tile, same_place}
+use Rattle.ice_flow.specs.Database.{Database, NamedBit, SwitchGroup, Row, rows_of}
 use Rattle.ice_flow.specs.Names.{has_input_name, has_output_name, has_closed_name, has_memory_name, is_foreign_function}
 use Rattle.ice_flow.specs.Switches.{Bits, is_on}
 
@@ -11,7 +12,7 @@ use Rattle.ice_flow.specs.Switches.{Bits, is_on}
 abbrev pub value_at : List BitAt → List Bool → BitAt → Bool
 value_at [] vs b = false
 value_at (p ∷ ps) [] b = false
-value_at (p ∷ ps) (v ∷ vs) b = (same_bit p b && v) || value_at ps vs b
+value_at (p ∷ ps) (v ∷ vs) b = (same_place p b && v) || value_at ps vs b
 
 -- the bits that a row sets, and no others: its values in its group's bits, and 0 elsewhere
 abbrev pub sets : Row → Bits

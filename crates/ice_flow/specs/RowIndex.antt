@@ -7,8 +7,9 @@ use Rattle.std.specs.Cmp.Lexicographic.{pointwise}
 use Rattle.std.specs.HashMap.{HashMap, get_by}
 use Rattle.std.specs.HashSet.{HashSet, contains_by}
 use Rattle.ice_base.specs.declared.number.BitAt.{BitAt}
-use Rattle.ice_flow.specs.Lists.{At}
-use Rattle.ice_flow.specs.Database.{SwitchGroup, Row, same_bit}
+use Rattle.ice_value.specs.Order.{At}
+use Rattle.ice_base.specs.Places.{same_place}
+use Rattle.ice_flow.specs.Database.{SwitchGroup, Row}
 use Rattle.ice_flow.specs.Switches.{same_values}
 use Rattle.ice_flow.specs.Routes.{value_at}
 use Rattle.ice_flow.specs.Places.{row_at}
@@ -18,7 +19,7 @@ use Rattle.ice_flow.specs.declared.index.Index.{Index}
 
 -- the same bits and the same values
 abbrev pub is_key : List BitAt → List Bool → List BitAt → List Bool → Bool
-is_key bits values b v = pointwise same_bit bits b && pointwise beq values v
+is_key bits values b v = pointwise same_place bits b && pointwise beq values v
 
 -- the rows of these bits and values
 abbrev pub holder_at : {S : Type 0} → HashMap (Bor (List BitAt) × Bor (List Bool)) Holder S → List BitAt → List Bool → Option Holder
@@ -31,7 +32,7 @@ with_row p (Some h) = record { first = h.first; several = true }
 
 -- the set has these bits
 abbrev pub knows : {S : Type 0} → HashSet (Bor (List BitAt)) S → List BitAt → Bool
-knows known bits = contains_by (λ (k : Bor (List BitAt)). pointwise same_bit bits k.now) known
+knows known bits = contains_by (λ (k : Bor (List BitAt)). pointwise same_place bits k.now) known
 
 -- the bits are one of the lists
 abbrev pub HasShape : List (Bor (List BitAt)) → List BitAt → Type 0

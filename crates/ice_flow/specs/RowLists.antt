@@ -5,7 +5,7 @@ use Rattle.std.specs.Borrow.{Bor}
 use Rattle.std.specs.Cmp.Lexicographic.{pointwise}
 use Rattle.std.specs.HashSet.{HashSet, contains_by}
 use Rattle.ice_base.specs.declared.number.TileAt.{TileAt}
-use Rattle.ice_flow.specs.Lists.{At}
+use Rattle.ice_value.specs.Order.{At}
 use Rattle.ice_flow.specs.Database.{SwitchGroup, Row, rows_from}
 use Rattle.ice_flow.specs.Switches.{is_fresh}
 use Rattle.ice_flow.specs.Places.{row_at, IsWithin}

@@ -2,7 +2,7 @@
 use Rattle.std.specs.Prelude.{◌≡◌, ◌≢◌, ℕ, ◌+◌, ◌<◌, Bool, true, false, Option, None, Some, List, [], ◌∷◌, length, slice_index_or}
 use Rattle.std.specs.Option.{is_some, unwrap_or}
 use Rattle.std.specs.Global.{Vec}
-use Rattle.ice_flow.specs.Lists.{At}
+use Rattle.ice_value.specs.Order.{At}
 use Rattle.ice_flow.specs.Database.{SwitchGroup, Row}
 use Rattle.ice_flow.specs.Places.{row_at}
 use Rattle.ice_flow.specs.UsableRows.{edge}

@@ -7,8 +7,9 @@ use Rattle.ice_chip.specs.Database.{Parts}
 use Rattle.ice_bits.specs.Configuration.{Configuration, bits_of, IsOf}
 use Rattle.ice_asc.specs.Grammar.{asc_in}
 use Rattle.ice_asc.specs.Text.{asc_text}
-use Rattle.ice_flow.specs.Lists.{Has}
-use Rattle.ice_flow.specs.Database.{Database, IoFunction, PinType, InputEnable, PullUpEnable, is_among_tiles, same_tile, function_bit}
+use Rattle.ice_value.specs.Order.{Has}
+use Rattle.ice_base.specs.Places.{same_tile}
+use Rattle.ice_flow.specs.Database.{Database, IoFunction, PinType, InputEnable, PullUpEnable, is_among_tiles, function_bit}
 use Rattle.ice_flow.specs.FirstForm.{left_tile, right_tile, database_with}
 use Rattle.ice_flow.specs.FormChip.{parts_with}
 use Rattle.ice_flow.specs.Switches.{Bits}

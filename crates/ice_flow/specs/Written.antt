@@ -4,7 +4,8 @@ use Rattle.std.specs.List.{list_any, list_all}
 use Rattle.ice_base.specs.declared.number.TileAt.{TileAt}
 use Rattle.ice_base.specs.declared.number.BitAt.{BitAt}
 use Rattle.ice_net.specs.Meaning.{table_bit}
-use Rattle.ice_flow.specs.Database.{Pad, IoFunction, PinType, InputEnable, PullUpEnable, Row, Database, same_bit, same_pad, function_bit, has_tile}
+use Rattle.ice_base.specs.Places.{same_place}
+use Rattle.ice_flow.specs.Database.{Pad, IoFunction, PinType, InputEnable, PullUpEnable, Row, Database, same_pad, function_bit, has_tile}
 use Rattle.ice_flow.specs.Switches.{Bits}
 use Rattle.ice_flow.specs.Routes.{sets}
 
@@ -53,7 +54,7 @@ io_functions =
 
 abbrev pub is_this_bit : Option BitAt → BitAt → Bool
 is_this_bit None b = false
-is_this_bit (Some a) b = same_bit a b
+is_this_bit (Some a) b = same_place a b
 
 -- the bits that are written
 abbrev pub written : Database → Plan → Bits

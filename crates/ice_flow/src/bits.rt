@@ -4,7 +4,7 @@ ghost use Rattle.std.specs.List.{list_any};
 ghost use Rattle.ice_base.specs.declared.number.TileAt.{TileAt};
 ghost use Rattle.ice_base.specs.declared.number.BitAt.{BitAt};
 ghost use Rattle.ice_bits.specs.Configuration.{bits_of};
-ghost use Rattle.ice_flow.specs.Database.{same_tile, same_bit};
+ghost use Rattle.ice_base.specs.Places.{same_tile, same_place};
 ghost use Rattle.ice_flow.specs.Writing.{AreFormBits, IsInTile, is_io_tile, IsWritable, AreWritable, row_sets};
 
 use crate::route::RouteRow;
@@ -17,7 +17,7 @@ pub fn set_to(bits: &mut Bits, tile: TileAt, at: BitAt, value: bool)
     requires tile { is_io_tile tile ≡ true }
     requires place { IsInTile at }
     ensures form { AreFormBits bits.new }
-    ensures set { (t : TileAt) (b : BitAt) → bits_of bits.new t b ≡ (bits_of bits.old t b || (same_tile tile t && (same_bit at b && value))) }
+    ensures set { (t : TileAt) (b : BitAt) → bits_of bits.new t b ≡ (bits_of bits.old t b || (same_tile tile t && (same_place at b && value))) }
 {
     if value {
         bits.set(tile, at, true);

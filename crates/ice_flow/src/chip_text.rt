@@ -1,32 +1,17 @@
 //! Reading a chip text of the form that is built so far.
-ghost use Rattle.std.specs.Prelude.{◌≡◌, ◌<◌, ◌∷◌, IfOk, IfSome, IfNone, option_map, map};
+ghost use Rattle.std.specs.Prelude.{◌≡◌, ◌∷◌, IfOk, IfSome, IfNone, option_map};
 ghost use Rattle.ice_base.specs.Text.{lines, numbered};
-ghost use Rattle.ice_flow.specs.Lists.{all_known};
-ghost use Rattle.ice_flow.specs.ChipText.{
-  cut_at,
-  number_below,
-  bit_in,
-  bits_in,
-  group_in,
-  group_without_rows,
-  heading_in,
-  digit_value,
-  row_in,
-  header_lines,
-  bodies,
-  lines_behind,
-  with_line,
-  groups_of,
-  groups_in,
-  IsOfForm,
-};
+ghost use Rattle.ice_base.specs.BitNames.{values_in};
+ghost use Rattle.ice_flow.specs.ChipText.{bits_in, group_in, group_without_rows, heading_in, row_in, header_lines, bodies, lines_behind, with_line, groups_of, groups_in, IsOfForm};
 ghost use Rattle.ice_flow.specs.Views.{row_view, group_view, groups_view};
 ghost use Rattle.ice_flow.specs.Readers.{Gives, reading_view};
 ghost use Rattle.ice_flow.specs.declared.chip_text.ChipStop.TheVariants.{NoMemory};
 
 use crate::chip::{Group, Row};
-use crate::plain::{PlainLine, PlainLines, plain_lines};
-use ice_base::{BitAt, LineIter, PlainWords, TileAt, WireNo, begins_with, lines_of, number_of};
+use ice_base::{
+    BitAt, LineIter, PlainLine, PlainLines, PlainWords, TileAt, WireNo, begins_with, bit_named,
+    digit_value, lines_of, number_below, plain_lines,
+};
 use std::alloc::{AllocError, AllocFailed, Global};
 use std::mem;
 
@@ -116,52 +101,14 @@ fn lines_behind_header(text: &[u8]) -> Option<LineIter<'_>>
     lines_behind(lines_of(HEADER), lines_of(text))
 }
 
-// A number below a limit.
-fn number_below(limit: u32, word: &[u8]) -> Option<u32>
-    ensures value { result ≡ number_below limit word.now }
-    ensures below { IfSome result (λ number. number < limit) }
-{
-    number_of(word).filter(|number| *number < limit)
-}
-
-// The bytes before the first such byte, and those behind it.
-#[tactic(auto, using(crate::proofs::ChipCuts::cut_begins, crate::proofs::ChipCuts::cut_goes_on, crate::proofs::ChipCuts::cut_is_here, crate::proofs::ChipCuts::cut_is_nowhere))]
-fn cut_at(byte: u8, bytes: &[u8]) -> Option<(&[u8], &[u8])>
-    ensures { cut_at byte bytes.now ≡ option_map (λ cut. (cut.0.now, cut.1.now)) result }
-{
-    for (i, b) in bytes.iter().enumerate() {
-        if *b == byte {
-            return Some((&bytes[..i], &bytes[i + 1..]));
-        }
-    }
-    None
-}
-
-// The place of the bit that is named `Brow[column]`.
-fn bit(name: &[u8]) -> Option<BitAt>
-    ensures { result ≡ bit_in name.now }
-{
-    let [b'B', place @ ..] = name else {
-        return None;
-    };
-    let (row, place) = cut_at(b'[', place)?;
-    let row = number_below(16, row)? as u8;
-    let (column, rest) = cut_at(b']', place)?;
-    if !rest.is_empty() {
-        return None;
-    }
-    let col = number_below(17, column)? as u8;
-    Some(BitAt { row, col })
-}
-
 // The places of the bits with these names, of which there is at least one.
-#[tactic(auto, using(crate::proofs::KnownLists::all_begin, crate::proofs::KnownLists::known_joins))]
+#[tactic(auto, using(ice_base::proofs::KnownLists::all_begin, ice_base::proofs::KnownLists::known_joins))]
 fn bits(alloc: Global, mut names: PlainWords<'_>) -> Result<Vec<BitAt>, ChipStop>
     ensures { Gives (λ bits. bits.items) result (bits_in names.entry) }
 {
     let mut bits = Vec::new(alloc);
     while let Some(name) = names.next() {
-        bits.push(bit(name).ok_or(ChipStop::OtherForm)?)?;
+        bits.push(bit_named(17, name).ok_or(ChipStop::OtherForm)?)?;
     }
     if bits.is_empty() {
         return Err(ChipStop::OtherForm);
@@ -197,21 +144,10 @@ fn heading(alloc: Global, name: &[u8], mut words: PlainWords<'_>) -> Result<Grou
     })
 }
 
-// The value of a digit.
-fn digit_value(digit: u8) -> Option<bool>
-    ensures { result ≡ digit_value digit }
-{
-    match digit {
-        b'0' => Some(false),
-        b'1' => Some(true),
-        _ => None,
-    }
-}
-
 // The values of these digits.
-#[tactic(auto, using(crate::proofs::KnownLists::all_begin, crate::proofs::KnownLists::value_joins, crate::proofs::KnownLists::value_stops, crate::proofs::KnownLists::values_end))]
+#[tactic(auto, using(ice_base::proofs::KnownLists::all_begin, ice_base::proofs::KnownLists::value_joins, ice_base::proofs::KnownLists::value_stops, ice_base::proofs::KnownLists::values_end))]
 fn values(alloc: Global, digits: &[u8]) -> Result<Vec<bool>, ChipStop>
-    ensures { Gives (λ values. values.items) result (all_known (map digit_value digits.now)) }
+    ensures { Gives (λ values. values.items) result (values_in digits.now) }
 {
     let mut values = Vec::with_capacity(alloc, digits.len())?;
     for digit in digits {

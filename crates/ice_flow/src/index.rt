@@ -3,7 +3,7 @@ ghost use Rattle.std.specs.Prelude.{◌≡◌, ℕ, ◌<◌, ◌⊎◌, ◌&&◌
 ghost use Rattle.std.specs.Option.{option_copied};
 ghost use Rattle.std.specs.List.{list_any};
 ghost use Rattle.ice_base.specs.declared.number.BitAt.{BitAt};
-ghost use Rattle.ice_flow.specs.Lists.{At};
+ghost use Rattle.ice_value.specs.Order.{At};
 ghost use Rattle.ice_flow.specs.Switches.{same_values};
 ghost use Rattle.ice_flow.specs.Views.{groups_view};
 ghost use Rattle.ice_flow.specs.ChipText.{IsOfForm};

@@ -2,7 +2,7 @@
 ghost use Rattle.std.specs.Prelude.{◌≡◌, ◌+◌, ◌*◌, ◌<◌, ◌&&◌, ◌||◌, false, length};
 ghost use Rattle.std.specs.List.{list_any};
 ghost use Rattle.ice_base.specs.declared.number.BitAt.{BitAt};
-ghost use Rattle.ice_flow.specs.Database.{same_bit};
+ghost use Rattle.ice_base.specs.Places.{same_place};
 ghost use Rattle.ice_flow.specs.Routes.{value_at};
 ghost use Rattle.ice_flow.specs.Levels.{IsSwitchBit, AreSwitchBits, level_in};
 ghost use Rattle.ice_flow.specs.Bundles.{is_among_bits};
@@ -51,7 +51,7 @@ impl Levels {
     /// Sets a bit.
     pub fn set(&mut self, bit: BitAt)
         requires { IsSwitchBit bit }
-        ensures { (b : BitAt) → IsSwitchBit b → level_in self.new.levels b ≡ (level_in self.old.levels b || same_bit bit b) }
+        ensures { (b : BitAt) → IsSwitchBit b → level_in self.new.levels b ≡ (level_in self.old.levels b || same_place bit b) }
     {
         self.levels[number_of(bit)] = true;
     }
@@ -59,7 +59,7 @@ impl Levels {
     // Sets a bit where the value is 1.
     fn set_to(&mut self, bit: BitAt, value: bool)
         requires { IsSwitchBit bit }
-        ensures { (b : BitAt) → IsSwitchBit b → level_in self.new.levels b ≡ (level_in self.old.levels b || (same_bit bit b && value)) }
+        ensures { (b : BitAt) → IsSwitchBit b → level_in self.new.levels b ≡ (level_in self.old.levels b || (same_place bit b && value)) }
     {
         if !value {
             return;

@@ -15,7 +15,6 @@ mod levels;
 mod pad;
 mod pin_pads;
 mod place;
-mod plain;
 mod request;
 mod route;
 mod rows;

@@ -1,6 +1,6 @@
 //! The rows that a route may use.
 ghost use Rattle.std.specs.Prelude.{◌≡◌, ◌<◌, List, OnOk, IfOk, length};
-ghost use Rattle.ice_flow.specs.Lists.{At};
+ghost use Rattle.ice_value.specs.Order.{At};
 ghost use Rattle.ice_flow.specs.Database.{SwitchGroup, Row};
 ghost use Rattle.ice_flow.specs.Views.{groups_view};
 ghost use Rattle.ice_flow.specs.FirstForm.{database_with};

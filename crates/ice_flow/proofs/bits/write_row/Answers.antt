@@ -1,6 +1,6 @@
 use Rattle.std.proofs.Common.{arith}
 use Rattle.std.specs.Prelude.{◌||◌}
-use Rattle.ice_flow.specs.Database.{same_tile}
+use Rattle.ice_base.specs.Places.{same_tile}
 use Rattle.ice_bits.specs.Configuration.{bits_of}
 use Rattle.ice_flow.specs.Writing.{row_sets}
 use Rattle.ice_flow.proofs.BitSteps.{has_read, row_more}

@@ -2,7 +2,7 @@ use Rattle.std.proofs.Common.{◌≡◌, drop}
 use Rattle.std.specs.Prelude.{◌&&◌, ◌||◌}
 use Rattle.ice_base.specs.declared.number.TileAt.{TileAt}
 use Rattle.ice_base.specs.declared.number.BitAt.{BitAt}
-use Rattle.ice_flow.specs.Database.{same_tile}
+use Rattle.ice_base.specs.Places.{same_tile}
 use Rattle.ice_flow.specs.Routes.{value_at}
 use Rattle.ice_bits.specs.Configuration.{bits_of}
 use Rattle.ice_flow.specs.Writing.{AreFormBits, row_sets}

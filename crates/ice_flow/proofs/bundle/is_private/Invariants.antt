@@ -1,5 +1,5 @@
 use Rattle.std.proofs.Common.{◌≡◌, ℕ, ◌<◌, false}
-use Rattle.ice_flow.specs.Lists.{At}
+use Rattle.ice_value.specs.Order.{At}
 use Rattle.ice_flow.specs.Database.{SwitchGroup}
 use Rattle.ice_flow.specs.Views.{groups_view}
 use Rattle.ice_flow.specs.Bundles.{is_intruder}

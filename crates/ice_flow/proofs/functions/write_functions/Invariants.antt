@@ -3,7 +3,7 @@ use Rattle.std.specs.Prelude.{◌&&◌, ◌||◌}
 use Rattle.ice_base.specs.declared.number.TileAt.{TileAt}
 use Rattle.ice_base.specs.declared.number.BitAt.{BitAt}
 use Rattle.ice_bits.specs.Configuration.{bits_of}
-use Rattle.ice_flow.specs.Database.{same_tile}
+use Rattle.ice_base.specs.Places.{same_tile}
 use Rattle.ice_flow.specs.Writing.{AreFormBits, functions_set}
 use Rattle.ice_flow.proofs.functions.write_functions.Given as goal
 

@@ -3,12 +3,12 @@ use Rattle.std.specs.Bool.{beq}
 use Rattle.std.specs.Cmp.{booleans_Decides}
 use Rattle.std.proofs.lemmas.Bool.{not-false}
 use Rattle.ice_flow.specs.Levels.{level_in}
-use Rattle.ice_flow.proofs.LevelTables.{has_read}
+use Rattle.ice_value.proofs.Members.{Has_read}
 use Rattle.ice_flow.proofs.AloneRows.{read_more, read_end}
 use Rattle.ice_flow.proofs.index.are_read.Goals as goal
 
 pub level-requires : goal.level-requires
-level-requires c = c.requires.range _ (has_read c.args.bits.now c.loop-k.k (record { row = 0; col = 0 }) (omega arith))
+level-requires c = c.requires.range _ (Has_read c.args.bits.now c.loop-k.k (record { row = 0; col = 0 }) (omega arith))
 
 pub loop-k-preserved : goal.loop-k-preserved
 loop-k-preserved c =

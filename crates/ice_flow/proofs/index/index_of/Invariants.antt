@@ -1,6 +1,6 @@
 use Rattle.std.proofs.Common.{◌≡◌, ◌<◌, ℕ, true, List, Bool}
 use Rattle.ice_base.specs.declared.number.BitAt.{BitAt}
-use Rattle.ice_flow.specs.Lists.{At}
+use Rattle.ice_value.specs.Order.{At}
 use Rattle.ice_flow.specs.Views.{groups_view}
 use Rattle.ice_flow.specs.Places.{row_at}
 use Rattle.ice_flow.specs.RowIndex.{holder_at, knows, HasShape, IsHeld}

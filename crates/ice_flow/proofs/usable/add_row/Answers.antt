@@ -3,7 +3,7 @@ use Rattle.std.specs.Option.{is_some}
 use Rattle.std.proofs.lemmas.Bool.{both_ways}
 use Rattle.std.proofs.lemmas.List.{get_or_read, get_or-set_same}
 use Rattle.std.proofs.lemmas.Option.{slice_get_read}
-use Rattle.ice_flow.specs.Lists.{At}
+use Rattle.ice_value.specs.Order.{At}
 use Rattle.ice_flow.specs.Views.{groups_view}
 use Rattle.ice_flow.specs.Places.{row_at}
 use Rattle.ice_flow.specs.RowIndex.{IsAlone}

@@ -1,5 +1,5 @@
 use Rattle.std.proofs.Common.{◌<◌, ℕ}
-use Rattle.ice_flow.specs.Lists.{At}
+use Rattle.ice_value.specs.Order.{At}
 use Rattle.ice_flow.specs.Views.{groups_view}
 use Rattle.ice_flow.specs.FirstForm.{database_with}
 use Rattle.ice_flow.specs.Routes.{IsUsable}

@@ -1,4 +1,4 @@
-use Rattle.ice_flow.proofs.LevelTables.{all_low}
+use Rattle.ice_base.proofs.Entries.{all_low}
 use Rattle.std.proofs.Common.{◌+◌, ◌*◌}
 use Rattle.ice_flow.proofs.levels.Levels.new.Goals as goal
 

@@ -2,11 +2,12 @@ use Rattle.std.proofs.Common.{false, arith}
 use Rattle.std.specs.Prelude.{◌||◌}
 use Rattle.ice_flow.specs.Routes.{value_at}
 use Rattle.ice_flow.specs.Levels.{level_in}
-use Rattle.ice_flow.proofs.LevelTables.{has_read, value_more, value_end}
+use Rattle.ice_value.proofs.Members.{Has_read}
+use Rattle.ice_flow.proofs.LevelTables.{value_more, value_end}
 use Rattle.ice_flow.proofs.levels.Levels.set_ones.Goals as goal
 
 pub set_to-requires : goal.set_to-requires
-set_to-requires c = c.requires.range _ (has_read c.args.bits.now c.loop-k.k (record { row = 0; col = 0 }) (omega arith))
+set_to-requires c = c.requires.range _ (Has_read c.args.bits.now c.loop-k.k (record { row = 0; col = 0 }) (omega arith))
 
 pub loop-k-preserved : goal.loop-k-preserved
 loop-k-preserved c b in' =
