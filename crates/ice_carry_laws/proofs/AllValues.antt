@@ -93,7 +93,7 @@ module _ (d : Design) (ready : IsBeforeRuns d) (within : ReadsWithin d) (levels 
 
   out_value : (c : ℕ) (y : LogicCell) → At new.cells c y → NewCell d c y → (x : Bool) × HasNew (Net (CellOut c)) x
   out_value c y at (Kept x old) = kept_out c x old (slice_index_or moved c None) refl
-  out_value c y at (Taking root takes has) =
+  out_value c y at (Taking root takes has passed) =
       made (Net (CellOut c)) (None ∷ Some (Net (renamed moved fed root)) ∷ None ∷ None ∷ []) (false ∷ v (Net root) ∷ false ∷ false ∷ [])
       (out_reads c (Some (taking (renamed moved fed root))) takes.at) (refl, (has_root root has, (refl, (refl, tt))))
   out_value c y at (Passing k passes has) =
@@ -112,7 +112,7 @@ module _ (d : Design) (ready : IsBeforeRuns d) (within : ReadsWithin d) (levels 
 
   up_value : (c : ℕ) (y : LogicCell) → At new.cells c y → NewCell d c y → (x : Bool) × HasNew (Net (CarryOut c)) x
   up_value c y at (Kept x old) = kept_up c x old x.carry refl
-  up_value c y at (Taking root takes has) =
+  up_value c y at (Taking root takes has passed) =
       made (Net (CarryOut c)) (Some (Net (renamed moved fed root)) ∷ None ∷ Some (Level true) ∷ []) (v (Net root) ∷ false ∷ true ∷ [])
       (up_reads c (Some (taking (renamed moved fed root))) takes.at ∙ ap (λ o. Some (Net (renamed moved fed root)) ∷ None ∷ o ∷ []) takes.set)
       (has_root root has, (refl, (one, tt)))

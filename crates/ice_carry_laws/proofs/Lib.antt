@@ -8,3 +8,7 @@ mod TiedRuns
 mod Shown
 mod NewCells
 mod AllValues
+mod NewReads
+mod PadReads
+mod AlikeRuns
+mod FormedRuns

@@ -1,6 +1,6 @@
 -- What each cell of a design with runs is: one of the design without them, one that a run has beside its carries, or one to which a flip-flop moved.
 use Rattle.std.proofs.Common.{◌≡◌, ◌⊎◌, ℕ, zero, suc, ◌+◌, false, Option, None, Some, List, [], ◌∷◌, length, map, inl, inr, refl, sym, ap, ◌∙◌, subst, arith}
-use Rattle.std.specs.Prelude.{slice_get}
+use Rattle.std.specs.Prelude.{slice_get, slice_index_or}
 use Rattle.std.specs.Option.{option_map_or}
 use Rattle.std.proofs.lemmas.Option.{none-some}
 use Rattle.ice_net.specs.declared.kind.Reset.{Reset}
@@ -11,6 +11,7 @@ use Rattle.ice_cells.specs.declared.cell.LogicCell.{LogicCell}
 use Rattle.ice_cells.specs.declared.design.Design.{Design}
 use Rattle.ice_cells.specs.declared.root.CarryIn.TheVariants.{Read}
 use Rattle.ice_cells.specs.declared.root.Root.{Root}
+use Rattle.ice_cells.specs.declared.root.Root.TheVariants.{CarryOut}
 use Rattle.ice_cells.specs.Chains.{end}
 use Rattle.ice_cells.specs.Follows.{follows}
 use Rattle.ice_cells.specs.Moves.{renamed, renamed_flop, become_from, moved_cell}
@@ -18,6 +19,8 @@ use Rattle.ice_cells.specs.Readings.{roots_read}
 use Rattle.ice_cells.specs.Runs.{cells_fed, fed_numbers, movers, moved_numbers, runs_of}
 use Rattle.ice_chains.specs.Before.{HasCarry, IsBeforeRuns}
 use Rattle.ice_chains.proofs.CellsAfter.{FeedsIn, FeedsOut}
+use Rattle.ice_chains.proofs.DesignChains.{heads_are}
+use Rattle.ice_chains.proofs.ReadsFed.{into_fed}
 use Rattle.ice_chains.proofs.DesignRuns.{feed_number, CellFed, Old, Feed, cell_fed}
 use Rattle.ice_chains.proofs.HeadPlaces.{head_back}
 use Rattle.ice_carry_laws.specs.AreRuns.{TakesIn, PassesOn}
@@ -27,7 +30,8 @@ use Rattle.ice_carry_laws.proofs.TiedRuns.{takes_root, passed_by, end_carry}
 
 pub data NewCell (d : Design) (c : ℕ) (y : LogicCell) : Type 0 where
   Kept : (x : LogicCell) → At d.cells c x → NewCell d c y
-  Taking : (root : Root) → TakesIn (runs_of d) c (renamed (moved_numbers d) (fed_numbers d) root) → Has (roots_read d) (Some root) → NewCell d c y
+  Taking : (root : Root) → TakesIn (runs_of d) c (renamed (moved_numbers d) (fed_numbers d) root) → Has (roots_read d) (Some root)
+      → ((k : ℕ) → root ≡ CarryOut k → (f : ℕ) × (slice_index_or (fed_numbers d) k None ≡ Some f)) → NewCell d c y
   Passing : (k : ℕ) → PassesOn (runs_of d) c k → HasCarry d k → NewCell d c y
   Gone : (m : ℕ) (cell : LogicCell) (flop : Control × Reset) → At d.cells m cell → cell.flop ≡ Some flop → moved_cell (moved_numbers d) (fed_numbers d) d.cells m ≡ y → NewCell d c y
 
@@ -54,6 +58,7 @@ module _ (d : Design) (ready : IsBeforeRuns d) where
       let listed : At d.carries back.place (head.0, Read root) = back.at ∙ ap Some same in
       Taking root (subst (λ n. TakesIn (runs_of d) n (renamed moved fed root)) (none_more (feed_number d r) ∙ ap (λ n. feed_number d r + n) (sym h) ∙ sym number) (takes_root d ready r head root at e))
       (carry_read d back.place head.0 root listed)
+      (λ k f. into_fed d ready head.0 k (back.place, listed ∙ ap (λ q. Some (head.0, Read q)) f) (λ g. (heads_are d ready).first r head at k g))
   fed_cell c y x (Feed r head i at (FeedsOut passes h k) number) =
       Passing (end (follows d) (length (follows d)) head.0)
       (passed_by d ready r head (end (follows d) (length (follows d)) head.0) c at passes refl (ap (λ n. feed_number d r + n) (sym h) ∙ sym number)) (end_carry d ready r head at)

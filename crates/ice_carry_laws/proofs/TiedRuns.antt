@@ -150,7 +150,7 @@ module _ (d : Design) (ready : IsBeforeRuns d) where
     takes_root r x root at e,
   )
 
-  into_carry : (c : ℕ) (has : HasCarry d c) → CarriesIn new moved fed c has.into
+  pub into_carry : (c : ℕ) (has : HasCarry d c) → CarriesIn new moved fed c has.into
   into_carry c has = by stands.place stands.behind_it stands.within
     where
       stands : StandsBehind d ready c
@@ -212,7 +212,7 @@ module _ (d : Design) (ready : IsBeforeRuns d) where
   pub end_carry : (r : ℕ) (x : Head) → At (run_heads d) r x → HasCarry d (end marks (length marks) x.0)
   end_carry r x at = let ends = end_behind marks (length marks) x.0 in behind_carry d ready ends.0 x.0 (end marks (length marks) x.0) (head_carry d ready r x at) ends.1
 
-  passes_on : (c f : ℕ) → slice_index_or fed c None ≡ Some f → PassesOn new f c
+  pub passes_on : (c f : ℕ) → slice_index_or fed c None ≡ Some f → PassesOn new f c
   passes_on c f e =
       let is = fed_back marks (length d.cells) (run_heads d) (c, f) (number_back pairs c f (from_table pairs (length (cells_fed d)) c f e)) in
       let both = pair_of (fed_of marks is.head (feed_number d is.run)) c f is.is in
