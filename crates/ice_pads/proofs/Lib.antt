@@ -1,2 +1,11 @@
 mod Passed
 mod Lower
+mod Noting
+mod PortPlaces
+mod Fits
+mod Inversions
+mod GivenLaws
+mod ChosenLaws
+mod PackageLaws
+mod GlobalLaws
+mod AssignLaws

@@ -1,5 +1,6 @@
 -- What calls answer of what the definitions say.
-use Rattle.std.specs.Prelude.{◌≡◌, ℕ, Result, Ok, Err}
+use Rattle.std.specs.Prelude.{◌≡◌, ℕ, Result, Ok, Err, List}
+use Rattle.std.specs.Global.{Vec}
 use Rattle.ice_pads.specs.declared.fault.PinFault.{PinFault}
 use Rattle.ice_pads.specs.declared.fault.PinFault.TheVariants.{NoPackage, UnknownPin, UnknownPort, PinTwice, PortTwice, NoPadLeft, TooManyGlobals, PadLacks, NoMemory}
 
@@ -12,3 +13,13 @@ Stops fault said = said ≡ Err fault
 abbrev pub Answers : {A : Type 0} → Result A PinFault → Result A PinFault → Type 0
 Answers (Ok value) said = said ≡ Ok value
 Answers (Err fault) said = Stops fault said
+
+-- the same of a list in memory
+abbrev pub Lists : {A : Type 0} → Result (Vec A) PinFault → Result (List A) PinFault → Type 0
+Lists (Ok value) said = said ≡ Ok value.items
+Lists (Err fault) said = Stops fault said
+
+-- the same of a call that changes what is kept
+abbrev pub Extends : {A : Type 0} → Result (Unit {0}) PinFault → A → Result A PinFault → Type 0
+Extends (Ok done) now said = said ≡ Ok now
+Extends (Err fault) now said = Stops fault said

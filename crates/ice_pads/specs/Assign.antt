@@ -25,13 +25,16 @@ pub record PadsData : Type 0 where
 abbrev pub pads_with : List Chosen → List ℕ → PadsData
 pads_with chosen globals = record { ports = map (λ (c : Chosen). c.pad) chosen; pullups = map (λ (c : Chosen). c.pullup) chosen; globals = globals }
 
--- first the constraints, line by line; then the other ports, in port order; then the globals
+-- first the constraints, line by line; then the other ports, in port order
+abbrev pub chosen_by : Parts → PackageRows → List Constraint → NetlistData → List Want → Result (List Chosen) PinFault
+chosen_by parts bonded constraints n ws = given_by parts bonded.pins n ws [] constraints >>= (λ given. all_chosen parts bonded.pads n given [] ws)
+
+-- what all ports get, and then the globals
 abbrev pub assigned : Parts → List Constraint → NetlistData → List Want → List Pins → Option PackageRows → Result PadsData PinFault
 assigned parts constraints n ws ps None = Err NoPackage
 assigned parts constraints n ws ps (Some bonded) =
-    given_by parts bonded.pins n ws [] constraints >>= (λ given.
-    all_chosen parts bonded.pads n given [] ws >>= (λ chosen.
-    globals_of parts ps >>= (λ globals. Ok (pads_with chosen globals))))
+    chosen_by parts bonded constraints n ws >>= (λ chosen.
+    globals_of parts ps >>= (λ globals. Ok (pads_with chosen globals)))
 
 -- the same, of what the ports and the global buffers of a design need
 abbrev pub assign_by : Parts → List ℕ → List Constraint → NetlistData → List Want → List Pins → Result PadsData PinFault

@@ -96,10 +96,14 @@ with_taken choices n = record { taken = choices.taken ++ n ∷ []; free = withou
 abbrev pub is_control : Pins → Bool
 is_control pins = pins.enable || pins.reset
 
--- these choose first, in order
+-- these choose first
+abbrev pub choice : Parts → Pins → List ℕ → Option ℕ
+choice parts p free = if is_control p then picked parts p free else None
+
+-- all of them, in order
 abbrev pub first_choices : Parts → Choices → List Pins → Choices
 first_choices parts choices [] = choices
-first_choices parts choices (p ∷ ps) = first_choices parts (with_taken choices (if is_control p then picked parts p choices.free else None)) ps
+first_choices parts choices (p ∷ ps) = first_choices parts (with_taken choices (choice parts p choices.free)) ps
 
 -- each of the others takes the least free one; there are enough
 abbrev pub other_choices : List (Option ℕ) → List ℕ → List ℕ
@@ -111,8 +115,12 @@ other_choices (None ∷ taken) (n ∷ free) = n ∷ other_choices taken free
 abbrev pub all_choices : Choices → List ℕ
 all_choices choices = other_choices choices.taken choices.free
 
+-- the global of each global buffer, where these are free
+abbrev pub chosen_from : Parts → List ℕ → List Pins → List ℕ
+chosen_from parts free pins = all_choices (first_choices parts (record { taken = []; free = free }) pins)
+
 -- the global of each global buffer, or that there are too few
 abbrev pub globals_of : Parts → List Pins → Result (List ℕ) PinFault
 globals_of parts pins =
     if nat_lt (length (globals parts)) (length pins) then Err (TooManyGlobals (length pins) (length (globals parts)))
-    else Ok (all_choices (first_choices parts (record { taken = []; free = globals parts }) pins))
+    else Ok (chosen_from parts (globals parts) pins)

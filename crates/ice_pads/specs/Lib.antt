@@ -7,3 +7,4 @@ pub mod Globals
 pub mod Answers
 pub mod Tables
 pub mod Assign
+pub mod Facts

@@ -34,7 +34,11 @@ by_given parts pads n given chosen k want None = by_free n k want (find (is_fit 
 abbrev pub next_chosen : Parts → List Pad → NetlistData → List Given → List Chosen → Want → Result Chosen PinFault
 next_chosen parts pads n given chosen want = by_given parts pads n given chosen (length chosen) want (of_port given (length chosen))
 
+-- what the ports before got, and then this one
+abbrev pub with_next : List Chosen → Result Chosen PinFault → Result (List Chosen) PinFault
+with_next chosen said = said >>= (λ c. Ok (chosen ++ c ∷ []))
+
 -- what all ports get, or the first for which no pad is left
 abbrev pub all_chosen : Parts → List Pad → NetlistData → List Given → List Chosen → List Want → Result (List Chosen) PinFault
 all_chosen parts pads n given chosen [] = Ok chosen
-all_chosen parts pads n given chosen (want ∷ wants) = next_chosen parts pads n given chosen want >>= (λ c. all_chosen parts pads n given (chosen ++ c ∷ []) wants)
+all_chosen parts pads n given chosen (want ∷ wants) = with_next chosen (next_chosen parts pads n given chosen want) >>= (λ more. all_chosen parts pads n given more wants)

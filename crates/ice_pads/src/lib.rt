@@ -1,16 +1,26 @@
 //! The pads, pull-ups and globals that the ports and global buffers of a design get.
 #![tactic(auto)]
 
+mod assigning;
+mod choices;
+mod choosing;
 mod fault;
 mod free_globals;
 mod given;
+mod laws;
+mod lines;
 mod needs;
+mod places;
+mod progress;
+mod tables;
 mod want;
 mod wires;
 
+pub use assigning::{Pads, assign};
 pub use fault::PinFault;
 pub use free_globals::{globals, serves};
 pub use given::{Chosen, Given};
+pub use laws::assigned_pads_fit;
 pub use needs::{pins_of, wants};
 pub use want::{Pins, Want};
 pub use wires::suits;

@@ -1,0 +1,196 @@
+-- What is known of the pads and globals that are assigned.
+use Rattle.std.proofs.Common.{◌≡◌, ◌≢◌, ◌⊎◌, inl, inr, ℕ, zero, suc, ◌+◌, ◌<◌, ◌≤◌, ◌==◌, nat_eq, nat_lt, Bool, true, false, not, ◌&&◌, ◌||◌, is_some, IsSome, Option, None, Some, option_map, Result, Ok, Err, List, [], ◌∷◌, length, map, slice_get, get_or, bytes_eq, if◌then◌else◌, refl, sym, ap, subst, ◌∙◌, arith, true≢false, rules, tests}
+use Rattle.std.specs.List.{find, list_any, list_all, range_with_len, All}
+use Rattle.std.specs.Map.{lookup}
+use Rattle.std.proofs.lemmas.Bool.{and_parts, ltb-true, ltb-false}
+use Rattle.std.proofs.lemmas.Option.{get_or_from_slice_get, slice_get-map}
+use Rattle.std.proofs.lemmas.List.{length-map}
+use Rattle.std.proofs.lemmas.List.Elements.{All-head, All-tail}
+use Rattle.std.proofs.lemmas.List.FromFn.{length-map-range_with_len}
+use Rattle.ice_base.proofs.Booleans.{not_true, implied}
+use Rattle.ice_base.proofs.Keys.{nat_self, tile_self}
+use Rattle.ice_base.specs.declared.number.TileAt.{TileAt}
+use Rattle.ice_net.specs.NetlistData.{NetlistData}
+use Rattle.ice_pcf.specs.declared.constraint.Constraint.{Constraint}
+use Rattle.ice_chip.specs.Database.{Parts, PackageRows}
+use Rattle.ice_chip.specs.Lookups.{package_of, global_of}
+use Rattle.ice_chip.specs.Places.{same_pad, same_tile}
+use Rattle.ice_chip.specs.Within.{IsPackage, different_pads}
+use Rattle.ice_chip.specs.IsRead.{IsChip}
+use Rattle.ice_chip.specs.WireNames.{pad_input_name, pad_output_name, output_enable_name, fabout_name}
+use Rattle.ice_chip.specs.declared.rows.Pad.{Pad}
+use Rattle.ice_cells.specs.declared.design.DesignPad.{DesignPad}
+use Rattle.ice_cells.specs.declared.design.Design.{Design}
+use Rattle.ice_pads.specs.declared.want.Want.{Want}
+use Rattle.ice_pads.specs.declared.want.Pins.{Pins}
+use Rattle.ice_pads.specs.declared.given.Given.{Given}
+use Rattle.ice_pads.specs.declared.given.Chosen.{Chosen}
+use Rattle.ice_pads.specs.declared.fault.PinFault.{PinFault}
+use Rattle.ice_pads.specs.declared.fault.PinFault.TheVariants.{TooManyGlobals}
+use Rattle.ice_pads.specs.PadWires.{has_io_wire, suits}
+use Rattle.ice_pads.specs.Wants.{want_at, wants, pins_of, pins}
+use Rattle.ice_pads.specs.Constraints.{◌>>=◌, want_of, given_by}
+use Rattle.ice_pads.specs.Ports.{all_chosen}
+use Rattle.ice_pads.specs.Globals.{global_wire, is_fed, is_same_tile, some_lower, is_global, globals, globals_of, chosen_from}
+use Rattle.ice_pads.specs.Assign.{PadsData, pads_with, chosen_by, assigned, assign_of}
+use Rattle.ice_pads.specs.Facts.{HasWires, IsFed, ArePads, AssignedPadsFit}
+use Rattle.ice_pads.proofs.Lower.{lower_same}
+use Rattle.ice_pads.proofs.Inversions.{bind_ok}
+use Rattle.ice_pads.proofs.GivenLaws.{none_given, lines_give}
+use Rattle.ice_pads.proofs.ChosenLaws.{AreChosen, none_chosen, all_are}
+use Rattle.ice_pads.proofs.PackageLaws.{pin_bonded}
+use Rattle.ice_pads.proofs.GlobalLaws.{Apart, is_one, AreTakeable, all_takeable}
+
+-- ---- places of lists
+mapped_from : {A B : Type 0} (f : A → B) (xs : List A) (k : ℕ) (y : B) → slice_get (map f xs) k ≡ Some y → (x : A) × (slice_get xs k ≡ Some x) × (f x ≡ y)
+mapped_from f [] k y e = absurd (cc)
+mapped_from f (x ∷ xs) zero y e = (x, refl, cc)
+mapped_from f (x ∷ xs) (suc k) y e = mapped_from f xs k y e
+
+not_in : (xs : List ℕ) (k n : ℕ) → slice_get xs k ≡ Some n → list_any (nat_eq n) xs ≡ false → ⊥
+not_in [] k n at none = absurd (cc)
+not_in (x ∷ xs) zero n at none =
+    let same : x ≡ n = cc in
+    true≢false (sym (ap (λ b. b || list_any (nat_eq n) xs) (ap (nat_eq n) same ∙ nat_self n)) ∙ none)
+not_in (x ∷ xs) (suc k) n at none = by (nat_eq n x) (not_in xs k n at) none
+  where
+    by : (b : Bool) → (list_any (nat_eq n) xs ≡ false → ⊥) → (b || list_any (nat_eq n) xs) ≡ false → ⊥
+    by true later e = true≢false e
+    by false later e = later e
+
+apart_at : (xs : List ℕ) (j k n : ℕ) → Apart xs → slice_get xs j ≡ Some n → slice_get xs k ≡ Some n → j ≡ k
+apart_at [] j k n apart at be = absurd (cc)
+apart_at (x ∷ xs) zero zero n apart at be = refl
+apart_at (x ∷ xs) zero (suc k) n apart at be = let same : x ≡ n = cc in absurd (not_in xs k n be (ap (λ m. list_any (nat_eq m) xs) (sym same) ∙ apart.0))
+apart_at (x ∷ xs) (suc j) zero n apart at be = let same : x ≡ n = cc in absurd (not_in xs j n at (ap (λ m. list_any (nat_eq m) xs) (sym same) ∙ apart.0))
+apart_at (x ∷ xs) (suc j) (suc k) n apart at be = ap suc (apart_at xs j k n apart.1 at be)
+
+passes_at : (p : ℕ → Bool) (xs : List ℕ) (k n : ℕ) → list_all p xs ≡ true → slice_get xs k ≡ Some n → p n ≡ true
+passes_at p [] k n all at = absurd (cc)
+passes_at p (x ∷ xs) zero n all at = let same : x ≡ n = cc in ap p (sym same) ∙ (and_parts (p x) (list_all p xs) all).0
+passes_at p (x ∷ xs) (suc k) n all at = passes_at p xs k n (and_parts (p x) (list_all p xs) all).1 at
+
+-- ---- ports
+has_wires : (parts : Parts) (p : DesignPad) (pad : Pad) → suits parts (want_at p) pad ≡ true → HasWires parts p pad
+has_wires parts p pad e =
+    let input = not p.reads || has_io_wire parts pad.tile (pad_input_name pad.pio) in
+    let drives = (p.pin_type == 25) || (p.pin_type == 41) in
+    let output = not drives || has_io_wire parts pad.tile (pad_output_name pad.pio) in
+    let enable = not (p.pin_type == 41) || has_io_wire parts pad.tile (output_enable_name pad.pio) in
+    let two = and_parts (input && output) enable e in
+    let one = and_parts input output two.0 in
+    record {
+      input = implied p.reads (has_io_wire parts pad.tile (pad_input_name pad.pio)) one.0;
+      output = λ type. implied drives (has_io_wire parts pad.tile (pad_output_name pad.pio)) one.1 (by type);
+      enable = λ type. implied (p.pin_type == 41) (has_io_wire parts pad.tile (output_enable_name pad.pio)) two.1 (ap (λ t. t == 41) type);
+    }
+  where
+    or_right : (b : Bool) → (b || true) ≡ true
+    or_right true = refl
+    or_right false = refl
+
+    by : (p.pin_type ≡ 25) ⊎ (p.pin_type ≡ 41) → ((p.pin_type == 25) || (p.pin_type == 41)) ≡ true
+    by (inl type) = ap (λ t. (t == 25) || (p.pin_type == 41)) type
+    by (inr type) = ap (λ t. (p.pin_type == 25) || (t == 41)) type ∙ or_right (p.pin_type == 25)
+
+want_is : (ps : List DesignPad) (k : ℕ) (p : DesignPad) → slice_get ps k ≡ Some p → want_of (map want_at ps) k ≡ want_at p
+want_is ps k p at = get_or_from_slice_get (map want_at ps) k (want_at p) (record { input = false; output = false; enable = false; pullup = false }) (slice_get-map want_at ps k ∙ ap (option_map want_at) at)
+
+-- ---- globals
+feeder : (parts : Parts) (o : Option TileAt) → is_fed parts o ≡ true → (t : TileAt) × (o ≡ Some t) × (has_io_wire parts t fabout_name ≡ true)
+feeder parts None e = absurd (true≢false (sym e))
+feeder parts (Some t) e = (t, refl, e)
+
+fed : (parts : Parts) (n : ℕ) → is_one parts n ≡ true → IsFed parts n
+fed parts n e =
+    let one = and_parts (is_global parts n) (nat_lt n 8) e in
+    let two = and_parts (is_some (global_wire parts n) && is_fed parts (global_of parts n)) (not (some_lower parts n (global_of parts n))) one.0 in
+    let three = and_parts (is_some (global_wire parts n)) (is_fed parts (global_of parts n)) two.0 in
+    let tile = feeder parts (global_of parts n) three.1 in
+    record { below = ltb-true n 8 one.1; wire = three.0; tile = tile.0; feeds = tile.1; fabout = tile.2 }
+
+no_lower : (parts : Parts) (n : ℕ) → is_one parts n ≡ true → some_lower parts n (global_of parts n) ≡ false
+no_lower parts n e =
+    let one = and_parts (is_global parts n) (nat_lt n 8) e in
+    let two = and_parts (is_some (global_wire parts n) && is_fed parts (global_of parts n)) (not (some_lower parts n (global_of parts n))) one.0 in
+    not_true (some_lower parts n (global_of parts n)) two.1
+
+-- a tile feeds one global of those that can be taken
+no_two : (parts : Parts) (n m : ℕ) (tile : TileAt) → n < m → is_one parts m ≡ true → global_of parts n ≡ Some tile → global_of parts m ≡ Some tile → ⊥
+no_two parts n m tile lt is at be =
+    let same : is_same_tile (global_of parts n) (global_of parts m) ≡ true = ap (λ o. is_same_tile o (global_of parts m)) at ∙ ap (is_same_tile (Some tile)) be ∙ tile_self tile in
+    true≢false (sym (lower_same parts (global_of parts m) n m lt same) ∙ no_lower parts m is)
+
+one_number : (parts : Parts) (n m : ℕ) (tile : TileAt) → is_one parts n ≡ true → is_one parts m ≡ true → global_of parts n ≡ Some tile → global_of parts m ≡ Some tile → n ≡ m
+one_number parts n m tile is be at of = by (nat_lt n m) (nat_lt m n) refl refl
+  where
+    by : (a b : Bool) → nat_lt n m ≡ a → nat_lt m n ≡ b → n ≡ m
+    by true b e f = absurd (no_two parts n m tile (ltb-true n m e) be at of)
+    by false true e f = absurd (no_two parts m n tile (ltb-true m n f) is of at)
+    by false false e f =
+        let above : m ≤ n = ltb-false n m e in
+        let below : n ≤ m = ltb-false m n f in
+        omega arith
+
+if_not_ok : {A : Type 0} (b : Bool) (v w : A) (fault : PinFault) → (if b then Err fault else Ok v) ≡ Ok w → (b ≡ false) × (v ≡ w)
+if_not_ok false v w fault e = (refl, cc)
+if_not_ok true v w fault e = absurd (cc)
+
+globals_are : (parts : Parts) (ps : List Pins) (numbers : List ℕ) → globals_of parts ps ≡ Ok numbers → AreTakeable parts numbers (length ps)
+globals_are parts ps numbers e =
+    let is = if_not_ok (nat_lt (length (globals parts)) (length ps)) (chosen_from parts (globals parts) ps) numbers (TooManyGlobals (length ps) (length (globals parts))) e in
+    subst (λ ns. AreTakeable parts ns (length ps)) is.1 (all_takeable parts ps (ltb-false (length (globals parts)) (length ps) is.0))
+
+-- ---- all
+pads_are : (parts : Parts) (rows : PackageRows) (d : Design) (given : List Given) (chosen : List Chosen) (numbers : List ℕ) → AreChosen parts rows.pads (wants d) given chosen → length chosen ≡ length (wants d)
+    → AreTakeable parts numbers (length (pins d)) → ArePads parts rows d (pads_with chosen numbers)
+pads_are parts rows d given chosen numbers are long takeable = record {
+  ports = length-map chosen (λ (c : Chosen). c.pad) ∙ long ∙ length-map d.pads want_at;
+  pullups = length-map chosen (λ (c : Chosen). c.pullup) ∙ long ∙ length-map d.pads want_at;
+  bonded = λ k pad at.
+      let c = mapped_from (λ (x : Chosen). x.pad) chosen k pad at in
+      ap (λ p. list_any (same_pad p) rows.pads) (sym c.2) ∙ are.bonded k c.0 c.1;
+  apart = λ j k pad at be.
+      let c = mapped_from (λ (x : Chosen). x.pad) chosen j pad at in
+      let e = mapped_from (λ (x : Chosen). x.pad) chosen k pad be in
+      are.apart j k c.0 e.0 c.1 e.1 (c.2 ∙ sym e.2);
+  wires = λ k p pad of at.
+      let c = mapped_from (λ (x : Chosen). x.pad) chosen k pad at in
+      has_wires parts p pad (ap (λ q. suits parts (want_at p) q) (sym c.2) ∙ ap (λ w. suits parts w c.0.pad) (sym (want_is d.pads k p of)) ∙ are.suited k c.0 c.1);
+  globals = takeable.long ∙ length-map-range_with_len (pins_of d.cells) 0 (length d.globals);
+  fed = λ k n at. fed parts n (passes_at (is_one parts) numbers k n takeable.pass at);
+  others = λ j k n m tile at be of is.
+      let same = one_number parts n m tile (passes_at (is_one parts) numbers j n takeable.pass at) (passes_at (is_one parts) numbers k m takeable.pass be) of is in
+      apart_at numbers j k n takeable.apart at (be ∙ ap Some (sym same));
+}
+
+ok_same : (v w : PadsData) (one two : Result PadsData PinFault) → one ≡ Ok v → two ≡ Ok w → one ≡ two → v ≡ w
+ok_same v w one two is be e = let same : Ok v ≡ Ok w = sym is ∙ e ∙ be in cc
+
+pads_of_rows : (parts : Parts) (constraints : List Constraint) (n : NetlistData) (d : Design) (rows : PackageRows) (pads : PadsData) → rows.pads ≡ different_pads rows.pins
+    → assigned parts constraints n (wants d) (pins d) (Some rows) ≡ Ok pads → ArePads parts rows d pads
+pads_of_rows parts constraints n d rows pads different e =
+    let first = bind_ok (chosen_by parts rows constraints n (wants d)) (λ chosen. globals_of parts (pins d) >>= (λ numbers. Ok (pads_with chosen numbers))) pads e in
+    let lines = bind_ok (given_by parts rows.pins n (wants d) [] constraints) (λ given. all_chosen parts rows.pads n given [] (wants d)) first.0 first.1 in
+    let last = bind_ok (globals_of parts (pins d)) (λ numbers. Ok (pads_with first.0 numbers)) pads first.2 in
+    let given = lines_give parts rows.pins n (wants d) [] constraints lines.0 (none_given parts rows.pins (wants d)) lines.1 in
+    let bonded : (pin : List ℕ) (pad : Pad) → lookup (bytes_eq pin) rows.pins ≡ Some pad → list_any (same_pad pad) rows.pads ≡ true = λ pin pad at. ap (list_any (same_pad pad)) different ∙ pin_bonded rows.pins [] pin pad at in
+    let zero_more : (i : ℕ) → want_of (wants d) (0 + i) ≡ want_of (wants d) i = λ i. let e : 0 + i ≡ i = omega arith in ap (want_of (wants d)) e in
+    let ports = all_are parts rows.pins rows.pads n (wants d) lines.0 [] (wants d) first.0 given (none_chosen parts rows.pads (wants d) lines.0) zero_more bonded lines.2 in
+    let same : pads_with first.0 last.0 ≡ pads = ok_same (pads_with first.0 last.0) pads (Ok (pads_with first.0 last.0)) (Ok pads) refl refl last.2 in
+    let long : length first.0 ≡ length (wants d) = let e : length first.0 ≡ 0 + length (wants d) = ports.1 in omega arith in
+    subst (ArePads parts rows d) same (pads_are parts rows d lines.0 first.0 last.0 ports.0 long (globals_are parts (pins d) last.0 last.1))
+
+-- a package that a look-up finds has the different pads of its pins
+found_package : (width height : ℕ) (p : PackageRows → Bool) (packages : List PackageRows) (rows : PackageRows) → All (IsPackage width height) packages → find p packages ≡ Some rows → IsPackage width height rows
+found_package width height p [] rows all e = absurd (cc)
+found_package width height p (x ∷ packages) rows all e = by (p x) (found_package width height p packages rows (All-tail (IsPackage width height) x packages all)) e
+  where
+    by : (b : Bool) → (find p packages ≡ Some rows → IsPackage width height rows) → (if b then Some x else find p packages) ≡ Some rows → IsPackage width height rows
+    by true later e = let same : x ≡ rows = cc in subst (IsPackage width height) same (All-head (IsPackage width height) x packages all)
+    by false later e = later e
+
+pub pads_fit : AssignedPadsFit
+pads_fit parts name constraints n d rows pads chip found e =
+    let form = found_package parts.width parts.height (λ p. bytes_eq p.name name) parts.packages rows chip.read.package_forms found in
+    pads_of_rows parts constraints n d rows pads form.pads (ap (assigned parts constraints n (wants d) (pins d)) (sym found) ∙ e)

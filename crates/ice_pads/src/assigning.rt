@@ -1,0 +1,132 @@
+//! The pads, pull-ups and globals of a design.
+ghost use Rattle.std.specs.Prelude.{◌≡◌, IfOk};
+ghost use Rattle.ice_chip.specs.Views.{package_view};
+ghost use Rattle.ice_pads.specs.Assign.{pads_with, chosen_by, assign_of};
+ghost use Rattle.ice_pads.specs.Answers.{Answers, Lists};
+
+use crate::choices::globals_of;
+use crate::choosing::choose_all;
+use crate::lines::give_all;
+use crate::progress::Progress;
+use crate::tables::Tables;
+use crate::{Chosen, PinFault, Want, wants};
+use ice_base::NoMemory;
+use ice_cells::Design;
+use ice_chip::{Chip, Package, Pad};
+use ice_net::Netlist;
+use ice_pcf::{Constraint, Pcf};
+use std::alloc::Global;
+use std::marker::Model;
+
+/// The pads and pull-ups of the ports of a design, and the globals of its global buffers. Contracts see it as a record of
+/// three lists.
+#[derive(Drop)]
+pub struct Pads {
+    ports: Vec<Pad>,
+    pullups: Vec<bool>,
+    globals: Vec<u8>,
+}
+
+impl Model for Pads {
+    ghost use Rattle.ice_pads.specs.Assign.{PadsData};
+
+    ghost Value = { PadsData };
+
+    ghost view = { λ pads. record { ports = pads.ports.items; pullups = pads.pullups.items; globals = pads.globals.items } };
+}
+
+impl Pads {
+    /// The pad of each port, in port order. Takes no memory, as the other readers.
+    pub fn ports(&self) -> &[Pad]
+        ensures { result.now ≡ self.now.ports }
+    {
+        self.ports.as_slice()
+    }
+
+    /// Whether the pad of each port is pulled up, in port order.
+    pub fn pullups(&self) -> &[bool]
+        ensures { result.now ≡ self.now.pullups }
+    {
+        self.pullups.as_slice()
+    }
+
+    /// The global that each global buffer takes, by the buffers' numbers; below 8.
+    pub fn globals(&self) -> &[u8]
+        ensures { result.now ≡ self.now.globals }
+    {
+        self.globals.as_slice()
+    }
+}
+
+// The pads and pull-ups of what the ports have, with these globals.
+fn pads_with(alloc: Global, chosen: &[Chosen], globals: Vec<u8>) -> Result<Pads, NoMemory>
+    ensures { IfOk result (λ pads. pads ≡ pads_with chosen.now globals.items) }
+{
+    let mut ports = Vec::new(alloc);
+    let mut pullups = Vec::new(alloc);
+    for port in chosen {
+        ports.push(port.pad)?;
+        pullups.push(port.pullup)?;
+    }
+    Ok(Pads {
+        ports,
+        pullups,
+        globals,
+    })
+}
+
+// What all ports get of a package.
+fn chosen_by(
+    alloc: Global,
+    chip: &Chip,
+    bonded: &Package,
+    lines: &[Constraint],
+    netlist: &Netlist,
+    wants: &[Want],
+) -> Result<Vec<Chosen>, PinFault>
+    ensures { Lists result (chosen_by chip.now (package_view bonded.now) lines.now netlist.now wants.now) }
+{
+    let mut tables = Tables::new(alloc);
+    give_all(
+        alloc,
+        chip,
+        &bonded.pins,
+        netlist,
+        wants,
+        &mut tables,
+        lines,
+    )?;
+    let mut progress = Progress::new(alloc);
+    choose_all(
+        alloc,
+        chip,
+        bonded.pads.as_slice(),
+        netlist,
+        &tables,
+        &mut progress,
+        wants,
+    )?;
+    Ok(progress.chosen)
+}
+
+/// The pads, pull-ups and globals of a design of the netlist, or the fault. Want of memory may be answered at any time;
+/// every other answer is the one of the definition: NoPackage before all, then the first fault of the constraints, then the
+/// first port for which no pad is left, then too few globals.
+pub fn assign(
+    alloc: Global,
+    chip: &Chip,
+    name: &[u8],
+    pcf: &Pcf,
+    netlist: &Netlist,
+    design: &Design,
+) -> Result<Pads, PinFault>
+    ensures { Answers result (assign_of chip.now name.now pcf.now netlist.now design.now) }
+{
+    let Some(bonded) = chip.package(name) else {
+        return Err(PinFault::NoPackage);
+    };
+    let wants = wants(alloc, design)?;
+    let chosen = chosen_by(alloc, chip, bonded, pcf.constraints(), netlist, &wants)?;
+    let globals = globals_of(alloc, chip, design)?;
+    Ok(pads_with(alloc, &chosen, globals)?)
+}
