@@ -29,8 +29,8 @@ pub fn span_at(tile: TileAt) -> Span
     }
 }
 
-// The least box that has the tile, too.
-fn with_tile(span: Span, tile: TileAt) -> Span
+/// The least box that has the tile, too.
+pub fn with_tile(span: Span, tile: TileAt) -> Span
     ensures { box_in result ≡ with_tile (box_in span) tile }
 {
     Span {
