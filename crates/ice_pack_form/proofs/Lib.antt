@@ -5,5 +5,5 @@ mod PadOrigins
 mod PackedPads
 mod PackedResets
 mod PackedRoots
-mod Flat
 mod PackedReads
+mod Forming

@@ -1,16 +1,14 @@
 -- A packed design says once what comes into each carry, and says it of the cells that have one.
-use Rattle.std.proofs.Common.{◌≡◌, ◌⊎◌, ℕ, zero, suc, ◌+◌, ◌<◌, Bool, true, false, cond, Option, None, Some, List, [], ◌∷◌, ◌++◌, length, map, inl, inr, refl, sym, ap, ◌∙◌, subst, arith}
+use Rattle.std.proofs.Common.{◌≡◌, ◌⊎◌, ℕ, zero, suc, ◌+◌, Bool, true, false, cond, Option, None, Some, List, [], ◌∷◌, ◌++◌, length, map, inl, inr, refl, sym, ap, ◌∙◌, subst, arith}
 use Rattle.std.specs.Prelude.{slice_get, slice_index_or, is_some, ◌==◌}
 use Rattle.std.proofs.lemmas.Bool.{and_parts, eqb-true}
 use Rattle.std.proofs.lemmas.Option.{same_Some}
 use Rattle.ice_base.specs.declared.number.SignalNo.{SignalNo}
 use Rattle.ice_value.specs.Order.{At}
-use Rattle.ice_value.proofs.Places.{At_same}
-use Rattle.ice_value.proofs.Members.{At_left, At_right, At_parts, At_map, At_within}
+use Rattle.ice_value.proofs.Members.{At_left, At_right, At_parts, At_map}
 use Rattle.ice_net.specs.declared.cell.Cell.{Cell}
 use Rattle.ice_net.specs.declared.kind.CellKind.{CellKind}
 use Rattle.ice_net.specs.declared.kind.CellKind.TheVariants as kind
-use Rattle.ice_net.specs.declared.port.Port.{Port}
 use Rattle.ice_net.specs.NetlistData.{NetlistData}
 use Rattle.ice_cells.specs.declared.cell.LogicCell.{LogicCell}
 use Rattle.ice_cells.specs.declared.root.CarryIn.{CarryIn}
@@ -19,9 +17,9 @@ use Rattle.ice_cells.specs.declared.share.Part.TheVariants.{Table, Flop, Carry, 
 use Rattle.ice_cells.specs.Chains.{Head}
 use Rattle.ice_cells.specs.Origins.{input_origin, origins}
 use Rattle.ice_cells.specs.Uses.{dropped, bare_outputs}
-use Rattle.ice_cells.specs.Homes.{Facts, facts_of, part, is_kept, is_table, taker, anchor, carriers_of, counts, first_by, first_member, opens, openers, openers_before, home, homes}
-use Rattle.ice_cells.specs.Packed.{Plan, plan_of, packed, carry_input, carry_by, carries_from, carry_for, cell_of, cell_by, cells_by, constant_cell, constant_if, needs_zero, needs_one}
-use Rattle.ice_cells.proofs.RangeFilters.{IsPassing, passing_at}
+use Rattle.ice_cells.specs.Homes.{Facts, part, is_kept, anchor, carriers_of, counts, first_by, first_member, opens, openers, openers_before, home, homes}
+use Rattle.ice_cells.specs.Packed.{Plan, plan_of, packed, carry_input, carry_by, carries_from, carry_for, cell_of, constant_if, needs_zero, needs_one}
+use Rattle.ice_cells.proofs.RangeFilters.{passing_at}
 use Rattle.ice_cells.proofs.TableLaws.{get_or-table}
 use Rattle.ice_share.proofs.HomeLaws.{goes, first_anchor, home_opened}
 use Rattle.ice_chains.specs.Before.{HasCarry}

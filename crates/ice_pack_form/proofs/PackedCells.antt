@@ -1,5 +1,5 @@
 -- What stands at each number of a packed design's logic cells.
-use Rattle.std.proofs.Common.{◌≡◌, ◌⊎◌, ℕ, zero, suc, ◌+◌, Bool, true, false, Some, List, ◌++◌, length, map, inl, inr, refl, sym, ap, ◌∙◌}
+use Rattle.std.proofs.Common.{◌≡◌, ℕ, zero, suc, Bool, true, false, List, ◌++◌, map, inl, inr, sym, ap}
 use Rattle.std.proofs.lemmas.Option.{same_Some}
 use Rattle.ice_value.specs.Order.{At}
 use Rattle.ice_value.proofs.Members.{At_parts, map_At}

@@ -1,11 +1,11 @@
 -- The pads of a packed design: one for each port, as the port or its SB_IO says.
-use Rattle.std.proofs.Common.{◌≡◌, ◌⊎◌, ℕ, zero, suc, ◌+◌, ◌<◌, Bool, true, false, cond, Option, None, Some, List, [], ◌∷◌, ◌++◌, length, map, option_map, inl, inr, refl, sym, ap, ◌∙◌, subst, arith}
-use Rattle.std.specs.Prelude.{slice_get, slice_index_or, not, ◌==◌}
+use Rattle.std.proofs.Common.{◌≡◌, ℕ, zero, suc, ◌+◌, ◌<◌, Bool, true, false, cond, Option, None, Some, List, [], ◌∷◌, ◌++◌, length, map, option_map, inl, inr, refl, sym, ap, ◌∙◌, subst, arith}
+use Rattle.std.specs.Prelude.{not, ◌==◌}
 use Rattle.std.specs.List.{flat_map, list_any}
 use Rattle.std.specs.Option.{option_map_or}
-use Rattle.std.proofs.lemmas.Bool.{eqb-true, true≢false}
+use Rattle.std.proofs.lemmas.Bool.{eqb-true}
 use Rattle.std.proofs.lemmas.List.{length-map}
-use Rattle.std.proofs.lemmas.Option.{same_Some, slice_get_within}
+use Rattle.std.proofs.lemmas.Option.{same_Some}
 use Rattle.ice_base.specs.declared.number.SignalNo.{SignalNo}
 use Rattle.ice_value.specs.Order.{At}
 use Rattle.ice_value.proofs.Members.{map_At, At_within}
@@ -18,14 +18,14 @@ use Rattle.ice_net.specs.declared.port.Way.TheVariants.{Input, Output, Both}
 use Rattle.ice_net.specs.NetlistData.{NetlistData}
 use Rattle.ice_net.specs.Drivers.{is_signal, place_of, pin_by, pin_of, buffer_at}
 use Rattle.ice_net.specs.Drives.{is_type, input_type, output_type, enabled_type}
-use Rattle.ice_check.specs.Faults.{first_number, cell_is, is_type_out, pin_type_out}
+use Rattle.ice_check.specs.Faults.{first_number, cell_is, is_type_out}
 use Rattle.ice_check.specs.Sound.{IsSound}
 use Rattle.ice_cells.specs.declared.design.Design.{Design}
 use Rattle.ice_cells.specs.declared.design.DesignPad.{DesignPad}
 use Rattle.ice_cells.specs.declared.root.Root.{Root}
 use Rattle.ice_cells.specs.declared.root.Root.TheVariants.{PadIn}
 use Rattle.ice_cells.specs.Formed.{IsPad}
-use Rattle.ice_cells.specs.Readings.{carry_root, cell_roots, pad_roots, roots_read, is_read}
+use Rattle.ice_cells.specs.Readings.{carry_root, cell_roots, pad_roots, is_read}
 use Rattle.ice_cells.specs.Same.{same_source}
 use Rattle.ice_cells.specs.Packed.{Plan, bare_pad, buffered_pad, pad_by, pads_from, plan_of, unread_by, read_pad, packed}
 

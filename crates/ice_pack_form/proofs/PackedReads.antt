@@ -1,13 +1,13 @@
 -- All that a packed design reads is of the design.
-use Rattle.std.proofs.Common.{◌≡◌, ◌⊎◌, ℕ, zero, suc, ◌+◌, ◌<◌, Bool, true, false, cond, Option, None, Some, List, [], ◌∷◌, ◌++◌, length, map, inl, inr, refl, sym, ap, ◌∙◌, subst, arith}
-use Rattle.std.specs.Prelude.{slice_get, slice_index_or, not, ◌||◌, ◌==◌}
+use Rattle.std.proofs.Common.{◌≡◌, ℕ, zero, suc, Bool, true, false, cond, Option, None, Some, List, [], ◌∷◌, ◌++◌, map, inl, inr, refl, sym, ap, ◌∙◌, subst}
+use Rattle.std.specs.Prelude.{slice_get, slice_index_or, not, ◌||◌}
 use Rattle.std.specs.List.{flat_map, list_any}
 use Rattle.std.specs.Option.{option_map_or}
 use Rattle.std.proofs.lemmas.Bool.{or_left, or_right}
-use Rattle.std.proofs.lemmas.Option.{same_Some, none-some}
+use Rattle.std.proofs.lemmas.Option.{same_Some}
 use Rattle.ice_base.specs.declared.number.SignalNo.{SignalNo}
 use Rattle.ice_value.specs.Order.{At, Has}
-use Rattle.ice_value.proofs.Members.{At_parts, map_At, Has_filter, Has_any}
+use Rattle.ice_value.proofs.Members.{At_parts, map_At, Has_filter}
 use Rattle.ice_net.specs.declared.cell.Cell.{Cell}
 use Rattle.ice_net.specs.declared.kind.CellKind.{CellKind}
 use Rattle.ice_net.specs.declared.kind.CellKind.TheVariants as kind
@@ -18,21 +18,18 @@ use Rattle.ice_net.specs.declared.port.Way.TheVariants.{Input, Output, Both}
 use Rattle.ice_net.specs.NetlistData.{NetlistData}
 use Rattle.ice_net.specs.Drivers.{is_there, buffer_at}
 use Rattle.ice_net.specs.Drives.{pad_uses}
-use Rattle.ice_cells.specs.declared.cell.Control.{Control}
 use Rattle.ice_cells.specs.declared.cell.LogicCell.{LogicCell}
 use Rattle.ice_cells.specs.declared.design.Design.{Design}
 use Rattle.ice_cells.specs.declared.design.DesignPad.{DesignPad}
 use Rattle.ice_cells.specs.declared.root.Root.{Root}
-use Rattle.ice_cells.specs.declared.root.Root.TheVariants.{PadIn, CellOut, GlobalOut, CarryOut}
 use Rattle.ice_cells.specs.declared.share.Part.{Part}
 use Rattle.ice_cells.specs.declared.share.Part.TheVariants.{Table, Flop, Carry, Nothing}
-use Rattle.ice_cells.specs.Chains.{Head}
 use Rattle.ice_cells.specs.Origins.{input_origin, origins}
 use Rattle.ice_cells.specs.Readings.{carry_root, control_roots, cell_roots, pad_roots, roots_read}
-use Rattle.ice_cells.specs.Uses.{dropped, is_bare_way, is_bare_output, bare_outputs}
-use Rattle.ice_cells.specs.Homes.{Facts, part, anchor, carriers_of, homes, openers}
-use Rattle.ice_cells.specs.Packed.{Plan, plan_of, packed, sink, enable_sink, plain_sink, enable_input, set_input, flop_by, flop_of, flop_for, ins_at, four, no_inputs, lut_inputs, data_input, inputs_for, carry_for, with_carry, cell_by, cell_of, constant_cell, has_level, reads_zero, reads_one, zero_by, one_by, port_one, needs_zero, needs_one, bare_drive, bare_pad, buffered_pad, unread_by, read_pad, global_by, globals_of, carry_input}
-use Rattle.ice_pack_form.proofs.Flat.{InOne, flat_back}
+use Rattle.ice_cells.specs.Uses.{is_bare_way, is_bare_output, bare_outputs}
+use Rattle.ice_cells.specs.Homes.{Facts, part, anchor, homes, openers}
+use Rattle.ice_cells.specs.Packed.{Plan, plan_of, packed, sink, enable_sink, plain_sink, enable_input, set_input, flop_by, flop_of, flop_for, ins_at, four, no_inputs, data_input, inputs_for, carry_for, with_carry, cell_by, constant_cell, has_level, reads_zero, reads_one, needs_zero, needs_one, bare_drive, bare_pad, buffered_pad, global_by}
+use Rattle.ice_chains.proofs.RunLists.{flat_back}
 use Rattle.ice_pack_form.proofs.Parts.{IsCarry, is_carry, lut_carry, carrier_lut}
 use Rattle.ice_pack_form.proofs.PackedCells.{CellAt, Opened, Constant, packed_at}
 use Rattle.ice_pack_form.proofs.PackedCarries.{given_at}

@@ -1,10 +1,10 @@
 -- What the cells of the netlist make in a packed design is of the design, and so are the cells of constants.
 use Rattle.std.proofs.Common.{◌≡◌, ◌⊎◌, ℕ, zero, suc, ◌+◌, ◌<◌, Bool, true, false, cond, Option, None, Some, List, [], ◌∷◌, ◌++◌, length, length-append, map, inl, inr, refl, sym, ap, ◌∙◌, subst, arith}
-use Rattle.std.specs.Prelude.{slice_get, slice_index_or, ◌||◌}
-use Rattle.std.specs.List.{flat_map, list_any}
+use Rattle.std.specs.Prelude.{slice_index_or}
+use Rattle.std.specs.List.{list_any}
 use Rattle.std.proofs.lemmas.Bool.{or_left, or_right}
 use Rattle.std.proofs.lemmas.List.{length-map}
-use Rattle.std.proofs.lemmas.Option.{same_Some, slice_get-get_or}
+use Rattle.std.proofs.lemmas.Option.{same_Some}
 use Rattle.ice_base.specs.declared.number.SignalNo.{SignalNo}
 use Rattle.ice_value.specs.Order.{At}
 use Rattle.ice_value.proofs.Members.{At_within, Has_any}
@@ -19,9 +19,8 @@ use Rattle.ice_cells.specs.declared.origin.Origin.{Origin}
 use Rattle.ice_cells.specs.declared.origin.Origin.TheVariants.{Fixed, Pad, Made}
 use Rattle.ice_cells.specs.declared.root.Root.{Root}
 use Rattle.ice_cells.specs.declared.root.Root.TheVariants.{PadIn, CellOut, GlobalOut, CarryOut}
-use Rattle.ice_cells.specs.declared.share.Part.{Part}
 use Rattle.ice_cells.specs.declared.share.Part.TheVariants.{Table, Carry, Nothing}
-use Rattle.ice_cells.specs.Origins.{is_table_kind, input_origin, input_level, level_of, origins}
+use Rattle.ice_cells.specs.Origins.{is_table_kind, input_origin, level_of, origins}
 use Rattle.ice_cells.specs.Readings.{carry_root}
 use Rattle.ice_cells.specs.Uses.{dropped, bare_outputs}
 use Rattle.ice_cells.specs.Homes.{Facts, part, part_by, is_kept, openers, home, homes, first_member}

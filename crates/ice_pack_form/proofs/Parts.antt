@@ -14,19 +14,16 @@ use Rattle.ice_net.specs.declared.kind.CellKind.TheVariants as kind
 use Rattle.ice_net.specs.declared.port.Port.{Port}
 use Rattle.ice_cells.specs.declared.origin.Origin.{Origin}
 use Rattle.ice_cells.specs.declared.share.Pair.{Pair}
-use Rattle.ice_cells.specs.declared.share.Part.{Part}
 use Rattle.ice_cells.specs.declared.share.Part.TheVariants.{Table, Flop, Carry, Nothing}
-use Rattle.ice_cells.specs.declared.share.Role.{Role}
 use Rattle.ice_cells.specs.declared.share.Role.TheVariants.{Gives, Takes, Neither}
 use Rattle.ice_cells.specs.Origins.{is_table_kind, input_origin}
 use Rattle.ice_cells.specs.Tables.{is_place}
 use Rattle.ice_cells.specs.Uses.{dropped, maker}
-use Rattle.ice_cells.specs.Pairs.{pair_of, role, role_of, role_by, roles_of, lut_of}
-use Rattle.ice_cells.specs.Homes.{Facts, facts_of, part, part_of, part_by, is_kept, taker, anchor_by, anchor, Shared, lut_at, carry_at, carrier_by, carriers_of, first_member, opens, openers, openers_before, home, homes, counts}
+use Rattle.ice_cells.specs.Pairs.{pair_of, role_of, role_by, roles_of}
+use Rattle.ice_cells.specs.Homes.{Facts, facts_of, part, part_of, part_by, is_kept, anchor_by, anchor, Shared, lut_at, carry_at, carrier_by, carriers_of, home, homes}
 use Rattle.ice_cells.proofs.TableLaws.{length-table, get_or-table}
-use Rattle.ice_cells.proofs.RangeFilters.{passing_at}
 use Rattle.ice_share.proofs.LutLaws.{taking, one_carry}
-use Rattle.ice_share.proofs.HomeLaws.{goes, lut_taken, first_anchor, first_kept, home_opened, one_anchor}
+use Rattle.ice_share.proofs.HomeLaws.{goes, lut_taken, one_anchor}
 
 -- ---- lists by place
 map_at : {X Y : Type 0} (f : X → Y) (xs : List X) (k : ℕ) (d : Y) → get_or (map f xs) k d ≡ option_map_or f (slice_get xs k) d
