@@ -6,3 +6,4 @@ mod OriginSteps
 pub mod UseLaws
 pub mod LutLaws
 pub mod HomeLaws
+pub mod LevelLaws

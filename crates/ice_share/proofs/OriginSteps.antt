@@ -45,7 +45,7 @@ made_is n found (Output i) = by (slice_get n.cells i)
 
 -- ---- an order of signals goes along aliases, too
 -- an alias is a cover of one input with the table 2
-alias_cover : (kind : CellKind) → is_alias kind ≡ true → kind ≡ Cover 2 1
+pub alias_cover : (kind : CellKind) → is_alias kind ≡ true → kind ≡ Cover 2 1
 alias_cover (Lut table) e = cc e
 alias_cover (Cover table width) e = let two = and_parts (eqb width 1) (eqb table 2) e in ap (λ t. Cover t width) (eqb-true table 2 two.1) ∙ ap (λ w. Cover 2 w) (eqb-true width 1 two.0)
 alias_cover Carry e = cc e
@@ -76,7 +76,7 @@ read_same f g (Some q ∷ inputs) same =
     ∙ ap (λ os. g q ∷ os) (read_same f g inputs (λ r has. same r (suc has.0, has.1)))
 
 module _ (n : NetlistData) (order : List ℕ) (sorted : IsOrder (length n.names) (depends_on n) order) where
-  falls : (i s q : ℕ) → At order i s → Has (present (aliases n (driver_of n s))) q → (j : ℕ) × (j < i) × At order j q
+  pub falls : (i s q : ℕ) → At order i s → Has (present (aliases n (driver_of n s))) q → (j : ℕ) × (j < i) × At order j q
   falls i s q at has = sorted.after i s q at (alias_read n (driver_of n s) q has)
 
   origin_there : (s : ℕ) → s < length n.names → value (origin_system n) (length n.names + 1) s ≡ Some (origin n s)
@@ -92,7 +92,7 @@ module _ (n : NetlistData) (order : List ℕ) (sorted : IsOrder (length n.names)
   read_below s q lt has = let stands = sorted.each s lt in let before = falls stands.0 s q stands.1 has in sorted.within before.0 q before.2
 
   -- each origin is what the driver makes of those that it looks through
-  origin_meets : (s : ℕ) → s < length n.names → origin n s ≡ origin_made n (driver_of n s) (map (reading (Fixed false) (origin n)) (aliases n (driver_of n s)))
+  pub origin_meets : (s : ℕ) → s < length n.names → origin n s ≡ origin_made n (driver_of n s) (map (reading (Fixed false) (origin n)) (aliases n (driver_of n s)))
   origin_meets s lt =
       let step = value_step (origin_system n) (origin n) (length n.names + 1) s (λ q has. origin_there q (read_below s q lt has)) in
       let up = value_suc (origin_system n) (length n.names + 1) s (origin n s) (origin_there s lt) in

@@ -1,17 +1,36 @@
 -- The laws of cells that share a logic cell, each as one sentence.
-use Rattle.std.specs.Prelude.{◌≡◌, ℕ, true, List, Option, Some, None, slice_get, slice_index_or}
+use Rattle.std.specs.Prelude.{◌≡◌, ℕ, ◌<◌, Bool, true, false, List, length, map, Option, Some, None, slice_get, slice_index_or}
 use Rattle.std.proofs.Common.{◌⊎◌}
-use Rattle.ice_value.specs.Order.{At}
+use Rattle.ice_value.specs.Inputs.{reading}
+use Rattle.ice_value.specs.Order.{At, IsOrder}
 use Rattle.ice_net.specs.declared.cell.Cell.{Cell}
+use Rattle.ice_net.specs.declared.driver.Driver.TheVariants.{Output}
 use Rattle.ice_net.specs.declared.port.Port.{Port}
+use Rattle.ice_net.specs.Formed.{IsFormed}
+use Rattle.ice_net.specs.Meaning.{depends_on, makes, reads, signal_value}
+use Rattle.ice_net.specs.NetlistData.{NetlistData}
 use Rattle.ice_cells.specs.declared.origin.Origin.{Origin}
-use Rattle.ice_cells.specs.declared.origin.Origin.TheVariants.{Made}
+use Rattle.ice_cells.specs.declared.origin.Origin.TheVariants.{Fixed, Pad, Made}
 use Rattle.ice_cells.specs.declared.share.Pair.{Pair}
 use Rattle.ice_cells.specs.declared.share.Role.TheVariants.{Gives, Takes}
+use Rattle.ice_cells.specs.Origins.{origin}
 use Rattle.ice_cells.specs.Pairs.{role, roles_of, luts_of}
 use Rattle.ice_cells.specs.Uses.{readings}
 use Rattle.ice_cells.specs.Homes.{facts_of, part, taker, is_kept, anchor, carriers_of, first_member, openers, home}
 
+-- ---- levels
+-- the level of an origin, by the levels of the ports and what the cells keep: what a cell's output makes of the values of what it reads
+abbrev pub origin_level : NetlistData → List Bool → List Bool → Origin → Bool
+origin_level n levels kept (Fixed level) = level
+origin_level n levels kept (Pad k) = slice_index_or levels k false
+origin_level n levels kept (Made i) = makes n levels kept (Output i) (map (reading false (signal_value n levels kept)) (reads n (Output i)))
+
+-- a signal has the level of its origin, so that constants may be folded and aliases left out
+abbrev pub SignalsHaveTheLevelsOfTheirOrigins : Type 0
+SignalsHaveTheLevelsOfTheirOrigins = (n : NetlistData) → IsFormed n → (order : List ℕ) → IsOrder (length n.names) (depends_on n) order
+    → (levels kept : List Bool) (s : ℕ) → s < length n.names → signal_value n levels kept s ≡ origin_level n levels kept (origin n s)
+
+-- ---- shared cells
 -- the look-up table whose logic cell a carry shares
 abbrev pub lut_at : List Origin → List Cell → ℕ → Option ℕ
 lut_at os cells c = slice_index_or (luts_of (roles_of os cells)) c None

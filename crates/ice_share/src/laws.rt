@@ -1,5 +1,10 @@
 //! The laws of cells that share a logic cell, each as the contract of a function that does nothing.
-ghost use Rattle.ice_share.specs.Laws.{TakersReadTheirTablesAlone, CarriesReadAsTheirTables, NoTwoCarriesShareATable, CellsGoToOpenedCells, CellsOfAHomeGoByOneCell, ThreeGoByOneCell};
+ghost use Rattle.ice_share.specs.Laws.{SignalsHaveTheLevelsOfTheirOrigins, TakersReadTheirTablesAlone, CarriesReadAsTheirTables, NoTwoCarriesShareATable, CellsGoToOpenedCells, CellsOfAHomeGoByOneCell, ThreeGoByOneCell};
+
+/// A signal has the level of its origin, so that constants may be folded and aliases left out.
+pub fn signals_have_the_levels_of_their_origins()
+    ensures { SignalsHaveTheLevelsOfTheirOrigins }
+{}
 
 /// A flip-flop shares only with a look-up table that it alone reads, as the level that it takes.
 pub fn takers_read_their_tables_alone()
