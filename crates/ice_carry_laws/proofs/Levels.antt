@@ -90,8 +90,9 @@ module _ (d : Design) (levels kept : List Bool) where
     | inr le ↦ inr (ap (λ o. present (option_map_or (λ root. net root ∷ []) o [])) (slice_get_past d.globals g le))
   ]
 
-  pub level_is : (n : Node) (x : Bool) → HasValue system n x → node_level d levels kept n ≡ x
-  level_is n x (k, e) = ap (λ o. unwrap_or o false) (there (listed n))
+  -- a node that has a value with some number of steps has it with as many as there are nodes and one more
+  pub level_there : (n : Node) (x : Bool) → HasValue system n x → value system (count_nodes d + 1) n ≡ Some x
+  level_there n x (k, e) = there (listed n)
     where
       there : Has nodes n ⊎ (system.depends n ≡ []) → value system (count_nodes d + 1) n ≡ Some x
       there (inl has) =
@@ -103,6 +104,9 @@ module _ (d : Design) (levels kept : List Bool) where
           let many : value system (k + (count_nodes d + 1)) n ≡ Some (system.local n []) = value_at_more system 1 (k + (count_nodes d + 1)) n (system.local n []) (omega arith) one in
           let same : value system (k + (count_nodes d + 1)) n ≡ Some x = value_at_more system k (k + (count_nodes d + 1)) n x (omega arith) e in
           few ∙ sym many ∙ same
+
+  pub level_is : (n : Node) (x : Bool) → HasValue system n x → node_level d levels kept n ≡ x
+  level_is n x has = ap (λ o. unwrap_or o false) (level_there n x has)
 
 -- where all nodes have a value, levels meet the equations of nodes
 module _ (d : Design) (values : HasValues d) (levels kept : List Bool) where

@@ -6,3 +6,9 @@ mod Steps
 mod MovedNumbers
 mod TiedRuns
 mod Shown
+mod NewCells
+mod AllValues
+mod NewReads
+mod PadReads
+mod AlikeRuns
+mod FormedRuns

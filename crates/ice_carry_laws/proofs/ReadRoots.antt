@@ -51,6 +51,25 @@ module _ (d : Design) where
       Has_left (from_carries ++ from_cells ++ from_pads) d.globals (Some root) (Has_left (from_carries ++ from_cells) from_pads (Some root)
       (Has_right from_carries from_cells (Some root) (Has_flat cell_roots d.cells c cell (Some root) at has)))
 
+  -- the inputs of a cell are read
+  pub four_read : (c : ℕ) (cell : LogicCell) → At d.cells c cell → (k : ℕ) (r : Option Root) → At (input cell 0 ∷ input cell 1 ∷ input cell 2 ∷ input cell 3 ∷ []) k (net r) → (q : Root) → r ≡ Some q
+      → Has (roots_read d) (Some q)
+  four_read c cell at k r there q e = among k (subst (λ (o : Option Root). At (input cell 0 ∷ input cell 1 ∷ input cell 2 ∷ input cell 3 ∷ []) k (net o)) e there)
+    where
+      same_net : (o : Option Root) → Some (net o) ≡ Some (Some (Net q)) → o ≡ Some q
+      same_net None f = cc
+      same_net (Some x) f = cc
+
+      from : (k : ℕ) (o : Option Root) → At (cell_roots cell) k o → Some (net o) ≡ Some (Some (Net q)) → Has (roots_read d) (Some q)
+      from k o there f = cell_read c cell q at (k, there ∙ ap Some (same_net o f))
+
+      among : (k : ℕ) → At (input cell 0 ∷ input cell 1 ∷ input cell 2 ∷ input cell 3 ∷ []) k (Some (Net q)) → Has (roots_read d) (Some q)
+      among zero f = from 0 (slice_index_or cell.ins 0 None) refl f
+      among (suc zero) f = from 1 (slice_index_or cell.ins 1 None) refl f
+      among (suc (suc zero)) f = from 2 (slice_index_or cell.ins 2 None) refl f
+      among (suc (suc (suc zero))) f = from 3 (slice_index_or cell.ins 3 None) refl f
+      among (suc (suc (suc (suc k)))) f = cc
+
   pub pad_read : (k : ℕ) (pad : DesignPad) (root : Root) → At d.pads k pad → Has (pad_roots pad) (Some root) → Has (roots_read d) (Some root)
   pad_read k pad root at has =
       Has_left (from_carries ++ from_cells ++ from_pads) d.globals (Some root) (Has_right (from_carries ++ from_cells) from_pads (Some root) (Has_flat pad_roots d.pads k pad (Some root) at has))

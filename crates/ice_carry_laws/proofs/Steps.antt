@@ -26,7 +26,7 @@ use Rattle.ice_cells.specs.Runs.{renamed_pad}
 use Rattle.ice_cells.proofs.TableLaws.{get_or-table}
 use Rattle.ice_carry_laws.proofs.Arriving.{arrives, read_value, have_four, table_new}
 use Rattle.ice_carry_laws.proofs.Levels.{level_is, level_meets, level_rank, level_falls}
-use Rattle.ice_carry_laws.proofs.ReadRoots.{cell_read, pad_read}
+use Rattle.ice_carry_laws.proofs.ReadRoots.{cell_read, four_read, pad_read}
 use Rattle.ice_carry_laws.proofs.Renaming.{four, four_new, old_inputs, new_inputs}
 use Rattle.ice_carry_laws.specs.AreRuns.{IsIn, home, own, AreRuns}
 
@@ -94,21 +94,7 @@ module _ (old new : Design) (moved fed : List (Option ℕ)) (runs : AreRuns old 
 
     net_back : (c : ℕ) (cell : LogicCell) → At old.cells c cell → (k : ℕ) (r : Option Root) → At (four cell) k (net r) → (q : Root) → r ≡ Some q
         → HasValue (system_of new levels s.kept) (own moved (Net q)) (v (Net q))
-    net_back c cell at k r there q e = has_own (Net q) (closed_four k (subst (λ (o : Option Root). At (four cell) k (net o)) e there))
-      where
-        same_net : (o : Option Root) → Some (net o) ≡ Some (Some (Net q)) → o ≡ Some q
-        same_net None f = cc
-        same_net (Some x) f = cc
-
-        from : (k : ℕ) (o : Option Root) → At (cell_roots cell) k o → Some (net o) ≡ Some (Some (Net q)) → IsIn old (Net q)
-        from k o there f = roots q (reads_at c cell at k o there q (same_net o f))
-
-        closed_four : (k : ℕ) → At (four cell) k (Some (Net q)) → IsIn old (Net q)
-        closed_four zero f = from 0 (slice_index_or cell.ins 0 None) refl f
-        closed_four (suc zero) f = from 1 (slice_index_or cell.ins 1 None) refl f
-        closed_four (suc (suc zero)) f = from 2 (slice_index_or cell.ins 2 None) refl f
-        closed_four (suc (suc (suc zero))) f = from 3 (slice_index_or cell.ins 3 None) refl f
-        closed_four (suc (suc (suc (suc k)))) f = cc
+    net_back c cell at k r there q e = has_own (Net q) (roots q (four_read old c cell at k r there q e))
 
     -- the cell that a flip-flop moved to takes what its table gave
     moved_given : (c m : ℕ) (cell : LogicCell) → At old.cells c cell → slice_index_or moved c None ≡ Some m → given new w m (moved_cell moved fed old.cells c) ≡ given old v c cell

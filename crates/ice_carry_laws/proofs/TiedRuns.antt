@@ -130,7 +130,7 @@ module _ (d : Design) (ready : IsBeforeRuns d) where
           behind_in stands.run stands.head j prior.0 c stands.at lt prior.1 f ∙ ap (λ b. Some (Net (CarryOut b))) same
 
   -- ---- what comes into each carry
-  takes_root : (r : ℕ) (x : Head) (root : Root) → At (run_heads d) r x → x.1 ≡ Read root → TakesIn new (feed_number d r) (renamed moved fed root)
+  pub takes_root : (r : ℕ) (x : Head) (root : Root) → At (run_heads d) r x → x.1 ≡ Read root → TakesIn new (feed_number d r) (renamed moved fed root)
   takes_root r x root at e = record {
     at = subst (λ (y : LogicCell). At new.cells (feed_number d r) y) (taking_is moved fed (feed_number d r) root)
         (subst (λ n. At new.cells n (become moved fed n (cell_in root))) (none_more (feed_number d r)) (feed_there d r x 0 (cell_in root) at (feeds_in_at marks x root e)));
@@ -150,7 +150,7 @@ module _ (d : Design) (ready : IsBeforeRuns d) where
     takes_root r x root at e,
   )
 
-  into_carry : (c : ℕ) (has : HasCarry d c) → CarriesIn new moved fed c has.into
+  pub into_carry : (c : ℕ) (has : HasCarry d c) → CarriesIn new moved fed c has.into
   into_carry c has = by stands.place stands.behind_it stands.within
     where
       stands : StandsBehind d ready c
@@ -180,7 +180,7 @@ module _ (d : Design) (ready : IsBeforeRuns d) where
   pair_of x c m e = (ap (λ (y : Fed). y.0) e, ap (λ (y : Fed). y.1) e)
 
   -- the cell that passes on the last carry of a run
-  passed_by : (r : ℕ) (x : Head) (c f : ℕ) → At (run_heads d) r x → passes_out marks x ≡ true → end marks (length marks) x.0 ≡ c → feed_number d r + one_if (takes_in x) ≡ f → PassesOn new f c
+  pub passed_by : (r : ℕ) (x : Head) (c f : ℕ) → At (run_heads d) r x → passes_out marks x ≡ true → end marks (length marks) x.0 ≡ c → feed_number d r + one_if (takes_in x) ≡ f → PassesOn new f c
   passed_by r x c f at passes last number = record {
     at = subst (λ (y : LogicCell). At new.cells f y) (passing_is moved fed f)
         (subst (λ n. At new.cells n (become moved fed n cell_out)) number (feed_there d r x (one_if (takes_in x)) cell_out at (feeds_out_at marks x passes)));
@@ -208,7 +208,11 @@ module _ (d : Design) (ready : IsBeforeRuns d) where
       long : length (chain marks (length marks) x.0) ≡ suc ends.0
       long = chain_stop marks (length marks) x.0 ends.0 c inside (other_stops (slice_index_or marks c Nobody) (ap (λ k. is_other (slice_index_or marks k Nobody)) (sym last) ∙ passes))
 
-  passes_on : (c f : ℕ) → slice_index_or fed c None ≡ Some f → PassesOn new f c
+  -- the last carry of a run is one
+  pub end_carry : (r : ℕ) (x : Head) → At (run_heads d) r x → HasCarry d (end marks (length marks) x.0)
+  end_carry r x at = let ends = end_behind marks (length marks) x.0 in behind_carry d ready ends.0 x.0 (end marks (length marks) x.0) (head_carry d ready r x at) ends.1
+
+  pub passes_on : (c f : ℕ) → slice_index_or fed c None ≡ Some f → PassesOn new f c
   passes_on c f e =
       let is = fed_back marks (length d.cells) (run_heads d) (c, f) (number_back pairs c f (from_table pairs (length (cells_fed d)) c f e)) in
       let both = pair_of (fed_of marks is.head (feed_number d is.run)) c f is.is in

@@ -1,2 +1,3 @@
 pub mod AreRuns
+pub mod FormedBefore
 pub mod RunLaws

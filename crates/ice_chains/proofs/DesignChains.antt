@@ -1,34 +1,31 @@
 -- The chains of a design: each carry stands in the chain of one first carry.
-use Rattle.std.proofs.Common.{◌≡◌, ◌⊎◌, ℕ, zero, suc, ◌+◌, ◌<◌, ◌≤◌, Bool, true, false, cond, Option, None, Some, List, [], ◌∷◌, ◌++◌, length, map, get_or, refl, ap, sym, ◌∙◌, subst, arith, inl, inr}
-use Rattle.std.specs.Prelude.{◌==◌, not, slice_get, slice_index_or, option_map}
+use Rattle.std.proofs.Common.{◌≡◌, ◌⊎◌, ℕ, zero, suc, ◌+◌, ◌<◌, Bool, true, false, cond, Option, None, Some, List, [], ◌∷◌, ◌++◌, length, map, refl, ap, sym, ◌∙◌, subst, arith, inl, inr}
+use Rattle.std.specs.Prelude.{◌==◌, not, slice_get, option_map}
 use Rattle.std.specs.List.{find, flat_map}
 use Rattle.std.specs.Option.{option_map_or}
-use Rattle.std.proofs.lemmas.Bool.{cases_lt, eq-eqb, eqb-true}
-use Rattle.std.proofs.lemmas.List.{get_or_past}
+use Rattle.std.proofs.lemmas.Bool.{eq-eqb, eqb-true}
 use Rattle.std.proofs.lemmas.Option.{none-some, same_Some}
 use Rattle.ice_value.specs.Inputs.{present}
 use Rattle.ice_value.specs.Order.{At, Has}
 use Rattle.ice_value.proofs.Enough.{first, first_falls}
-use Rattle.ice_value.proofs.Members.{At_left, At_map, At_within, Has_find, find_Has}
+use Rattle.ice_value.proofs.Members.{At_map, At_within, Has_find, find_Has}
 use Rattle.ice_cells.specs.declared.cell.LogicCell.{LogicCell}
 use Rattle.ice_cells.specs.declared.design.Design.{Design}
 use Rattle.ice_cells.specs.declared.follow.Follow.{Follow}
-use Rattle.ice_cells.specs.declared.follow.Follow.TheVariants.{Nobody, Next, Other}
 use Rattle.ice_cells.specs.declared.root.CarryIn.{CarryIn}
 use Rattle.ice_cells.specs.declared.root.CarryIn.TheVariants.{Fixed, Read}
-use Rattle.ice_cells.specs.declared.root.Root.{Root}
 use Rattle.ice_cells.specs.declared.root.Root.TheVariants.{PadIn, CellOut, GlobalOut, CarryOut}
-use Rattle.ice_cells.specs.Chains.{Head, next, next_by, chain, end, heads, is_behind, is_first}
+use Rattle.ice_cells.specs.Chains.{Head, next, chain, end, is_first}
 use Rattle.ice_cells.specs.Follows.{follow, follows}
 use Rattle.ice_cells.specs.Meaning.{system_of, node_reads, carry_reads, count_nodes, input}
-use Rattle.ice_cells.specs.Nodes.{Node, Net, Level, source_node, node_or, into_carries, into_runs, carry_into}
-use Rattle.ice_cells.specs.Readings.{carry_root, cell_roots, pad_roots, roots_read}
+use Rattle.ice_cells.specs.Nodes.{Net, source_node, node_or, into_carries, into_runs, carry_into}
+use Rattle.ice_cells.specs.Readings.{carry_root, cell_roots, pad_roots}
 use Rattle.ice_cells.specs.Runs.{run_heads}
 use Rattle.ice_cells.specs.Tables.{is_place}
-use Rattle.ice_cells.proofs.TableLaws.{length-table, get_or-table}
+use Rattle.ice_cells.proofs.TableLaws.{length-table}
 use Rattle.ice_chains.specs.Before.{HasCarry, IsBeforeRuns}
 use Rattle.ice_chains.proofs.ChainEnds.{chain_short}
-use Rattle.ice_chains.proofs.ChainLaws.{behind, before, behind_shift, behind_none, chain_at, chain_has, IsHead, FollowsOne, HasHead, has_head, behind_few}
+use Rattle.ice_chains.proofs.ChainLaws.{behind, before, behind_shift, behind_none, chain_at, IsHead, FollowsOne, has_head, behind_few}
 use Rattle.ice_chains.proofs.DesignLaws.{next_takes, follows_one, first_heads}
 use Rattle.ice_chains.proofs.HeadLaws.{head_listed}
 use Rattle.ice_chains.proofs.HeadPlaces.{head_back, are_heads}

@@ -1,15 +1,12 @@
 -- The last inputs that take what comes into a carry: each belongs to a cell behind the first of its run.
-use Rattle.std.proofs.Common.{◌≡◌, ◌⊎◌, ℕ, zero, suc, ◌+◌, ◌<◌, Bool, true, false, cond, Option, None, Some, List, [], ◌∷◌, ◌++◌, length, map, refl, ap, sym, ◌∙◌, subst, arith, inl, inr}
+use Rattle.std.proofs.Common.{◌≡◌, ◌⊎◌, ℕ, suc, ◌+◌, Bool, true, false, cond, Option, None, Some, List, ◌++◌, length, map, refl, ap, sym, ◌∙◌, subst, inl, inr}
 use Rattle.std.specs.Prelude.{not, is_some, slice_index_or}
 use Rattle.std.specs.List.{flat_map}
-use Rattle.std.proofs.lemmas.Option.{none-some}
 use Rattle.ice_value.specs.Order.{At, Has}
-use Rattle.ice_value.proofs.Members.{map_At, At_map}
 use Rattle.ice_cells.specs.declared.cell.LogicCell.{LogicCell}
 use Rattle.ice_cells.specs.declared.design.Design.{Design}
 use Rattle.ice_cells.specs.declared.design.Run.{Run}
-use Rattle.ice_cells.specs.declared.follow.Follow.{Follow}
-use Rattle.ice_cells.specs.declared.follow.Follow.TheVariants.{Nobody, Next, Other}
+use Rattle.ice_cells.specs.declared.follow.Follow.TheVariants.{Next, Other}
 use Rattle.ice_cells.specs.declared.root.Root.{Root}
 use Rattle.ice_cells.specs.declared.root.Root.TheVariants.{PadIn, CellOut, GlobalOut, CarryOut}
 use Rattle.ice_cells.specs.Chains.{Head, next, next_by, chain, takes_in, passes_out, one_if, run_from}
@@ -18,10 +15,10 @@ use Rattle.ice_cells.specs.Moves.{is_chained, renamed_source, last_input, moved_
 use Rattle.ice_cells.specs.Readings.{carry_root, cell_roots, pad_roots, roots_read}
 use Rattle.ice_cells.specs.Runs.{run_heads, cells_fed, fed_numbers, moved_numbers, movers, runs_of}
 use Rattle.ice_chains.specs.Before.{HasCarry, IsBeforeRuns}
-use Rattle.ice_chains.proofs.CellsAfter.{CellAfter, Became, Moved, after_back, FeedCell, FeedsIn, FeedsOut, cell_in, cell_out}
+use Rattle.ice_chains.proofs.CellsAfter.{CellAfter, Became, Moved, after_back, FeedsIn, FeedsOut, cell_in}
 use Rattle.ice_chains.proofs.ChainLaws.{behind, chain_has}
-use Rattle.ice_chains.proofs.DesignChains.{StandsBehind, stands_behind, carry_below, head_carry, few}
-use Rattle.ice_chains.proofs.DesignFed.{ChainEnd, chain_end, mark_is, other_fed, next_place}
+use Rattle.ice_chains.proofs.DesignChains.{stands_behind, carry_below, head_carry, few}
+use Rattle.ice_chains.proofs.DesignFed.{chain_end, mark_is, other_fed, next_place}
 use Rattle.ice_chains.proofs.DesignRuns.{feed_number, the_run, become_of, CellFed, Old, Feed, cell_fed}
 use Rattle.ice_chains.proofs.LastInputs.{Has_left, Has_right, last_follows}
 use Rattle.ice_chains.proofs.RunLists.{flat_on, carries_inner, passes_last}
@@ -46,6 +43,9 @@ chained_by fed (Some (CarryOut k)) e = record { carry = k; reads = refl; not_fed
 
 abbrev in3 : LogicCell → Option Root
 in3 x = slice_index_or x.ins 3 None
+
+never : false ≡ true → ⊥
+never e = cc
 
 -- the cell stands in a run, behind another
 pub record StandsAbove (d : Design) (c : ℕ) : Type 0 where
@@ -128,7 +128,7 @@ module _ (d : Design) (ready : IsBeforeRuns d) where
       fed : (x : LogicCell) → become_of d c x ≡ cell → CellFed d c x → (slice_index_or cell.ins 3 None ≡ None) × StandsAbove (runs_of d) c
       fed x is (Old there) = old x there is (is_chained (fed_numbers d) (in3 x)) refl (ap (λ (y : LogicCell). y.carry_to_in3) is ∙ e)
       fed x is (Feed r head i there (FeedsIn root g h k) number) =
-          (let bad : (become_of d c (cell_in root)).carry_to_in3 ≡ true = ap (λ (y : LogicCell). (become_of d c y).carry_to_in3) k ∙ ap (λ (y : LogicCell). y.carry_to_in3) is ∙ e in cc bad)
+          (let bad : (become_of d c (cell_in root)).carry_to_in3 ≡ true = ap (λ (y : LogicCell). (become_of d c y).carry_to_in3) k ∙ ap (λ (y : LogicCell). y.carry_to_in3) is ∙ e in absurd (never bad))
       fed x is (Feed r head i there (FeedsOut g h k) number) = (
         missing x is (unread x (ap in3 (sym k))),
         passing_above r head c there g (sym (number ∙ ap (λ n. feed_number d r + n) h)),
@@ -136,4 +136,4 @@ module _ (d : Design) (ready : IsBeforeRuns d) where
 
       by : CellAfter (moved_numbers d) (fed_numbers d) (cells_fed d) c cell → (slice_index_or cell.ins 3 None ≡ None) × StandsAbove (runs_of d) c
       by (Became x there is) = fed x is (cell_fed d c x there)
-      by (Moved m is) = (let bad : (moved_cell (moved_numbers d) (fed_numbers d) (cells_fed d) m).carry_to_in3 ≡ true = ap (λ (y : LogicCell). y.carry_to_in3) is ∙ e in cc bad)
+      by (Moved m is) = (let bad : (moved_cell (moved_numbers d) (fed_numbers d) (cells_fed d) m).carry_to_in3 ≡ true = ap (λ (y : LogicCell). y.carry_to_in3) is ∙ e in absurd (never bad))

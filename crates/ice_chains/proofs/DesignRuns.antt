@@ -1,28 +1,26 @@
 -- The runs of a design: each cell stands in them once at most, and all that have a carry do.
-use Rattle.std.proofs.Common.{◌≡◌, ◌⊎◌, ℕ, zero, suc, ◌+◌, ◌<◌, ◌≤◌, Bool, true, false, cond, Option, None, Some, List, [], ◌∷◌, ◌++◌, length, get_or, refl, ap, sym, ◌∙◌, subst, arith, inl, inr}
-use Rattle.std.specs.Prelude.{slice_get, slice_index_or}
+use Rattle.std.proofs.Common.{◌≡◌, ◌⊎◌, ℕ, ◌+◌, ◌<◌, ◌≤◌, Bool, true, false, length, refl, ap, sym, ◌∙◌, subst, arith, inl, inr}
 use Rattle.std.specs.List.{flat_map}
 use Rattle.std.proofs.lemmas.List.{length-append}
-use Rattle.std.proofs.lemmas.Option.{none-some, same_Some}
+use Rattle.std.proofs.lemmas.Option.{same_Some}
 use Rattle.ice_value.specs.Order.{At, Has, StandOnce}
-use Rattle.ice_value.proofs.Members.{At_left, At_right, At_parts, At_within}
+use Rattle.ice_value.proofs.Members.{At_left, At_right, At_parts}
 use Rattle.ice_cells.specs.declared.cell.LogicCell.{LogicCell}
 use Rattle.ice_cells.specs.declared.design.Design.{Design}
 use Rattle.ice_cells.specs.declared.design.Run.{Run}
-use Rattle.ice_cells.specs.declared.follow.Follow.{Follow}
 use Rattle.ice_cells.specs.declared.root.CarryIn.{CarryIn}
 use Rattle.ice_cells.specs.declared.root.CarryIn.TheVariants.{Fixed, Read}
 use Rattle.ice_cells.specs.declared.root.Root.{Root}
-use Rattle.ice_cells.specs.Chains.{Head, chain, takes_in, passes_out, is_read, one_if, feeds, feed_cells, run_from, runs_from}
+use Rattle.ice_cells.specs.Chains.{Head, chain, takes_in, passes_out, is_read, one_if, feed_cells, run_from}
 use Rattle.ice_cells.specs.Follows.{follows}
 use Rattle.ice_cells.specs.Formed.{cells_in_runs}
 use Rattle.ice_cells.specs.Moves.{become, moved_cell}
-use Rattle.ice_cells.specs.Runs.{run_heads, runs_made, cells_fed, fed_numbers, moved_numbers, movers, runs_of}
+use Rattle.ice_cells.specs.Runs.{run_heads, cells_fed, fed_numbers, moved_numbers, movers, runs_of}
 use Rattle.ice_chains.specs.Before.{HasCarry, IsBeforeRuns}
-use Rattle.ice_chains.proofs.CellsAfter.{CellAfter, Became, Moved, after_back, after_at, after_count, FeedCell, FeedsIn, FeedsOut, feed_cell, feeds_in_at, feeds_out_at, cell_in, cell_out}
+use Rattle.ice_chains.proofs.CellsAfter.{CellAfter, Became, Moved, after_back, after_at, after_count, FeedCell, FeedsIn, FeedsOut, feed_cell, feeds_in_at, cell_in, cell_out}
 use Rattle.ice_chains.proofs.ChainLaws.{chain_has}
-use Rattle.ice_chains.proofs.DesignChains.{StandsBehind, stands_behind, chain_carry, chain_below, one_before, heads_are}
-use Rattle.ice_chains.proofs.RunLists.{feeds_before, run_at, run_back, feed_at, FeedAt, feed_back, flat_on, takes_first, carries_inner, passes_last, run_parts, run_count}
+use Rattle.ice_chains.proofs.DesignChains.{stands_behind, chain_carry, chain_below, one_before, heads_are}
+use Rattle.ice_chains.proofs.RunLists.{feeds_before, run_at, run_back, feed_at, feed_back, flat_on, takes_first, carries_inner, run_parts, run_count}
 use Rattle.ice_chains.proofs.RunsOnce.{CellFrom, Fed, Carried, from_where, cells_once}
 
 same : (n : ℕ) → n ≤ n

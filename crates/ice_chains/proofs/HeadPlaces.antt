@@ -1,10 +1,9 @@
 -- The first carries of runs: each stands among them once, and follows no other.
-use Rattle.std.proofs.Common.{◌≡◌, ℕ, zero, suc, ◌<◌, true, Option, None, Some, List, [], ◌∷◌, length, refl, ap, sym, ◌∙◌, subst, arith}
-use Rattle.std.specs.Prelude.{slice_get}
-use Rattle.std.specs.List.{find, filter_map, cons_option, range_with_len}
+use Rattle.std.proofs.Common.{◌≡◌, ℕ, zero, suc, true, Option, None, Some, List, [], ◌∷◌, length, refl, ap, sym, ◌∙◌, arith}
+use Rattle.std.specs.List.{filter_map, cons_option, range_with_len}
 use Rattle.std.proofs.lemmas.Option.{same_Some, slice_get_within}
 use Rattle.std.proofs.lemmas.List.FromFn.{length-range_with_len}
-use Rattle.ice_value.specs.Order.{At, Has, StandOnce}
+use Rattle.ice_value.specs.Order.{At, StandOnce}
 use Rattle.ice_cells.specs.Chains.{Head, is_first, lowest, leads, leader, heads}
 use Rattle.ice_cells.specs.declared.follow.Follow.{Follow}
 use Rattle.ice_cells.specs.Tables.{is_place}

@@ -1,5 +1,5 @@
 -- A last input that reads a carry: the cell's carry follows that one, or it is the last of its chain and read otherwise.
-use Rattle.std.proofs.Common.{◌≡◌, ◌⊎◌, ℕ, zero, suc, ◌+◌, Bool, true, false, Option, None, Some, List, [], ◌∷◌, ◌++◌, length, map, refl, ap, sym, ◌∙◌, subst, arith, inl, inr}
+use Rattle.std.proofs.Common.{◌≡◌, ◌⊎◌, ℕ, zero, suc, ◌+◌, true, false, None, Some, List, [], ◌∷◌, ◌++◌, length, map, refl, ap, sym, ◌∙◌, subst, arith, inl, inr}
 use Rattle.std.specs.Prelude.{slice_index_or}
 use Rattle.std.specs.List.{flat_map}
 use Rattle.std.proofs.lemmas.Option.{none-some, same_Some}
@@ -7,12 +7,10 @@ use Rattle.ice_value.specs.Order.{At, Has}
 use Rattle.ice_value.proofs.Members.{At_left, At_right}
 use Rattle.ice_cells.specs.declared.cell.LogicCell.{LogicCell}
 use Rattle.ice_cells.specs.declared.design.Design.{Design}
-use Rattle.ice_cells.specs.declared.root.Root.{Root}
 use Rattle.ice_cells.specs.declared.root.Root.TheVariants.{CarryOut}
 use Rattle.ice_cells.specs.declared.follow.Follow.{Follow}
 use Rattle.ice_cells.specs.declared.follow.Follow.TheVariants.{Nobody, Next, Other}
-use Rattle.ice_cells.specs.declared.follow.Reader.{Reader}
-use Rattle.ice_cells.specs.declared.follow.Reader.TheVariants.{Into, Last, Else}
+use Rattle.ice_cells.specs.declared.follow.Reader.TheVariants.{Into, Last}
 use Rattle.ice_cells.specs.Readings.{Reading, carry_reading, cell_readings, cells_readings, pad_readings, plain, readings}
 use Rattle.ice_cells.specs.Follows.{follow}
 use Rattle.ice_chains.proofs.FollowLaws.{is_marked, read_marked, next_only}

@@ -16,3 +16,5 @@ pub mod FedNumbers
 pub mod IntoRuns
 pub mod DesignFed
 pub mod DesignLast
+pub mod Holding
+pub mod ReadsFed

@@ -1,18 +1,16 @@
 -- Runs, and the cells that they have beside their carries, by the places of their first carries.
-use Rattle.std.proofs.Common.{◌≡◌, ◌⊎◌, ℕ, zero, suc, ◌+◌, ◌<◌, ◌≤◌, Bool, true, false, cond, Option, None, Some, List, [], ◌∷◌, ◌++◌, length, refl, ap, sym, ◌∙◌, subst, arith, inl, inr}
-use Rattle.std.specs.Prelude.{slice_index_or}
+use Rattle.std.proofs.Common.{◌≡◌, ◌⊎◌, ℕ, zero, suc, ◌+◌, ◌<◌, ◌≤◌, Bool, true, false, Some, List, [], ◌∷◌, ◌++◌, length, refl, ap, sym, ◌∙◌, subst, arith, inl, inr}
 use Rattle.std.specs.List.{flat_map}
 use Rattle.std.proofs.lemmas.List.{length-append}
 use Rattle.std.proofs.lemmas.Option.{none-some, same_Some}
 use Rattle.ice_value.specs.Order.{At, Has, StandOnce}
-use Rattle.ice_value.proofs.Members.{At_left, At_right, At_parts, At_within, Has_none, Has_cases}
+use Rattle.ice_value.proofs.Members.{At_left, At_right, At_parts, Has_none}
 use Rattle.ice_cells.specs.declared.cell.LogicCell.{LogicCell}
 use Rattle.ice_cells.specs.declared.design.Run.{Run}
 use Rattle.ice_cells.specs.declared.root.CarryIn.{CarryIn}
 use Rattle.ice_cells.specs.declared.root.CarryIn.TheVariants.{Fixed, Read}
-use Rattle.ice_cells.specs.declared.root.Root.{Root}
 use Rattle.ice_cells.specs.declared.follow.Follow.{Follow}
-use Rattle.ice_cells.specs.Chains.{Head, chain, end, is_read, takes_in, passes_out, one_if, list_if, feeds, run_from, runs_from, feed_in, feed_out, feed_cells}
+use Rattle.ice_cells.specs.Chains.{Head, chain, is_read, takes_in, passes_out, one_if, list_if, feeds, run_from, runs_from, feed_in, feed_out, feed_cells}
 
 -- how many cells the first runs have beside their carries
 abbrev pub feeds_before : List Follow → List Head → ℕ → ℕ

@@ -1,1 +1,3 @@
 pub mod Before
+pub mod Holding
+pub mod Laws

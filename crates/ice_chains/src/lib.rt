@@ -6,6 +6,7 @@ mod chain;
 mod feed;
 mod follow;
 mod head;
+pub mod laws;
 mod numbers;
 mod run;
 
