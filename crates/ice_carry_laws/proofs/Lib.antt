@@ -1,4 +1,4 @@
-mod Levels
+pub mod Levels
 mod ReadRoots
 mod Renaming
 mod Arriving
