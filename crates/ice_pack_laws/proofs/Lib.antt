@@ -1,2 +1,5 @@
 mod Inputs
+mod Levels
 mod Values
+mod Pins
+mod AllValues

@@ -145,7 +145,7 @@ module _ (n : NetlistData) (d : Design) (p : Plan) (order : List ℕ) (ready : I
   abbrev Input : Option Root → Option SignalNo → Type 0
   Input root signal = (x : Bool) × ReadsAt false root x × (input_level p.origins signal ≡ None → x ≡ lev signal)
 
-  plain_reads : (o : Origin) → Carries o → IsOpen p o → (x : Bool) × ReadsAt false (origin_root p.roots o) x × (level_of o ≡ None → x ≡ lv o)
+  pub plain_reads : (o : Origin) → Carries o → IsOpen p o → (x : Bool) × ReadsAt false (origin_root p.roots o) x × (level_of o ≡ None → x ≡ lv o)
   plain_reads (Fixed b) c opened = (false, refl, λ e. cc e)
   plain_reads (Pad k) c opened = (slice_index_or levels k false, pad_value k, λ e. refl)
   plain_reads (Made i) c opened = (lv (Made i), made_reads i c (opened i refl) false, λ e. refl)
@@ -157,7 +157,7 @@ module _ (n : NetlistData) (d : Design) (p : Plan) (order : List ℕ) (ready : I
   sink_input : (other signal : Option SignalNo) → IsSunk d p other → from other ≡ from signal → Carries (from signal) → Input (sink p other) signal
   sink_input other signal is same c = (lev other, sunk other is (subst Carries (sym same) c), λ e. ap lv same)
 
-  put : (root : Option Root) (x : Bool) (ps : List (Option Node)) (xs : List Bool) → ReadsAt false root x → HaveD ps xs → HaveD (net root ∷ ps) (x ∷ xs)
+  pub put : (root : Option Root) (x : Bool) (ps : List (Option Node)) (xs : List Bool) → ReadsAt false root x → HaveD ps xs → HaveD (net root ∷ ps) (x ∷ xs)
   put None x ps xs here rest = (here, rest)
   put (Some root) x ps xs here rest = (here, rest)
 
@@ -184,6 +184,11 @@ module _ (n : NetlistData) (d : Design) (p : Plan) (order : List ℕ) (ready : I
   inputs_level (Some s ∷ ins) below =
       let here : sv s.0 ≡ lev (Some s) = level_of_origin n order ready.sorted levels kept ready.formed s.0 (below 0 (Some s) refl) ∙ ap lv (sym (packed.origins s.0 (below 0 (Some s) refl))) in
       λ i. here i ∷ inputs_level ins (λ k t at. below (suc k) t at) i
+
+  -- what an input reads in the netlist
+  pub signal_level : (signal : Option SignalNo) → IsBelow (length n.names) signal → reading false (λ (s : SignalNo). sv s.0) signal ≡ lev signal
+  signal_level None below = refl
+  signal_level (Some s) below = level_of_origin n order ready.sorted levels kept ready.formed s.0 below ∙ ap lv (sym (packed.origins s.0 below))
 
   pub formed_at : (j : ℕ) (cell : Cell) → At n.cells j cell → IsFormedCell (length n.names) cell
   formed_at j cell at = at_all (IsFormedCell (length n.names)) n.cells j cell ready.formed.cells at

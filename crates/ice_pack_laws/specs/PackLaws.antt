@@ -1,6 +1,16 @@
 -- The laws of packing.
-use Rattle.std.specs.Prelude.{◌≡◌, ℕ}
+use Rattle.std.specs.Prelude.{ℕ, List, length}
+use Rattle.ice_value.specs.Order.{IsOrder}
+use Rattle.ice_net.specs.Formed.{IsFormed}
+use Rattle.ice_net.specs.Meaning.{depends_on}
+use Rattle.ice_net.specs.NetlistData.{NetlistData}
+use Rattle.ice_check.specs.Sound.{IsSound}
+use Rattle.ice_cells.specs.declared.design.Design.{Design}
+use Rattle.ice_cells.specs.Meaning.{HasValues}
+use Rattle.ice_cells.specs.Packed.{Plan}
 use Rattle.ice_pack_laws.specs.IsPacked.{IsPacked}
 
-abbrev pub Probe : Type 0
-Probe = (a : ℕ) → a ≡ a
+-- in a design that has what the cells of a sound netlist need each node has a value
+abbrev pub PackedDesignsHaveValues : Type 0
+PackedDesignsHaveValues = (n : NetlistData) → IsFormed n → IsSound n → (order : List ℕ) → IsOrder (length n.names) (depends_on n) order
+    → (d : Design) (p : Plan) → IsPacked n d p → HasValues d

@@ -1,7 +1,7 @@
 //! The laws of packing, each as the contract of a function that does nothing.
-ghost use Rattle.ice_pack_laws.specs.PackLaws.{Probe};
+ghost use Rattle.ice_pack_laws.specs.PackLaws.{PackedDesignsHaveValues};
 
-/// Probe.
-pub fn probe()
-    ensures { Probe }
+/// In a design that has what the cells of a sound netlist need each node has a value.
+pub fn packed_designs_have_values()
+    ensures { PackedDesignsHaveValues }
 {}
