@@ -3,3 +3,4 @@ mod Levels
 mod Values
 mod Pins
 mod AllValues
+mod Steps

@@ -7,6 +7,8 @@ use Rattle.ice_net.specs.declared.cell.Cell.{Cell}
 use Rattle.ice_net.specs.declared.kind.CellKind.TheVariants.{Carry, Flop, PadCell, Global}
 use Rattle.ice_net.specs.declared.kind.Reset.{Reset}
 use Rattle.ice_net.specs.declared.port.Port.{Port}
+use Rattle.ice_net.specs.declared.port.Way.TheVariants.{Output}
+use Rattle.ice_net.specs.Drives.{pad_uses}
 use Rattle.ice_net.specs.Formed.{IsBelow}
 use Rattle.ice_net.specs.NetlistData.{NetlistData}
 use Rattle.ice_net.specs.Drivers.{buffer_at}
@@ -23,7 +25,7 @@ use Rattle.ice_cells.specs.Origins.{is_table_kind, input_origin, origin}
 use Rattle.ice_cells.specs.Uses.{dropped, reading_ins}
 use Rattle.ice_cells.specs.Uses as use_of
 use Rattle.ice_cells.specs.Homes.{taker}
-use Rattle.ice_cells.specs.Packed.{Plan, lut_table, lut_inputs, with_carry, no_inputs, passing_table, plain_sink, sink, pad_root, flop_of, ins_at, enable_input, set_input, carry_input, constant_cell}
+use Rattle.ice_cells.specs.Packed.{Plan, lut_table, lut_inputs, with_carry, no_inputs, passing_table, plain_sink, sink, pad_root, flop_of, ins_at, enable_input, set_input, carry_input, constant_cell, bare_type, bare_drive}
 
 -- the root of the output of a cell
 abbrev pub root_at : Plan → ℕ → Option Root
@@ -125,6 +127,15 @@ pub data Stands (n : NetlistData) (d : Design) (p : Plan) (c : ℕ) (logic : Log
   carries : (j : ℕ) (cell : Cell) → IsCarryCell n d p j cell → logic.ins ≡ with_carry p n.cells no_inputs (Some j) → Stands n d p c logic
   fixed : (level : Bool) → logic ≡ constant_cell level → Stands n d p c logic
 
+-- ---- pads
+-- a pad without an SB_IO, or one at the SB_IO of its port
+pub data IsPadOf (n : NetlistData) (d : Design) (p : Plan) (port : Port) (pad : DesignPad) : Type 0 where
+  lies : buffer_at n.cells port.signal.0 ≡ None → pad.pin_type ≡ bare_type port.way → pad.drive ≡ bare_drive p port.way port.signal → (port.way ≡ Output → IsSunk d p (Some port.signal))
+      → IsPadOf n d p port pad
+  through : (j : ℕ) (cell : Cell) (pin_type : ℕ) (pullup : Bool) → buffer_at n.cells port.signal.0 ≡ Some j → At n.cells j cell → cell.kind ≡ PadCell pin_type pullup
+      → pad.pin_type ≡ pin_type → pad.drive ≡ sink p (slice_index_or (pad_uses pin_type cell.ins) 0 None) → pad.enable ≡ sink p (slice_index_or (pad_uses pin_type cell.ins) 1 None)
+      → ((k : ℕ) (signal : Option SignalNo) → At (pad_uses pin_type cell.ins) k signal → IsSunk d p signal) → IsPadOf n d p port pad
+
 -- ---- the design
 pub record IsPacked (n : NetlistData) (d : Design) (p : Plan) : Type 0 where
   pub origins : (s : ℕ) → s < length n.names → slice_index_or p.origins s (Fixed false) ≡ origin n s
@@ -139,3 +150,5 @@ pub record IsPacked (n : NetlistData) (d : Design) (p : Plan) : Type 0 where
   pub unchained : (c : ℕ) (logic : LogicCell) → At d.cells c logic → logic.carry_to_in3 ≡ false
   pub carried : (c : ℕ) (logic : LogicCell) → At d.cells c logic → logic.carry ≡ true → (j : ℕ) × (cell : Cell) × IsCarryCell n d p j cell × (has : HasCarry n d p j cell) × (has.home ≡ c)
   pub buffered : (g : ℕ) (root : Option Root) → At d.globals g root → (input : Option SignalNo) × IsSunk d p input × IsBelow (length n.names) input × (root ≡ sink p input)
+  pub ports_long : length d.pads ≡ length n.ports
+  pub ports : (k : ℕ) (pad : DesignPad) (port : Port) → At d.pads k pad → At n.ports k port → IsPadOf n d p port pad
