@@ -1,4 +1,4 @@
-pub mod Levels
+mod Levels
 mod ReadRoots
 mod Renaming
 mod Arriving

@@ -4,3 +4,8 @@ mod Values
 mod Pins
 mod AllValues
 mod Steps
+mod Readers
+mod Found
+mod Parts
+mod Packs
+mod Ready

@@ -5,18 +5,20 @@ use Rattle.ice_net.specs.Formed.{IsFormed}
 use Rattle.ice_net.specs.Meaning.{depends_on, shows}
 use Rattle.ice_net.specs.NetlistData.{NetlistData}
 use Rattle.ice_check.specs.Sound.{IsSound}
-use Rattle.ice_cells.specs.declared.design.Design.{Design}
-use Rattle.ice_cells.specs.Meaning.{HasValues}
 use Rattle.ice_cells.specs.Meaning as design
-use Rattle.ice_cells.specs.Packed.{Plan}
-use Rattle.ice_pack_laws.specs.IsPacked.{IsPacked}
+use Rattle.ice_cells.specs.Meaning.{HasValues}
+use Rattle.ice_cells.specs.Packed.{packed}
 
--- in a design that has what the cells of a sound netlist need each node has a value
-abbrev pub PackedDesignsHaveValues : Type 0
-PackedDesignsHaveValues = (n : NetlistData) → IsFormed n → IsSound n → (order : List ℕ) → IsOrder (length n.names) (depends_on n) order
-    → (d : Design) (p : Plan) → IsPacked n d p → HasValues d
+-- a well-formed, sound netlist, and an order of evaluation of its signals
+pub record IsSoundInOrder (n : NetlistData) (order : List ℕ) : Type 0 where
+  pub formed : IsFormed n
+  pub sound : IsSound n
+  pub sorted : IsOrder (length n.names) (depends_on n) order
 
--- it shows, step by step, what the netlist shows
-abbrev pub PackedDesignsShowTheSame : Type 0
-PackedDesignsShowTheSame = (n : NetlistData) → IsFormed n → IsSound n → (order : List ℕ) → IsOrder (length n.names) (depends_on n) order
-    → (d : Design) (p : Plan) → IsPacked n d p → (levels : List (List Bool)) → design.shows d levels ≡ shows n levels
+-- each node of the packed design of a sound netlist has a value, whatever the levels and whatever is kept
+abbrev pub PackedNetlistsHaveValues : Type 0
+PackedNetlistsHaveValues = (n : NetlistData) (order : List ℕ) → IsSoundInOrder n order → HasValues (packed n)
+
+-- it shows, step by step, what the netlist shows, for each list of levels
+abbrev pub PackedNetlistsShowTheSame : Type 0
+PackedNetlistsShowTheSame = (n : NetlistData) (order : List ℕ) → IsSoundInOrder n order → (levels : List (List Bool)) → design.shows (packed n) levels ≡ shows n levels
