@@ -1,7 +1,8 @@
 //! The laws of packed designs, each as the contract of a function that does nothing but call laws below.
-ghost use Rattle.ice_pack_form.specs.FormLaws.{DesignsAreFormed, PackedAreBeforeRuns, PackedAreFormed, PackedReadWithin};
+ghost use Rattle.ice_pack_form.specs.FormLaws.{DesignsAreFormed, DesignsHaveValues, DesignsShowTheSame, PackedAreBeforeRuns, PackedAreFormed, PackedReadWithin};
 
-use ice_carry_laws::laws::runs_are_formed;
+use ice_carry_laws::laws::{runs_are_formed, runs_have_values, runs_show_the_same};
+use ice_pack_laws::laws::{packed_netlists_have_values, packed_netlists_show_the_same};
 
 /// A packed design without a loop says of each carry once what comes into it, takes no carry into a last input, and reads no
 /// carry that is not there.
@@ -20,9 +21,27 @@ pub fn packed_are_formed()
     ensures { PackedAreFormed }
 {}
 
-/// The design of a sound netlist, its runs made, keeps to what clusters, pads and bits ask of designs, where packing made no loop.
+/// The design of a sound netlist, its runs made, keeps to what clusters, pads and bits ask of designs.
 pub fn designs_are_formed()
     ensures { DesignsAreFormed }
 {
+    packed_netlists_have_values();
     runs_are_formed();
+}
+
+/// Each node of the design of a sound netlist, its runs made, has a value.
+pub fn designs_have_values()
+    ensures { DesignsHaveValues }
+{
+    packed_netlists_have_values();
+    runs_have_values();
+}
+
+/// The design of a sound netlist, its runs made, shows step by step what the netlist shows.
+pub fn designs_show_the_same()
+    ensures { DesignsShowTheSame }
+{
+    packed_netlists_have_values();
+    packed_netlists_show_the_same();
+    runs_show_the_same();
 }
