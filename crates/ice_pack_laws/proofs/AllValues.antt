@@ -1,5 +1,5 @@
 -- Each node of a packed design has a value.
-use Rattle.std.proofs.Common.{◌≡◌, ℕ, ◌<◌, Bool, true, false, cond, Option, None, Some, List, [], ◌∷◌, length, refl, sym, ap, ◌∙◌, subst, arith}
+use Rattle.std.proofs.Common.{◌≡◌, ℕ, Bool, true, false, cond, Option, None, Some, List, [], ◌∷◌, length, refl, sym, ap, ◌∙◌, subst}
 use Rattle.std.specs.Prelude.{slice_get, slice_index_or}
 use Rattle.std.specs.Option.{option_map_or}
 use Rattle.ice_base.specs.declared.number.SignalNo.{SignalNo}
@@ -17,12 +17,12 @@ use Rattle.ice_cells.specs.declared.root.Root.{Root}
 use Rattle.ice_cells.specs.declared.root.Root.TheVariants.{PadIn, CellOut, GlobalOut, CarryOut}
 use Rattle.ice_cells.specs.Meaning.{cell_inputs, output_reads, carry_reads, node_reads, node_makes, input, HasValues}
 use Rattle.ice_cells.specs.Nodes.{Node, Net, Level, net, carry_into}
-use Rattle.ice_cells.specs.Packed.{Plan, with_carry, no_inputs, ins_at, sink}
+use Rattle.ice_cells.specs.Packed.{Plan, no_inputs, ins_at, sink}
 use Rattle.ice_cells.specs.Tables.{table}
 use Rattle.ice_cells.proofs.TableLaws.{get_or-table}
-use Rattle.ice_pack_laws.specs.IsPacked.{root_at, Stands, keeps, gives, carries, fixed, HasTable, IsCarryCell, HasCarry, IsSunk}
+use Rattle.ice_pack_laws.specs.IsPacked.{root_at, Stands, keeps, gives, carries, fixed, IsSunk}
 use Rattle.ice_pack_laws.proofs.Levels.{level_there}
-use Rattle.ice_pack_laws.proofs.Values.{KeepsSame, IsReady, HasD, HaveD, lv, lev, made, put, sunk, input_claims, cell_claims, below_at, inputs_are, out_reads, table_there, carry_value}
+use Rattle.ice_pack_laws.proofs.Values.{KeepsSame, IsReady, HasD, HaveD, lev, made, put, sunk, input_claims, cell_claims, below_at, inputs_are, out_reads, table_there, carry_value}
 use Rattle.ice_pack_laws.proofs.Inputs.{input_at}
 
 -- what a flip-flop keeps, by the root of its output

@@ -1,14 +1,13 @@
 -- Where the cells of a netlist are found in its packed design.
-use Rattle.std.proofs.Common.{◌≡◌, ◌⊎◌, ℕ, zero, suc, ◌+◌, ◌<◌, Bool, true, false, cond, Option, None, Some, List, [], ◌∷◌, ◌++◌, length, map, inl, inr, refl, sym, ap, ◌∙◌, subst, arith}
+use Rattle.std.proofs.Common.{◌≡◌, ◌⊎◌, ℕ, zero, suc, ◌+◌, Bool, true, false, cond, Option, None, Some, List, [], ◌∷◌, ◌++◌, length, map, inl, inr, refl, sym, ap, ◌∙◌, subst, arith}
 use Rattle.std.specs.Prelude.{slice_get, slice_index_or, flat_map, filter, ◌==◌}
-use Rattle.std.specs.List.{list_any, range_with_len}
-use Rattle.std.specs.Option.{option_map_or}
-use Rattle.std.proofs.lemmas.Bool.{and_parts, eqb-true, eq-eqb}
+use Rattle.std.specs.List.{range_with_len}
+use Rattle.std.proofs.lemmas.Bool.{and_parts, eqb-true}
 use Rattle.std.proofs.lemmas.List.{length-map, length-append}
 use Rattle.std.proofs.lemmas.Option.{same_Some}
 use Rattle.ice_base.specs.declared.number.SignalNo.{SignalNo}
 use Rattle.ice_value.specs.Order.{At, Has}
-use Rattle.ice_value.proofs.Members.{At_map, map_At, At_left, At_right, At_parts, At_within, find_Has, Has_find}
+use Rattle.ice_value.proofs.Members.{At_map, map_At, At_left, At_right, At_parts, At_within}
 use Rattle.ice_net.specs.declared.cell.Cell.{Cell}
 use Rattle.ice_net.specs.declared.kind.CellKind.{CellKind}
 use Rattle.ice_net.specs.declared.kind.CellKind.TheVariants as kind
@@ -16,21 +15,15 @@ use Rattle.ice_net.specs.declared.port.Port.{Port}
 use Rattle.ice_net.specs.Drivers.{buffer_at}
 use Rattle.ice_net.specs.NetlistData.{NetlistData}
 use Rattle.ice_cells.specs.declared.cell.LogicCell.{LogicCell}
-use Rattle.ice_cells.specs.declared.design.Design.{Design}
-use Rattle.ice_cells.specs.declared.design.DesignPad.{DesignPad}
 use Rattle.ice_cells.specs.declared.origin.Origin.{Origin}
 use Rattle.ice_cells.specs.declared.root.CarryIn.{CarryIn}
 use Rattle.ice_cells.specs.declared.root.Root.{Root}
-use Rattle.ice_cells.specs.declared.root.Root.TheVariants.{CellOut, GlobalOut, CarryOut}
-use Rattle.ice_cells.specs.declared.share.Part.{Part}
-use Rattle.ice_cells.specs.declared.share.Part.TheVariants.{Table, Flop, Carry, Nothing}
-use Rattle.ice_cells.specs.Nodes.{source_node, into_carries, carry_into, node_or}
-use Rattle.ice_cells.specs.Origins.{is_table_kind, input_origin, origins}
+use Rattle.ice_cells.specs.Origins.{input_origin, origins}
 use Rattle.ice_cells.specs.Uses.{dropped, bare_outputs}
-use Rattle.ice_cells.specs.Homes.{Facts, facts_of, part, part_of, part_by, is_kept, anchor, anchor_by, carriers_of, first_member, first_by, opens, openers, openers_before, home, homes}
+use Rattle.ice_cells.specs.Homes.{Facts, facts_of, part, part_of, is_kept, anchor, carriers_of, first_member, first_by, opens, openers, openers_before, home, homes}
 use Rattle.ice_cells.specs.Tables.{table}
 use Rattle.ice_cells.specs.Packed.{Plan, plan_of, packed, root_by, is_global, one_if, roots_from, global_by, carry_input, carry_by, carries_from, cell_by, cell_of, constant_cell, constant_if, needs_zero, needs_one, pad_by, pads_from}
-use Rattle.ice_cells.proofs.TableLaws.{length-table, get_or-table}
+use Rattle.ice_cells.proofs.TableLaws.{get_or-table}
 use Rattle.ice_cells.proofs.RangeFilters.{passing_at}
 use Rattle.ice_share.proofs.HomeLaws.{first_anchor, home_opened}
 
@@ -101,9 +94,11 @@ module _ (os : List Origin) (hs : List ℕ) (p : Plan) where
   entry_there j i q [] cell e at is stays = cc at
   entry_there j zero q (x ∷ cells) cell e at is stays =
       let same : cell ≡ x = sym (same_Some x cell at) in
-      let number : q ≡ j = omega arith in
-      (0, At_left (carry_by p (slice_index_or hs j 0) x.kind x.ins x.outs) (carries_from p hs (j + 1) cells) 0 (entry q cell)
-          (ap (λ xs. slice_get xs 0) (sym ((λ i. carry_by p (slice_index_or hs (number i) 0) (same i).kind (same i).ins (same i).outs)) ∙ one_entry q cell is stays)))
+      let number : q ≡ j = omega arith in (
+        0,
+        At_left (carry_by p (slice_index_or hs j 0) x.kind x.ins x.outs) (carries_from p hs (j + 1) cells) 0 (entry q cell)
+            (ap (λ xs. slice_get xs 0) (sym ((λ i. carry_by p (slice_index_or hs (number i) 0) (same i).kind (same i).ins (same i).outs)) ∙ one_entry q cell is stays)),
+      )
   entry_there j (suc i) q (x ∷ cells) cell e at is stays =
       let rest = entry_there (j + 1) i q cells cell (omega arith) at is stays in
       (length (carry_by p (slice_index_or hs j 0) x.kind x.ins x.outs) + rest.0, At_right (carry_by p (slice_index_or hs j 0) x.kind x.ins x.outs) (carries_from p hs (j + 1) cells) rest.0 (entry q cell) rest.1)

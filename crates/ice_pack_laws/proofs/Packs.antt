@@ -1,7 +1,6 @@
 -- The packed design of a netlist has what its meaning follows from.
-use Rattle.std.proofs.Common.{◌≡◌, ◌⊎◌, ℕ, zero, suc, ◌+◌, ◌<◌, Bool, true, false, cond, Option, None, Some, List, [], ◌∷◌, ◌++◌, length, map, inl, inr, refl, sym, ap, ◌∙◌, subst, arith, All}
+use Rattle.std.proofs.Common.{◌≡◌, ◌⊎◌, ℕ, zero, suc, ◌+◌, ◌<◌, Bool, true, false, cond, Option, None, Some, List, [], ◌∷◌, length, map, inl, inr, refl, sym, ap, ◌∙◌, subst, arith}
 use Rattle.std.specs.Prelude.{slice_get, slice_index_or, unwrap_or, ◌&&◌, is_some}
-use Rattle.std.specs.List.{list_any}
 use Rattle.std.specs.Option.{option_map_or}
 use Rattle.std.proofs.lemmas.List.{length-map}
 use Rattle.std.proofs.lemmas.Option.{same_Some, get_or_from_slice_get}
@@ -15,13 +14,11 @@ use Rattle.ice_net.specs.declared.kind.CellKind.{CellKind}
 use Rattle.ice_net.specs.declared.kind.CellKind.TheVariants as kind
 use Rattle.ice_net.specs.declared.kind.Reset.{Reset}
 use Rattle.ice_net.specs.declared.port.Port.{Port}
-use Rattle.ice_net.specs.declared.port.Way.{Way}
-use Rattle.ice_net.specs.declared.port.Way.TheVariants.{Input, Output, Both}
+use Rattle.ice_net.specs.declared.port.Way.TheVariants.{Output}
 use Rattle.ice_net.specs.Drivers.{is_signal, pin_of, pin_by, buffer_at, is_there, has_buffer}
 use Rattle.ice_net.specs.Drives.{pad_uses}
 use Rattle.ice_net.specs.Formed.{IsFormed, IsFormedCell, IsBelow}
 use Rattle.ice_net.specs.NetlistData.{NetlistData}
-use Rattle.ice_cells.specs.declared.cell.Control.{Control}
 use Rattle.ice_cells.specs.declared.cell.LogicCell.{LogicCell}
 use Rattle.ice_cells.specs.declared.design.DesignPad.{DesignPad}
 use Rattle.ice_cells.specs.declared.origin.Origin.{Origin}
@@ -31,19 +28,19 @@ use Rattle.ice_cells.specs.declared.root.Root.{Root}
 use Rattle.ice_cells.specs.declared.root.Root.TheVariants.{GlobalOut, CarryOut}
 use Rattle.ice_cells.specs.declared.share.Part.{Part}
 use Rattle.ice_cells.specs.declared.share.Part.TheVariants.{Table, Flop, Carry, Nothing}
-use Rattle.ice_cells.specs.Origins.{is_table_kind, input_origin, origin, origins}
+use Rattle.ice_cells.specs.Origins.{input_origin, origin}
 use Rattle.ice_cells.specs.Tables.{is_place}
 use Rattle.ice_cells.specs.Uses.{dropped, maker, readings, is_bare_output, is_bare_way}
 use Rattle.ice_cells.specs.Uses as use_of
 use Rattle.ice_cells.specs.Homes.{part, part_by, is_table, is_kept, taker, taken_anchor, anchor, anchor_by, carriers_of, home, homes}
-use Rattle.ice_cells.specs.Packed.{root_by, lut_inputs, enable_sink, reads_zero, reads_one, has_level, set_input, enable_input, ins_at, data_input, flop_by, flop_of, cell_by, constant_cell, passing_table, plain_sink, sink, pad_root, global_by, packed, unread_by, plan_of, read_pad, pads_from, bare_pad, buffered_pad, pad_by, no_inputs, with_carry}
+use Rattle.ice_cells.specs.Packed.{root_by, lut_inputs, enable_sink, reads_zero, reads_one, has_level, set_input, enable_input, data_input, flop_by, flop_of, cell_by, constant_cell, passing_table, plain_sink, sink, global_by, packed, unread_by, plan_of, read_pad, pads_from, bare_pad, buffered_pad, pad_by, with_carry}
 use Rattle.ice_cells.proofs.TableLaws.{get_or-table}
 use Rattle.ice_share.proofs.HomeLaws.{goes, kept_anchor, anchor_again, taker_parts, taker_part, carry_part, carrier_lut, carrier_is}
-use Rattle.ice_pack_laws.specs.IsPacked.{root_at, IsOpen, IsSunk, IsEnabled, IsCarryCell, HasCarry, HasTable, IsAlone, IsBehind, HasFlop, Stands, keeps, gives, carries, fixed, IsPadOf, lies, through, IsPacked}
+use Rattle.ice_pack_laws.specs.IsPacked.{root_at, IsSunk, IsEnabled, IsCarryCell, HasCarry, IsAlone, IsBehind, HasFlop, Stands, keeps, gives, carries, fixed, IsPadOf, lies, through, IsPacked}
 use Rattle.ice_pack_laws.proofs.Inputs.{at_all, input_at, place_at}
-use Rattle.ice_pack_laws.proofs.Found.{os, bare, fs, p, cell_at, same_home, parts_long, global_back, pad_there, pads_long, opened_back, IsOpened}
+use Rattle.ice_pack_laws.proofs.Found.{os, bare, fs, p, same_home, parts_long, global_back, pad_there, pads_long, opened_back, IsOpened}
 use Rattle.ice_pack_laws.proofs.Readers.{read_cell, read_port, taken_by}
-use Rattle.ice_pack_laws.proofs.Parts.{Opened, read_open, missing_open, input_open, cell_needs_one, cell_needs_zero, port_needs_one, one_read, level_read, part_at, cell_of_part, part_table_kind, part_carry_kind, part_flop_kind, own_at, root_is, rooted_at, carry_cell, carry_part_at, comes_into, table_part_at, has_table, table_home, ins_are}
+use Rattle.ice_pack_laws.proofs.Parts.{Opened, read_open, missing_open, input_open, cell_needs_one, cell_needs_zero, port_needs_one, one_read, level_read, part_at, cell_of_part, part_table_kind, part_carry_kind, part_flop_kind, own_at, root_is, rooted_at, carry_cell, carry_part_at, comes_into, has_table, table_home, ins_are}
 
 module _ (n : NetlistData) where
   -- ---- carries
@@ -178,8 +175,7 @@ module _ (n : NetlistData) where
         let lut = cell_of_part n k Table table (λ z. cc z) in
         let table_kind = part_table_kind (os n) lut.0.kind lut.0.ins lut.0.outs lut.2 in
         let has = has_table n k lut.0 lut.1 table_kind in
-        let same : has.home ≡ home (fs n) j = table_home n k lut.0 lut.1 table_kind ∙ same_home n k j (ap (anchor_by (fs n) k) table ∙ sym goes_by) in
-        (
+        let same : has.home ≡ home (fs n) j = table_home n k lut.0 lut.1 table_kind ∙ same_home n k j (ap (anchor_by (fs n) k) table ∙ sym goes_by) in (
           has.logic,
           subst (λ h. At (packed n).cells h has.logic) same has.at,
           has.unchained,
@@ -276,8 +272,7 @@ module _ (n : NetlistData) where
       → IsSunk (packed n) (p n) (slice_index_or cell.ins 0 None) × ((g : ℕ) × (root_at (p n) j ≡ Some (GlobalOut g)) × At (packed n).globals g (sink (p n) (slice_index_or cell.ins 0 None)))
   has_global j cell at is =
       let r = rooted_at n j cell at in
-      let same : r.before ≡ 0 + r.before = omega arith in
-      (
+      let same : r.before ≡ 0 + r.before = omega arith in (
         global_sunk j cell at is,
         (
           0 + r.before,
@@ -305,8 +300,7 @@ module _ (n : NetlistData) where
   from_part c logic o (Flop taken) e =
       let flop = cell_of_part n (anchor (fs n) o.number) (Flop taken) e (λ z. cc z) in
       let is = part_flop_kind (os n) flop.0.kind flop.0.ins flop.0.outs taken flop.2 in
-      keeps
-      (
+      keeps (
         record {
           clock = plain_sink (p n) (slice_index_or flop.0.ins 0 None);
           falling = is.0;
@@ -413,7 +407,7 @@ module _ (n : NetlistData) where
               (λ m signal inside. record {
                 opened = input_open n j cell m signal at (subst (λ (xs : List (Option SignalNo)). At xs m signal) (sym (ap (λ x. use_of.reading_ins x cell.ins cell.outs) is)) inside) (ap (λ x. use_of.taker j x m) is);
                 one = λ f. cell_needs_one n j cell at
-                  (ap (λ x. reads_one (os n) x cell.ins cell.outs) is ∙ Has_any (has_level (os n) true) (pad_uses t cell.ins) signal m inside (one_read n signal f));
+                    (ap (λ x. reads_one (os n) x cell.ins cell.outs) is ∙ Has_any (has_level (os n) true) (pad_uses t cell.ins) signal m inside (one_read n signal f));
               })
 
   pad_of_port : (k : ℕ) (pad : DesignPad) (port : Port) → At (packed n).pads k pad → At n.ports k port → IsPadOf n (packed n) (p n) port pad
@@ -436,11 +430,14 @@ module _ (n : NetlistData) where
     unchained = unchained_is;
     carried = λ c logic at on. carried_is c logic at on;
     buffered = λ g root at.
-      let back = global_back (os n) (homes (fs n)) (p n) n.cells g root at in
-      let is = global_kind back.1.kind back.1.ins back.3.0 root back.3.1 in
-      (slice_index_or back.1.ins 0 None, global_sunk back.0 back.1 back.2 is.0,
+        let back = global_back (os n) (homes (fs n)) (p n) n.cells g root at in
+        let is = global_kind back.1.kind back.1.ins back.3.0 root back.3.1 in (
+          slice_index_or back.1.ins 0 None,
+          global_sunk back.0 back.1 back.2 is.0,
           input_at (IsBelow (length n.names)) tt back.1.ins
-              (λ i s there. at_all (IsBelow (length n.names)) back.1.ins i s (at_all (IsFormedCell (length n.names)) n.cells back.0 back.1 formed.cells back.2).ins_below there) 0, is.1);
+              (λ i s there. at_all (IsBelow (length n.names)) back.1.ins i s (at_all (IsFormedCell (length n.names)) n.cells back.0 back.1 formed.cells back.2).ins_below there) 0,
+          is.1,
+        );
     ports_long = length-map (pads_from (p n) n.cells 0 n.ports) (read_pad (unread_by n (plan_of n))) ∙ pads_long (os n) (homes (fs n)) (p n) n.cells 0 n.ports;
     ports = pad_of_port;
   }

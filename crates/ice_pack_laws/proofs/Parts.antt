@@ -1,13 +1,12 @@
 -- The facts of a packed design that its meaning follows from.
-use Rattle.std.proofs.Common.{◌≡◌, ◌⊎◌, ℕ, zero, suc, ◌+◌, ◌<◌, Bool, true, false, cond, Option, None, Some, List, [], ◌∷◌, ◌++◌, length, map, inl, inr, refl, sym, ap, ◌∙◌, subst, arith}
+use Rattle.std.proofs.Common.{◌≡◌, ℕ, ◌+◌, Bool, true, false, cond, Option, None, Some, List, [], refl, sym, ap, ◌∙◌, subst, arith}
 use Rattle.std.specs.Prelude.{slice_get, slice_index_or, unwrap_or, not, ◌&&◌, ◌||◌, ◌==◌, find, option_map}
 use Rattle.std.specs.List.{list_any}
 use Rattle.std.specs.Option.{option_map_or}
-use Rattle.std.proofs.lemmas.Bool.{and_parts, eqb-true, eq-eqb}
-use Rattle.std.proofs.lemmas.Option.{same_Some}
+use Rattle.std.proofs.lemmas.Bool.{eqb-true, eq-eqb}
 use Rattle.ice_base.specs.declared.number.SignalNo.{SignalNo}
 use Rattle.ice_value.specs.Order.{At, Has}
-use Rattle.ice_value.proofs.Members.{At_map, map_At, At_within, find_Has, Has_find, Has_any}
+use Rattle.ice_value.proofs.Members.{find_Has, Has_find, Has_any}
 use Rattle.ice_value.proofs.Places.{At_same}
 use Rattle.ice_net.specs.declared.cell.Cell.{Cell}
 use Rattle.ice_net.specs.declared.kind.CellKind.{CellKind}
@@ -15,34 +14,28 @@ use Rattle.ice_net.specs.declared.kind.CellKind.TheVariants as kind
 use Rattle.ice_net.specs.declared.kind.Reset.{Reset}
 use Rattle.ice_net.specs.declared.port.Port.{Port}
 use Rattle.ice_net.specs.NetlistData.{NetlistData}
-use Rattle.ice_net.specs.Drives.{pad_uses}
-use Rattle.ice_cells.specs.declared.cell.Control.{Control}
-use Rattle.ice_cells.specs.declared.cell.LogicCell.{LogicCell}
-use Rattle.ice_cells.specs.declared.design.Design.{Design}
 use Rattle.ice_cells.specs.declared.origin.Origin.{Origin}
-use Rattle.ice_cells.specs.declared.origin.Origin.TheVariants.{Fixed, Made}
+use Rattle.ice_cells.specs.declared.origin.Origin.TheVariants.{Fixed}
 use Rattle.ice_cells.specs.declared.root.CarryIn.{CarryIn}
-use Rattle.ice_cells.specs.declared.root.Root.{Root}
-use Rattle.ice_cells.specs.declared.root.Root.TheVariants.{CellOut, GlobalOut, CarryOut}
+use Rattle.ice_cells.specs.declared.root.Root.TheVariants.{CellOut}
 use Rattle.ice_cells.specs.declared.share.Pair.{Pair}
 use Rattle.ice_cells.specs.declared.share.Part.{Part}
 use Rattle.ice_cells.specs.declared.share.Part.TheVariants.{Table, Flop, Carry, Nothing}
 use Rattle.ice_cells.specs.declared.share.Role.{Role}
 use Rattle.ice_cells.specs.declared.share.Role.TheVariants.{Gives, Takes, Neither}
 use Rattle.ice_cells.specs.Nodes.{source_node, carry_into, node_or}
-use Rattle.ice_cells.specs.Origins.{is_alias, is_table_kind, input_origin, level_of, input_level}
+use Rattle.ice_cells.specs.Origins.{is_alias, is_table_kind, input_origin, level_of}
 use Rattle.ice_cells.specs.Pairs.{pair_of, role, role_by, roles_of}
-use Rattle.ice_cells.specs.Tables.{is_place}
 use Rattle.ice_cells.specs.Uses.{dropped, maker, reading_ins, readings}
 use Rattle.ice_cells.specs.Uses as use_of
-use Rattle.ice_cells.specs.Homes.{part, part_of, part_by, is_table, is_kept, taker, taken_anchor, anchor, anchor_by, carriers_of, home, homes}
-use Rattle.ice_cells.specs.Packed.{root_by, carry_input, cell_by, constant_cell, is_level, has_level, reads_zero, reads_one, zero_by, one_by, port_one, needs_zero, needs_one, set_input, enable_input, ins_at, data_input, flop_by, flop_of, packed, sink}
-use Rattle.ice_share.proofs.HomeLaws.{map_at, goes, kept_anchor, anchor_again, one_anchor, part_is, role_is, taker_parts, taker_part, carry_part, table_part, carrier_lut, carrier_is, lut_taken, carry_by, table_by}
+use Rattle.ice_cells.specs.Homes.{part, part_of, part_by, is_kept, anchor, anchor_by, carriers_of, home, homes}
+use Rattle.ice_cells.specs.Packed.{root_by, carry_input, cell_by, constant_cell, is_level, has_level, reads_one, zero_by, one_by, port_one, ins_at, packed}
+use Rattle.ice_share.proofs.HomeLaws.{one_anchor, part_is, role_is, table_part, carrier_lut, lut_taken, carry_by}
 use Rattle.ice_share.proofs.LutLaws.{taking, one_carry}
-use Rattle.ice_pack_laws.specs.IsPacked.{root_at, IsOpen, IsSunk, IsEnabled, IsCarryCell, HasCarry, SharesWith, MayShareWith, HasTable, IsAlone, IsBehind, HasFlop}
+use Rattle.ice_pack_laws.specs.IsPacked.{root_at, IsOpen, IsCarryCell, SharesWith, MayShareWith, HasTable}
 use Rattle.ice_pack_laws.proofs.Inputs.{input_at}
-use Rattle.ice_pack_laws.proofs.Found.{os, bare, fs, p, cell_at, home_is, same_home, zero_at, one_at, parts_long, IsRooted, rooted, entry, entry_there, entry_back}
-use Rattle.ice_pack_laws.proofs.Readers.{read_cell, read_port, opened, taken_by}
+use Rattle.ice_pack_laws.proofs.Found.{os, bare, fs, p, cell_at, home_is, zero_at, one_at, IsRooted, rooted, entry, entry_there, entry_back}
+use Rattle.ice_pack_laws.proofs.Readers.{read_cell, opened}
 
 -- ---- kinds
 table_kind_part : (os : List Origin) (k : CellKind) (ins outs : List (Option SignalNo)) → is_table_kind k ≡ true → part_by os k ins outs ≡ Table
@@ -360,7 +353,7 @@ module _ (n : NetlistData) where
         second = sym takes.1 ∙ gives.1 ∙ ap (λ (xs : List (Option SignalNo)). input_origin (os n) (slice_index_or xs 2 None)) (sym (ins_are j table.0 table.1));
       }
 
-  may_share : (j : ℕ) → MayShareWith n (packed n) (p n) j (slice_index_or (carriers_of (fs n)) j None)
+  pub may_share : (j : ℕ) → MayShareWith n (packed n) (p n) j (slice_index_or (carriers_of (fs n)) j None)
   may_share j = by (slice_index_or (carriers_of (fs n)) j None) refl
     where
       by : (o : Option ℕ) → slice_index_or (carriers_of (fs n)) j None ≡ o → MayShareWith n (packed n) (p n) j o

@@ -1,6 +1,6 @@
 -- An SB_IO of a sound netlist reads the pad at its pin.
 use Rattle.std.proofs.Common.{◌≡◌, ℕ, zero, suc, ◌+◌, ◌<◌, ◌≤◌, Bool, true, false, cond, Option, None, Some, List, [], ◌∷◌, length, map, inl, inr, refl, sym, ap, ◌∙◌, subst, arith, rules, tests}
-use Rattle.std.specs.Prelude.{slice_get, slice_index_or, option_map, position, ◌==◌, nat_lt, not}
+use Rattle.std.specs.Prelude.{slice_index_or, option_map, position, ◌==◌, nat_lt, not}
 use Rattle.std.specs.List.{position_or_len}
 use Rattle.std.specs.Option.{option_map_or}
 use Rattle.std.proofs.lemmas.Bool.{eqb-true, eq-eqb, cases_lt, lt-ltb}
@@ -13,16 +13,14 @@ use Rattle.ice_net.specs.declared.cell.Cell.{Cell}
 use Rattle.ice_net.specs.declared.driver.Driver.{Driver}
 use Rattle.ice_net.specs.declared.driver.Driver.TheVariants as driver
 use Rattle.ice_net.specs.declared.kind.CellKind.{CellKind}
-use Rattle.ice_net.specs.declared.kind.CellKind.TheVariants.{PadCell}
 use Rattle.ice_net.specs.declared.port.Port.{Port}
 use Rattle.ice_net.specs.declared.port.Way.{Way}
 use Rattle.ice_net.specs.declared.port.Way.TheVariants.{Input, Output, Both}
-use Rattle.ice_net.specs.Drivers.{is_signal, place_of, is_there, pin_of, pin_by, buffer_at, has_buffer, pad_by, pad_of, pads, outputs, driver_from, driver_of}
+use Rattle.ice_net.specs.Drivers.{is_signal, place_of, is_there, pin_of, pin_by, has_buffer, pad_by, pad_of, outputs, driver_from, driver_of}
 use Rattle.ice_net.specs.Formed.{IsFormed, IsFormedCell, IsBelow}
 use Rattle.ice_net.specs.Meaning.{depends_on, level_by, pad_level}
-use Rattle.ice_net.specs.NetlistData.{NetlistData, is_at, port_at, way_of, way_at}
+use Rattle.ice_net.specs.NetlistData.{NetlistData, is_at, port_at, way_at}
 use Rattle.ice_check.specs.Faults.{first_number, is_portless, is_no_port, is_no_way, pin_not_port}
-use Rattle.ice_cells.specs.declared.origin.Origin.{Origin}
 use Rattle.ice_cells.specs.declared.origin.Origin.TheVariants.{Fixed, Pad}
 use Rattle.ice_cells.specs.Origins.{aliases, origin_made, input_origin, origin}
 use Rattle.ice_cells.specs.Packed.{Plan}

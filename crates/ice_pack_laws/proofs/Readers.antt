@@ -1,6 +1,5 @@
 -- What reads a cell of the netlist, so that no flip-flop has it for itself.
-use Rattle.std.proofs.Common.{◌≡◌, ℕ, zero, suc, ◌+◌, ◌<◌, Bool, true, false, cond, Option, None, Some, List, [], ◌∷◌, ◌++◌, length, map, refl, sym, ap, ◌∙◌, subst, arith}
-use Rattle.std.specs.Prelude.{slice_get, slice_index_or, ◌&&◌}
+use Rattle.std.proofs.Common.{◌≡◌, ℕ, zero, suc, ◌+◌, Option, None, Some, List, [], ◌∷◌, ◌++◌, length, map, refl, sym, ap, ◌∙◌, subst, arith}
 use Rattle.std.proofs.lemmas.Option.{same_Some}
 use Rattle.ice_base.specs.declared.number.SignalNo.{SignalNo}
 use Rattle.ice_value.specs.Order.{At, Has}
@@ -11,12 +10,11 @@ use Rattle.ice_net.specs.declared.kind.CellKind.{CellKind}
 use Rattle.ice_net.specs.declared.port.Port.{Port}
 use Rattle.ice_cells.specs.declared.origin.Origin.{Origin}
 use Rattle.ice_cells.specs.declared.origin.Origin.TheVariants.{Made}
-use Rattle.ice_cells.specs.declared.origin.Use.{Use}
 use Rattle.ice_cells.specs.declared.origin.Use.TheVariants.{Nobody, Taken, Other}
 use Rattle.ice_cells.specs.Homes.{Facts, facts_of}
 use Rattle.ice_cells.specs.Homes as homes
 use Rattle.ice_cells.specs.Origins.{input_origin}
-use Rattle.ice_cells.specs.Uses.{Reading, taker, reading_ins, reads_from, cells_read, port_reading, readings, use_of}
+use Rattle.ice_cells.specs.Uses.{Reading, taker, reading_ins, reads_from, cells_read, port_reading, readings}
 use Rattle.ice_share.proofs.UseLaws.{read_otherwise, taken_once}
 use Rattle.ice_share.proofs.HomeLaws.{taker_use, taker_reads}
 

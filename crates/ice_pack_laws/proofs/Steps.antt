@@ -1,20 +1,18 @@
 -- A packed design shows, step by step, what its netlist shows.
-use Rattle.std.proofs.Common.{◌≡◌, ◌⊎◌, ℕ, zero, suc, ◌+◌, ◌<◌, Bool, true, false, cond, Option, None, Some, List, [], ◌∷◌, length, map, inl, inr, refl, sym, ap, ◌∙◌, subst, arith}
-use Rattle.std.specs.Prelude.{slice_get, slice_index_or, ◌==◌}
-use Rattle.std.specs.List.{zip, range_with_len}
+use Rattle.std.proofs.Common.{◌≡◌, ◌⊎◌, ℕ, zero, suc, ◌<◌, Bool, true, false, cond, Option, None, Some, List, [], ◌∷◌, length, map, inl, inr, refl, sym, ap, ◌∙◌, subst, arith}
+use Rattle.std.specs.Prelude.{slice_index_or, ◌==◌}
+use Rattle.std.specs.List.{zip}
 use Rattle.std.specs.Option.{option_map_or}
 use Rattle.std.proofs.lemmas.List.{length-map}
 use Rattle.std.proofs.lemmas.Option.{same_Some, get_or_from_slice_get}
 use Rattle.ice_base.specs.declared.number.SignalNo.{SignalNo}
-use Rattle.ice_value.specs.Arriving.{HasValue, HaveValues}
 use Rattle.ice_value.specs.Inputs.{reading}
 use Rattle.ice_value.specs.Machine.{Simulates}
-use Rattle.ice_value.specs.Order.{At, IsOrder}
+use Rattle.ice_value.specs.Order.{At}
 use Rattle.ice_value.proofs.Machines.{shows_always_alike}
 use Rattle.ice_value.proofs.Members.{At_map, At_within}
 use Rattle.ice_value.proofs.Places.{At_same}
 use Rattle.ice_net.specs.declared.cell.Cell.{Cell}
-use Rattle.ice_net.specs.declared.drive.Drive.{Drive}
 use Rattle.ice_net.specs.declared.kind.CellKind.{CellKind}
 use Rattle.ice_net.specs.declared.kind.CellKind.TheVariants.{Flop}
 use Rattle.ice_net.specs.declared.kind.Reset.{Reset}
@@ -29,7 +27,6 @@ use Rattle.ice_net.specs.Formed.{IsBelow, IsPortBelow}
 use Rattle.ice_net.specs.Meaning.{number_of, table_bit, signal_value, enable_level, set_level, kept_by, clock_by, kept_after, clocks_after, State}
 use Rattle.ice_net.specs.Meaning as net
 use Rattle.ice_net.specs.NetlistData.{NetlistData}
-use Rattle.ice_cells.specs.declared.cell.Control.{Control}
 use Rattle.ice_cells.specs.declared.cell.LogicCell.{LogicCell}
 use Rattle.ice_cells.specs.declared.design.Design.{Design}
 use Rattle.ice_cells.specs.declared.design.DesignPad.{DesignPad}
@@ -37,16 +34,16 @@ use Rattle.ice_cells.specs.declared.origin.Origin.{Origin}
 use Rattle.ice_cells.specs.declared.origin.Origin.TheVariants.{Fixed, Pad, Made}
 use Rattle.ice_cells.specs.declared.root.Root.{Root}
 use Rattle.ice_cells.specs.declared.root.Root.TheVariants.{CellOut}
-use Rattle.ice_cells.specs.Meaning.{system_of, node_level, at_root, cell_inputs, given, flop_keeps, flop_clock, cell_keeps, cell_clock, state_after, pad_drives, step, start, shows}
+use Rattle.ice_cells.specs.Meaning.{node_level, at_root, cell_inputs, given, flop_keeps, flop_clock, cell_keeps, cell_clock, state_after, pad_drives, step, start, shows}
 use Rattle.ice_cells.specs.Nodes.{Node, Net, net as node_of}
 use Rattle.ice_cells.specs.Origins.{input_origin, level_of}
-use Rattle.ice_cells.specs.Packed.{Plan, plain_sink, sink, enable_sink, origin_root, sink_root, flop_by, flop_of, enable_input, set_input, constant_cell, passing_table, bare_type}
+use Rattle.ice_cells.specs.Packed.{Plan, plain_sink, sink, enable_sink, origin_root, sink_root, flop_by, enable_input, set_input, passing_table, bare_type}
 use Rattle.ice_cells.specs.Packed.{bare_drive as packed_drive}
 use Rattle.ice_cells.proofs.TableLaws.{get_or-table}
 use Rattle.ice_pack_laws.specs.IsPacked.{root_at, IsOpen, IsSunk, IsEnabled, IsAlone, IsBehind, HasFlop, IsPadOf, lies, through}
 use Rattle.ice_pack_laws.proofs.Inputs.{at_all, input_at}
 use Rattle.ice_pack_laws.proofs.Levels.{level_is}
-use Rattle.ice_pack_laws.proofs.Values.{KeepsSame, IsReady, HasD, HaveD, ReadsAt, Carries, lv, lev, from, sink_reads, sunk, plain_input, signal_level, plain_reads, constant_value, table_there, input_claims, cell_claims, below_at, inputs_are}
+use Rattle.ice_pack_laws.proofs.Values.{KeepsSame, IsReady, HaveD, ReadsAt, Carries, lv, sink_reads, sunk, signal_level, plain_reads, constant_value, table_there, input_claims, cell_claims, below_at, inputs_are}
 
 -- what both states have of a clock: the same, or of a constant clock its level, which is 0 in the design
 abbrev pub ClockTied : Origin → Option Bool → Option Bool → Type 0
@@ -348,8 +345,8 @@ module _ (n : NetlistData) (d : Design) (p : Plan) (order : List ℕ) (ready : I
   tied_start = record {
     kept = λ j cell falling enable reset at e home root. all_alike false d.cells home ∙ sym (all_alike false n.cells j);
     clocks = λ j cell falling enable reset at e home root.
-      subst (λ x. ClockTied (input_origin p.origins (slice_index_or cell.ins 0 None)) x (slice_index_or (map (λ (c : Cell). None) n.cells) j None)) (sym (all_alike None d.cells home))
-      (subst (λ x. ClockTied (input_origin p.origins (slice_index_or cell.ins 0 None)) None x) (sym (all_alike None n.cells j)) (never_seen (input_origin p.origins (slice_index_or cell.ins 0 None))));
+        subst (λ x. ClockTied (input_origin p.origins (slice_index_or cell.ins 0 None)) x (slice_index_or (map (λ (c : Cell). None) n.cells) j None)) (sym (all_alike None d.cells home))
+        (subst (λ x. ClockTied (input_origin p.origins (slice_index_or cell.ins 0 None)) None x) (sym (all_alike None n.cells j)) (never_seen (input_origin p.origins (slice_index_or cell.ins 0 None))));
     long = length-map n.cells (λ (c : Cell). false);
     clocks_long = length-map n.cells (λ (c : Cell). None);
   }

@@ -1,5 +1,5 @@
 -- The nodes of a packed design have what the cells of its netlist make.
-use Rattle.std.proofs.Common.{◌≡◌, ◌⊎◌, ℕ, zero, suc, ◌+◌, ◌<◌, ◌≤◌, Bool, true, false, cond, Option, None, Some, List, [], ◌∷◌, length, map, inl, inr, refl, sym, ap, ◌∙◌, subst, arith, All}
+use Rattle.std.proofs.Common.{◌≡◌, ℕ, zero, suc, ◌+◌, ◌<◌, ◌≤◌, Bool, true, false, cond, Option, None, Some, List, [], ◌∷◌, length, map, refl, sym, ap, ◌∙◌, subst, arith}
 use Rattle.std.specs.Prelude.{slice_get, slice_index_or, not, ◌&&◌, ◌==◌, is_none}
 use Rattle.std.specs.Option.{option_map_or}
 use Rattle.std.proofs.lemmas.Option.{same_Some}
@@ -17,32 +17,30 @@ use Rattle.ice_net.specs.declared.driver.Driver.TheVariants as driver
 use Rattle.ice_net.specs.declared.kind.CellKind.{CellKind}
 use Rattle.ice_net.specs.declared.kind.CellKind.TheVariants.{Lut, Cover, Carry, Flop, PadCell, Global}
 use Rattle.ice_net.specs.declared.kind.Reset.{Reset}
-use Rattle.ice_net.specs.Drivers.{number, numbers, pin_of, pin_by, place_of, is_signal, output_of, outputs, pads, driver_from, driver_of}
+use Rattle.ice_net.specs.Drivers.{numbers, pin_of, pin_by, place_of, is_signal, output_of, outputs, pads, driver_from, driver_of}
 use Rattle.ice_net.specs.Formed.{IsFormed, IsFormedCell, IsFormedKind, IsBelow}
 use Rattle.ice_net.specs.Kinds.{ins_count}
-use Rattle.ice_net.specs.Meaning.{number_of, table_bit, majority, makes, makes_by, reads, reads_by, cell_reads, signal_value, depends_on, pad_level}
+use Rattle.ice_net.specs.Meaning.{number_of, table_bit, majority, makes_by, reads, reads_by, cell_reads, signal_value, depends_on, pad_level}
 use Rattle.ice_net.specs.NetlistData.{NetlistData}
-use Rattle.ice_lut.specs.Tables.{folded, overlaid}
+use Rattle.ice_lut.specs.Tables.{overlaid}
 use Rattle.ice_lut.proofs.TableLaws.{folded_gives}
 use Rattle.ice_cells.specs.declared.cell.Control.{Control}
 use Rattle.ice_cells.specs.declared.cell.LogicCell.{LogicCell}
 use Rattle.ice_cells.specs.declared.design.Design.{Design}
 use Rattle.ice_cells.specs.declared.origin.Origin.{Origin}
 use Rattle.ice_cells.specs.declared.origin.Origin.TheVariants.{Fixed, Pad, Made}
-use Rattle.ice_cells.specs.declared.root.CarryIn.{CarryIn}
-use Rattle.ice_cells.specs.declared.root.CarryIn.TheVariants as carry_in
 use Rattle.ice_cells.specs.declared.root.Root.{Root}
 use Rattle.ice_cells.specs.declared.root.Root.TheVariants.{PadIn, CellOut, GlobalOut, CarryOut}
 use Rattle.ice_cells.specs.Homes.{taker}
 use Rattle.ice_cells.specs.Meaning.{input, cell_inputs, output_reads, carry_reads, node_reads, output_makes, node_makes, system_of}
 use Rattle.ice_cells.specs.Nodes.{Node, Net, Level, net, source_node, carry_into}
 use Rattle.ice_cells.specs.Origins.{is_alias, constant_of, is_table_kind, cell_aliases, aliases, cell_origin, origin_made, input_origin, input_level, level_of, origin}
-use Rattle.ice_cells.specs.Packed.{Plan, four, table_at, table_by, lut_table, lut_inputs, with_carry, ins_at, plain_sink, sink, origin_root, sink_root, constant_cell, carry_source, carry_input, flop_by, flop_of, pad_root}
+use Rattle.ice_cells.specs.Packed.{Plan, four, table_at, table_by, lut_inputs, with_carry, ins_at, plain_sink, sink, origin_root, sink_root, constant_cell, carry_source, carry_input, flop_by, flop_of, pad_root}
 use Rattle.ice_cells.specs.Uses.{dropped}
 use Rattle.ice_share.specs.Laws.{origin_level}
-use Rattle.ice_share.proofs.OriginSteps.{falls, origin_meets}
+use Rattle.ice_share.proofs.OriginSteps.{origin_meets}
 use Rattle.ice_share.proofs.LevelLaws.{level_of_origin}
-use Rattle.ice_pack_laws.specs.IsPacked.{root_at, IsOpen, IsSunk, IsCarryCell, HasCarry, SharesWith, MayShareWith, HasTable, HasFlop, IsPacked}
+use Rattle.ice_pack_laws.specs.IsPacked.{root_at, IsOpen, IsSunk, IsCarryCell, HasCarry, MayShareWith, HasTable, IsPacked}
 use Rattle.ice_pack_laws.proofs.Inputs.{at_all, input_at, present_number, place_at, overlaid_one, read_at, table_gives}
 
 -- the level that an SB_IO reads is that of the origin at its pin
@@ -300,9 +298,12 @@ module _ (n : NetlistData) (d : Design) (p : Plan) (order : List ℕ) (ready : I
       f.flop ∙ ap (λ (o : Option Cell). option_map_or (λ (c : Cell). flop_by p c.kind c.ins) o None) at ∙ ap (λ (kind : CellKind). flop_by p kind cell.ins) e in
       let keeps : slice_index_or new_kept f.home false ≡ lv (Made j) =
       same_kept j cell falling enable reset at e f.home f.root
-      ∙ sym (lv_made j cell at ∙ ap (λ (kind : CellKind). makes_by kind (slice_index_or kept j false) (pad_level n.ports levels (pin_of cell)) (map (reading false sv) (cell_reads cell))) e) in
-      (CellOut f.home, f.root, made (Net (CellOut f.home)) [] [] (lv (Made j)) (out_reads f.home f.logic (flop_by p (Flop falling enable reset) cell.ins) f.at some) tt
-      (out_makes f.home f.logic (flop_by p (Flop falling enable reset) cell.ins) [] f.at some ∙ keeps))
+      ∙ sym (lv_made j cell at ∙ ap (λ (kind : CellKind). makes_by kind (slice_index_or kept j false) (pad_level n.ports levels (pin_of cell)) (map (reading false sv) (cell_reads cell))) e) in (
+        CellOut f.home,
+        f.root,
+        made (Net (CellOut f.home)) [] [] (lv (Made j)) (out_reads f.home f.logic (flop_by p (Flop falling enable reset) cell.ins) f.at some) tt
+            (out_makes f.home f.logic (flop_by p (Flop falling enable reset) cell.ins) [] f.at some ∙ keeps),
+      )
 
   pin_claim : (j pin_type : ℕ) (pullup : Bool) (cell : Cell) → At n.cells j cell → cell.kind ≡ PadCell pin_type pullup → Carries (Made j)
   pin_claim j pin_type pullup cell at e opened =
@@ -318,11 +319,14 @@ module _ (n : NetlistData) (d : Design) (p : Plan) (order : List ℕ) (ready : I
       let value : lev (slice_index_or cell.ins 0 None) ≡ lv (Made j) =
       sym (lv_made j cell at
       ∙ ap (λ (kind : CellKind). makes_by kind (slice_index_or kept j false) (pad_level n.ports levels (pin_of cell)) (map (reading false sv) (numbers (reads_by kind cell.ins)))) e
-      ∙ ap (λ xs. slice_index_or xs 0 false) (cell_levels j cell at) ∙ read_at lev refl cell.ins 0) in
-      (GlobalOut g.1.0, g.1.1, made (Net (GlobalOut g.1.0)) (net (sink p (slice_index_or cell.ins 0 None)) ∷ []) (lev (slice_index_or cell.ins 0 None) ∷ []) (lv (Made j))
-      (ap (λ o. option_map_or (λ root. net root ∷ []) o []) g.1.2)
-      (put (sink p (slice_index_or cell.ins 0 None)) (lev (slice_index_or cell.ins 0 None)) [] [] (sunk (slice_index_or cell.ins 0 None) g.0 (any_input cell.ins lower 0)) tt)
-      value)
+      ∙ ap (λ xs. slice_index_or xs 0 false) (cell_levels j cell at) ∙ read_at lev refl cell.ins 0) in (
+        GlobalOut g.1.0,
+        g.1.1,
+        made (Net (GlobalOut g.1.0)) (net (sink p (slice_index_or cell.ins 0 None)) ∷ []) (lev (slice_index_or cell.ins 0 None) ∷ []) (lv (Made j))
+            (ap (λ o. option_map_or (λ root. net root ∷ []) o []) g.1.2)
+            (put (sink p (slice_index_or cell.ins 0 None)) (lev (slice_index_or cell.ins 0 None)) [] [] (sunk (slice_index_or cell.ins 0 None) g.0 (any_input cell.ins lower 0)) tt)
+            value,
+      )
 
   level_value : (b : Bool) → HasD (Level b) b
   level_value b = made (Level b) [] [] b refl tt refl
@@ -432,7 +436,7 @@ module _ (n : NetlistData) (d : Design) (p : Plan) (order : List ℕ) (ready : I
   claims (suc bound) i s lt at =
       step s (ready.sorted.within i s at)
       (λ q has. let before = ready.sorted.after i s q at has in
-        (ready.sorted.within before.0 q before.2, claims bound before.0 q (let l : before.0 < i = before.1 in omega arith) before.2))
+      (ready.sorted.within before.0 q before.2, claims bound before.0 q (let l : before.0 < i = before.1 in omega arith) before.2))
 
   pub input_claims : (signal : Option SignalNo) → IsBelow (length n.names) signal → Carries (from signal)
   input_claims None below = tt

@@ -1,5 +1,5 @@
 -- What a packed design has of the cells of its netlist, said over finished lists.
-use Rattle.std.specs.Prelude.{◌≡◌, ℕ, ◌<◌, Bool, true, false, Option, None, Some, List, [], ◌∷◌, length, map, is_some, slice_index_or}
+use Rattle.std.specs.Prelude.{◌≡◌, ℕ, ◌<◌, Bool, true, false, Option, None, Some, List, [], ◌∷◌, length, slice_index_or}
 use Rattle.std.proofs.Common.{◌⊎◌}
 use Rattle.ice_base.specs.declared.number.SignalNo.{SignalNo}
 use Rattle.ice_value.specs.Order.{At}
@@ -22,8 +22,7 @@ use Rattle.ice_cells.specs.declared.root.Root.{Root}
 use Rattle.ice_cells.specs.declared.root.Root.TheVariants.{CellOut, GlobalOut, CarryOut}
 use Rattle.ice_cells.specs.Nodes.{source_node, carry_into}
 use Rattle.ice_cells.specs.Origins.{is_table_kind, input_origin, origin}
-use Rattle.ice_cells.specs.Uses.{dropped, reading_ins}
-use Rattle.ice_cells.specs.Uses as use_of
+use Rattle.ice_cells.specs.Uses.{dropped}
 use Rattle.ice_cells.specs.Homes.{taker}
 use Rattle.ice_cells.specs.Packed.{Plan, lut_table, lut_inputs, with_carry, no_inputs, passing_table, plain_sink, sink, pad_root, flop_of, ins_at, enable_input, set_input, carry_input, constant_cell, bare_type, bare_drive}
 
