@@ -2,10 +2,10 @@ mod Inputs
 mod Levels
 mod Values
 mod Pins
-mod AllValues
-mod Steps
+pub mod AllValues
+pub mod Steps
 mod Readers
-mod Found
-mod Parts
-mod Packs
-mod Ready
+pub mod Found
+pub mod Parts
+pub mod Packs
+pub mod Ready

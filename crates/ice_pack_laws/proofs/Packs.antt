@@ -88,6 +88,10 @@ module _ (n : NetlistData) where
           table_within : (a : ℕ) → part (fs n) a ≡ Table → a < length (fs n).parts
           table_within a e = let cell = cell_of_part n a Table e (λ z. cc z) in let lt = At_within n.cells a cell.0 cell.1 in let long = parts_long n in omega arith
 
+  pub carry_root_is : (j : ℕ) (cell : Cell) → At n.cells j cell → cell.kind ≡ kind.Carry → dropped cell.outs ≡ false → root_at (p n) j ≡ Some (CarryOut (home (fs n) j))
+  carry_root_is j cell at is stays =
+      root_is n j cell at ∙ ap (λ k. root_by (os n) (home (fs n) j) (0 + (rooted_at n j cell at).before) k cell.ins cell.outs) is ∙ ap (λ b. cond b None (Some (CarryOut (home (fs n) j)))) stays
+
   pub has_carry : (j : ℕ) (cell : Cell) → At n.cells j cell → cell.kind ≡ kind.Carry → dropped cell.outs ≡ false → HasCarry n (packed n) (p n) j cell
   has_carry j cell at is stays =
       let got = carry_goes j cell at is stays in
@@ -95,14 +99,14 @@ module _ (n : NetlistData) where
         home = home (fs n) j;
         logic = got.0;
         at = got.1;
-        root = root_is n j cell at ∙ ap (λ k. root_by (os n) (home (fs n) j) (0 + (rooted_at n j cell at).before) k cell.ins cell.outs) is ∙ ap (λ b. cond b None (Some (CarryOut (home (fs n) j)))) stays;
+        root = carry_root_is j cell at is stays;
         on = got.2;
         one = got.3;
         two = got.4;
         comes = comes_into n j cell at is stays;
       }
 
-  carry_home : (j : ℕ) (cell : Cell) (at : At n.cells j cell) (is : cell.kind ≡ kind.Carry) (stays : dropped cell.outs ≡ false) → (has_carry j cell at is stays).home ≡ home (fs n) j
+  pub carry_home : (j : ℕ) (cell : Cell) (at : At n.cells j cell) (is : cell.kind ≡ kind.Carry) (stays : dropped cell.outs ≡ false) → (has_carry j cell at is stays).home ≡ home (fs n) j
   unfolding has_carry
   carry_home j cell at is stays = refl
 
@@ -381,7 +385,7 @@ module _ (n : NetlistData) where
   pad_made k port o = read_pad (unread_by n (plan_of n)) (pad_by (p n) n.cells k port o)
 
   pad_is : (k : ℕ) (port : Port) → At n.ports k port → (o : Option ℕ) → buffer_at n.cells port.signal.0 ≡ o → IsPadOf n (packed n) (p n) port (pad_made k port o)
-  pad_is k port there None e = lies e refl refl (bare_sunk k port there e)
+  pad_is k port there None e = lies e refl refl refl (bare_sunk k port there e)
   pad_is k port there (Some j) e = by_cell (map_At (λ (c : Cell). pin_of c) n.cells j found.0 found.1)
     where
       found : (x : Option SignalNo) × At (map (λ (c : Cell). pin_of c) n.cells) j x × (is_signal port.signal.0 x ≡ true)

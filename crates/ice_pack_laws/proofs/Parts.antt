@@ -353,7 +353,7 @@ module _ (n : NetlistData) where
         second = sym takes.1 ∙ gives.1 ∙ ap (λ (xs : List (Option SignalNo)). input_origin (os n) (slice_index_or xs 2 None)) (sym (ins_are j table.0 table.1));
       }
 
-  may_share : (j : ℕ) → MayShareWith n (packed n) (p n) j (slice_index_or (carriers_of (fs n)) j None)
+  pub may_share : (j : ℕ) → MayShareWith n (packed n) (p n) j (slice_index_or (carriers_of (fs n)) j None)
   may_share j = by (slice_index_or (carriers_of (fs n)) j None) refl
     where
       by : (o : Option ℕ) → slice_index_or (carriers_of (fs n)) j None ≡ o → MayShareWith n (packed n) (p n) j o

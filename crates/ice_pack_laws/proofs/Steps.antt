@@ -311,7 +311,7 @@ module _ (n : NetlistData) (d : Design) (p : Plan) (order : List ℕ) (ready : I
         lt = at_all (IsPortBelow (length n.names)) n.ports k port ready.formed.ports at
 
         by : IsPadOf n d p port pad → pad_drives w pad ≡ port_drive n.cells v port
-        by (lies none type_is drive_is sunk_is) =
+        by (lies none type_is drive_is enable_is sunk_is) =
             (λ i. pad_drive (type_is i) (at_root false w (drive_is i)) (at_root false w pad.enable)) ∙ bare_same port.way port.signal (at_root false w pad.enable) lt sunk_is
             ∙ sym (ap (drive_by n.cells v port) none)
         by (through j cell pin_type pullup found here is type_is drive_is enable_is sunk_is) =

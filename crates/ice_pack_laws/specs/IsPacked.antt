@@ -129,7 +129,7 @@ pub data Stands (n : NetlistData) (d : Design) (p : Plan) (c : ℕ) (logic : Log
 -- ---- pads
 -- a pad without an SB_IO, or one at the SB_IO of its port
 pub data IsPadOf (n : NetlistData) (d : Design) (p : Plan) (port : Port) (pad : DesignPad) : Type 0 where
-  lies : buffer_at n.cells port.signal.0 ≡ None → pad.pin_type ≡ bare_type port.way → pad.drive ≡ bare_drive p port.way port.signal → (port.way ≡ Output → IsSunk d p (Some port.signal))
+  lies : buffer_at n.cells port.signal.0 ≡ None → pad.pin_type ≡ bare_type port.way → pad.drive ≡ bare_drive p port.way port.signal → pad.enable ≡ None → (port.way ≡ Output → IsSunk d p (Some port.signal))
       → IsPadOf n d p port pad
   through : (j : ℕ) (cell : Cell) (pin_type : ℕ) (pullup : Bool) → buffer_at n.cells port.signal.0 ≡ Some j → At n.cells j cell → cell.kind ≡ PadCell pin_type pullup
       → pad.pin_type ≡ pin_type → pad.drive ≡ sink p (slice_index_or (pad_uses pin_type cell.ins) 0 None) → pad.enable ≡ sink p (slice_index_or (pad_uses pin_type cell.ins) 1 None)
