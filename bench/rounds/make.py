@@ -2,13 +2,15 @@
 """Writes the text of a sample chip, and nets that are placed at random on a chip.
 
 usage: make.py chip WIDTH HEIGHT CHIP
-       make.py nets CHIP NETS SINKS RADIUS NETS_FILE
+       make.py nets CHIP NETS SINKS RADIUS one|any NETS_FILE
 
 The sample chip has IO tiles on its border and logic tiles inside, 64 tracks in each tile, and a switch from each track to that of the
 same number in the four tiles beside it.
 
 The nets: each has an output of a logic cell or a pad as its root, and inputs of logic cells in tiles at most RADIUS columns and rows away
-as its sinks. No wire is root or sink twice. A line of the file is a net: the number of its root and those of its sinks."""
+as its sinks. No wire is root or chosen as an input twice. With `one` the input that was chosen is the sink's only target, with `any` each
+of the four inputs of its cell is one. A line of the file is a net: how many targets each sink has, the number of the root, and those of the
+targets, sink by sink."""
 import random
 import sys
 
@@ -131,8 +133,8 @@ def write_groups(tiles: Tiles, tile: tuple, out) -> None:
 
 
 def pins_of(path: str) -> tuple:
-    """The outputs of cells and pads, and the inputs of cells by tile: each a wire with its tile."""
-    roots, inputs, wire = [], {}, None
+    """The outputs of cells and pads, each a wire with its tile, the inputs of cells by tile, and those of each cell by any of them."""
+    roots, inputs, cells, wire = [], {}, {}, None
     kinds = {}
     with open(path) as chip:
         for line in chip:
@@ -149,12 +151,13 @@ def pins_of(path: str) -> tuple:
                     roots.append((wire, tile))
                 elif cell and name[7:11] == "/in_":
                     inputs.setdefault(tile, []).append(wire)
-    return roots, inputs
+                    cells.setdefault((tile, name[:7]), []).append(wire)
+    return roots, inputs, {wire: cell for cell in cells.values() for wire in cell}
 
 
-def write_nets(chip: str, nets: int, sinks: int, radius: int, out) -> None:
+def write_nets(chip: str, nets: int, sinks: int, radius: int, free: bool, out) -> None:
     choose = random.Random(1)
-    roots, inputs = pins_of(chip)
+    roots, inputs, cells = pins_of(chip)
     roots = choose.sample(roots, nets)
     chosen = [[] for _ in roots]
     for k in range(sinks):
@@ -165,7 +168,8 @@ def write_nets(chip: str, nets: int, sinks: int, radius: int, out) -> None:
             tile = choose.choice(near)
             chosen[net].append(inputs[tile].pop(choose.randrange(len(inputs[tile]))))
     for (root, _), list_of in zip(roots, chosen):
-        out.write(" ".join(map(str, [root] + list_of)) + "\n")
+        targets = [target for wire in list_of for target in (sorted(cells[wire]) if free else [wire])]
+        out.write(" ".join(map(str, [4 if free else 1, root] + targets)) + "\n")
 
 
 def main() -> None:
@@ -173,7 +177,7 @@ def main() -> None:
         if sys.argv[1] == "chip":
             write_chip(int(sys.argv[2]), int(sys.argv[3]), out)
         else:
-            write_nets(sys.argv[2], *map(int, sys.argv[3:6]), out)
+            write_nets(sys.argv[2], *map(int, sys.argv[3:6]), sys.argv[6] == "any", out)
 
 
 main()

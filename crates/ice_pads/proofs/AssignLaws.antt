@@ -1,6 +1,6 @@
 -- What is known of the pads and globals that are assigned.
-use Rattle.std.proofs.Common.{◌≡◌, ◌≢◌, ◌⊎◌, inl, inr, ℕ, zero, suc, ◌+◌, ◌<◌, ◌≤◌, ◌==◌, nat_eq, nat_lt, Bool, true, false, not, ◌&&◌, ◌||◌, is_some, IsSome, Option, None, Some, option_map, Result, Ok, Err, List, [], ◌∷◌, length, map, slice_get, get_or, bytes_eq, if◌then◌else◌, refl, sym, ap, subst, ◌∙◌, arith, true≢false, rules, tests}
-use Rattle.std.specs.List.{find, list_any, list_all, range_with_len, All}
+use Rattle.std.proofs.Common.{◌≡◌, ◌⊎◌, inl, inr, ℕ, zero, suc, ◌+◌, ◌<◌, ◌≤◌, ◌==◌, nat_eq, nat_lt, Bool, true, false, not, ◌&&◌, ◌||◌, is_some, Option, None, Some, option_map, Result, Ok, Err, List, [], ◌∷◌, length, map, slice_get, bytes_eq, if◌then◌else◌, refl, sym, ap, subst, ◌∙◌, arith, true≢false}
+use Rattle.std.specs.List.{find, list_any, list_all, All}
 use Rattle.std.specs.Map.{lookup}
 use Rattle.std.proofs.lemmas.Bool.{and_parts, ltb-true, ltb-false}
 use Rattle.std.proofs.lemmas.Option.{get_or_from_slice_get, slice_get-map}
@@ -13,15 +13,13 @@ use Rattle.ice_base.specs.declared.number.TileAt.{TileAt}
 use Rattle.ice_net.specs.NetlistData.{NetlistData}
 use Rattle.ice_pcf.specs.declared.constraint.Constraint.{Constraint}
 use Rattle.ice_chip.specs.Database.{Parts, PackageRows}
-use Rattle.ice_chip.specs.Lookups.{package_of, global_of}
-use Rattle.ice_chip.specs.Places.{same_pad, same_tile}
+use Rattle.ice_chip.specs.Lookups.{global_of}
+use Rattle.ice_chip.specs.Places.{same_pad}
 use Rattle.ice_chip.specs.Within.{IsPackage, different_pads}
-use Rattle.ice_chip.specs.IsRead.{IsChip}
 use Rattle.ice_chip.specs.WireNames.{pad_input_name, pad_output_name, output_enable_name, fabout_name}
 use Rattle.ice_chip.specs.declared.rows.Pad.{Pad}
 use Rattle.ice_cells.specs.declared.design.DesignPad.{DesignPad}
 use Rattle.ice_cells.specs.declared.design.Design.{Design}
-use Rattle.ice_pads.specs.declared.want.Want.{Want}
 use Rattle.ice_pads.specs.declared.want.Pins.{Pins}
 use Rattle.ice_pads.specs.declared.given.Given.{Given}
 use Rattle.ice_pads.specs.declared.given.Chosen.{Chosen}
@@ -32,7 +30,7 @@ use Rattle.ice_pads.specs.Wants.{want_at, wants, pins_of, pins}
 use Rattle.ice_pads.specs.Constraints.{◌>>=◌, want_of, given_by}
 use Rattle.ice_pads.specs.Ports.{all_chosen}
 use Rattle.ice_pads.specs.Globals.{global_wire, is_fed, is_same_tile, some_lower, is_global, globals, globals_of, chosen_from}
-use Rattle.ice_pads.specs.Assign.{PadsData, pads_with, chosen_by, assigned, assign_of}
+use Rattle.ice_pads.specs.Assign.{PadsData, pads_with, chosen_by, assigned}
 use Rattle.ice_pads.specs.Facts.{HasWires, IsFed, ArePads, AssignedPadsFit}
 use Rattle.ice_pads.proofs.Lower.{lower_same}
 use Rattle.ice_pads.proofs.Inversions.{bind_ok}

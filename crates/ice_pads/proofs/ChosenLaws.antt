@@ -1,9 +1,8 @@
 -- What ports get: different pads of the package, each with the wires that its port needs.
-use Rattle.std.proofs.Common.{◌≡◌, ◌⊎◌, inl, inr, ℕ, zero, suc, ◌+◌, ◌<◌, Bool, true, false, not, ◌&&◌, ◌||◌, is_some, Option, None, Some, Result, Ok, Err, List, [], ◌∷◌, ◌++◌, length, length-append, slice_get, bytes_eq, if◌then◌else◌, unwrap_or, refl, sym, ap, subst, ◌∙◌, arith, add-one, true≢false}
+use Rattle.std.proofs.Common.{◌≡◌, ◌⊎◌, inl, inr, ℕ, zero, suc, ◌+◌, ◌<◌, Bool, true, false, not, ◌||◌, is_some, Option, None, Some, Result, Ok, List, [], ◌∷◌, ◌++◌, length, length-append, slice_get, bytes_eq, if◌then◌else◌, unwrap_or, refl, sym, ap, subst, ◌∙◌, arith, add-one, true≢false}
 use Rattle.std.specs.List.{find, list_any}
 use Rattle.std.specs.Map.{lookup}
 use Rattle.std.proofs.lemmas.Bool.{and_parts}
-use Rattle.std.proofs.lemmas.List.Folds.{list_any-append}
 use Rattle.ice_base.proofs.Booleans.{not_true}
 use Rattle.ice_net.specs.NetlistData.{NetlistData}
 use Rattle.ice_chip.specs.Database.{Parts}
@@ -14,7 +13,7 @@ use Rattle.ice_pads.specs.declared.given.Given.{Given}
 use Rattle.ice_pads.specs.declared.given.Chosen.{Chosen}
 use Rattle.ice_pads.specs.declared.fault.PinFault.{PinFault}
 use Rattle.ice_pads.specs.PadWires.{suits}
-use Rattle.ice_pads.specs.Constraints.{◌>>=◌, of_port, of_pad, want_of}
+use Rattle.ice_pads.specs.Constraints.{of_port, of_pad, want_of}
 use Rattle.ice_pads.specs.Ports.{is_free, is_fit, by_free, by_given, next_chosen, with_next, all_chosen}
 use Rattle.ice_pads.proofs.Inversions.{bind_ok, pushed_at}
 use Rattle.ice_pads.proofs.Noting.{pad_self}

@@ -1,5 +1,5 @@
 -- The first pad that fits, from a starting place on.
-use Rattle.std.proofs.Common.{◌≡◌, ◌≢◌, ℕ, zero, suc, ◌+◌, ◌<◌, ◌≤◌, ◌==◌, Bool, true, false, not, ◌&&◌, ◌||◌, List, [], ◌∷◌, ◌++◌, length, take, Option, None, Some, is_some, get_or, slice_get, set, if◌then◌else◌, refl, sym, ap, subst, ◌∙◌, arith, true≢false, get_or-set_same, get_or-set_other, rules, tests}
+use Rattle.std.proofs.Common.{◌≡◌, ◌≢◌, ℕ, zero, suc, ◌+◌, ◌<◌, ◌≤◌, ◌==◌, Bool, true, false, not, ◌&&◌, ◌||◌, List, [], ◌∷◌, ◌++◌, length, take, None, Some, is_some, get_or, slice_get, set, if◌then◌else◌, refl, sym, ap, subst, ◌∙◌, arith, true≢false, get_or-set_same, get_or-set_other, rules, tests}
 use Rattle.std.specs.List.{find, list_any}
 use Rattle.std.proofs.lemmas.Bool.{eqb-true}
 use Rattle.std.proofs.lemmas.List.{take_all}

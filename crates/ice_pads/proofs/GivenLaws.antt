@@ -1,5 +1,5 @@
 -- What constraints give: different pads of the package to different ports, each with the wires that its port needs.
-use Rattle.std.proofs.Common.{◌≡◌, ◌⊎◌, inl, inr, ℕ, ◌==◌, Bool, true, false, Option, None, Some, Result, Ok, Err, List, [], ◌∷◌, ◌++◌, bytes_eq, if◌then◌else◌, refl, sym, ap, subst, ◌∙◌}
+use Rattle.std.proofs.Common.{◌≡◌, ◌⊎◌, inl, inr, ℕ, ◌==◌, Bool, true, false, Option, None, Some, Ok, Err, List, [], ◌∷◌, ◌++◌, bytes_eq, if◌then◌else◌, refl, sym, ap, subst, ◌∙◌}
 use Rattle.std.specs.Map.{lookup}
 use Rattle.std.specs.Option.{option_or}
 use Rattle.ice_base.proofs.Keys.{nat_same}
@@ -10,10 +10,9 @@ use Rattle.ice_chip.specs.Places.{same_pad}
 use Rattle.ice_chip.specs.declared.rows.Pad.{Pad}
 use Rattle.ice_pads.specs.declared.want.Want.{Want}
 use Rattle.ice_pads.specs.declared.given.Given.{Given}
-use Rattle.ice_pads.specs.declared.fault.PinFault.{PinFault}
 use Rattle.ice_pads.specs.declared.fault.PinFault.TheVariants.{UnknownPort, PadLacks}
 use Rattle.ice_pads.specs.PadWires.{suits}
-use Rattle.ice_pads.specs.Constraints.{◌>>=◌, of_port, of_pad, want_of, unless_pad, unless_port, by_pin, free_pad, given_to, with_pad, by_port, with_line, given_by, port_named, port_name}
+use Rattle.ice_pads.specs.Constraints.{of_port, of_pad, want_of, unless_pad, unless_port, by_pin, free_pad, given_to, with_pad, by_port, with_line, given_by, port_named, port_name}
 use Rattle.ice_pads.proofs.Inversions.{bind_ok, if_ok, or_some, if_some}
 use Rattle.ice_pads.proofs.Noting.{pad_self, port_more, pad_more}
 

@@ -1,14 +1,13 @@
 -- The globals that global buffers take: different ones, each of which can be taken.
-use Rattle.std.proofs.Common.{◌≡◌, ℕ, zero, suc, ◌+◌, ◌<◌, ◌≤◌, ◌==◌, nat_eq, nat_lt, Bool, true, false, not, ◌&&◌, ◌||◌, Option, None, Some, List, [], ◌∷◌, ◌++◌, length, length-append, filter, slice_get, if◌then◌else◌, refl, sym, ap, subst, ◌∙◌, arith, true≢false, rules, tests, Result, Ok, Err}
+use Rattle.std.proofs.Common.{◌≡◌, ℕ, ◌+◌, ◌<◌, ◌≤◌, ◌==◌, nat_eq, nat_lt, Bool, true, false, not, ◌&&◌, ◌||◌, Option, None, Some, List, [], ◌∷◌, ◌++◌, length, length-append, filter, if◌then◌else◌, refl, sym, ap, subst, ◌∙◌, arith, true≢false, rules, tests, Ok, Err}
 use Rattle.std.specs.List.{find, list_any, list_all}
 use Rattle.std.proofs.lemmas.List.Folds.{list_any-append, list_all-append}
 use Rattle.std.proofs.lemmas.Bool.{and_parts}
 use Rattle.ice_base.proofs.Keys.{nat_same, nat_self}
 use Rattle.ice_chip.specs.Database.{Parts}
 use Rattle.ice_pads.specs.declared.want.Pins.{Pins}
-use Rattle.ice_pads.specs.declared.fault.PinFault.{PinFault}
 use Rattle.ice_pads.specs.declared.fault.PinFault.TheVariants.{TooManyGlobals}
-use Rattle.ice_pads.specs.Globals.{is_global, globals, globals_of, serves, Choices, or_first, picked, without, with_taken, is_control, choice, first_choices, other_choices, all_choices, chosen_from}
+use Rattle.ice_pads.specs.Globals.{is_global, globals, globals_of, serves, Choices, or_first, picked, with_taken, is_control, choice, first_choices, other_choices, chosen_from}
 
 -- ---- lists without doubles
 abbrev pub Apart : List ℕ → Type 0

@@ -1,6 +1,6 @@
 -- The pad of each pin is one of the package.
-use Rattle.std.proofs.Common.{◌≡◌, ℕ, Bool, true, false, ◌||◌, Option, None, Some, List, [], ◌∷◌, ◌++◌, map, bytes_eq, if◌then◌else◌, refl, sym, ap, ◌∙◌}
-use Rattle.std.specs.List.{list_any, fold}
+use Rattle.std.proofs.Common.{◌≡◌, ℕ, Bool, true, false, ◌||◌, Some, List, [], ◌∷◌, ◌++◌, map, bytes_eq, if◌then◌else◌, refl, sym, ap, ◌∙◌}
+use Rattle.std.specs.List.{list_any}
 use Rattle.std.specs.Map.{lookup}
 use Rattle.std.proofs.lemmas.List.Folds.{list_any-append}
 use Rattle.indexmap.specs.IndexSet.{insert_key, insert_all}

@@ -1,5 +1,5 @@
 -- The first number that passes a test, one more at a time.
-use Rattle.std.proofs.Common.{◌≡◌, ℕ, zero, suc, ◌+◌, ◌<◌, ◌≤◌, ◌-◌, Bool, true, false, cond, Option, None, Some, if◌then◌else◌, refl, ap, sym, ◌∙◌, subst, arith, add-one}
+use Rattle.std.proofs.Common.{◌≡◌, ℕ, zero, suc, ◌+◌, ◌<◌, ◌≤◌, ◌-◌, Bool, true, false, cond, None, Some, if◌then◌else◌, refl, ap, ◌∙◌, arith, add-one}
 use Rattle.std.specs.Option.{option_or}
 use Rattle.ice_pads.specs.Passing.{first_passing}
 

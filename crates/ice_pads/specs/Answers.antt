@@ -1,8 +1,8 @@
 -- What calls answer of what the definitions say.
-use Rattle.std.specs.Prelude.{◌≡◌, ℕ, Result, Ok, Err, List}
+use Rattle.std.specs.Prelude.{◌≡◌, Result, Ok, Err, List}
 use Rattle.std.specs.Global.{Vec}
 use Rattle.ice_pads.specs.declared.fault.PinFault.{PinFault}
-use Rattle.ice_pads.specs.declared.fault.PinFault.TheVariants.{NoPackage, UnknownPin, UnknownPort, PinTwice, PortTwice, NoPadLeft, TooManyGlobals, PadLacks, NoMemory}
+use Rattle.ice_pads.specs.declared.fault.PinFault.TheVariants.{NoMemory}
 
 -- want of memory may come at any time, and every other fault is what is said
 abbrev pub Stops : {A : Type 0} → PinFault → Result A PinFault → Type 0

@@ -1,5 +1,5 @@
 -- What is kept of the lines so far, and of the ports so far.
-use Rattle.std.specs.Prelude.{◌≡◌, ℕ, ◌+◌, ◌*◌, Bool, true, false, not, if◌then◌else◌, Option, None, List, slice_index_or, take}
+use Rattle.std.specs.Prelude.{◌≡◌, ℕ, ◌+◌, false, if◌then◌else◌, Option, None, List, slice_index_or, take}
 use Rattle.std.specs.List.{list_any}
 use Rattle.std.specs.HashMap.{HashMap, get_by}
 use Rattle.std.specs.HashSet.{HashSet, contains_by}

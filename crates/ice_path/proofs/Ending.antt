@@ -1,6 +1,6 @@
 -- What is known when a search ends, and how far it has come until then.
-use Rattle.std.proofs.Common.{◌≡◌, ◌≢◌, ℕ, zero, suc, ◌+◌, ◌≤◌, ◌<◌, Bool, true, false, not, cond, List, [], ◌∷◌, ◌++◌, Option, Some, None, length, get_or, slice_get, slice_set, refl, sym, ap, ◌∙◌, subst, arith, inl, inr, ◌⊎◌, get_or-set_same, get_or-set_other, length-set}
-use Rattle.std.specs.Prelude.{eqb, nat_lt, IfSome, IfNone}
+use Rattle.std.proofs.Common.{◌≡◌, ◌≢◌, ℕ, zero, suc, ◌+◌, ◌≤◌, ◌<◌, Bool, true, false, not, cond, List, [], ◌∷◌, ◌++◌, Option, Some, None, length, get_or, slice_set, refl, sym, ap, ◌∙◌, subst, arith, inl, inr, ◌⊎◌, get_or-set_same, get_or-set_other, length-set}
+use Rattle.std.specs.Prelude.{eqb, IfSome, IfNone}
 use Rattle.std.proofs.lemmas.Bool.{cases_lt, cases_eq, false≢true, eq-eqb, eqb-true, ltb-false, ltb-true}
 use Rattle.std.proofs.lemmas.List.{length_push}
 use Rattle.std.proofs.lemmas.List.Sums.{sum_by-set, sum_by-cons, count_by-le-length}
@@ -10,7 +10,7 @@ use Rattle.ice_core.specs.declared.prices.Prices.{Prices}
 use Rattle.ice_core.specs.Congestion.{price as price_of}
 use Rattle.ice_graph.specs.Network.{Network, BoundsFall, least_bound}
 use Rattle.ice_graph.proofs.Bounding.{least_home, least_found}
-use Rattle.ice_path.specs.Walks.{HasEdge, HasWalk, InTree, IsWalk, IsLeast, IsLabel, IsTarget, IsCostTo, NoWalkTo, FallsBy, AreSettled, cost}
+use Rattle.ice_path.specs.Walks.{InTree, IsWalk, IsTarget, IsCostTo, NoWalkTo, FallsBy, AreSettled, cost}
 use Rattle.ice_path.specs.Search.{label, done, AreExact, IsLeastOpen, IsNearest, IsNext, Lists, Searches, nearest_after, is_beyond, opens}
 use Rattle.ice_path.proofs.Settling.{one_label, bounds_fall_by}
 use Rattle.ice_value.proofs.Places.{At_push_cases, At_push_old, At_push_new}

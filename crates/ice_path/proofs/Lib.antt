@@ -1,3 +1,4 @@
+pub mod Listing
 pub mod Queueing
 pub mod Relaxing
 pub mod Settling

@@ -1,10 +1,12 @@
 -- The wires of the tree get the label 0.
-use Rattle.std.proofs.Common.{◌≡◌, ℕ, ◌+◌, ◌<◌, Bool, false, List, [], Option, Some, None, length, slice_get, slice_set, sym, ap, ◌∙◌, subst, arith, inl, inr, get_or-set_same, get_or-set_other}
+use Rattle.std.proofs.Common.{◌≡◌, ℕ, ◌+◌, ◌<◌, Bool, false, List, Option, Some, None, length, slice_get, slice_set, sym, ap, ◌∙◌, subst, arith, inl, inr, get_or-set_same, get_or-set_other}
 use Rattle.std.proofs.lemmas.Bool.{cases_eq}
-use Rattle.std.proofs.lemmas.List.Elements.{All-nil}
-use Rattle.std.specs.List.{All}
+use Rattle.std.specs.List.{Contains}
 use Rattle.ice_base.specs.declared.number.WireNo.{WireNo}
-use Rattle.ice_path.specs.Search.{label, done, SumsToAtMost, Entry, Starts, Queues}
+use Rattle.ice_path.specs.declared.queue.Queue.{Queue}
+use Rattle.ice_path.specs.Queue.{Entry, IsEmpty, Listed, OnList, entry}
+use Rattle.ice_path.specs.Search.{label, done, Starts, Queues}
+use Rattle.ice_path.proofs.Listing.{none_at}
 
 pub starts_none : (tree : List WireNo) (labels : List (Option ℕ)) (settled : List Bool) → ((w : ℕ) → label labels w ≡ None) → ((w : ℕ) → done settled w ≡ false) → Starts tree 0 labels settled
 starts_none tree labels settled fresh open' = record {
@@ -55,8 +57,15 @@ starts_new tree k labels settled wire lt is at h =
     }
 
 -- an empty queue, where no wire has a label
-pub queues_none : (bound : ℕ → ℕ) (settled : List Bool) (labels : List (Option ℕ)) (queue : List Entry) → queue ≡ [] → ((w : ℕ) → label labels w ≡ None) → Queues bound settled labels queue
+pub queues_none : (bound : ℕ → ℕ) (settled : List Bool) (labels : List (Option ℕ)) (queue : Queue) → IsEmpty queue → ((w : ℕ) → label labels w ≡ None) → Queues bound settled labels queue
 queues_none bound settled labels queue empty fresh = record {
   waits = λ w l e open'. (let bad : Some l ≡ None = sym e ∙ fresh w in absurd (cc));
-  sound = subst (All (λ (x : Entry). SumsToAtMost bound labels x.1 x.0.0)) (sym empty) (All-nil (λ (x : Entry). SumsToAtMost bound labels x.1 x.0.0));
+  sound = λ s w waits. elim waits [
+    | inl on ↦ absurd (unlisted s w on)
+    | inr has ↦ (let t = subst (λ (xs : List Entry). Contains xs (entry s w)) empty.far has in absurd (omega (arith, t.1)))
+  ];
+  low = λ s w lt on. absurd (unlisted s w on);
 }
+  where
+    unlisted : (s w : ℕ) → Listed queue.heads.items queue.entries.items s w → ⊥
+    unlisted s w on = none_at queue.entries.items w (subst (λ k. OnList queue.entries.items k w) (empty.near s) on)

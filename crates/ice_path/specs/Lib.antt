@@ -1,5 +1,6 @@
 pub mod Walks
 pub mod Search
 pub mod Paths
+pub mod Queue
 pub mod Room
 pub mod Bounds

@@ -1,11 +1,11 @@
 -- The room that a search has, and the path that it left.
 use Rattle.std.specs.Prelude.{◌≡◌, ℕ, ◌+◌, ◌≤◌, ◌<◌, Option, List, [], Some, None, cond, false, length, slice_get, vec_capacity}
-use Rattle.std.specs.BinaryHeap.{IsHeap, heap_items, heap_len, heap_capacity}
 use Rattle.ice_base.specs.declared.number.WireNo.{WireNo}
 use Rattle.ice_graph.specs.Network.{Network}
 use Rattle.ice_graph.specs.declared.edge.Edge.{Edge}
 use Rattle.ice_path.specs.declared.scratch.Scratch.TheInside.{Inside}
-use Rattle.ice_path.specs.Search.{label, done, sooner}
+use Rattle.ice_path.specs.Queue.{IsEmpty, IsQueue, queue_len}
+use Rattle.ice_path.specs.Search.{label, done}
 
 -- for graphs of how many wires and how many edges there is room, and of the last search the path if it found one, and the wires that it settled
 pub record Room : Type 0 where
@@ -32,9 +32,9 @@ pub record IsClear (a : Inside) : Type 0 where
   pub open_wires : (w : ℕ) → done a.done.items w ≡ false
   pub touched : a.touched.items ≡ []
   pub space : length a.labels.items ≤ vec_capacity a.touched
-  pub queue : heap_items a.queue ≡ []
-  pub queue_len : heap_len a.queue ≡ 0
-  pub order : IsHeap sooner (heap_items a.queue)
-  pub room : length a.labels.items + a.edges ≤ heap_capacity a.queue
+  pub queue : IsEmpty a.queue
+  pub len : queue_len a.queue ≡ 0
+  pub order : IsQueue a.queue
+  pub room : length a.labels.items + a.edges ≤ a.queue.room
   pub path : length a.labels.items ≤ vec_capacity a.path
   pub list : length a.labels.items ≤ vec_capacity a.order

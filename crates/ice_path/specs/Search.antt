@@ -1,18 +1,15 @@
 -- Tentative labels of wires, and what the search keeps of them.
 use Rattle.std.specs.Prelude.{◌≡◌, ℕ, ◌+◌, ◌*◌, ◌≤◌, ◌<◌, ◌⊎◌, Bool, true, false, not, count_by, eqb, nat_lt, if◌then◌else◌, List, Option, Some, None, length, slice_index_or, slice_get, slice_set}
 use Rattle.std.specs.List.{All, Contains}
-use Rattle.std.specs.Ordering.{nat_cmp, ordering_then}
-use Rattle.std.specs.declared.cmp.Ordering.{Ordering}
-use Rattle.std.specs.declared.cmp.Reverse.{Reverse}
 use Rattle.ice_base.specs.declared.number.WireNo.{WireNo}
 use Rattle.ice_graph.specs.declared.edge.Edge.{Edge}
+use Rattle.ice_path.specs.declared.queue.Queue.{Queue}
+use Rattle.ice_path.specs.Queue.{Listed, Waits, done}
+pub use Rattle.ice_path.specs.Queue.{done}
 use Rattle.ice_path.specs.Walks.{HasEdge, HasWalk, IsLabel, InTree, IsTarget, FallsBy}
 
 abbrev pub label : List (Option ℕ) → ℕ → Option ℕ
 label labels w = slice_index_or labels w None
-
-abbrev pub done : List Bool → ℕ → Bool
-done settled w = slice_index_or settled w false
 
 -- a label of at most c
 abbrev pub AtMost : List (Option ℕ) → ℕ → ℕ → Type 0
@@ -60,25 +57,15 @@ pub record Starts (tree : List WireNo) (n : ℕ) (labels : List (Option ℕ)) (s
 abbrev pub open_edges : List Bool → List Edge → ℕ
 open_edges settled edges = count_by (λ e. not (done settled e.from.0)) edges
 
--- an entry of the queue: the sum of a label and a bound, and the wire that had them when the entry was made
-abbrev pub Entry : Type 0
-Entry = Reverse ℕ × ℕ
-
-abbrev pub entry : ℕ → ℕ → Entry
-entry l w = (record { 0 = l }, w)
-
--- the queue's order: the less the sum, the sooner
-abbrev pub sooner : Entry → Entry → Ordering
-sooner x y = ordering_then (nat_cmp y.0.0 x.0.0) (nat_cmp x.1 y.1)
-
 -- the wire has a label that makes with its bound at most c
 abbrev pub SumsToAtMost : (ℕ → ℕ) → List (Option ℕ) → ℕ → ℕ → Type 0
 SumsToAtMost bound labels w c = (l : ℕ) × (label labels w ≡ Some l) × (l + bound w ≤ c)
 
--- each open wire with a label waits in the queue under the sum of label and bound, and no entry is below its wire's sum
-pub record Queues (bound : ℕ → ℕ) (settled : List Bool) (labels : List (Option ℕ)) (queue : List Entry) : Type 0 where
-  pub waits : (w l : ℕ) → label labels w ≡ Some l → done settled w ≡ false → Contains queue (entry (l + bound w) w)
-  pub sound : All (λ (x : Entry). SumsToAtMost bound labels x.1 x.0.0) queue
+-- each open wire with a label waits in the queue under the sum of label and bound, no entry is below its wire's sum, and below the low sum the lists have settled wires alone
+pub record Queues (bound : ℕ → ℕ) (settled : List Bool) (labels : List (Option ℕ)) (queue : Queue) : Type 0 where
+  pub waits : (w l : ℕ) → label labels w ≡ Some l → done settled w ≡ false → Waits queue (l + bound w) w
+  pub sound : (s w : ℕ) → Waits queue s w → SumsToAtMost bound labels w s
+  pub low : (s w : ℕ) → s < queue.low → Listed queue.heads.items queue.entries.items s w → done settled w ≡ true
 
 -- how many wires aren't settled
 abbrev pub opens : List Bool → ℕ

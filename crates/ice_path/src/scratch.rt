@@ -1,7 +1,7 @@
 //! The memory of a search.
 ghost use Rattle.std.specs.Prelude.{◌≡◌, ◌+◌, ◌*◌, ◌<◌, ◌≤◌, ◌^◌, ℕ, [], Bool, List, Option, None, false, length, vec_capacity, Some, is_some, IsSome, OnSome, IfOk, IfSome, IfNone};
-ghost use Rattle.std.specs.BinaryHeap.{IsHeap, heap_items, heap_len, heap_capacity};
-ghost use Rattle.ice_path.specs.Search.{label, done, sooner};
+ghost use Rattle.ice_path.specs.Queue.{IsEmpty, IsQueue, queue_len};
+ghost use Rattle.ice_path.specs.Search.{label, done};
 ghost use Rattle.ice_core.specs.Congestion.{ArePrices, price};
 ghost use Rattle.ice_path.specs.Room.{IsFor, AreWires};
 ghost use Rattle.ice_graph.specs.Network.{least_bound};
@@ -10,14 +10,13 @@ ghost use Rattle.ice_path.specs.Paths.{IsTakenTo};
 
 use crate::back::take_path;
 use crate::clear::wipe;
-use crate::queue::Queue;
+use crate::queue::{Queue, clear, queue_for};
 use crate::search::search;
 use crate::start::root_all;
 use ice_base::{NoMemory, WireNo};
 use ice_core::Prices;
 use ice_graph::{Edge, Graph, Tree};
 use std::alloc::Global;
-use std::collections::BinaryHeap;
 use std::marker::Model;
 
 /// The memory of a search in a graph, taken once and used for each search after another, and of the last search
@@ -56,7 +55,7 @@ impl Scratch {
         let (labels, done) = marks(alloc, wires)?;
         let (touched, order, path) = lists(alloc, wires)?;
         let edges = graph.edges().len();
-        let queue = BinaryHeap::with_capacity(alloc, wires + edges)?;
+        let queue = queue_for(alloc, wires + edges)?;
         Ok(Scratch {
             labels,
             done,
@@ -180,8 +179,8 @@ fn find(
     requires list { graph.now.wires ≤ vec_capacity order.old }
     requires touched { touched.old.items ≡ [] }
     requires space { graph.now.wires ≤ vec_capacity touched.old }
-    requires queue { (heap_items queue.old ≡ []) × (heap_len queue.old ≡ 0) × IsHeap sooner (heap_items queue.old) }
-    requires room { graph.now.wires + length graph.now.edges ≤ heap_capacity queue.old }
+    requires queue { IsEmpty queue.old × (queue_len queue.old ≡ 0) × IsQueue queue.old }
+    requires room { graph.now.wires + length graph.now.edges ≤ queue.old.room }
     requires path { graph.now.wires ≤ vec_capacity path.old }
     ensures some { IfSome result (IsCostTo graph.now.edges (price prices.now) tree.now targets.now) }
     ensures bound { IfSome result (λ cost. cost ≤ 1048575 * 17046213234436) }
@@ -194,8 +193,8 @@ fn find(
     ensures settled { (w : ℕ) → done settled.new w ≡ false }
     ensures touched { touched.new.items ≡ [] }
     ensures space { vec_capacity touched.new ≡ vec_capacity touched.old }
-    ensures queue { (heap_items queue.new ≡ []) × (heap_len queue.new ≡ 0) × IsHeap sooner (heap_items queue.new) }
-    ensures capacity { heap_capacity queue.old ≤ heap_capacity queue.new }
+    ensures queue { IsEmpty queue.new × (queue_len queue.new ≡ 0) × IsQueue queue.new }
+    ensures capacity { queue.new.room ≡ queue.old.room }
 {
     path.clear();
     order.clear();
@@ -206,6 +205,6 @@ fn find(
     take_path(graph, prices, tree, targets, labels, cost, path);
     wipe(labels, settled, touched);
     touched.clear();
-    queue.clear();
+    clear(queue);
     cost
 }

@@ -1,12 +1,12 @@
 //! The search: labels are lowered from the tree on, and of the open wires the one is settled of which label and bound make
 //! the least sum, until that is more than the label of the nearest target.
 ghost use Rattle.std.specs.Prelude.{◌≡◌, ◌+◌, ◌*◌, ◌<◌, ◌≤◌, ◌^◌, ℕ, [], ◌∷◌, Bool, List, Option, length, slice_get, slice_set, true, false, IfSome, IfNone, Some, vec_capacity};
-ghost use Rattle.std.specs.BinaryHeap.{IsHeap, heap_items, heap_len, heap_capacity};
 ghost use Rattle.ice_core.specs.Congestion.{ArePrices, price};
 ghost use Rattle.ice_graph.specs.declared.edge.Edge.{Edge as Row};
 ghost use Rattle.ice_base.specs.declared.number.WireNo.{WireNo as Wire};
 ghost use Rattle.ice_graph.specs.Network.{AreBetween, BoundsFall, least_bound};
-ghost use Rattle.ice_path.specs.Search.{AreExact, IsNearest, IsNext, Lists, Lowers, Relaxes, Searches, Starts, Queues, Touches, is_beyond, nearest_after, open_edges, sooner, done, label};
+ghost use Rattle.ice_path.specs.Queue.{IsQueue, queue_len};
+ghost use Rattle.ice_path.specs.Search.{AreExact, IsNearest, IsNext, Lists, Lowers, Relaxes, Searches, Starts, Queues, Touches, is_beyond, nearest_after, open_edges, done, label};
 ghost use Rattle.ice_path.specs.Room.{AreWires};
 ghost use Rattle.ice_path.specs.Walks.{AreSettled, InTree, IsCostTo, NoWalkTo};
 ghost use Rattle.std.specs.List.{Contains};
@@ -32,14 +32,14 @@ pub fn mark(
     requires cost { cost ≤ 1048576 * 17046213234436 }
     requires within { wire < length labels.old }
     requires lower { (l : ℕ) → label labels.old wire ≡ Some l → cost < l }
-    requires order { IsHeap sooner (heap_items queue.old) }
-    requires room { heap_len queue.old < heap_capacity queue.old }
+    requires order { IsQueue queue.old }
+    requires room { queue_len queue.old < queue.old.room }
     ensures labels { labels.new ≡ slice_set labels.old wire (Some cost) }
     ensures lowers { Lowers labels.old labels.new wire cost }
-    ensures waits { (settled : List Bool) → Queues (least_bound graph.now targets.now) settled labels.old (heap_items queue.old) → Queues (least_bound graph.now targets.now) settled labels.new (heap_items queue.new) }
-    ensures order { IsHeap sooner (heap_items queue.new) }
-    ensures len { heap_len queue.new ≡ heap_len queue.old + 1 }
-    ensures capacity { heap_capacity queue.old ≤ heap_capacity queue.new }
+    ensures waits { (settled : List Bool) → Queues (least_bound graph.now targets.now) settled labels.old queue.old → Queues (least_bound graph.now targets.now) settled labels.new queue.new }
+    ensures order { IsQueue queue.new }
+    ensures len { queue_len queue.new ≡ queue_len queue.old + 1 }
+    ensures capacity { queue.new.room ≡ queue.old.room }
 {
     labels[wire as usize] = Some(cost);
     push(queue, cost + graph.least_bound(WireNo(wire), targets), wire);
@@ -61,15 +61,15 @@ fn lower(
     requires some { 0 < length targets.now }
     requires cost { cost ≤ 1048576 * 17046213234436 }
     requires within { wire < length labels.old }
-    requires order { IsHeap sooner (heap_items queue.old) }
-    requires room { heap_len queue.old < heap_capacity queue.old }
+    requires order { IsQueue queue.old }
+    requires room { queue_len queue.old < queue.old.room }
     requires touches { Touches labels.old touched.old.items }
     requires space { length labels.old ≤ vec_capacity touched.old }
     ensures lowers { Lowers labels.old labels.new wire cost }
-    ensures waits { (settled : List Bool) → Queues (least_bound graph.now targets.now) settled labels.old (heap_items queue.old) → Queues (least_bound graph.now targets.now) settled labels.new (heap_items queue.new) }
-    ensures order { IsHeap sooner (heap_items queue.new) }
-    ensures len { heap_len queue.new ≤ heap_len queue.old + 1 }
-    ensures capacity { heap_capacity queue.old ≤ heap_capacity queue.new }
+    ensures waits { (settled : List Bool) → Queues (least_bound graph.now targets.now) settled labels.old queue.old → Queues (least_bound graph.now targets.now) settled labels.new queue.new }
+    ensures order { IsQueue queue.new }
+    ensures len { queue_len queue.new ≤ queue_len queue.old + 1 }
+    ensures capacity { queue.new.room ≡ queue.old.room }
     ensures touches { Touches labels.new touched.new.items }
     ensures space { vec_capacity touched.new ≡ vec_capacity touched.old }
 {
@@ -104,15 +104,15 @@ fn relax_one(
     requires prices { ArePrices prices.now }
     requires lengths { (length prices.now.history.items ≡ length labels.old) × (length settled.now ≡ length labels.old) }
     requires cost { cost ≤ 1048575 * 17046213234436 }
-    requires order { IsHeap sooner (heap_items queue.old) }
-    requires room { heap_len queue.old < heap_capacity queue.old }
+    requires order { IsQueue queue.old }
+    requires room { queue_len queue.old < queue.old.room }
     requires touches { Touches labels.old touched.old.items }
     requires space { length labels.old ≤ vec_capacity touched.old }
     ensures relaxes { (rows : List Row) (k : ℕ) (first : List (Option ℕ)) → slice_get rows k ≡ Some row → Relaxes rows (price prices.now) settled.now cost k first labels.old → Relaxes rows (price prices.now) settled.now cost (k + 1) first labels.new }
-    ensures waits { (now : List Bool) → Queues (least_bound graph.now targets.now) now labels.old (heap_items queue.old) → Queues (least_bound graph.now targets.now) now labels.new (heap_items queue.new) }
-    ensures order { IsHeap sooner (heap_items queue.new) }
-    ensures len { heap_len queue.new ≤ heap_len queue.old + 1 }
-    ensures capacity { heap_capacity queue.old ≤ heap_capacity queue.new }
+    ensures waits { (now : List Bool) → Queues (least_bound graph.now targets.now) now labels.old queue.old → Queues (least_bound graph.now targets.now) now labels.new queue.new }
+    ensures order { IsQueue queue.new }
+    ensures len { queue_len queue.new ≤ queue_len queue.old + 1 }
+    ensures capacity { queue.new.room ≡ queue.old.room }
     ensures touches { Touches labels.new touched.new.items }
     ensures space { vec_capacity touched.new ≡ vec_capacity touched.old }
 {
@@ -150,16 +150,16 @@ fn relax(
     requires prices { ArePrices prices.now }
     requires lengths { (length prices.now.history.items ≡ length labels.old) × (length settled.now ≡ length labels.old) }
     requires cost { cost ≤ 1048575 * 17046213234436 }
-    requires order { IsHeap sooner (heap_items queue.old) }
-    requires room { heap_len queue.old + length rows.now ≤ heap_capacity queue.old }
+    requires order { IsQueue queue.old }
+    requires room { queue_len queue.old + length rows.now ≤ queue.old.room }
     requires touches { Touches labels.old touched.old.items }
     requires space { length labels.old ≤ vec_capacity touched.old }
-    requires waits { Queues (least_bound graph.now targets.now) settled.now labels.old (heap_items queue.old) }
+    requires waits { Queues (least_bound graph.now targets.now) settled.now labels.old queue.old }
     ensures relaxes { Relaxes rows.now (price prices.now) settled.now cost (length rows.now) labels.old labels.new }
-    ensures waits { Queues (least_bound graph.now targets.now) settled.now labels.new (heap_items queue.new) }
-    ensures order { IsHeap sooner (heap_items queue.new) }
-    ensures len { heap_len queue.new ≤ heap_len queue.old + length rows.now }
-    ensures capacity { heap_capacity queue.old ≤ heap_capacity queue.new }
+    ensures waits { Queues (least_bound graph.now targets.now) settled.now labels.new queue.new }
+    ensures order { IsQueue queue.new }
+    ensures len { queue_len queue.new ≤ queue_len queue.old + length rows.now }
+    ensures capacity { queue.new.room ≡ queue.old.room }
     ensures touches { Touches labels.new touched.new.items }
     ensures space { vec_capacity touched.new ≡ vec_capacity touched.old }
 {
@@ -192,18 +192,18 @@ fn settle(
     requires next { IsNext (least_bound graph.now targets.now) labels.old settled.old wire cost }
     requires wire { wire < graph.now.wires }
     requires cost { cost ≤ 1048575 * 17046213234436 }
-    requires order { IsHeap sooner (heap_items queue.old) }
-    requires room { heap_len queue.old + open_edges settled.old graph.now.edges ≤ heap_capacity queue.old }
+    requires order { IsQueue queue.old }
+    requires room { queue_len queue.old + open_edges settled.old graph.now.edges ≤ queue.old.room }
     requires touches { Touches labels.old touched.old.items }
     requires space { graph.now.wires ≤ vec_capacity touched.old }
-    requires waits { Queues (least_bound graph.now targets.now) (slice_set settled.old wire true) labels.old (heap_items queue.old) }
+    requires waits { Queues (least_bound graph.now targets.now) (slice_set settled.old wire true) labels.old queue.old }
     ensures settled { settled.new ≡ slice_set settled.old wire true }
     ensures fixed { (w : ℕ) → done settled.new w ≡ true → label labels.new w ≡ label labels.old w }
     ensures searches { (tree : List Wire) (count : ℕ) → Searches graph.now.edges (price prices.now) tree (least_bound graph.now targets.now) 17046213234436 count labels.old settled.old → Searches graph.now.edges (price prices.now) tree (least_bound graph.now targets.now) 17046213234436 (count + 1) labels.new settled.new }
-    ensures waits { Queues (least_bound graph.now targets.now) settled.new labels.new (heap_items queue.new) }
-    ensures order { IsHeap sooner (heap_items queue.new) }
-    ensures room { heap_len queue.new + open_edges settled.new graph.now.edges ≤ heap_capacity queue.new }
-    ensures capacity { heap_capacity queue.old ≤ heap_capacity queue.new }
+    ensures waits { Queues (least_bound graph.now targets.now) settled.new labels.new queue.new }
+    ensures order { IsQueue queue.new }
+    ensures room { queue_len queue.new + open_edges settled.new graph.now.edges ≤ queue.new.room }
+    ensures capacity { queue.new.room ≡ queue.old.room }
     ensures touches { Touches labels.new touched.new.items }
     ensures space { vec_capacity touched.new ≡ vec_capacity touched.old }
 {
@@ -273,11 +273,11 @@ pub fn search(
     requires starts { Starts tree.now (length tree.now) labels.old settled.old }
     requires listed { order.old.items ≡ [] }
     requires list { graph.now.wires ≤ vec_capacity order.old }
-    requires order { IsHeap sooner (heap_items queue.old) }
-    requires room { heap_len queue.old + length graph.now.edges ≤ heap_capacity queue.old }
+    requires order { IsQueue queue.old }
+    requires room { queue_len queue.old + length graph.now.edges ≤ queue.old.room }
     requires touches { Touches labels.old touched.old.items }
     requires space { graph.now.wires ≤ vec_capacity touched.old }
-    requires waits { Queues (least_bound graph.now targets.now) settled.old labels.old (heap_items queue.old) }
+    requires waits { Queues (least_bound graph.now targets.now) settled.old labels.old queue.old }
     ensures some { IfSome result (IsCostTo graph.now.edges (price prices.now) tree.now targets.now) }
     ensures exact { IfSome result (λ c. AreExact graph.now.edges (price prices.now) tree.now (least_bound graph.now targets.now) c labels.new) }
     ensures settled { IfSome result (λ c. AreSettled graph.now.edges (price prices.now) tree.now (least_bound graph.now targets.now) c order.new.items) }
@@ -285,8 +285,8 @@ pub fn search(
     ensures length { length labels.new ≡ length labels.old }
     ensures none { IfNone result (NoWalkTo graph.now.edges tree.now targets.now) }
     ensures list { vec_capacity order.new ≡ vec_capacity order.old }
-    ensures order { IsHeap sooner (heap_items queue.new) }
-    ensures capacity { heap_capacity queue.old ≤ heap_capacity queue.new }
+    ensures order { IsQueue queue.new }
+    ensures capacity { queue.new.room ≡ queue.old.room }
     ensures touches { Touches labels.new touched.new.items }
     ensures space { vec_capacity touched.new ≡ vec_capacity touched.old }
     ensures closed { (w : ℕ) → done settled.new w ≡ true → Contains touched.new.items w }

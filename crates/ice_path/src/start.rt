@@ -1,10 +1,10 @@
 //! The start of a search: the wires of the tree have the label 0.
 ghost use Rattle.std.specs.Prelude.{◌≡◌, ◌+◌, ◌<◌, ◌≤◌, ℕ, [], ◌∷◌, Bool, List, Option, length, slice_get, true, false, None, Some, vec_capacity};
-ghost use Rattle.std.specs.BinaryHeap.{IsHeap, heap_items, heap_len, heap_capacity};
 ghost use Rattle.ice_base.specs.declared.number.WireNo.{WireNo as Wire};
 ghost use Rattle.ice_graph.specs.Network.{least_bound};
 ghost use Rattle.ice_path.specs.Room.{AreWires};
-ghost use Rattle.ice_path.specs.Search.{Queues, Touches, Starts, sooner, done, label};
+ghost use Rattle.ice_path.specs.Queue.{IsEmpty, IsQueue, queue_len};
+ghost use Rattle.ice_path.specs.Search.{Queues, Touches, Starts, done, label};
 
 use crate::queue::Queue;
 use crate::search::mark;
@@ -25,15 +25,15 @@ fn root(
     requires targets { AreWires graph.now.wires targets.now }
     requires some { 0 < length targets.now }
     requires within { wire.0 < length labels.old }
-    requires order { IsHeap sooner (heap_items queue.old) }
-    requires room { (heap_len queue.old ≤ length touched.old.items) × (length labels.old ≤ heap_capacity queue.old) }
+    requires order { IsQueue queue.old }
+    requires room { (queue_len queue.old ≤ length touched.old.items) × (length labels.old ≤ queue.old.room) }
     requires touches { Touches labels.old touched.old.items }
     requires space { length labels.old ≤ vec_capacity touched.old }
     ensures starts { (tree : List Wire) (k : ℕ) (settled : List Bool) → slice_get tree k ≡ Some wire → Starts tree k labels.old settled → Starts tree (k + 1) labels.new settled }
-    ensures waits { (settled : List Bool) → Queues (least_bound graph.now targets.now) settled labels.old (heap_items queue.old) → Queues (least_bound graph.now targets.now) settled labels.new (heap_items queue.new) }
-    ensures order { IsHeap sooner (heap_items queue.new) }
-    ensures room { heap_len queue.new ≤ length touched.new.items }
-    ensures capacity { heap_capacity queue.old ≤ heap_capacity queue.new }
+    ensures waits { (settled : List Bool) → Queues (least_bound graph.now targets.now) settled labels.old queue.old → Queues (least_bound graph.now targets.now) settled labels.new queue.new }
+    ensures order { IsQueue queue.new }
+    ensures room { queue_len queue.new ≤ length touched.new.items }
+    ensures capacity { queue.new.room ≡ queue.old.room }
     ensures touches { Touches labels.new touched.new.items }
     ensures space { vec_capacity touched.new ≡ vec_capacity touched.old }
 {
@@ -59,18 +59,18 @@ pub fn root_all(
     requires targets { AreWires graph.now.wires targets.now }
     requires some { 0 < length targets.now }
     requires tree { (k : ℕ) (v : Wire) → slice_get tree.now k ≡ Some v → v.0 < length labels.old }
-    requires order { IsHeap sooner (heap_items queue.old) }
-    requires empty { (heap_items queue.old ≡ []) × (heap_len queue.old ≡ 0) }
-    requires room { length labels.old ≤ heap_capacity queue.old }
+    requires order { IsQueue queue.old }
+    requires empty { IsEmpty queue.old × (queue_len queue.old ≡ 0) }
+    requires room { length labels.old ≤ queue.old.room }
     requires fresh { (w : ℕ) → label labels.old w ≡ None }
     requires open_wires { (w : ℕ) → done settled.now w ≡ false }
     requires touches { Touches labels.old touched.old.items }
     requires space { length labels.old ≤ vec_capacity touched.old }
     ensures starts { Starts tree.now (length tree.now) labels.new settled.now }
-    ensures waits { Queues (least_bound graph.now targets.now) settled.now labels.new (heap_items queue.new) }
-    ensures order { IsHeap sooner (heap_items queue.new) }
-    ensures room { heap_len queue.new ≤ length touched.new.items }
-    ensures capacity { heap_capacity queue.old ≤ heap_capacity queue.new }
+    ensures waits { Queues (least_bound graph.now targets.now) settled.now labels.new queue.new }
+    ensures order { IsQueue queue.new }
+    ensures room { queue_len queue.new ≤ length touched.new.items }
+    ensures capacity { queue.new.room ≡ queue.old.room }
     ensures touches { Touches labels.new touched.new.items }
     ensures space { vec_capacity touched.new ≡ vec_capacity touched.old }
 {

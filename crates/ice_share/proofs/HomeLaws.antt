@@ -34,7 +34,7 @@ use Rattle.ice_share.proofs.UseLaws.{taken_back}
 use Rattle.ice_share.proofs.LutLaws.{taking, one_carry}
 
 -- ---- lists by place
-map_at : {X Y : Type 0} (f : X → Y) (xs : List X) (k : ℕ) (d : Y) → get_or (map f xs) k d ≡ option_map_or f (slice_get xs k) d
+pub map_at : {X Y : Type 0} (f : X → Y) (xs : List X) (k : ℕ) (d : Y) → get_or (map f xs) k d ≡ option_map_or f (slice_get xs k) d
 map_at f [] k d = refl
 map_at f (x ∷ xs) zero d = refl
 map_at f (x ∷ xs) (suc k) d = map_at f xs k d
@@ -100,7 +100,7 @@ flop_by os f number input k (kind.Flop falling enable reset) ins outs reads_k ta
     by true is e = (same_Some number f e, ap (λ (o : Origin). Flop (reads.maker o)) (sym (ap (λ i. input_origin os (get_or ins i None)) (eqb-true input 1 is)) ∙ reads_k))
 
 -- ---- roles and parts
-carry_by : (os : List Origin) (k : CellKind) (ins outs : List (Option SignalNo)) (p : Pair) → role_by os k ins outs ≡ Takes p → part_by os k ins outs ≡ Carry
+pub carry_by : (os : List Origin) (k : CellKind) (ins outs : List (Option SignalNo)) (p : Pair) → role_by os k ins outs ≡ Takes p → part_by os k ins outs ≡ Carry
 carry_by os (kind.Lut t) ins outs p e = cc e
 carry_by os (kind.Cover t width) ins outs p e = by (pair_of os ins 1 2) (is_table_kind (kind.Cover t width)) e
   where
@@ -116,7 +116,7 @@ carry_by os (kind.Flop falling enable reset) ins outs p e = cc e
 carry_by os (kind.PadCell pin_type pullup) ins outs p e = cc e
 carry_by os kind.Global ins outs p e = cc e
 
-table_by : (os : List Origin) (k : CellKind) (ins outs : List (Option SignalNo)) (p : Pair) → role_by os k ins outs ≡ Gives p → part_by os k ins outs ≡ Table
+pub table_by : (os : List Origin) (k : CellKind) (ins outs : List (Option SignalNo)) (p : Pair) → role_by os k ins outs ≡ Gives p → part_by os k ins outs ≡ Table
 table_by os (kind.Lut t) ins outs p e = refl
 table_by os (kind.Cover t width) ins outs p e = by (pair_of os ins 1 2) (is_table_kind (kind.Cover t width)) e
   where
@@ -165,14 +165,14 @@ module _ (os : List Origin) (cells : List Cell) (bare : List Port) where
   abbrev n : Facts
   n = facts_of os cells bare
 
-  part_is : (j : ℕ) → part n j ≡ option_map_or (part_of os) (slice_get cells j) Nothing
+  pub part_is : (j : ℕ) → part n j ≡ option_map_or (part_of os) (slice_get cells j) Nothing
   part_is j = map_at (part_of os) cells j Nothing
 
-  role_is : (j : ℕ) → role (roles_of os cells) j ≡ option_map_or (role_of os) (slice_get cells j) Neither
+  pub role_is : (j : ℕ) → role (roles_of os cells) j ≡ option_map_or (role_of os) (slice_get cells j) Neither
   role_is j = map_at (role_of os) cells j Neither
 
   -- ---- takers
-  taker_parts : (k f : ℕ) → taker n k ≡ Some f → (is_table (part n k) ≡ true) × (get_or (uses os cells bare) k Nobody ≡ Taken f)
+  pub taker_parts : (k f : ℕ) → taker n k ≡ Some f → (is_table (part n k) ≡ true) × (get_or (uses os cells bare) k Nobody ≡ Taken f)
   taker_parts k f e = by (is_table (part n k)) refl e
     where
       by : (b : Bool) → is_table (part n k) ≡ b → cond b (slice_index_or n.takers k None) None ≡ Some f → (is_table (part n k) ≡ true) × (get_or (uses os cells bare) k Nobody ≡ Taken f)
@@ -192,7 +192,7 @@ module _ (os : List Origin) (cells : List Cell) (bare : List Port) where
   ]
 
   -- what takes a look-up table is a flip-flop, and goes by the table
-  taker_part : (k f : ℕ) → taker n k ≡ Some f → part n f ≡ Flop (Some k)
+  pub taker_part : (k f : ℕ) → taker n k ≡ Some f → part n f ≡ Flop (Some k)
   taker_part k f e =
       let has = taker_reads k f e in
       elim (At_append_cases (cells_read os 0 cells) (map (port_reading os) bare) has.0 (Made k, Some f) has.1) [
@@ -218,12 +218,12 @@ module _ (os : List Origin) (cells : List Cell) (bare : List Port) where
       let lt : c < length n.luts = within n.luts c None (Some a) e (λ z. cc z) in
       sym (get_or-table (lut_of (roles_of os cells)) (length (roles_of os cells)) c None (let l : length n.luts ≡ length (roles_of os cells) = length-table (lut_of (roles_of os cells)) (length (roles_of os cells)) in omega arith)) ∙ e
 
-  carry_part : (c a : ℕ) → slice_index_or n.luts c None ≡ Some a → part n c ≡ Carry
+  pub carry_part : (c a : ℕ) → slice_index_or n.luts c None ≡ Some a → part n c ≡ Carry
   carry_part c a e =
       let t = taking (roles_of os cells) c a (lut_taken c a e) in
       part_is c ∙ part_from os (slice_get cells c) (Takes t.pair) Carry (sym (role_is c) ∙ t.carry) (λ z. cc z) (λ k ins outs g. carry_by os k ins outs t.pair g)
 
-  table_part : (c a : ℕ) → slice_index_or n.luts c None ≡ Some a → part n a ≡ Table
+  pub table_part : (c a : ℕ) → slice_index_or n.luts c None ≡ Some a → part n a ≡ Table
   table_part c a e =
       let t = taking (roles_of os cells) c a (lut_taken c a e) in
       part_is a ∙ part_from os (slice_get cells a) (Gives t.pair) Table (sym (role_is a) ∙ t.lut) (λ z. cc z) (λ k ins outs g. table_by os k ins outs t.pair g)
@@ -248,7 +248,7 @@ module _ (os : List Origin) (cells : List Cell) (bare : List Port) where
           read_at (y ∷ xs) zero x at = same_Some y x at
           read_at (y ∷ xs) (suc k) x at = read_at xs k x at
 
-  carrier_lut : (a c : ℕ) → slice_index_or (carriers_of n) a None ≡ Some c → slice_index_or n.luts c None ≡ Some a
+  pub carrier_lut : (a c : ℕ) → slice_index_or (carriers_of n) a None ≡ Some c → slice_index_or n.luts c None ≡ Some a
   carrier_lut a c e =
       let lt : a < length (carriers_of n) = within (carriers_of n) a None (Some c) e (λ z. cc z) in
       carrier_found a c (sym (get_or-table (carrier_by n.luts) (length n.parts) a None (let l : length (carriers_of n) ≡ length n.parts = length-table (carrier_by n.luts) (length n.parts) in omega arith)) ∙ e)
@@ -286,13 +286,13 @@ module _ (os : List Origin) (cells : List Cell) (bare : List Port) where
       by Nothing is = inl refl
 
   -- what a cell goes by, goes by itself
-  anchor_again : (j : ℕ) → anchor n (anchor n j) ≡ anchor n j
+  pub anchor_again : (j : ℕ) → anchor n (anchor n j) ≡ anchor n j
   anchor_again j = elim (goes j) [
     | inl own ↦ ap (anchor n) own
     | inr other ↦ ap (anchor_by n (anchor n j)) other.0
   ]
 
-  kept_anchor : (j : ℕ) → is_kept (part n j) ≡ true → is_kept (part n (anchor n j)) ≡ true
+  pub kept_anchor : (j : ℕ) → is_kept (part n j) ≡ true → is_kept (part n (anchor n j)) ≡ true
   kept_anchor j e = elim (goes j) [
     | inl own ↦ ap (λ k. is_kept (part n k)) own ∙ e
     | inr other ↦ ap is_kept other.0
@@ -321,7 +321,7 @@ module _ (os : List Origin) (cells : List Cell) (bare : List Port) where
       ap (λ b. b && (first_member n (first_member n j) == first_member n j)) (first_kept j e)
       ∙ eq-eqb (first_member n (first_member n j)) (first_member n j) (ap (first_by n (carriers_of n)) (first_anchor j e))
 
-  kept_within : (j : ℕ) → is_kept (part n j) ≡ true → j < length n.parts
+  pub kept_within : (j : ℕ) → is_kept (part n j) ≡ true → j < length n.parts
   kept_within j e = within n.parts j Nothing (part n j) refl (λ z. absurd (true≢false (sym e ∙ ap is_kept (sym z))))
 
   -- ---- homes
@@ -336,7 +336,7 @@ module _ (os : List Origin) (cells : List Cell) (bare : List Port) where
       let first : first_member n j ≡ first_member n k = same_Some (first_member n j) (first_member n k) (sym (home_opened j kept) ∙ ap (slice_get (openers n)) same ∙ home_opened k also) in
       sym (first_anchor j kept) ∙ ap (anchor n) first ∙ first_anchor k also
 
-  carrier_is : (a c : ℕ) → a < length n.parts → slice_index_or n.luts c None ≡ Some a → slice_index_or (carriers_of n) a None ≡ Some c
+  pub carrier_is : (a c : ℕ) → a < length n.parts → slice_index_or n.luts c None ≡ Some a → slice_index_or (carriers_of n) a None ≡ Some c
   carrier_is a c lt e = get_or-table (carrier_by n.luts) (length n.parts) a None lt ∙ by (Has_find (λ (s : Shared). is_place a (lut_at s)) (enumerate_from 0 n.luts) (c, Some a) here (eq-eqb a a refl))
     where
       there : (xs : List (Option ℕ)) (k : ℕ) → get_or xs k None ≡ Some a → At xs k (Some a)

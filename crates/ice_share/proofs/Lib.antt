@@ -2,7 +2,7 @@ mod Marks
 mod Counting
 mod Taking
 mod Openers
-mod OriginSteps
+pub mod OriginSteps
 pub mod UseLaws
 pub mod LutLaws
 pub mod HomeLaws

@@ -1,4 +1,4 @@
-use Rattle.std.proofs.Common.{◌≡◌, drop, option_map, map}
+use Rattle.std.proofs.Common.{◌≡◌, drop}
 use Rattle.std.specs.Prelude.{◌&&◌}
 use Rattle.std.specs.List.{list_any}
 use Rattle.ice_chip.specs.declared.tile.Tile.{Tile}

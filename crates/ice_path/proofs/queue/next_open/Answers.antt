@@ -1,35 +1,63 @@
-use Rattle.std.proofs.Common.{arith}
+use Rattle.std.proofs.Common.{◌≡◌, ◌∙◌, ℕ, List, refl, sym, ap, subst, slice_set, arith}
+use Rattle.std.specs.Vec.{with_items}
+use Rattle.std.proofs.lemmas.List.{with_items_is}
 use Rattle.std.specs.BinaryHeap.{heap_items}
 use Rattle.ice_graph.specs.Network.{least_bound}
-use Rattle.ice_path.specs.Search.{entry}
-use Rattle.ice_path.proofs.Queueing.{popped_least, popped_settled, popped_open, popped_below}
+use Rattle.ice_path.specs.declared.queue.Waiting.{Waiting}
+use Rattle.ice_path.specs.Queue.{IsFirstListed}
+use Rattle.ice_path.proofs.Queueing.{same_lists, high_left, listed_within, far_within, near_open, near_within, near_queues, far_open, far_below, far_queues}
 use Rattle.ice_path.proofs.queue.next_open.Goals as goal
 
-pub bounds-settled-wire : goal.bounds-settled-wire
-bounds-settled-wire c =
-    let lt = popped_below (least_bound c.args.graph.now c.args.targets.now) c.args.settled.now c.args.labels.now c.in-Some.sum c.in-Some.wire (heap_items c.loop-wire.queue) (heap_items c.pop.new.queue) c.in-Some.ensures.items c.loop-wire.invariant.waits in
-    omega (arith, c.requires.lengths, lt)
+pub first_listed-listed-requires-clause-within : goal.first_listed-listed-requires-clause-within
+first_listed-listed-requires-clause-within c = λ s w on.
+    listed_within (least_bound c.args.graph.now c.args.targets.now) c.args.settled.now c.args.labels.now c.args.queue.now c.requires.lengths c.requires.waits s w (same_lists _ _ _ _ c.deref.ensures.value c.deref-2.ensures.value s w on)
 
-pub returns-then-not-settled-wire-clause-least : goal.returns-then-not-settled-wire-clause-least
-returns-then-not-settled-wire-clause-least c =
-    popped_least (least_bound c.args.graph.now c.args.targets.now) c.args.settled.now c.args.labels.now (entry c.in-Some.sum c.in-Some.wire) (heap_items c.loop-wire.queue) (heap_items c.pop.new.queue) c.in-Some.ensures.items c.in-Some.ensures.least c.loop-wire.invariant.waits c.if-not-settled-wire.true
+pub next_far-requires-clause-within : goal.next_far-requires-clause-within
+next_far-requires-clause-within c = far_within (least_bound c.args.graph.now c.args.targets.now) c.args.settled.now c.args.labels.now c.args.queue.now c.requires.lengths c.requires.waits
 
-pub returns-then-not-settled-wire-clause-waits : goal.returns-then-not-settled-wire-clause-waits
-returns-then-not-settled-wire-clause-waits c =
-    let lt = popped_below (least_bound c.args.graph.now c.args.targets.now) c.args.settled.now c.args.labels.now c.in-Some.sum c.in-Some.wire (heap_items c.loop-wire.queue) (heap_items c.pop.new.queue) c.in-Some.ensures.items c.loop-wire.invariant.waits in
-    popped_open (least_bound c.args.graph.now c.args.targets.now) c.args.settled.now c.args.labels.now c.in-Some.sum c.in-Some.wire (heap_items c.loop-wire.queue) (heap_items c.pop.new.queue) (omega (arith, c.requires.lengths, lt)) c.in-Some.ensures.items c.loop-wire.invariant.waits
-
-pub returns-then-not-settled-wire-clause-within : goal.returns-then-not-settled-wire-clause-within
-returns-then-not-settled-wire-clause-within c =
-    popped_below (least_bound c.args.graph.now c.args.targets.now) c.args.settled.now c.args.labels.now c.in-Some.sum c.in-Some.wire (heap_items c.loop-wire.queue) (heap_items c.pop.new.queue) c.in-Some.ensures.items c.loop-wire.invariant.waits
-
-pub loop-wire-preserved : goal.loop-wire-preserved
-loop-wire-preserved c =
-    let len = c.in-Some.ensures.len in
-    let short = c.loop-wire.invariant.shorter in
+pub returns-in_default-clause-order : goal.returns-in_default-clause-order
+returns-in_default-clause-order c =
+    let is = c.requires.order in
     record {
-      order = c.pop.ensures.order;
-      waits = popped_settled (least_bound c.args.graph.now c.args.targets.now) c.args.settled.now c.args.labels.now c.in-Some.sum c.in-Some.wire (heap_items c.loop-wire.queue) (heap_items c.pop.new.queue) c.if-not-settled-wire.false c.in-Some.ensures.items c.loop-wire.invariant.waits;
-      shorter = omega (arith, c.pop.ensures.shorter, short);
-      capacity = omega (arith, c.pop.ensures.capacity, c.loop-wire.invariant.capacity);
+      lists = is.lists;
+      order = c.next_far.ensures.order;
+      high = high_left (heap_items c.args.queue.now.far) (heap_items c.next_far.new.far) c.next_far.ensures.only is.high;
+      near_room = is.near_room;
+      far_room = omega (arith, is.far_room, c.next_far.ensures.capacity);
     }
+
+pub returns-in_default-clause-least : goal.returns-in_default-clause-least
+returns-in_default-clause-least c =
+    far_open (least_bound c.args.graph.now c.args.targets.now) c.args.settled.now c.args.labels.now c.args.queue.now (record { heads = c.args.queue.now.heads; entries = c.args.queue.now.entries; low = 1024; far = c.next_far.new.far; room = c.args.queue.now.room }) c.requires.lengths c.requires.waits c.requires.order
+    (λ s w le on. c.in_default.ensures.none s w le (same_lists _ _ _ _ (sym c.deref.ensures.value) (sym c.deref-2.ensures.value) s w on)) c.next_far.result c.next_far.ensures.some c.next_far.ensures.none
+
+pub returns-in_default-clause-waits : goal.returns-in_default-clause-waits
+returns-in_default-clause-waits c =
+    far_queues (least_bound c.args.graph.now c.args.targets.now) c.args.settled.now c.args.labels.now c.args.queue.now (record { heads = c.args.queue.now.heads; entries = c.args.queue.now.entries; low = 1024; far = c.next_far.new.far; room = c.args.queue.now.room }) c.requires.lengths c.requires.waits c.requires.order
+    (λ s w le on. c.in_default.ensures.none s w le (same_lists _ _ _ _ (sym c.deref.ensures.value) (sym c.deref-2.ensures.value) s w on)) refl refl c.next_far.result c.next_far.ensures.some
+
+pub returns-in_default-clause-within : goal.returns-in_default-clause-within
+returns-in_default-clause-within c =
+    far_below (least_bound c.args.graph.now c.args.targets.now) c.args.settled.now c.args.labels.now c.args.queue.now (record { heads = c.args.queue.now.heads; entries = c.args.queue.now.entries; low = 1024; far = c.next_far.new.far; room = c.args.queue.now.room }) c.requires.lengths c.requires.waits c.requires.order
+    (λ s w le on. c.in_default.ensures.none s w le (same_lists _ _ _ _ (sym c.deref.ensures.value) (sym c.deref-2.ensures.value) s w on)) c.next_far.result c.next_far.ensures.some
+
+pub returns-clause-least : goal.returns-clause-least
+returns-clause-least c =
+    let first = subst (λ (hs : List ℕ). IsFirstListed hs c.args.queue.now.entries.items c.args.settled.now c.args.queue.now.low c.in-Some.sum c.in-Some.wire c.in-Some.behind) c.deref.ensures.value
+    (subst (λ (es : List Waiting). IsFirstListed c.deref.result.now es c.args.settled.now c.args.queue.now.low c.in-Some.sum c.in-Some.wire c.in-Some.behind) c.deref-2.ensures.value c.in-Some.ensures.some) in
+    near_open (least_bound c.args.graph.now c.args.targets.now) c.args.settled.now c.args.labels.now c.args.queue.now c.args.queue.now c.requires.lengths c.requires.waits c.requires.order c.in-Some.sum c.in-Some.wire c.in-Some.behind first
+
+pub returns-clause-waits : goal.returns-clause-waits
+returns-clause-waits c =
+    let first = subst (λ (hs : List ℕ). IsFirstListed hs c.args.queue.now.entries.items c.args.settled.now c.args.queue.now.low c.in-Some.sum c.in-Some.wire c.in-Some.behind) c.deref.ensures.value
+    (subst (λ (es : List Waiting). IsFirstListed c.deref.result.now es c.args.settled.now c.args.queue.now.low c.in-Some.sum c.in-Some.wire c.in-Some.behind) c.deref-2.ensures.value c.in-Some.ensures.some) in
+    let heads : (with_items c.args.queue.now.heads c.set_head.new.heads).items ≡ slice_set c.args.queue.now.heads.items c.in-Some.sum c.in-Some.behind =
+    with_items_is c.args.queue.now.heads c.set_head.new.heads (c.set_head.auto.heads ∙ c.deref_mut.ensures.len) ∙ c.set_head.ensures ∙ ap (λ (hs : List ℕ). slice_set hs c.in-Some.sum c.in-Some.behind) c.deref_mut.ensures.value in
+    near_queues (least_bound c.args.graph.now c.args.targets.now) c.args.settled.now c.args.labels.now c.args.queue.now (record { heads = with_items c.args.queue.now.heads c.set_head.new.heads; entries = c.args.queue.now.entries; low = c.in-Some.sum; far = c.args.queue.now.far; room = c.args.queue.now.room }) c.requires.lengths c.requires.waits c.requires.order
+    c.in-Some.sum c.in-Some.wire c.in-Some.behind first heads refl refl refl
+
+pub returns-clause-within : goal.returns-clause-within
+returns-clause-within c =
+    let first = subst (λ (hs : List ℕ). IsFirstListed hs c.args.queue.now.entries.items c.args.settled.now c.args.queue.now.low c.in-Some.sum c.in-Some.wire c.in-Some.behind) c.deref.ensures.value
+    (subst (λ (es : List Waiting). IsFirstListed c.deref.result.now es c.args.settled.now c.args.queue.now.low c.in-Some.sum c.in-Some.wire c.in-Some.behind) c.deref-2.ensures.value c.in-Some.ensures.some) in
+    near_within (least_bound c.args.graph.now c.args.targets.now) c.args.settled.now c.args.labels.now c.args.queue.now c.args.queue.now c.requires.lengths c.requires.waits c.requires.order c.in-Some.sum c.in-Some.wire c.in-Some.behind first

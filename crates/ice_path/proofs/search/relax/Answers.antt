@@ -16,7 +16,7 @@ loop-row-preserved c =
       waits = e.waits c.args.settled.now i.waits;
       order = e.order;
       len = omega (arith, e.len, i.len);
-      capacity = omega (arith, e.capacity, i.capacity);
+      capacity = e.capacity ∙ i.capacity;
       touches = e.touches;
       space = e.space ∙ i.space;
     }

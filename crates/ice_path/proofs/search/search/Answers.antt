@@ -1,10 +1,10 @@
-use Rattle.std.proofs.Common.{◌≡◌, ◌∙◌, ◌+◌, ◌≤◌, ◌*◌, ◌<◌, ℕ, List, Option, Some, None, Bool, true, false, IfSome, length, slice_set, refl, sym, ap, subst, arith}
+use Rattle.std.proofs.Common.{◌≡◌, ◌∙◌, ◌+◌, ◌≤◌, ◌*◌, ◌<◌, ℕ, List, Option, Bool, true, IfSome, length, slice_set, refl, sym, subst, arith}
 use Rattle.ice_base.specs.declared.number.WireNo.{WireNo}
 use Rattle.ice_core.specs.Congestion.{price}
 use Rattle.ice_graph.specs.Network.{least_bound}
 use Rattle.ice_path.specs.Search.{IsLeastOpen, IsNearest, Lists, nearest_after, opens, done, label}
 use Rattle.ice_path.proofs.Settling.{starts, open_edges_all, bounds_fall_by}
-use Rattle.ice_path.proofs.Ending.{ends, has_none, is_next, sum_is, beyond_none, beyond_least, opens_set, none_open, listed_more, listed_none, nearest_more, nearest_low, past_beyond, past_some, targets_home, home_targets, if_some, if_none}
+use Rattle.ice_path.proofs.Ending.{ends, has_none, is_next, sum_is, beyond_none, beyond_least, opens_set, none_open, listed_more, listed_none, nearest_more, nearest_low, past_beyond, past_some, targets_home, home_targets, if_none}
 use Rattle.ice_path.proofs.search.search.Goals as goal
 
 pub loop-round-init : goal.loop-round-init
@@ -23,7 +23,7 @@ loop-round-init c =
       waits = c.requires.waits;
       order = c.requires.order;
       room = omega (arith, edges, c.requires.room);
-      capacity = omega arith;
+      capacity = refl;
       touches = c.requires.touches;
       space = refl;
     }
@@ -80,7 +80,7 @@ loop-round-preserved c =
       waits = s.waits;
       order = s.order;
       room = s.room;
-      capacity = omega (arith, s.capacity, c.next_open.ensures.capacity, i.capacity);
+      capacity = s.capacity ∙ (c.next_open.ensures.room ∙ i.capacity);
       touches = s.touches;
       space = s.space ∙ i.space;
     }

@@ -1,9 +1,9 @@
-use Rattle.std.proofs.Common.{◌≡◌, ◌≤◌, ◌+◌, ◌*◌, length, false, vec_capacity}
+use Rattle.std.proofs.Common.{◌≡◌, ◌≤◌, ◌+◌, ◌*◌, length, vec_capacity}
 use Rattle.std.specs.Prelude.{IfSome}
-use Rattle.std.specs.BinaryHeap.{IsHeap, heap_items, heap_len, heap_capacity}
 use Rattle.ice_core.specs.Congestion.{price}
 use Rattle.ice_graph.specs.Network.{least_bound}
-use Rattle.ice_path.specs.Search.{IsNearest, Lists, Searches, Queues, Touches, opens, open_edges, sooner}
+use Rattle.ice_path.specs.Queue.{IsQueue, queue_len}
+use Rattle.ice_path.specs.Search.{IsNearest, Lists, Searches, Queues, Touches, opens, open_edges}
 use Rattle.ice_path.proofs.search.search.Given as goal
 
 abbrev pub invariant-loop-round : goal.invariant-loop-round
@@ -16,10 +16,10 @@ invariant-loop-round l = record {
   listed : Lists l.order.items l.settled;
   list : vec_capacity l.order ≡ vec_capacity l.fn.order;
   left : opens l.settled + l._round ≤ l.graph.wires;
-  waits : Queues (least_bound l.graph l.targets) l.settled l.labels (heap_items l.queue);
-  order : IsHeap sooner (heap_items l.queue);
-  room : heap_len l.queue + open_edges l.settled l.graph.edges ≤ heap_capacity l.queue;
-  capacity : heap_capacity l.fn.queue ≤ heap_capacity l.queue;
+  waits : Queues (least_bound l.graph l.targets) l.settled l.labels l.queue;
+  order : IsQueue l.queue;
+  room : queue_len l.queue + open_edges l.settled l.graph.edges ≤ l.queue.room;
+  capacity : l.queue.room ≡ l.fn.queue.room;
   touches : Touches l.labels l.touched.items;
   space : vec_capacity l.touched ≡ vec_capacity l.fn.touched;
 }

@@ -1,4 +1,4 @@
-use Rattle.std.proofs.Common.{◌∙◌, arith}
+use Rattle.std.proofs.Common.{◌∙◌}
 use Rattle.std.proofs.lemmas.Option.{slice_get-get_or}
 use Rattle.ice_base.specs.declared.number.WireNo.{WireNo}
 use Rattle.ice_path.proofs.start.root_all.Goals as goal
@@ -13,7 +13,7 @@ loop-wire-preserved c =
       waits = e.waits c.args.settled.now i.waits;
       order = e.order;
       room = e.room;
-      capacity = omega (arith, e.capacity, i.capacity);
+      capacity = e.capacity ∙ i.capacity;
       touches = e.touches;
       space = e.space ∙ i.space;
     }

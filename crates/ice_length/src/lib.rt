@@ -1,0 +1,13 @@
+//! The wire length of a placed design: the sum of the half perimeters of its nets.
+#![tactic(auto)]
+
+mod boxes;
+mod loads;
+mod nets;
+mod placed;
+mod placement;
+
+pub use boxes::{Span, half_perimeter, span_at, with_tile};
+pub use nets::length_of;
+pub use placed::Placed;
+pub use placement::wire_length;

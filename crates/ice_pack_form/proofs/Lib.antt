@@ -1,0 +1,9 @@
+mod Parts
+mod PackedCells
+mod PackedCarries
+mod PadOrigins
+mod PackedPads
+mod PackedResets
+mod PackedRoots
+mod PackedReads
+mod Forming

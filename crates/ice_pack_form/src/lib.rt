@@ -1,0 +1,4 @@
+//! What a packed design keeps to, before its runs are made and afterwards.
+#![tactic(auto)]
+
+pub mod laws;

@@ -1,0 +1,11 @@
+mod Inputs
+mod Levels
+mod Values
+mod Pins
+mod AllValues
+mod Steps
+mod Readers
+mod Found
+mod Parts
+mod Packs
+mod Ready

@@ -1,0 +1,2 @@
+pub mod IsPacked
+pub mod PackLaws
