@@ -1,4 +1,4 @@
-"""Netlists to pack: make.py adders|aliases|chain SIGNALS FILE."""
+"""Netlists to pack: make.py adders|chain|aliases|backwards|sets SIGNALS FILE."""
 import sys
 
 
@@ -32,6 +32,22 @@ def aliases(count):
     yield f".names s{last - 1} y\n1 1\n.end\n"
 
 
+def backwards(count):
+    """The same names from the last to the first, so that each is named before what it is a name for."""
+    head, *lines, tail = list(aliases(count))
+    yield head[: head.index(".names")]
+    yield from reversed(lines)
+    yield ".names a s0\n1 1\n" + tail
+
+
+def sets(count):
+    """Flip-flops, each with an enable of its own, so that there are as many control sets as flip-flops."""
+    yield ".model made\n.inputs c a\n.outputs q0\n"
+    for k in range((count - 2) // 2):
+        yield f".gate SB_LUT4 I0=q{k // 2} I1=a O=e{k}\n.param LUT_INIT 0110\n.gate SB_DFFE C=c E=e{k} D=a Q=q{k}\n"
+    yield ".end\n"
+
+
 def chain(count):
     """One chain of carries, each read by a look-up table."""
     yield ".model made\n.inputs a b\n.outputs y\n"
@@ -44,4 +60,4 @@ def chain(count):
 
 if __name__ == "__main__":
     with open(sys.argv[3], "w", encoding="ascii") as out:
-        out.writelines({"adders": adders, "aliases": aliases, "chain": chain}[sys.argv[1]](int(sys.argv[2])))
+        out.writelines({"adders": adders, "chain": chain, "aliases": aliases, "backwards": backwards, "sets": sets}[sys.argv[1]](int(sys.argv[2])))

@@ -27,7 +27,7 @@ def measure(program, folder, kind, signals):
 
 
 if __name__ == "__main__":
-    for kind in ("adders", "chain", "aliases"):
+    for kind in ("adders", "chain", "sets", "aliases", "backwards"):
         measure(sys.argv[1], sys.argv[2], kind, 65000)
     for signals in (8000, 16000, 32000):
         measure(sys.argv[1], sys.argv[2], "aliases", signals)

@@ -1,6 +1,6 @@
 """What tests/flow/run does beside the program: cases to compare, netlists to play, and a plain reading of packed designs.
 
-pairs FOLDER               says the names of the two texts of each case of a folder, in order
+pairs FOLDER               says the names of the texts of each case of a folder, in order, with - for no pin constraints
 netlists COUNT FOLDER      makes netlists at random, each with its text of levels; the same count makes the same netlists
 compare FOLDER SHOWN       compares what the program showed with the dumps of a folder
 play FOLDER SHOWN PROGRAM  plays the designs that the program showed, and the netlists by play-net of PROGRAM
@@ -156,7 +156,7 @@ class Maker:
     def __init__(self, seed):
         self.random, self.lines, self.made, self.count = random.Random(seed), [], [], 0
         self.inputs = ["c", "d"] + [f"i{k}" for k in range(self.random.randrange(2, 6))]
-        self.flops = [f"q{k}" for k in range(self.random.randrange(0, 8))]
+        self.flops = [f"q{k}" for k in range(self.random.randrange(0, 16))]
         self.signals = self.inputs + self.flops
 
     def new(self):
@@ -191,27 +191,27 @@ class Maker:
         self.add(new)
 
     def chain(self):
-        into = self.random.choice(["", self.any()])
+        into, tidy = self.random.choice(["", self.any()]), self.random.random() < 0.5
         if self.random.random() < 0.3:
             into = self.new()
             self.lines += [f".names {into}", self.random.choice("01")]
-        for _ in range(self.random.choice([1, 2, 3, 7, 8, 9, 15])):
+        for _ in range(self.random.choice([1, 2, 3, 7, 8, 9, 15, 20])):
             first, second, out = self.any(), self.random.choice(["", self.any()]), self.new()
-            for _ in range(self.random.choice([0, 1, 1, 1, 1, 1, 2])):
+            for _ in range(1 if tidy else self.random.choice([0, 1, 1, 1, 2])):
+                other, last = ("", into) if tidy else (self.random.choice(["", "", self.any(), into]), self.random.choice([into, into, self.any()]))
                 new = self.new()
-                ins = [("I0", self.random.choice(["", "", self.any(), into])), ("I1", first), ("I2", second), ("I3", self.random.choice([into, into, into, self.any()]))]
-                self.cell("SB_LUT4", ins + [("O", new)], self.table())
+                self.cell("SB_LUT4", [("I0", other), ("I1", first), ("I2", second), ("I3", last), ("O", new)], self.table())
                 self.add(new)
             self.cell("SB_CARRY", [("I0", first), ("I1", second), ("CI", into), ("CO", out)])
             into = out
-            if self.random.random() < 0.1:
+            if not tidy and self.random.random() < 0.1:
                 self.add(out)
         if self.random.random() < 0.5:
             self.add(into)
 
     def flop(self, out):
         kind = self.random.choice(FLOPS)
-        ins = [("C", self.random.choice(["c", "c", "d", self.any(), ""])), ("D", self.random.choice(self.made[-6:] + [self.any()]))]
+        ins = [("C", self.random.choice(["c", "c", "d", self.any(), ""])), ("D", self.random.choice(self.made + [self.any()]))]
         if "E" in kind:
             ins.append(("E", self.random.choice([self.any(), ""])))
         if kind[-1:] in ("R", "S"):
@@ -235,7 +235,7 @@ class Maker:
         self.lut()
         for out in self.flops:
             self.flop(out)
-        outs = [it for it in dict.fromkeys(self.made + self.flops) if self.random.random() < 0.5] or self.made[-1:]
+        outs = [it for it in dict.fromkeys(self.made + self.flops) if self.random.random() < 0.3] or self.made[-1:]
         head = [".model made", " ".join([".inputs"] + self.inputs + both), " ".join([".outputs"] + outs + both)]
         return "\n".join(head + self.lines + [".end", ""]), len(self.inputs) + len(both) + len(outs)
 
@@ -246,14 +246,14 @@ def netlists(count, folder):
         text, ports = maker.netlist()
         file = pathlib.Path(folder, f"made{seed:03}")
         file.with_suffix(".blif").write_text(text)
-        file.with_suffix(".pcf").write_text("")
         steps = ("".join(maker.random.choice("01") for _ in range(ports)) for _ in range(60))
         file.with_suffix(".levels").write_text("".join(step + "\n" for step in steps))
 
 
 def pairs(folder):
     for blif in sorted(pathlib.Path(folder).glob("*.blif")):
-        print(blif, blif.with_suffix(".pcf"))
+        pcf = blif.with_suffix(".pcf")
+        print(blif, pcf if pcf.exists() else "-")
 
 
 if __name__ == "__main__":
