@@ -1,7 +1,7 @@
 mod FitSteps
-mod Weights
+pub mod Weights
 mod Orders
 mod Fitted
-mod SitesOnce
+pub mod SitesOnce
 mod ChunkPlaces
 mod Placing
