@@ -1,6 +1,6 @@
 """What tests/flow/run does beside the program: cases to compare, netlists to play, and a plain reading of packed designs.
 
-pairs FOLDER               says the names of the texts of each case of a folder, in order, with - for no pin constraints
+words FOLDER               says the names of the texts of each case of a folder, in order; it takes the places from the dump
 netlists COUNT FOLDER      makes netlists at random, each with its text of levels; the same count makes the same netlists
 compare FOLDER SHOWN       compares what the program showed with the dumps of a folder
 play FOLDER SHOWN PROGRAM  plays the designs that the program showed, and the netlists by play-net of PROGRAM
@@ -10,8 +10,8 @@ import random
 import subprocess
 import sys
 
-# From the first line of these on, a dump says what comes of its own placement.
-BEHIND = ("place", "length", "net", "report")
+# From the first line of these on, a dump says what isn't shown.
+BEHIND = ("net", "report")
 
 
 def shown(file):
@@ -31,7 +31,8 @@ def wanted(dump):
     for line in dump.read_text(encoding="latin-1").splitlines():
         if line.split()[0] in BEHIND or line.startswith("error 9"):
             break
-        lines.append(line)
+        if not line.startswith("place "):
+            lines.append(line)
     return lines
 
 
@@ -250,12 +251,17 @@ def netlists(count, folder):
         file.with_suffix(".levels").write_text("".join(step + "\n" for step in steps))
 
 
-def pairs(folder):
+def words(folder):
     for blif in sorted(pathlib.Path(folder).glob("*.blif")):
-        pcf = blif.with_suffix(".pcf")
-        print(blif, pcf if pcf.exists() else "-")
+        pcf, dump, places = (blif.with_suffix(it) for it in (".pcf", ".dump", ".places"))
+        if not dump.exists():
+            print(blif, "-", "-")
+            continue
+        lines = map(str.split, dump.read_text(encoding="latin-1").splitlines())
+        places.write_text("".join(f"{it[3]} {it[4]}\n" for it in lines if it[0] == "place"))
+        print(blif, pcf, places)
 
 
 if __name__ == "__main__":
-    done = {"pairs": pairs, "netlists": netlists, "compare": compare, "play": play}[sys.argv[1]](*sys.argv[2:])
+    done = {"words": words, "netlists": netlists, "compare": compare, "play": play}[sys.argv[1]](*sys.argv[2:])
     sys.exit(done is False)
