@@ -1,0 +1,4 @@
+mod Finish
+mod Fullness
+mod Wider
+pub mod Measured

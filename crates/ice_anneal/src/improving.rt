@@ -1,0 +1,209 @@
+//! The placement that is kept.
+ghost use Rattle.std.specs.Prelude.{◌≡◌, ℕ, ◌<◌, ◌≤◌, ◌^◌, List, length, IfOk, take};
+ghost use Rattle.std.specs.List.{All};
+ghost use Rattle.ice_base.specs.declared.number.TileAt.{TileAt};
+ghost use Rattle.ice_sites.specs.Legal.{IsLegal};
+ghost use Rattle.ice_place.specs.Place.{AreStretches, chunks_of};
+ghost use Rattle.ice_board.specs.Length.{wire_length, IsNet};
+ghost use Rattle.ice_board.specs.Wiring.{IsWiring};
+ghost use Rattle.ice_board.specs.Board.{IsBoard, Keeps, IsLeast};
+ghost use Rattle.ice_anneal.specs.Least.{IsFull, IsSwapLeast};
+
+use crate::free::{chunks_of, free_of};
+use crate::full::full_of;
+use crate::shake::anneal;
+use ice_base::{NoMemory, TileAt};
+use ice_board::{Board, Net, Wiring, wiring_of};
+use ice_cells::{Clusters, short};
+use ice_length::{half_perimeter, span_at, with_tile};
+use ice_place::Placement;
+use ice_sites::Sites;
+use rand_core::SeedableRng;
+use rand_pcg::Pcg32;
+use std::alloc::Global;
+
+// How many columns and rows the sites take.
+fn extent(place: &[TileAt]) -> u64
+    ensures { result ≤ 131072 }
+{
+    if place.is_empty() {
+        return 0;
+    }
+    let mut span = span_at(place[0]);
+    for tile in place {
+        span = with_tile(span, *tile);
+    }
+    half_perimeter(span) + 2
+}
+
+// Anneals and descends; beside the board, the wire length of what was given.
+fn annealed(
+    alloc: Global,
+    wiring: &Wiring,
+    free: &[bool],
+    count: usize,
+    place: &[TileAt],
+    seed: u64,
+) -> Result<(Board, u64), NoMemory>
+    requires wiring { IsWiring (length place.now) wiring.now }
+    requires free { length free.now ≡ length place.now }
+    requires some { 0 < count }
+    requires count { count ≤ length free.now }
+    requires few { length free.now < 2 ^ 32 }
+    ensures board { IfOk result (λ r. IsBoard wiring.now r.0) }
+    ensures limit { IfOk result (λ r. r.1 ≡ wire_length wiring.now.nets.items place.now) }
+    ensures keeps { IfOk result (λ r. Keeps free.now place.now r.0.place.items) }
+    ensures least { IfOk result (λ r. IsLeast wiring.now.nets.items free.now r.0.place.items count) }
+{
+    let mut board = Board::new(alloc, wiring, Vec::from_slice(alloc, place)?)?;
+    let limit = board.total;
+    let size = extent(place);
+    let tries = (count as u64).saturating_mul(size) / 2;
+    let mut words = Pcg32::seed_from_u64(seed);
+    anneal(
+        &mut board,
+        wiring,
+        free,
+        count,
+        tries,
+        768 * size,
+        &mut words,
+    );
+    board.descend(wiring, free, count);
+    Ok((board, limit))
+}
+
+// Only descends.
+fn lowered(
+    alloc: Global,
+    wiring: &Wiring,
+    free: &[bool],
+    count: usize,
+    place: &[TileAt],
+) -> Result<Board, NoMemory>
+    requires wiring { IsWiring (length place.now) wiring.now }
+    requires free { length free.now ≡ length place.now }
+    requires count { count ≤ length free.now }
+    ensures board { IfOk result (λ b. IsBoard wiring.now b) }
+    ensures keeps { IfOk result (λ b. Keeps free.now place.now b.place.items) }
+    ensures falls { IfOk result (λ b. wire_length wiring.now.nets.items b.place.items ≤ wire_length wiring.now.nets.items place.now) }
+    ensures least { IfOk result (λ b. IsLeast wiring.now.nets.items free.now b.place.items count) }
+{
+    let mut board = Board::new(alloc, wiring, Vec::from_slice(alloc, place)?)?;
+    board.descend(wiring, free, count);
+    Ok(board)
+}
+
+// The tiles of a board.
+fn tiles_of(board: Board) -> Vec<TileAt>
+    ensures { result.items ≡ board.place.items }
+{
+    let Board { place, .. } = board;
+    place
+}
+
+// Anneals and descends; where that is longer than what was given, only descends.
+fn best(
+    alloc: Global,
+    wiring: &Wiring,
+    free: &[bool],
+    count: usize,
+    place: &[TileAt],
+    seed: u64,
+) -> Result<Vec<TileAt>, NoMemory>
+    requires wiring { IsWiring (length place.now) wiring.now }
+    requires free { length free.now ≡ length place.now }
+    requires some { 0 < count }
+    requires count { count ≤ length free.now }
+    requires few { length free.now < 2 ^ 32 }
+    ensures keeps { IfOk result (λ at. Keeps free.now place.now at.items) }
+    ensures falls { IfOk result (λ at. wire_length wiring.now.nets.items at.items ≤ wire_length wiring.now.nets.items place.now) }
+    ensures least { IfOk result (λ at. IsLeast wiring.now.nets.items free.now at.items count) }
+{
+    let (shaken, limit) = annealed(alloc, wiring, free, count, place, seed)?;
+    if shaken.total <= limit {
+        return Ok(tiles_of(shaken));
+    }
+    let plain = lowered(alloc, wiring, free, count, place)?;
+    Ok(tiles_of(plain))
+}
+
+// The same, of the clusters alone: `place` has their tiles, and behind them those of the free sites.
+fn improve_full(
+    alloc: Global,
+    wiring: &Wiring,
+    chunks: &[Option<(u32, u32)>],
+    place: &[TileAt],
+    seed: u64,
+) -> Result<Vec<TileAt>, NoMemory>
+    requires wiring { IsWiring (length place.now) wiring.now }
+    requires nets { All (IsNet (length chunks.now)) wiring.now.nets.items }
+    requires some { 0 < length chunks.now }
+    requires count { length chunks.now ≤ length place.now }
+    requires few { length place.now < 2 ^ 32 }
+    ensures legal { IfOk result (λ at. (stretches : List (List TileAt)) → IsFull stretches place.now
+        → IsLegal stretches chunks.now (take (length chunks.now) place.now) → IsLegal stretches chunks.now at.items) }
+    ensures falls { IfOk result (λ at. wire_length wiring.now.nets.items at.items
+        ≤ wire_length wiring.now.nets.items (take (length chunks.now) place.now)) }
+    ensures least { IfOk result (λ at. (stretches : List (List TileAt)) → IsFull stretches place.now
+        → IsSwapLeast (wire_length wiring.now.nets.items) chunks.now stretches at.items) }
+{
+    let free = free_of(alloc, chunks, place.len() - chunks.len())?;
+    let mut found = best(alloc, wiring, &free, chunks.len(), place, seed)?;
+    found.truncate(chunks.len());
+    Ok(found)
+}
+
+// The same, on sites.
+fn improve_some(
+    alloc: Global,
+    nets: Vec<Net>,
+    sites: &Sites,
+    chunks: &[Option<(u32, u32)>],
+    at: &[TileAt],
+    seed: u64,
+) -> Result<Vec<TileAt>, NoMemory>
+    requires sites { AreStretches sites.now }
+    requires legal { IsLegal sites.now chunks.now at.now }
+    requires nets { All (IsNet (length chunks.now)) nets.items }
+    requires few { length nets.items < 2 ^ 32 }
+    requires some { 0 < length chunks.now }
+    ensures legal { IfOk result (λ found. IsLegal sites.now chunks.now found.items) }
+    ensures falls { IfOk result (λ found. wire_length nets.items found.items ≤ wire_length nets.items at.now) }
+    ensures least { IfOk result (λ found. IsSwapLeast (wire_length nets.items) chunks.now sites.now found.items) }
+{
+    let place = full_of(alloc, sites.stretches(), at)?;
+    let number = short(place.len())?;
+    let wiring = wiring_of(alloc, nets, place.len())?;
+    let found = improve_full(alloc, &wiring, chunks, place.as_slice(), seed)?;
+    Ok(found)
+}
+
+/// A placement that is legal, no longer than the argument, and that no exchange of two clusters and no move of one to a free
+/// site makes shorter, where these are of no run of several chunks; by the wire length of nets. A number of tries that is
+/// fixed before the first goes before a descent of exchanges and moves that make the placement shorter. It fails for want of
+/// memory alone.
+pub fn improve_nets(
+    alloc: Global,
+    nets: Vec<Net>,
+    placement: Placement,
+    sites: &Sites,
+    clusters: &Clusters,
+    seed: u64,
+) -> Result<Placement, NoMemory>
+    requires sites { AreStretches sites.now }
+    requires legal { IsLegal sites.now (chunks_of clusters.now.list) placement }
+    requires nets { All (IsNet (length (chunks_of clusters.now.list))) nets.items }
+    ensures legal { IfOk result (λ found. IsLegal sites.now (chunks_of clusters.now.list) found) }
+    ensures falls { IfOk result (λ found. wire_length nets.items found ≤ wire_length nets.items placement) }
+    ensures least { IfOk result (λ found. IsSwapLeast (wire_length nets.items) (chunks_of clusters.now.list) sites.now found) }
+{
+    let chunks = chunks_of(alloc, clusters.list())?;
+    if chunks.is_empty() {
+        return Ok(placement);
+    }
+    let number = short(nets.len())?;
+    let tiles = placement.tiles();
+    let found = improve_some(alloc, nets, sites, chunks.as_slice(), tiles, seed)?;
+    Ok(Placement::from_vec(found))
+}

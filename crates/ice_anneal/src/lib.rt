@@ -1,0 +1,11 @@
+//! Placements by simulated annealing, and a descent of exchanges at its end.
+#![tactic(auto)]
+
+mod free;
+mod full;
+mod improving;
+mod placing;
+mod shake;
+
+pub use improving::improve_nets;
+pub use placing::improve;
