@@ -1,8 +1,10 @@
 -- The sinks of a free cell, by the inputs before each.
-use Rattle.std.proofs.Common.{◌≡◌, Bool, true, false, cond, Option, None, Some, List, [], ◌∷◌, ◌++◌, refl, ap, sym, ◌∙◌, subst}
+use Rattle.std.proofs.Common.{◌≡◌, ℕ, ◌+◌, ◌<◌, ◌≤◌, length, take, drop, get_or, drop-cons, add-one, Bool, true, false, cond, Option, None, Some, List, [], ◌∷◌, ◌++◌, refl, ap, sym, ◌∙◌, subst}
 use Rattle.std.specs.Prelude.{◌||◌}
 use Rattle.std.specs.List.{list_any}
 use Rattle.std.proofs.lemmas.Bool.{eqb-true}
+use Rattle.std.proofs.Math.ListN.{drop_of_length-le}
+use Rattle.std.proofs.lemmas.List.{append_assoc, append-nil, take_more}
 use Rattle.ice_base.specs.declared.number.WireNo.{WireNo}
 use Rattle.ice_cells.specs.declared.root.Root.{Root}
 use Rattle.ice_cells.specs.declared.root.Root.TheVariants.{PadIn, CellOut, GlobalOut, CarryOut}
@@ -29,7 +31,7 @@ same_is (CarryOut j) (GlobalOut k) e = cc
 same_is (CarryOut j) (CarryOut k) e = ap CarryOut (eqb-true j k e)
 
 -- the inputs read what was seen
-AreSeen : List Root → List (Option Root) → Type 0
+abbrev AreSeen : List Root → List (Option Root) → Type 0
 AreSeen seen before = (root : Root) → is_seen seen root ≡ list_any (same_source (Some root)) before
 
 any_behind : (p : Option Root → Bool) (before : List (Option Root)) (input : Option Root) → list_any p (before ++ input ∷ []) ≡ (list_any p before || p input)
@@ -80,18 +82,33 @@ seen_again seen before old are e root = are root ∙ by (same_root root old) ref
 free_from : (targets : List WireNo) (seen : List Root) (before : List (Option Root)) → AreSeen seen before → (ins : List (Option Root)) → first_ends targets before ins ≡ free_ends targets seen ins
 free_from targets seen before are [] = refl
 free_from targets seen before are (None ∷ ins) = free_from targets seen (before ++ None ∷ []) (seen_none seen before are) ins
-free_from targets seen before are (Some root ∷ ins) = by (is_seen seen root) refl (are root)
+free_from targets seen before are (Some root ∷ ins) =
+    by (is_seen seen root) (are root) (λ e. free_from targets seen (before ++ Some root ∷ []) (seen_again seen before root are e) ins)
+    (free_from targets (root ∷ seen) (before ++ Some root ∷ []) (seen_new seen before root are) ins) refl
   where
-    by : (b : Bool) → is_seen seen root ≡ b → b ≡ list_any (same_source (Some root)) before
+    by : (b : Bool) → b ≡ list_any (same_source (Some root)) before → (is_seen seen root ≡ true → first_ends targets (before ++ Some root ∷ []) ins ≡ free_ends targets seen ins)
+        → first_ends targets (before ++ Some root ∷ []) ins ≡ free_ends targets (root ∷ seen) ins → is_seen seen root ≡ b
         → cond (list_any (same_source (Some root)) before) [] ((root, targets) ∷ []) ++ first_ends targets (before ++ Some root ∷ []) ins
         ≡ cond b (free_ends targets seen ins) ((root, targets) ∷ free_ends targets (root ∷ seen) ins)
-    by true e f =
-        ap (λ b. cond b [] ((root, targets) ∷ []) ++ first_ends targets (before ++ Some root ∷ []) ins) (sym f)
-        ∙ free_from targets seen (before ++ Some root ∷ []) (seen_again seen before root are e) ins
-    by false e f =
-        ap (λ b. cond b [] ((root, targets) ∷ []) ++ first_ends targets (before ++ Some root ∷ []) ins) (sym f)
-        ∙ ap (λ xs. (root, targets) ∷ xs) (free_from targets (root ∷ seen) (before ++ Some root ∷ []) (seen_new seen before root are) ins)
+    by true f again new e = ap (λ b. cond b [] ((root, targets) ∷ []) ++ first_ends targets (before ++ Some root ∷ []) ins) (sym f) ∙ again e
+    by false f again new e = ap (λ b. cond b [] ((root, targets) ∷ []) ++ first_ends targets (before ++ Some root ∷ []) ins) (sym f) ∙ ap (λ xs. (root, targets) ∷ xs) new
 
 -- the sinks of a free cell
 pub free_are : (targets : List WireNo) (ins : List (Option Root)) (old new : List End) → new ≡ old ++ first_ends targets [] ins → new ≡ old ++ free_ends targets [] ins
 free_are targets ins old new e = e ∙ ap (λ xs. old ++ xs) (free_from targets [] [] (λ root. refl) ins)
+
+-- ---- the loop over the inputs
+pub first_step : (targets : List WireNo) (ins : List (Option Root)) (k : ℕ) (old new whole : List End) → k < length ins → new ≡ old ++ first_end targets (take k ins) (get_or ins k None)
+    → old ++ first_ends targets (take k ins) (drop k ins) ≡ whole → new ++ first_ends targets (take (k + 1) ins) (drop (k + 1) ins) ≡ whole
+first_step targets ins k old new whole lt e inv =
+    let x : Option Root = get_or ins k None in
+    let more : take (k + 1) ins ≡ take k ins ++ x ∷ [] = take_more ins k None lt in
+    let first : drop k ins ≡ x ∷ drop (k + 1) ins = drop-cons ins k None lt ∙ ap (λ n. x ∷ drop n ins) (sym (add-one k)) in
+    ap (λ xs. xs ++ first_ends targets (take (k + 1) ins) (drop (k + 1) ins)) e
+    ∙ append_assoc old (first_end targets (take k ins) x) (first_ends targets (take (k + 1) ins) (drop (k + 1) ins))
+    ∙ ap (λ before. old ++ (first_end targets (take k ins) x ++ first_ends targets before (drop (k + 1) ins))) more
+    ∙ ap (λ left. old ++ first_ends targets (take k ins) left) (sym first) ∙ inv
+
+pub first_end_all : (targets : List WireNo) (ins : List (Option Root)) (k : ℕ) (new whole : List End) → length ins ≤ k → new ++ first_ends targets (take k ins) (drop k ins) ≡ whole → new ≡ whole
+first_end_all targets ins k new whole le inv =
+    sym (append-nil new) ∙ ap (λ left. new ++ first_ends targets (take k ins) left) (sym (drop_of_length-le ins {i = k} le)) ∙ inv

@@ -1,8 +1,9 @@
 -- Two lists side by side, of which the second is gone through.
-use Rattle.std.proofs.Common.{◌≡◌, ℕ, ◌+◌, zero, suc, Option, None, Some, List, [], ◌∷◌, ◌++◌, map, refl, ap, sym, ◌∙◌, add-one}
+use Rattle.std.proofs.Common.{◌≡◌, ℕ, ◌+◌, ◌<◌, ◌≤◌, length, drop, get_or, drop-cons, add-one, zero, suc, Option, None, Some, List, [], ◌∷◌, ◌++◌, map, refl, ap, sym, ◌∙◌, arith}
 use Rattle.std.specs.Prelude.{slice_get}
 use Rattle.std.specs.Option.{option_map_or}
-use Rattle.std.proofs.lemmas.List.{map-append, append_assoc}
+use Rattle.std.proofs.Math.ListN.{drop_of_length-le}
+use Rattle.std.proofs.lemmas.List.{map-append, append_assoc, append-nil}
 use Rattle.ice_base.specs.declared.number.TileAt.{TileAt}
 use Rattle.ice_chip.specs.Database.{Parts}
 use Rattle.ice_chip.specs.declared.rows.Pad.{Pad}
@@ -18,7 +19,9 @@ use Rattle.ice_nets.specs.Sides.{sides}
 module _ {A B C : Type 0} (gives : B → A → List C) where
   sides_next : (a : A) (as' : List A) (k : ℕ) (bs : List B) → sides gives (a ∷ as') (suc k) bs ≡ sides gives as' k bs
   sides_next a as' k [] = refl
-  sides_next a as' k (b ∷ bs) = ap (λ xs. option_map_or (gives b) (slice_get as' k) [] ++ xs) (sides_next a as' (k + 1) bs)
+  sides_next a as' k (b ∷ bs) =
+      let more : suc k + 1 ≡ suc (k + 1) = omega arith in
+      ap (λ xs. option_map_or (gives b) (slice_get as' k) [] ++ xs) (ap (λ n. sides gives (a ∷ as') n bs) more ∙ sides_next a as' (k + 1) bs)
 
   sides_none : (k : ℕ) (bs : List B) → sides gives [] k bs ≡ []
   sides_none k [] = refl
@@ -31,6 +34,18 @@ module _ {A B C : Type 0} (gives : B → A → List C) where
   sides_are both left right step (a ∷ as') [] = sym (right (a ∷ as'))
   sides_are both left right step (a ∷ as') (b ∷ bs) =
       ap (λ xs. gives b a ++ xs) (sides_next a as' 0 bs ∙ sides_are both left right step as' bs) ∙ sym (step a as' b bs)
+
+-- ---- loops
+pub sides_step : {A B C : Type 0} (gives : B → A → List C) (as' : List A) (bs : List B) (k : ℕ) (b d : B) (o : Option A) (old new whole : List C) → k < length bs → b ≡ get_or bs k d → o ≡ slice_get as' k
+    → new ≡ old ++ option_map_or (gives b) o [] → old ++ sides gives as' k (drop k bs) ≡ whole → new ++ sides gives as' (k + 1) (drop (k + 1) bs) ≡ whole
+sides_step {A} {B} {C} gives as' bs k b d o old new whole lt is at e inv =
+    let rest : List C = sides gives as' (k + 1) (drop (k + 1) bs) in
+    let first : drop k bs ≡ b ∷ drop (k + 1) bs = drop-cons bs k d lt ∙ ap (λ y. y ∷ drop (suc k) bs) (sym is) ∙ ap (λ n. b ∷ drop n bs) (sym (add-one k)) in
+    ap (λ xs. xs ++ rest) e ∙ append_assoc old (option_map_or (gives b) o []) rest ∙ ap (λ p. old ++ (option_map_or (gives b) p [] ++ rest)) at
+    ∙ ap (λ cs. old ++ sides gives as' k cs) (sym first) ∙ inv
+
+pub sides_end : {A B C : Type 0} (gives : B → A → List C) (as' : List A) (bs : List B) (k : ℕ) (new whole : List C) → length bs ≤ k → new ++ sides gives as' k (drop k bs) ≡ whole → new ≡ whole
+sides_end gives as' bs k new whole le inv = sym (append-nil new) ∙ ap (λ cs. new ++ sides gives as' k cs) (sym (drop_of_length-le bs {i = k} le)) ∙ inv
 
 -- ---- pads
 pads_sides : (parts : Parts) (ports : List Pad) (pads : List DesignPad) → sides (pad_ends parts) ports 0 pads ≡ map (load_end parts) (pads_loads ports pads)
@@ -74,7 +89,7 @@ clusters_sides parts cells = sides_are (cluster_ends parts cells) (clusters_give
 
     step : (t : TileAt) (tiles : List TileAt) (cluster : Cluster) (clusters : List Cluster)
         → clusters_give (cell_ends parts) (control_ends parts) cells (t ∷ tiles) (cluster ∷ clusters) ≡ cluster_ends parts cells cluster t ++ clusters_give (cell_ends parts) (control_ends parts) cells tiles clusters
-    step t tiles cluster clusters = sym (append_assoc (slots_give (cell_ends parts) cells t 0 cluster.cells) (control_ends parts t cluster.control) (clusters_give (cell_ends parts) (control_ends parts) cells tiles clusters))
+    step t tiles cluster clusters = refl
 
 pub clusters_are : (parts : Parts) (cells : List LogicCell) (tiles : List TileAt) (clusters : List Cluster) (old new : List End) → new ≡ old ++ sides (cluster_ends parts cells) tiles 0 clusters
     → new ≡ old ++ clusters_give (cell_ends parts) (control_ends parts) cells tiles clusters

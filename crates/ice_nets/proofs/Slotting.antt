@@ -1,6 +1,6 @@
 -- The slots that are noted are those of the definition.
-use Rattle.std.proofs.Common.{◌≡◌, ℕ, ◌+◌, Bool, true, false, cond, Option, None, Some, List, [], ◌∷◌, ◌++◌, length, replicate, refl, ap, sym, ◌∙◌}
-use Rattle.std.specs.Prelude.{option_map, position}
+use Rattle.std.proofs.Common.{◌≡◌, ℕ, suc, ◌+◌, ◌<◌, drop, get_or, add-one, drop-cons, Bool, true, false, cond, Option, None, Some, List, [], ◌∷◌, ◌++◌, length, replicate, refl, ap, sym, ◌∙◌}
+use Rattle.std.specs.Prelude.{option_map, position, slice_get}
 use Rattle.std.specs.Option.{option_or, option_map_or}
 use Rattle.std.specs.List.{find, position_from}
 use Rattle.std.proofs.lemmas.List.Folds.{find-append}
@@ -19,6 +19,15 @@ pub noted_append : (slots : List (Option Slot)) (a b : List Held) → noted slot
 noted_append slots [] b = refl
 noted_append slots (h ∷ a) b = noted_append (put_at (keep held_slot) None slots h h.cell) a b
 
+-- the next cluster
+pub noted_more : (tiles : List TileAt) (clusters : List Cluster) (k : ℕ) (x : Cluster) (slots new : List (Option Slot)) → k < length clusters → x ≡ get_or clusters k x
+    → new ≡ noted slots (option_map_or (cluster_slots x) (slice_get tiles k) []) → noted new (sides cluster_slots tiles (k + 1) (drop (k + 1) clusters)) ≡ noted slots (sides cluster_slots tiles k (drop k clusters))
+noted_more tiles clusters k x slots new lt is e =
+    let here : List Held = option_map_or (cluster_slots x) (slice_get tiles k) [] in
+    let first : drop k clusters ≡ x ∷ drop (k + 1) clusters = drop-cons clusters k x lt ∙ ap (λ y. y ∷ drop (suc k) clusters) (sym is) ∙ ap (λ n. x ∷ drop n clusters) (sym (add-one k)) in
+    ap (λ s. noted s (sides cluster_slots tiles (k + 1) (drop (k + 1) clusters))) e ∙ sym (noted_append slots here (sides cluster_slots tiles (k + 1) (drop (k + 1) clusters)))
+    ∙ ap (λ cs. noted slots (sides cluster_slots tiles k cs)) (sym first)
+
 -- ---- the slot of one cell
 abbrev holds : ℕ → Held → Bool
 holds c h = is_place c h.cell
@@ -36,7 +45,7 @@ in_cluster : (c : ℕ) (cluster : Cluster) (t : TileAt) → option_map held_slot
 in_cluster c cluster t = in_slots c t 0 cluster.cells ∙ ap (option_map (in_tile t)) (sym (position_from-zero (is_place c) cluster.cells))
 
 -- all slots of clusters in these tiles
-both : List TileAt → List Cluster → List Held
+abbrev both : List TileAt → List Cluster → List Held
 both [] clusters = []
 both (t ∷ tiles) [] = []
 both (t ∷ tiles) (cluster ∷ clusters) = cluster_slots cluster t ++ both tiles clusters

@@ -38,9 +38,9 @@ two_loads parts a b old one two e f =
     f ∙ ap (λ xs. xs ++ map (load_end parts) b) e ∙ append_assoc old (map (load_end parts) a) (map (load_end parts) b) ∙ ap (λ xs. old ++ xs) (sym (map-append (load_end parts) a b))
 
 pub three_loads : (parts : Parts) (a b c : List Load) (old one two three : List End) → one ≡ old ++ map (load_end parts) a → two ≡ one ++ map (load_end parts) b → three ≡ two ++ map (load_end parts) c
-    → three ≡ old ++ map (load_end parts) (a ++ (b ++ c))
-three_loads parts a b c old one two three e f g = two_loads parts a (b ++ c) old one three e (two_loads parts b c one two three f g)
+    → three ≡ old ++ map (load_end parts) (a ++ b ++ c)
+three_loads parts a b c old one two three e f g = two_loads parts (a ++ b) c old two three (two_loads parts a b old one two e f) g
 
 pub four_loads : (parts : Parts) (a b c d : List Load) (old one two three four : List End) → one ≡ old ++ map (load_end parts) a → two ≡ one ++ map (load_end parts) b
-    → three ≡ two ++ map (load_end parts) c → four ≡ three ++ map (load_end parts) d → four ≡ old ++ map (load_end parts) (a ++ (b ++ (c ++ d)))
-four_loads parts a b c d old one two three four e f g h = two_loads parts a (b ++ (c ++ d)) old one four e (three_loads parts b c d one two three four f g h)
+    → three ≡ two ++ map (load_end parts) c → four ≡ three ++ map (load_end parts) d → four ≡ old ++ map (load_end parts) (a ++ b ++ c ++ d)
+four_loads parts a b c d old one two three four e f g h = two_loads parts (a ++ b ++ c) d old three four (three_loads parts a b c old one two three e f g) h

@@ -18,7 +18,7 @@ kind_nets (wire ∷ wires) [] = []
 kind_nets (wire ∷ wires) (sinks ∷ lists) = one_net wire sinks ++ kind_nets wires lists
 
 abbrev pub all_nets : RootWires → Sorted → List Bare
-all_nets wires lists = kind_nets wires.pads lists.pads ++ (kind_nets wires.cells lists.cells ++ kind_nets wires.globals lists.globals)
+all_nets wires lists = kind_nets wires.pads lists.pads ++ kind_nets wires.cells lists.cells ++ kind_nets wires.globals lists.globals
 
 abbrev pub bare_nets : List Net → List Bare
 bare_nets nets = map bare_net nets

@@ -1,5 +1,5 @@
 //! The sinks of cells and of what the flip-flops of a tile share.
-ghost use Rattle.std.specs.Prelude.{◌≡◌, ◌++◌, map, Some, OnOk};
+ghost use Rattle.std.specs.Prelude.{◌≡◌, ◌++◌, map, slice_get, Some, OnOk};
 ghost use Rattle.ice_plan.specs.Loads.{cell_loads, slot_gives, slots_give};
 ghost use Rattle.ice_nets.specs.Ends.{load_end, is_free, cell_ends, control_ends};
 
@@ -56,6 +56,13 @@ fn push_cell(
     Ok(())
 }
 
+// The cell of a number.
+fn cell_at(cells: &[LogicCell], c: u32) -> Option<LogicCell>
+    ensures { result ≡ slice_get cells.now c }
+{
+    cells.get(c as usize).copied()
+}
+
 // Adds the sinks of the cell of a number.
 fn push_numbered(
     alloc: Global,
@@ -68,9 +75,9 @@ fn push_numbered(
 ) -> Result<(), NoMemory>
     ensures { OnOk result (ends.new.items ≡ ends.old.items ++ slot_gives (cell_ends chip.now) cells.now tile i (Some c)) }
 {
-    match cells.get(c as usize) {
+    match cell_at(cells, c) {
         None => Ok(()),
-        Some(cell) => push_cell(alloc, ends, chip, tile, i, cell),
+        Some(cell) => push_cell(alloc, ends, chip, tile, i, &cell),
     }
 }
 

@@ -8,7 +8,7 @@ ghost use Rattle.ice_nets.specs.Plans.{plan_in};
 
 use crate::cells::{push_control, push_slots};
 use crate::pads::{push_globals, push_pads};
-use crate::placed::Placed;
+use crate::placed::{Placed, tile_at};
 use ice_base::{NoMemory, Sink, TileAt};
 use ice_cells::{Cluster, LogicCell, Root};
 use ice_chip::Chip;
@@ -48,7 +48,6 @@ fn push_cluster_at(
 }
 
 // Adds the sinks of clusters in these tiles.
-#[tactic(auto, using(crate::proofs::Siding::clusters_are))]
 fn push_clusters(
     alloc: Global,
     ends: &mut Vec<(Root, Sink)>,
@@ -60,7 +59,7 @@ fn push_clusters(
     ensures { OnOk result (ends.new.items ≡ ends.old.items ++ clusters_give (cell_ends chip.now) (control_ends chip.now) cells.now tiles.now clusters.now) }
 {
     for (k, cluster) in clusters.iter().enumerate() {
-        push_cluster_at(alloc, ends, chip, cells, cluster, tiles.get(k).copied())?;
+        push_cluster_at(alloc, ends, chip, cells, cluster, tile_at(tiles, k))?;
     }
     Ok(())
 }

@@ -22,7 +22,7 @@ fn is_read(sinks: &[Sink]) -> bool
 }
 
 // Adds the net of a root, if it has a wire and sinks.
-#[tactic(auto, using(crate::proofs::Numbers::numbered_more))]
+#[tactic(auto, using(crate::proofs::Numbers::numbered_more, crate::proofs::Numbers::net_more))]
 fn push_net(nets: &mut Vec<Net>, wire: Option<WireNo>, sinks: Items<Sink>) -> Result<(), NoMemory>
     requires { AreNumbered nets.old.items }
     ensures nets { OnOk result (bare_nets nets.new.items ≡ bare_nets nets.old.items ++ one_net wire sinks) }

@@ -1,5 +1,5 @@
 //! The sinks of free cells, whose signals may arrive at any input.
-ghost use Rattle.std.specs.Prelude.{◌≡◌, ◌++◌, [], Some, IfOk, OnOk};
+ghost use Rattle.std.specs.Prelude.{◌≡◌, ◌<◌, ◌++◌, [], None, Some, length, slice_index_or, take, IfOk, OnOk};
 ghost use Rattle.std.specs.List.{list_any};
 ghost use Rattle.ice_cells.specs.Same.{same_source};
 ghost use Rattle.ice_nets.specs.Ends.{pin_wires, inputs_of, free_ends};
@@ -54,17 +54,19 @@ fn some_reads(root: Root, ins: &[Option<Root>]) -> bool
     false
 }
 
-// Adds the sink of an input, unless one of those before it reads the same root.
+// Adds the sink of the input of a number, unless one of those before it reads the same root.
 fn push_first(
     alloc: Global,
     ends: &mut Vec<(Root, Sink)>,
     targets: &[WireNo],
-    before: &[Option<Root>],
-    input: Option<Root>,
+    ins: &[Option<Root>],
+    k: usize,
 ) -> Result<(), NoMemory>
-    ensures { OnOk result (ends.new.items ≡ ends.old.items ++ first_end targets.now before.now input) }
+    requires { k < length ins.now }
+    ensures { OnOk result (ends.new.items ≡ ends.old.items ++ first_end targets.now (take k ins.now) (slice_index_or ins.now k None)) }
 {
-    let Some(root) = input else {
+    let before = &ins[..k];
+    let Some(root) = ins[k] else {
         return Ok(());
     };
     if some_reads(root, before) {
@@ -76,7 +78,6 @@ fn push_first(
 }
 
 // Adds one sink for each root that inputs read.
-#[tactic(auto, using(crate::proofs::Seen::free_are))]
 pub(crate) fn push_free(
     alloc: Global,
     ends: &mut Vec<(Root, Sink)>,
@@ -85,8 +86,8 @@ pub(crate) fn push_free(
 ) -> Result<(), NoMemory>
     ensures { OnOk result (ends.new.items ≡ ends.old.items ++ free_ends targets.now [] ins.now) }
 {
-    for (k, input) in ins.iter().enumerate() {
-        push_first(alloc, ends, targets, &ins[..k], *input)?;
+    for k in 0..ins.len() {
+        push_first(alloc, ends, targets, ins, k)?;
     }
     Ok(())
 }

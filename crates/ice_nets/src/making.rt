@@ -30,6 +30,27 @@ fn nets_in(alloc: Global, placed: &Placed<'_>) -> Result<Vec<Net>, NoMemory>
     Ok(nets)
 }
 
+// A placed design, by its parts.
+fn placed_of<'a>(
+    chip: &'a Chip,
+    design: &'a Design,
+    clusters: &'a Clusters,
+    placement: &'a Placement,
+    pads: &'a Pads,
+) -> Placed<'a>
+    ensures chip { result.chip.now ≡ chip.now }
+    ensures plan { plan_in result ≡ plan_of design.now clusters.now placement.now pads.now }
+{
+    Placed {
+        chip,
+        design,
+        clusters: clusters.list(),
+        tiles: placement.tiles(),
+        ports: pads.ports(),
+        globals: pads.globals(),
+    }
+}
+
 /// The nets of a placed design, numbered in order: for each pad, each cell and each global buffer that something reads and
 /// that has a wire, that wire and its sinks. The sinks of a root come in the order of the pads that it drives, the global
 /// buffers that it feeds, and cluster by cluster the cells' inputs and what the flip-flops share. A cell without a carry has
@@ -49,13 +70,5 @@ pub fn nets_of(
     ensures nets { IfOk result (λ nets. map bare_net nets.items ≡ nets_of chip.now (plan_of design.now clusters.now placement.now pads.now)) }
     ensures numbers { IfOk result (λ nets. map net_number nets.items ≡ range_with_len 0 (length nets.items)) }
 {
-    let placed = Placed {
-        chip,
-        design,
-        clusters: clusters.list(),
-        tiles: placement.tiles(),
-        ports: pads.ports(),
-        globals: pads.globals(),
-    };
-    nets_in(alloc, &placed)
+    nets_in(alloc, &placed_of(chip, design, clusters, placement, pads))
 }

@@ -1,5 +1,5 @@
 //! The sinks of pads and global buffers.
-ghost use Rattle.std.specs.Prelude.{◌≡◌, ◌++◌, [], map, Some, OnOk};
+ghost use Rattle.std.specs.Prelude.{◌≡◌, ◌++◌, [], map, slice_get, OnOk};
 ghost use Rattle.std.specs.Option.{option_map_or};
 ghost use Rattle.ice_plan.specs.Loads.{pads_loads, globals_loads};
 ghost use Rattle.ice_nets.specs.Ends.{load_end};
@@ -57,8 +57,14 @@ fn push_pad_at(
     }
 }
 
+// The place of that number.
+fn place_at(ports: &[Pad], k: usize) -> Option<Pad>
+    ensures { result ≡ slice_get ports.now k }
+{
+    ports.get(k).copied()
+}
+
 // Adds the sinks of pads at these places.
-#[tactic(auto, using(crate::proofs::Siding::pads_are))]
 pub(crate) fn push_pads(
     alloc: Global,
     ends: &mut Vec<(Root, Sink)>,
@@ -69,7 +75,7 @@ pub(crate) fn push_pads(
     ensures { OnOk result (ends.new.items ≡ ends.old.items ++ map (load_end chip.now) (pads_loads ports.now pads.now)) }
 {
     for (k, pad) in pads.iter().enumerate() {
-        push_pad_at(alloc, ends, chip, *pad, ports.get(k).copied())?;
+        push_pad_at(alloc, ends, chip, *pad, place_at(ports, k))?;
     }
     Ok(())
 }
@@ -106,8 +112,14 @@ fn push_global_at(
     }
 }
 
+// The global of that number.
+fn global_at(numbers: &[u8], k: usize) -> Option<u8>
+    ensures { result ≡ slice_get numbers.now k }
+{
+    numbers.get(k).copied()
+}
+
 // Adds the sinks of what feeds these globals.
-#[tactic(auto, using(crate::proofs::Siding::globals_are))]
 pub(crate) fn push_globals(
     alloc: Global,
     ends: &mut Vec<(Root, Sink)>,
@@ -118,7 +130,7 @@ pub(crate) fn push_globals(
     ensures { OnOk result (ends.new.items ≡ ends.old.items ++ map (load_end chip.now) (globals_loads chip.now numbers.now roots.now)) }
 {
     for (k, root) in roots.iter().enumerate() {
-        push_global_at(alloc, ends, chip, *root, numbers.get(k).copied())?;
+        push_global_at(alloc, ends, chip, *root, global_at(numbers, k))?;
     }
     Ok(())
 }

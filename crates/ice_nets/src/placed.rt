@@ -1,4 +1,6 @@
 //! Placed designs.
+ghost use Rattle.std.specs.Prelude.{◌≡◌, slice_get};
+
 use ice_base::TileAt;
 use ice_cells::{Cluster, Design};
 use ice_chip::{Chip, Pad};
@@ -12,4 +14,11 @@ pub struct Placed<'a> {
     pub tiles: &'a [TileAt],
     pub ports: &'a [Pad],
     pub globals: &'a [u8],
+}
+
+/// The tile of that number.
+pub fn tile_at(tiles: &[TileAt], k: usize) -> Option<TileAt>
+    ensures { result ≡ slice_get tiles.now k }
+{
+    tiles.get(k).copied()
 }

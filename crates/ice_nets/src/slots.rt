@@ -1,5 +1,5 @@
 //! The slots of cells.
-ghost use Rattle.std.specs.Prelude.{◌≡◌, None, [], length, replicate, IfOk};
+ghost use Rattle.std.specs.Prelude.{◌≡◌, None, Some, [], length, replicate, IfOk};
 ghost use Rattle.std.specs.Option.{option_map_or};
 ghost use Rattle.ice_cells.specs.Tables.{keep, put_at, table};
 ghost use Rattle.ice_plan.specs.Plan.{slot_of};
@@ -7,14 +7,19 @@ ghost use Rattle.ice_nets.specs.Plans.{plan_in};
 ghost use Rattle.ice_nets.specs.Sides.{sides};
 ghost use Rattle.ice_nets.specs.Slots.{held, held_slot, noted, tile_slots, cluster_slots};
 
-use crate::placed::Placed;
+use crate::placed::{Placed, tile_at};
 use ice_base::{NoMemory, TileAt};
 use ice_cells::Cluster;
 use std::alloc::Global;
 
-// What is known of a cell's slot stays, and where nothing is known it is this one.
-fn kept(known: Option<(TileAt, usize)>, tile: TileAt, i: usize) -> Option<(TileAt, usize)>
-    ensures { result ≡ keep held_slot known (held tile i None) }
+// What is known of the slot of a cell stays, and where nothing is known it is this one.
+fn kept(
+    known: Option<(TileAt, usize)>,
+    tile: TileAt,
+    i: usize,
+    _cell: u32,
+) -> Option<(TileAt, usize)>
+    ensures { result ≡ keep held_slot known (held tile i (Some _cell)) }
 {
     match known {
         Some(slot) => Some(slot),
@@ -27,9 +32,9 @@ fn note_slot(slots: &mut Vec<Option<(TileAt, usize)>>, tile: TileAt, i: usize, c
     ensures { slots.new.items ≡ put_at (keep held_slot) None slots.old.items (held tile i cell) cell }
 {
     if let Some(c) = cell {
-        let c = c as usize;
-        if c < slots.len() {
-            slots[c] = kept(slots[c], tile, i);
+        let place = c as usize;
+        if place < slots.len() {
+            slots[place] = kept(slots[place], tile, i, c);
         }
     }
 }
@@ -57,7 +62,7 @@ fn note_clusters(slots: &mut Vec<Option<(TileAt, usize)>>, tiles: &[TileAt], clu
     ensures { slots.new.items ≡ noted slots.old.items (sides cluster_slots tiles.now 0 clusters.now) }
 {
     for (k, cluster) in clusters.iter().enumerate() {
-        note_cluster(slots, cluster, tiles.get(k).copied());
+        note_cluster(slots, cluster, tile_at(tiles, k));
     }
 }
 

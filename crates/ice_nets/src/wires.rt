@@ -96,7 +96,6 @@ fn global_wires(alloc: Global, chip: &Chip, globals: &[u8]) -> Result<Vec<Option
 }
 
 /// The wires that the roots of a placed design drive.
-#[tactic(auto, using(crate::proofs::Rooting::roots_are))]
 pub fn wires_of(alloc: Global, placed: &Placed<'_>) -> Result<Wires, NoMemory>
     ensures { IfOk result (λ wires. wires_in wires ≡ root_wires placed.now.chip.now (plan_in placed.now)) }
 {
