@@ -1,0 +1,9 @@
+mod Targets
+mod Seen
+mod Siding
+mod Slotting
+mod Rooting
+mod Numbers
+mod Netting
+mod Passed
+mod Leaving

@@ -1,2 +1,11 @@
 pub mod Ends
 pub mod Nets
+pub mod Pins
+pub mod Plans
+pub mod Sides
+pub mod Firsts
+pub mod Given
+pub mod Slots
+pub mod Sorted
+pub mod Rooted
+pub mod Collected

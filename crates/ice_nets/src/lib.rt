@@ -1,2 +1,18 @@
-//! The nets of a placed design.
+//! The nets of a placed design: for each root that is read, the wire that drives it and the wires at which its sinks are
+//! reached.
 #![tactic(auto)]
+
+mod cells;
+mod clusters;
+mod collecting;
+mod free;
+mod globals;
+mod lists;
+mod making;
+mod pads;
+mod pins;
+mod placed;
+mod slots;
+mod wires;
+
+pub use making::nets_of;

@@ -1,0 +1,24 @@
+//! Placed designs.
+ghost use Rattle.std.specs.Prelude.{◌≡◌, slice_get};
+
+use ice_base::TileAt;
+use ice_cells::{Cluster, Design};
+use ice_chip::{Chip, Pad};
+
+/// A placed design: the tile of each cluster, the pad of each port, and the number of the global of each global buffer.
+#[derive(Clone, Copy)]
+pub struct Placed<'a> {
+    pub chip: &'a Chip,
+    pub design: &'a Design,
+    pub clusters: &'a [Cluster],
+    pub tiles: &'a [TileAt],
+    pub ports: &'a [Pad],
+    pub globals: &'a [u8],
+}
+
+/// The tile of that number.
+pub fn tile_at(tiles: &[TileAt], k: usize) -> Option<TileAt>
+    ensures { result ≡ slice_get tiles.now k }
+{
+    tiles.get(k).copied()
+}
