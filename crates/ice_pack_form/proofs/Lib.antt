@@ -7,3 +7,4 @@ mod PackedResets
 mod PackedRoots
 mod PackedReads
 mod Forming
+pub mod Constants

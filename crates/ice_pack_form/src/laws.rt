@@ -1,4 +1,5 @@
 //! The laws of packed designs, each as the contract of a function that does nothing but call laws below.
+ghost use Rattle.ice_pack_form.specs.Constants.{DrivenConstantsAreMade};
 ghost use Rattle.ice_pack_form.specs.FormLaws.{DesignsAreFormed, DesignsHaveValues, DesignsShowTheSame, PackedAreBeforeRuns, PackedAreFormed, PackedReadWithin};
 
 use ice_carry_laws::laws::{runs_are_formed, runs_have_values, runs_show_the_same};
@@ -13,6 +14,11 @@ pub fn packed_are_before_runs()
 /// A packed design reads no pad, no cell and no global buffer that is not there.
 pub fn packed_read_within()
     ensures { PackedReadWithin }
+{}
+
+/// Where an enable is constant 0, or a constant 1 stands at a sink that would read 0, the packed design has the cell that drives it.
+pub fn driven_constants_are_made()
+    ensures { DrivenConstantsAreMade }
 {}
 
 /// In the packed design of a sound netlist pads stand in the order of ports and tell whether they are read, and a flip-flop that
