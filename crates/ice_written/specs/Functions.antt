@@ -24,7 +24,7 @@ use Rattle.ice_cells.specs.declared.design.Run.{Run}
 use Rattle.ice_wiring.specs.Settings.{Setting}
 use Rattle.ice_plan.specs.Plan.{Plan}
 use Rattle.ice_plan.specs.Loads.{slots_give}
-use Rattle.ice_emit.specs.Arrivals.{Held, written_table}
+use Rattle.ice_written.specs.Arrivals.{Held, written_table}
 
 abbrev pub setting : TileAt → List ℕ → ℕ → Setting
 setting t name k = record { tile = t; name = name; number = k }

@@ -5,19 +5,16 @@ use Rattle.ice_base.specs.declared.number.RowNo.{RowNo}
 use Rattle.ice_base.specs.declared.number.TileAt.{TileAt}
 use Rattle.ice_base.specs.declared.number.WireNo.{WireNo}
 use Rattle.ice_chip.specs.Database.{Parts}
+use Rattle.ice_decode.specs.declared.driver.Switch.{Switch}
 use Rattle.ice_bits.specs.Configuration.{Configuration, Bits, bits_of, IsOf}
 use Rattle.ice_wiring.specs.Wanted.{set_bits}
 use Rattle.ice_wiring.specs.Settings.{function_bits}
 use Rattle.ice_plan.specs.Plan.{Plan}
 use Rattle.ice_nets.specs.Nets.{root_wire}
-use Rattle.ice_emit.specs.Arrivals.{Held}
-use Rattle.ice_emit.specs.Links.{wanted}
-use Rattle.ice_emit.specs.Functions.{settings}
-
--- a tree: the wires that it holds, from its root on, and its rows in order
-pub record Route : Type 0 where
-  pub wires : List WireNo
-  pub rows : List RowNo
+use Rattle.ice_negotiate.specs.Trees.{Route}
+use Rattle.ice_written.specs.Arrivals.{Held}
+use Rattle.ice_written.specs.Links.{wanted}
+use Rattle.ice_written.specs.Functions.{settings}
 
 -- the wires of the tree that begins at a wire
 abbrev pub tree_from : List Route → ℕ → List WireNo
@@ -38,11 +35,14 @@ held_by parts plan routes root = held_from routes (root_wire parts plan root)
 abbrev pub route_rows : Route → List RowNo
 route_rows route = route.rows
 
+-- the rows that are turned on
+abbrev pub wanted_rows : Parts → Plan → List Route → List Switch
+wanted_rows parts plan routes = wanted parts plan (map route_rows routes)
+
 -- the bits that are set, of rows and of functions, and no others
 abbrev pub written_bits : Parts → Plan → List Bool → List Route → Bits
 written_bits parts plan pullups routes =
-    set_bits parts (wanted parts plan (map route_rows routes))
-    (function_bits parts (settings parts plan pullups (held_by parts plan routes) (wanted parts plan (map route_rows routes))))
+    set_bits parts (wanted_rows parts plan routes) (function_bits parts (settings parts plan pullups (held_by parts plan routes) (wanted_rows parts plan routes)))
 
 pub record IsWritten (parts : Parts) (plan : Plan) (pullups : List Bool) (routes : List Route) (k : Configuration) : Type 0 where
   pub form : IsOf parts k

@@ -1,0 +1,2 @@
+//! Where the cells of runs stand in clusters.
+#![tactic(auto)]

@@ -1,4 +1,0 @@
-pub mod Arrivals
-pub mod Links
-pub mod Functions
-pub mod Written
