@@ -4,15 +4,18 @@ use Rattle.ice_base.specs.declared.number.TileAt.{TileAt}
 use Rattle.ice_base.specs.declared.number.WireNo.{WireNo}
 use Rattle.ice_value.specs.Order.{At, Has}
 use Rattle.ice_chip.specs.Database.{Parts}
-use Rattle.ice_chip.specs.Lookups.{wire_named, global_of}
+use Rattle.ice_chip.specs.Lookups.{kind_at, wire_named, global_of}
 use Rattle.ice_chip.specs.WireNames.{input_name, clock_name, clock_enable_name, set_reset_name, fabout_name, pad_input_name, pad_output_name, output_enable_name, carry_out_name, first_carry_name}
 use Rattle.ice_chip.specs.declared.rows.Pad.{Pad}
+use Rattle.ice_chip.specs.declared.rows.TileKind.TheVariants.{Logic}
 use Rattle.ice_decode.specs.declared.driver.Switch.{Switch}
+use Rattle.ice_decode.specs.Pads.{pads}
 use Rattle.ice_cells.specs.declared.cell.Control.{Control}
 use Rattle.ice_cells.specs.declared.cell.LogicCell.{LogicCell}
 use Rattle.ice_cells.specs.declared.cluster.Cluster.{Cluster}
 use Rattle.ice_cells.specs.declared.design.DesignPad.{DesignPad}
 use Rattle.ice_cells.specs.declared.root.Root.{Root}
+use Rattle.ice_cells.specs.Readings.{is_read}
 use Rattle.ice_wiring.specs.Wanted.{AreWanted}
 use Rattle.ice_plan.specs.Plan.{Plan}
 use Rattle.ice_nets.specs.Ends.{wire_no, is_free}
@@ -72,9 +75,9 @@ pub record IsPadLed (parts : Parts) (plan : Plan) (wanted : List Switch) (pad : 
   pub enable : IsLed parts plan wanted (wire_named parts pad.tile (output_enable_name pad.pio)) port.enable
 
 -- ---- where wanted rows come from
--- the wire is led to from the wire of a root
+-- the wire is led to from the wire of a root that is read
 abbrev pub IsOfRoot : Parts → Plan → List Switch → WireNo → Type 0
-IsOfRoot parts plan wanted w = (root : Root) × (v : ℕ) × (root_wire parts plan root ≡ Some v) × LeadFrom wanted w (wire_no v)
+IsOfRoot parts plan wanted w = (root : Root) × (is_read plan.design root ≡ true) × (v : ℕ) × (root_wire parts plan root ≡ Some v) × LeadFrom wanted w (wire_no v)
 
 -- a row that brings a carry to a chained input of a cell, or into a tile
 abbrev pub IsLink : Parts → Plan → Switch → Type 0
@@ -86,18 +89,17 @@ IsLink parts plan s =
 -- ---- all of it
 pub record AreLed (parts : Parts) (plan : Plan) (wanted : List Switch) (held : Held) : Type 0 where
   pub rows : AreWanted parts wanted
-  -- no row enters the wire of a root
-  pub roots : (root : Root) (v : ℕ) → root_wire parts plan root ≡ Some v → IsBare wanted v
-  -- nor the wire of the output or of the carry of a cell
-  pub carries : (t : TileAt) (i w : ℕ) → i < 8 → wire_named parts t (carry_out_name i) ≡ Some w → IsBare wanted w
+  -- no row enters the wire of a root that is read, nor that of a carry of a cell
+  pub roots : (root : Root) (v : ℕ) → is_read plan.design root ≡ true → root_wire parts plan root ≡ Some v → IsBare wanted v
+  pub carries : (t : TileAt) (i w : ℕ) → kind_at parts t ≡ Some Logic → i < 8 → wire_named parts t (carry_out_name i) ≡ Some w → IsBare wanted w
   pub fixed : (t : TileAt) (i c : ℕ) (cell : LogicCell) → StandsIn plan t i c cell → is_free cell ≡ false → IsFixedLed parts plan wanted t i cell
   pub free : (t : TileAt) (i c : ℕ) (cell : LogicCell) → StandsIn plan t i c cell → is_free cell ≡ true → IsFreeLed parts plan wanted held t i cell
   pub controls : (t : TileAt) (cluster : Cluster) (control : Control) → IsOn plan t cluster → cluster.control ≡ Some control → IsControlLed parts plan wanted t control
   pub entries : (t : TileAt) (cluster : Cluster) → IsOn plan t cluster → IsEntryLed parts plan wanted t cluster.run
-  pub pads : (k : ℕ) (pad : Pad) (port : DesignPad) → At plan.ports k pad → At plan.design.pads k port → IsPadLed parts plan wanted pad port
+  pub ports : (k : ℕ) (pad : Pad) (port : DesignPad) → At plan.ports k pad → At plan.design.pads k port → Has (pads parts) pad → IsPadLed parts plan wanted pad port
   pub feeds : (g n : ℕ) (root : Option Root) (t : TileAt) → At plan.globals g n → At plan.design.globals g root → global_of parts n ≡ Some t → IsLed parts plan wanted (wire_named parts t fabout_name) root
   -- each wanted row leads on from a root, or is a link
   pub origins : (s : Switch) → Has wanted s → IsOfRoot parts plan wanted s.source ⊎ IsLink parts plan s
   -- the input of a pad that a wanted row leaves is that of a port's pad that is read
-  pub inputs : (s : Switch) (pad : Pad) → Has wanted s → wire_named parts pad.tile (pad_input_name pad.pio) ≡ Some s.source.0
+  pub inputs : (s : Switch) (pad : Pad) → Has wanted s → Has (pads parts) pad → wire_named parts pad.tile (pad_input_name pad.pio) ≡ Some s.source.0
       → (k : ℕ) × (port : DesignPad) × At plan.ports k pad × At plan.design.pads k port × (port.reads ≡ true)

@@ -20,13 +20,14 @@ use Rattle.ice_negotiate.specs.Trees.{Route}
 abbrev pub pads_of : Plan → List Bool → PadsData
 pads_of plan pullups = record { ports = plan.ports; pullups = pullups; globals = plan.globals }
 
--- The design keeps to its form and has no loop. Its clusters stand on sites of the chip, its ports have pads of the package, and
--- its global buffers have globals.
+-- The design keeps to its form and has no loop. Its clusters stand on sites of the chip, its ports have pads of one of the chip's
+-- packages, and its global buffers have globals.
 pub record IsPlaced (parts : Parts) (rows : PackageRows) (plan : Plan) (pullups : List Bool) : Type 0 where
   pub formed : IsFormed plan.design
   pub values : HasValues plan.design
   pub clusters : plan.clusters ≡ (clusters_of plan.design).list
   pub legal : IsLegalOn parts (chunks_of plan.clusters) plan.at
+  pub package : Has parts.packages rows
   pub pads : ArePads parts rows plan.design (pads_of plan pullups)
 
 -- One tree for each net: it leads over usable rows from the net's root to one target of each of its sinks. No wire is in two trees.

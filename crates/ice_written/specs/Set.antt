@@ -58,7 +58,7 @@ pub record AreSet (parts : Parts) (plan : Plan) (wanted : List Switch) (held : H
   pub passing : (s : Switch) → Has wanted s → passes parts bits s ≡ true
   -- a port's pad in an IO tile has the port's type, every other pad none
   pub types : (k : ℕ) (pad : Pad) (port : DesignPad) → At plan.ports k pad → At plan.design.pads k port → Has (pads parts) pad → pin_type parts bits pad ≡ port.pin_type
-  pub untyped : (pad : Pad) → (Has plan.ports pad → ⊥) → pin_type parts bits pad ≡ 0
+  pub untyped : (pad : Pad) → Has (pads parts) pad → (Has plan.ports pad → ⊥) → pin_type parts bits pad ≡ 0
   -- the input of a pad that is read is enabled, and an input is disabled only where no pad is read that it enables
   pub enabled : (k : ℕ) (pad : Pad) (port : DesignPad) → At plan.ports k pad → At plan.design.pads k port → port.reads ≡ true → is_enabled parts bits pad ≡ true
   pub disabled : (row : Pad × Pad) → Has (enables_of parts) row → set_at parts bits row.1.tile (input_enable_function row.1.pio) 0 ≡ true
