@@ -76,6 +76,7 @@ fn wire(
 }
 
 // What sets the signals of a netlist, in an order of evaluation.
+#[derive(Drop)]
 struct Wiring {
     // The signals that ports feed.
     pads: Vec<Link>,

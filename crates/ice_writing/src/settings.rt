@@ -37,10 +37,28 @@ fn set(bits: &mut Bits, chip: &Chip, setting: &Setting)
         TileFunction::Cell(cell) => set_one(bits, chip, tile, &cell_function(cell), number),
         TileFunction::FallingClock => set_one(bits, chip, tile, &falling_clock_function(), number),
         TileFunction::CarrySet => set_one(bits, chip, tile, &carry_set_function(), number),
-        TileFunction::PinType(pio, place) => set_one(bits, chip, tile, &pin_type_function(pio, place), number),
-        TileFunction::InputEnable(pio) => set_one(bits, chip, tile, &input_enable_function(pio), number),
+        TileFunction::PinType(pio, place) => set_one(
+            bits,
+            chip,
+            tile,
+            &pin_type_function(pio, place),
+            number,
+        ),
+        TileFunction::InputEnable(pio) => set_one(
+            bits,
+            chip,
+            tile,
+            &input_enable_function(pio),
+            number,
+        ),
         TileFunction::PullUp(pio) => set_one(bits, chip, tile, &pull_up_function(pio), number),
-        TileFunction::ColumnBuffer(global) => set_one(bits, chip, tile, &column_buffer_function(global), number),
+        TileFunction::ColumnBuffer(global) => set_one(
+            bits,
+            chip,
+            tile,
+            &column_buffer_function(global),
+            number,
+        ),
     }
 }
 

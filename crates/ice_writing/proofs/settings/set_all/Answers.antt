@@ -18,7 +18,7 @@ loop-setting-preserved c =
     (function_bits parts (map setting_view (drop k all))) (λ t b. sets_one parts t b (setting_view c.loop-setting.setting)) (function_bits parts (map setting_view (drop (k + 1) all)))
     c.loop-setting.invariant c.set.ensures
     (λ t b. any_map setting_view (sets_one parts t b) (drop k all) ∙ any_drop (λ (x : Setting). sets_one parts t b (setting_view x)) all k c.loop-setting.setting (omega arith) refl
-        ∙ ap (λ x. sets_one parts t b (setting_view c.loop-setting.setting) || x) (sym (any_map setting_view (sets_one parts t b) (drop (k + 1) all))))
+    ∙ ap (λ x. sets_one parts t b (setting_view c.loop-setting.setting) || x) (sym (any_map setting_view (sets_one parts t b) (drop (k + 1) all))))
 
 pub returns : goal.returns
 returns c =
