@@ -1,0 +1,3 @@
+mod Rooted
+mod Owning
+mod Arrived
