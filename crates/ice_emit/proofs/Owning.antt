@@ -64,7 +64,7 @@ module _ (routes : List Route) (apart : AreApart routes) where
   first_has (w ∷ wires) v e = Has_holds (w ∷ wires) (wire_no v) (0, ap (λ n. Some (wire_no n)) (eqb-true w.0 v e))
 
   -- the tree that begins at a wire, or there is none
-  Begun : ℕ → List Route → Type 0
+  abbrev Begun : ℕ → List Route → Type 0
   Begun v rs = ((k : ℕ) × (route : Route) × At rs k route × (starts_at route.wires v ≡ true) × (tree_from rs v ≡ route.wires)) ⊎ ((tree_from rs v ≡ []) × ((k : ℕ) (route : Route) → At rs k route → starts_at route.wires v ≡ true → ⊥))
 
   begun : (rs : List Route) (v : ℕ) → Begun v rs

@@ -40,16 +40,23 @@ fn root_wire(routed: &Routed<'_>, root: Root) -> Option<WireNo>
     }
 }
 
+// What stands in a list of numbers at the place of a wire, where there may be nothing.
+fn number_at(numbers: &[Option<u32>], wire: WireNo) -> Option<u32>
+    ensures { result ≡ slice_index_or numbers.now wire.0 None }
+{
+    match numbers.get(wire.0 as usize) {
+        None => None,
+        Some(number) => *number,
+    }
+}
+
 // The number of the tree that holds a wire.
 #[tactic(auto, using(crate::proofs::Owning::owner_read))]
 fn owner(routed: &Routed<'_>, wire: WireNo) -> Option<u32>
     requires { IsRouted routed.now }
     ensures { result ≡ owner_from 0 (routes_in routed.now) wire.0 }
 {
-    match routed.owners.get(wire.0 as usize) {
-        None => None,
-        Some(owner) => *owner,
-    }
+    number_at(routed.owners, wire)
 }
 
 // Whether the tree of that number begins at the wire.
@@ -133,7 +140,6 @@ fn first_held(routed: &Routed<'_>, tree: Option<u32>, tile: TileAt, i: usize) ->
 }
 
 // The input of a cell at which a root arrives.
-#[tactic(auto, using(crate::proofs::Arrived::arrival_is))]
 fn arrival(routed: &Routed<'_>, tile: TileAt, i: usize, root: Root) -> Option<u8>
     requires { IsRouted routed.now }
     ensures { result ≡ arrival routed.now.placed.chip.now (held_in routed.now root) tile i }

@@ -68,6 +68,7 @@ fn push_entry(
 }
 
 // Adds the entries of a table that are 1.
+#[tactic(auto, using(crate::proofs::Ranges::made_more))]
 fn push_table(
     made: &mut Vec<Setting>,
     tile: TileAt,

@@ -1,6 +1,7 @@
 //! The settings of clusters.
 ghost use Rattle.std.specs.Prelude.{◌≡◌, ◌++◌, [], Some, slice_get, OnOk};
 ghost use Rattle.std.specs.Option.{option_map_or};
+ghost use Rattle.ice_chip.specs.FunctionNames.{cell_function};
 ghost use Rattle.ice_plan.specs.Loads.{slot_gives, slots_give};
 ghost use Rattle.ice_written.specs.Functions.{cell_settings, is_set, edge_settings, carry_settings, cluster_settings, clusters_settings};
 ghost use Rattle.ice_emit.specs.Routed.{IsRouted, held_in, cluster_gives};
@@ -22,7 +23,14 @@ fn cell_at(cells: &[LogicCell], c: u32) -> Option<LogicCell>
     cells.get(c as usize).copied()
 }
 
-// Adds the settings of a cell in a slot; the name of a slot's function has the last digit of its number alone.
+// The number of a slot, by which the slot's function is named: the name has the last digit of a number alone.
+fn named_by(i: usize) -> u8
+    ensures { cell_function result ≡ cell_function i }
+{
+    (i % 10) as u8
+}
+
+// Adds the settings of a cell in a slot.
 fn push_placed(
     made: &mut Vec<Setting>,
     routed: &Routed<'_>,
@@ -34,7 +42,7 @@ fn push_placed(
     ensures { OnOk result (views made.new.items ≡ views made.old.items ++ cell_settings routed.now.placed.chip.now (held_in routed.now) tile i cell.now) }
 {
     let table = written_table(routed, tile, i, cell);
-    push_cell(made, tile, (i % 10) as u8, table, cell)?;
+    push_cell(made, tile, named_by(i), table, cell)?;
     Ok(())
 }
 

@@ -5,4 +5,5 @@ mod arriving;
 mod cells;
 mod clusters;
 mod making;
+mod ports;
 mod routed;
