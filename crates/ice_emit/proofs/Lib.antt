@@ -3,3 +3,7 @@ mod Rooted
 mod Owning
 mod Arrived
 mod Beside
+mod Listed
+mod Buffered
+mod Holdings
+mod Enabling
