@@ -7,3 +7,6 @@ mod Listed
 mod Buffered
 mod Holdings
 mod Enabling
+mod Wanting
+mod Slotless
+mod Ready

@@ -7,3 +7,4 @@ pub mod Links
 pub mod Buffers
 pub mod Holding
 pub mod Enables
+pub mod Placed

@@ -12,3 +12,6 @@ mod owners;
 mod ports;
 mod routed;
 mod rows;
+mod writing;
+
+pub use writing::emit;

@@ -6,6 +6,7 @@ ghost use Rattle.ice_emit.specs.Holding.{holding, holder, noted, tree_holdings, 
 ghost use Rattle.ice_emit.specs.Routed.{owner_from};
 
 use ice_base::{NoMemory, WireNo};
+use ice_cells::short;
 use ice_graph::Tree;
 use std::alloc::Global;
 
@@ -56,16 +57,16 @@ fn no_owners(alloc: Global, wires: u32) -> Result<Vec<Option<u32>>, NoMemory>
     Ok(vec![in alloc; None; wires as usize]?)
 }
 
-/// The number of the first tree that holds each wire, of so many wires.
+/// The number of the first tree that holds each wire, of so many wires. More than 4,294,967,295 trees count as want of memory.
 #[tactic(auto, using(crate::proofs::Holdings::owners_are))]
 pub fn owners_of(
     alloc: Global,
     wires: u32,
     trees: &[Tree],
 ) -> Result<Vec<Option<u32>>, NoMemory>
-    requires { length trees.now < 2 ^ 32 }
     ensures { IfOk result (λ owners. owners.items ≡ table (owner_from 0 (map route_of trees.now)) wires) }
 {
+    short(trees.len())?;
     let mut owners = no_owners(alloc, wires)?;
     note_trees(&mut owners, trees);
     Ok(owners)
