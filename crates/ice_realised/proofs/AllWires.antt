@@ -1,16 +1,15 @@
 -- Each wire of the chip has a level.
-use Rattle.std.proofs.Common.{◌≡◌, ◌⊎◌, ℕ, zero, suc, ◌+◌, ◌<◌, ◌≤◌, Bool, true, false, cond, Option, None, Some, List, [], ◌∷◌, inl, inr, refl, sym, ap, ◌∙◌, subst, true≢false, arith}
-use Rattle.std.specs.Prelude.{◌&&◌, nat_eq, slice_get, slice_index_or, option_map, codes}
+use Rattle.std.proofs.Common.{◌≡◌, ◌⊎◌, ℕ, zero, suc, ◌+◌, ◌<◌, Bool, true, false, cond, Option, None, Some, List, [], ◌∷◌, inl, inr, refl, sym, ap, ◌∙◌, subst, true≢false, arith}
+use Rattle.std.specs.Prelude.{nat_eq, slice_index_or, option_map}
 use Rattle.std.proofs.lemmas.Bool.{cases_lt}
 use Rattle.std.proofs.lemmas.Option.{same_Some, none-some}
 use Rattle.ice_base.specs.declared.number.TileAt.{TileAt}
-use Rattle.ice_base.specs.declared.number.WireNo.{WireNo}
 use Rattle.ice_base.proofs.Keys.{nat_same, nat_self}
-use Rattle.ice_value.specs.Order.{At, Has}
+use Rattle.ice_value.specs.Order.{Has}
 use Rattle.ice_value.specs.System.{value}
 use Rattle.ice_value.proofs.Values.{value_at_more}
 use Rattle.ice_chip.specs.Lookups.{kind_at, wire_named, global_of}
-use Rattle.ice_chip.specs.WireNames.{input_name, carry_out_name, first_carry_name, pad_input_name, fabout_name}
+use Rattle.ice_chip.specs.WireNames.{input_name, carry_out_name, fabout_name}
 use Rattle.ice_chip.specs.declared.rows.Pad.{Pad}
 use Rattle.ice_chip.specs.declared.rows.TileKind.TheVariants.{Logic}
 use Rattle.ice_decode.specs.declared.point.Point.{Point}
@@ -19,8 +18,7 @@ use Rattle.ice_decode.specs.declared.role.Role.{Role}
 use Rattle.ice_decode.specs.declared.role.Role.TheVariants.{Plain, Output, LookUp, CarryOut, PadInput, Global, CarryIn, ClockEnable}
 use Rattle.ice_decode.specs.declared.driver.Driver.TheVariants.{Nothing}
 use Rattle.ice_decode.specs.declared.driver.Switch.{Switch}
-use Rattle.ice_decode.specs.Cells.{has_flop, has_carry, looked_up}
-use Rattle.ice_decode.specs.Drivers.{driver}
+use Rattle.ice_decode.specs.Cells.{has_flop}
 use Rattle.ice_decode.specs.Faults.{HasNoLoop}
 use Rattle.ice_decode.specs.Meaning.{kept_at, system_of, role_makes}
 use Rattle.ice_decode.specs.Reads.{wire_point, at_pin, at_pin_of, global_feed, cell_inputs, role_reads}
@@ -28,20 +26,17 @@ use Rattle.ice_decode.specs.Roles.{role_of}
 use Rattle.ice_decode.proofs.Loopless.{valued_loopless}
 use Rattle.ice_decode.proofs.RolePlaces.{IsCell}
 use Rattle.ice_cells.specs.declared.cell.LogicCell.{LogicCell}
-use Rattle.ice_cells.specs.declared.cluster.Cluster.{Cluster}
-use Rattle.ice_cells.specs.declared.root.Root.{Root}
 use Rattle.ice_cells.specs.declared.root.Root.TheVariants as root
 use Rattle.ice_cells.specs.Nodes.{Node, Net}
 use Rattle.ice_nets.specs.Ends.{wire_no}
 use Rattle.ice_written.specs.Led.{IsBare, IsOfRoot, IsLink}
-use Rattle.ice_written.specs.Links.{carry_source}
-use Rattle.ice_written.specs.Slots.{IsOn, StandsIn}
-use Rattle.ice_realised.specs.Premises.{Premises}
+use Rattle.ice_written.specs.Slots.{StandsIn}
+use Rattle.ice_realised.proofs.Premises.{Premises}
 use Rattle.ice_realised.proofs.Arriving.{arrives, source_level, v}
 use Rattle.ice_realised.proofs.CarriesIn.{IsInRun, run_before}
 use Rattle.ice_realised.proofs.CellRoles.{Fits, cell_fits}
 use Rattle.ice_realised.proofs.Pins.{input_plain, carry_is}
-use Rattle.ice_realised.proofs.Slots.{below, logic_on, logic_there, stands_or_none}
+use Rattle.ice_realised.proofs.Slots.{logic_on, stands_or_none}
 use Rattle.ice_realised.proofs.Starts.{AtCarry, below_is, root_starts}
 use Rattle.ice_realised.proofs.WireLevels.{HasLevel, HaveLevels, Reads, put, wire_made, carry_off, carried, plain_low, row_level, led_level}
 
@@ -92,18 +87,20 @@ module _ (g : Premises) (bonded : List Pad) (levels kept kept_cells : List Bool)
   -- ---- wires that rows enter
   of_root : (s : Switch) → Has g.wanted s → IsOfRoot g.parts g.plan g.wanted s.source → IsValued (Wire s.source)
   of_root s has (r, reads, u, is, way) =
-      let n : Node = Net r in
-      (level_of_node n,
-      led_level g.parts g.bits bonded levels kept g.wanted g.wired g.are_set.passing s.source (wire_no u) (level_of_node n) way
-      (arrives g bonded levels kept kept_cells alike n (wire_point u) (root_starts g r u is reads)))
+      let n : Node = Net r in (
+        level_of_node n,
+        led_level g.parts g.bits bonded levels kept g.wanted g.wired g.are_set.passing s.source (wire_no u) (level_of_node n) way
+            (arrives g bonded levels kept kept_cells alike n (wire_point u) (root_starts g r u is reads)),
+      )
 
   of_link : (s : Switch) → IsLink g.parts g.plan s → IsValued (Wire s.source)
   of_link s (inl (t, i, c, cell, stands, chained, source, target)) =
       let place = (g.placed.formed.chained c cell stands.cell_is chained).1 in
       let run : IsInRun g.plan.design c = record { number = place.0; place = place.1 + 1; run = place.2; run_is = place.3; cell_is = place.4 } in
-      let n : Node = run_before place.2 (place.1 + 1) in
-      (level_of_node n,
-      source_level g bonded levels kept kept_cells alike t i s.source.0 n (below_is g t i c cell stands run) source (arrives g bonded levels kept kept_cells alike n))
+      let n : Node = run_before place.2 (place.1 + 1) in (
+        level_of_node n,
+        source_level g bonded levels kept kept_cells alike t i s.source.0 n (below_is g t i c cell stands run) source (arrives g bonded levels kept kept_cells alike n),
+      )
   of_link s (inr (t, low, cluster, under, r, k, on, run_is, below_on, below_run, source, target)) = carry_wire low 7 s.source.0 (logic_on g low under below_on) (omega arith) source
 
   entered : (s : Switch) → Has g.wanted s → IsValued (Wire s.target)
@@ -134,12 +131,13 @@ module _ (g : Premises) (bonded : List Pad) (levels kept kept_cells : List Bool)
       let one = input 0 (omega arith) in
       let two = input 1 (omega arith) in
       let three = input 2 (omega arith) in
-      let four = input 3 (omega arith) in
-      (one.0 ∷ two.0 ∷ three.0 ∷ four.0 ∷ [],
-      put g.parts g.bits bonded levels kept (at_pin g.parts t (input_name i 0)) one.0 _ _ one.1
-      (put g.parts g.bits bonded levels kept (at_pin g.parts t (input_name i 1)) two.0 _ _ two.1
-      (put g.parts g.bits bonded levels kept (at_pin g.parts t (input_name i 2)) three.0 _ _ three.1
-      (put g.parts g.bits bonded levels kept (at_pin g.parts t (input_name i 3)) four.0 [] [] four.1 tt))))
+      let four = input 3 (omega arith) in (
+        one.0 ∷ two.0 ∷ three.0 ∷ four.0 ∷ [],
+        put g.parts g.bits bonded levels kept (at_pin g.parts t (input_name i 0)) one.0 _ _ one.1
+            (put g.parts g.bits bonded levels kept (at_pin g.parts t (input_name i 1)) two.0 _ _ two.1
+            (put g.parts g.bits bonded levels kept (at_pin g.parts t (input_name i 2)) three.0 _ _ three.1
+            (put g.parts g.bits bonded levels kept (at_pin g.parts t (input_name i 3)) four.0 [] [] four.1 tt))),
+      )
     where
       input : (k : ℕ) → k < 4 → (x : Bool) × Reads g.parts g.bits bonded levels kept (at_pin g.parts t (input_name i k)) x
       input k lt =

@@ -1,33 +1,26 @@
 -- Nodes have their levels where they start.
 use Rattle.std.proofs.Common.{◌≡◌, ◌⊎◌, ℕ, zero, suc, ◌+◌, ◌<◌, Bool, true, false, cond, Option, None, Some, List, [], ◌∷◌, length, map, inl, inr, refl, sym, ap, ◌∙◌, subst, true≢false, arith}
-use Rattle.std.specs.Prelude.{◌&&◌, not, is_some, nat_eq, slice_get, slice_index_or, option_map}
-use Rattle.std.specs.List.{list_any}
+use Rattle.std.specs.Prelude.{◌&&◌, not, is_some, nat_eq, slice_index_or, option_map}
 use Rattle.std.specs.Option.{option_map_or}
 use Rattle.std.proofs.lemmas.Option.{same_Some, none-some, get_or_from_slice_get}
 use Rattle.ice_base.specs.declared.number.TileAt.{TileAt}
-use Rattle.ice_base.specs.declared.number.WireNo.{WireNo}
 use Rattle.ice_base.proofs.Keys.{nat_same, nat_self}
 use Rattle.ice_value.specs.Order.{At, Has}
 use Rattle.ice_value.specs.Inputs.{reading}
 use Rattle.ice_value.proofs.Members.{At_map}
-use Rattle.ice_chip.specs.Database.{Parts}
-use Rattle.ice_chip.specs.Lookups.{kind_at, wire_named, global_of}
-use Rattle.ice_chip.specs.WireNames.{input_name, carry_out_name, first_carry_name, pad_input_name, fabout_name, global_name}
+use Rattle.ice_chip.specs.Lookups.{wire_named}
+use Rattle.ice_chip.specs.WireNames.{input_name, pad_input_name, fabout_name, global_name}
 use Rattle.ice_chip.specs.declared.rows.Pad.{Pad}
-use Rattle.ice_chip.specs.declared.rows.TileKind.TheVariants.{Logic}
 use Rattle.ice_net.specs.declared.kind.Reset.{Reset}
 use Rattle.ice_net.specs.Meaning.{number_of, table_bit, majority}
 use Rattle.ice_decode.specs.declared.point.Point.{Point}
 use Rattle.ice_decode.specs.declared.point.Point.TheVariants.{Wire, Carry}
-use Rattle.ice_decode.specs.declared.role.Role.TheVariants as role
 use Rattle.ice_decode.specs.declared.role.Role.TheVariants.{Plain, Output, PadInput, Global, CarryIn}
 use Rattle.ice_decode.specs.declared.driver.Driver.TheVariants.{Nothing}
-use Rattle.ice_decode.specs.declared.driver.Switch.{Switch}
-use Rattle.ice_decode.specs.Cells.{has_flop, has_carry, looked_up}
-use Rattle.ice_decode.specs.Drivers.{driver}
+use Rattle.ice_decode.specs.Cells.{has_flop, looked_up}
 use Rattle.ice_decode.specs.Meaning.{kept_at}
-use Rattle.ice_decode.specs.Pads.{pad_gives, is_enabled, level_of}
-use Rattle.ice_decode.specs.Reads.{wire_point, at_pin, at_pin_of, global_feed, carry_into, cell_inputs, carry_inputs}
+use Rattle.ice_decode.specs.Pads.{level_of}
+use Rattle.ice_decode.specs.Reads.{wire_point, at_pin, at_pin_of, global_feed, carry_into, cell_inputs}
 use Rattle.ice_decode.specs.Roles.{role_of}
 use Rattle.ice_lut.specs.Tables.{level_at, levels_from, rewired}
 use Rattle.ice_lut.proofs.TableLaws.{rewired_gives}
@@ -42,16 +35,14 @@ use Rattle.ice_cells.specs.Meaning as design
 use Rattle.ice_cells.specs.Meaning.{input, last_input, node_reads, node_makes, node_level, output_reads, output_makes, given}
 use Rattle.ice_cells.proofs.NodeLevels.{level_meets, level_rank, level_falls}
 use Rattle.ice_nets.specs.Ends.{wire_no, is_free}
-use Rattle.ice_nets.specs.Nets.{root_wire}
 use Rattle.ice_pads.specs.Globals.{has_name}
 use Rattle.ice_pads.specs.Passing.{first_passing}
-use Rattle.ice_wiring.specs.Wanted.{IsWired}
-use Rattle.ice_written.specs.Arrivals.{arrival, input_from, written_table}
-use Rattle.ice_written.specs.Led.{IsLed, IsLinked, IsFixedLed, IsFreeLed}
+use Rattle.ice_written.specs.Arrivals.{arrival, input_from}
+use Rattle.ice_written.specs.Led.{IsLed, IsFixedLed, IsFreeLed}
 use Rattle.ice_written.specs.Links.{carry_source}
 use Rattle.ice_written.specs.Realised.{port_levels}
 use Rattle.ice_written.specs.Slots.{StandsIn}
-use Rattle.ice_realised.specs.Premises.{Premises}
+use Rattle.ice_realised.proofs.Premises.{Premises}
 use Rattle.ice_realised.proofs.CarriesIn.{IsInRun, run_before, in_run, comes_in}
 use Rattle.ice_realised.proofs.Pins.{each_four, input_plain, output_is, carry_is, first_is, pad_is, fabout_plain, global_is}
 use Rattle.ice_realised.proofs.Read.{IsReadable, cell_reads, feed_reads, io_wire, item_beside, pad_below}

@@ -1,5 +1,5 @@
 -- The cell whose output or table a wire is, is a cell of a logic tile.
-use Rattle.std.proofs.Common.{◌≡◌, ◌⊎◌, ℕ, zero, suc, ◌+◌, ◌-◌, ◌<◌, ◌≤◌, Bool, true, false, cond, List, [], ◌∷◌, Some, None, Option, inl, inr, refl, sym, subst, eqb, leb, leb-true, arith}
+use Rattle.std.proofs.Common.{◌≡◌, ◌⊎◌, ℕ, ◌-◌, ◌<◌, ◌≤◌, Bool, true, false, cond, List, [], ◌∷◌, Some, None, Option, inl, inr, refl, sym, subst, eqb, leb, leb-true, arith}
 use Rattle.std.specs.Prelude.{◌&&◌, codes, bytes_eq}
 use Rattle.std.proofs.lemmas.Bool.{cond_both}
 use Rattle.ice_base.specs.declared.number.TileAt.{TileAt}

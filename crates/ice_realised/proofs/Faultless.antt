@@ -1,18 +1,17 @@
 -- The bits of a placed and routed design have no fault.
-use Rattle.std.proofs.Common.{◌≡◌, ◌⊎◌, ℕ, zero, suc, ◌+◌, ◌/◌, ◌%◌, ◌<◌, Bool, true, false, cond, Option, None, Some, List, [], ◌∷◌, ◌++◌, length, take, find, inl, inr, refl, sym, ap, ◌∙◌, subst, true≢false, eqb, eqb-true, eq-eqb, arith}
+use Rattle.std.proofs.Common.{◌≡◌, ◌⊎◌, ℕ, zero, suc, ◌+◌, ◌/◌, ◌%◌, Bool, true, false, cond, Option, None, Some, List, [], ◌∷◌, ◌++◌, length, take, find, inl, inr, refl, sym, ap, ◌∙◌, subst, true≢false, eqb-true}
 use Rattle.std.specs.Prelude.{◌&&◌, ◌||◌, ◌==◌, ◌*◌, not, nat_eq, option_map, slice_index_or, codes}
 use Rattle.std.specs.Cmp.Lexicographic.{pointwise}
 use Rattle.std.specs.List.{list_any}
 use Rattle.std.specs.Option.{option_map_or}
 use Rattle.std.proofs.lemmas.Bool.{and_parts, and_from, and_right, false_from_ne_true}
-use Rattle.std.proofs.lemmas.Option.{same_Some, none-some}
 use Rattle.ice_base.specs.declared.number.TileAt.{TileAt}
 use Rattle.ice_base.proofs.Booleans.{not_true}
 use Rattle.ice_value.specs.Order.{At, Has}
 use Rattle.ice_value.proofs.Members.{Has_any, any_Has}
 use Rattle.ice_value.proofs.Together.{Has_head, Has_tail}
-use Rattle.ice_chip.specs.Database.{Parts, SwitchGroup, SwitchRow}
-use Rattle.ice_chip.specs.Lookups.{kind_at, names_of, wire_named}
+use Rattle.ice_chip.specs.Database.{SwitchGroup, SwitchRow}
+use Rattle.ice_chip.specs.Lookups.{names_of, wire_named}
 use Rattle.ice_chip.specs.Places.{same_pad, same_tile}
 use Rattle.ice_chip.specs.PinNames.{is_memory_name}
 use Rattle.ice_chip.specs.WireNames.{pad_input_name}
@@ -20,16 +19,13 @@ use Rattle.ice_chip.specs.declared.rows.Pad.{Pad}
 use Rattle.ice_chip.specs.declared.whole.PlacedName.{PlacedName}
 use Rattle.ice_chip.proofs.Keys.{pad_same}
 use Rattle.ice_base.proofs.Keys.{tile_self, nat_self}
-use Rattle.ice_decode.specs.declared.driver.Driver.{Driver}
-use Rattle.ice_decode.specs.declared.driver.Driver.TheVariants.{Nothing, By, Several}
 use Rattle.ice_decode.specs.declared.driver.Switch.{Switch}
 use Rattle.ice_decode.specs.Drivers.{driver, switches_on}
-use Rattle.ice_decode.specs.Faults.{or_else, first_of, contended_by, contention, is_memory_output, is_foreign_wire, foreign_source, is_output_part, is_read, is_input_read, has_wrong_type, wrong_pad}
+use Rattle.ice_decode.specs.Faults.{or_else, first_of, contended_by, contention, is_memory_output, is_foreign_wire, foreign_source, is_output_part, is_read, is_input_read, has_wrong_type}
 use Rattle.ice_decode.specs.Meaning.{tile_place, kept_at}
 use Rattle.ice_decode.specs.Cells.{logic_tiles}
 use Rattle.ice_decode.specs.Pads.{pads, pin_type}
 use Rattle.ice_decode.specs.Refusals.{IsFaultless}
-use Rattle.ice_cells.specs.declared.cell.LogicCell.{LogicCell}
 use Rattle.ice_cells.specs.declared.design.DesignPad.{DesignPad}
 use Rattle.ice_cells.specs.Formed.{IsPad}
 use Rattle.ice_rows.specs.Bundles.{is_private}
@@ -37,8 +33,7 @@ use Rattle.ice_rows.specs.Sound.{is_alone, is_sound}
 use Rattle.ice_rows.specs.WireNames.{has_memory_name}
 use Rattle.ice_wiring.specs.Wanted.{IsRowOf}
 use Rattle.ice_written.specs.Led.{IsBare}
-use Rattle.ice_written.specs.Slots.{StandsIn}
-use Rattle.ice_realised.specs.Premises.{Premises}
+use Rattle.ice_realised.proofs.Premises.{Premises}
 use Rattle.ice_realised.proofs.AllWires.{entered_or_bare, no_loop}
 use Rattle.ice_realised.proofs.Read.{item_beside}
 
@@ -100,7 +95,7 @@ module _ (g : Premises) where
       let none = no_memory s (g.wired.on s on) in
       false_from_ne_true (is_foreign_wire g.parts s.source.0)
       (λ e. let found = any_Has (λ (n : PlacedName). is_memory_output n.name) (names_of g.parts s.source.0) e in
-        true≢false (sym (Has_any (λ (n : PlacedName). is_memory_name n.name) (names_of g.parts s.source.0) found.0 found.1.0 found.1.1 (memory_named found.0.name found.2)) ∙ none))
+      true≢false (sym (Has_any (λ (n : PlacedName). is_memory_name n.name) (names_of g.parts s.source.0) found.0 found.1.0 found.1.1 (memory_named found.0.name found.2)) ∙ none))
 
   sourced : foreign_source g.parts g.bits ≡ None
   sourced =
@@ -126,9 +121,9 @@ module _ (g : Premises) where
       by (Some w) e =
           false_from_ne_true (list_any (λ (s : Switch). s.source.0 == w) (switches_on g.bits g.parts.groups))
           (λ f. let found = any_Has (λ (s : Switch). s.source.0 == w) (switches_on g.bits g.parts.groups) f in
-            let named : wire_named g.parts pad.tile (pad_input_name pad.pio) ≡ Some found.0.source.0 = e ∙ ap (λ (x : ℕ). Some x) (sym (eqb-true found.0.source.0 w found.2)) in
-            let got = g.led.inputs found.0 pad (g.wired.on found.0 found.1) there named in
-            none (got.0, got.2))
+          let named : wire_named g.parts pad.tile (pad_input_name pad.pio) ≡ Some found.0.source.0 = e ∙ ap (λ (x : ℕ). Some x) (sym (eqb-true found.0.source.0 w found.2)) in
+          let got = g.led.inputs found.0 pad (g.wired.on found.0 found.1) there named in
+          none (got.0, got.2))
 
   typed : (pad : Pad) → Has (pads g.parts) pad → has_wrong_type g.parts g.bits pad ≡ false
   typed pad there = by (port_or_none pad)

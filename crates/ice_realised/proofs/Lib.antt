@@ -1,4 +1,6 @@
+mod Premises
 mod Pins
+mod IoFeeds
 mod CarriesIn
 mod Read
 mod Slots

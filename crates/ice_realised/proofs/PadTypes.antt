@@ -1,15 +1,15 @@
 -- The pads of a chip, and the types of their pins.
-use Rattle.std.proofs.Common.{◌≡◌, ◌⊎◌, ℕ, zero, suc, ◌+◌, ◌<◌, Bool, true, false, Option, None, Some, List, [], ◌∷◌, inl, inr, refl, sym, ap, ◌∙◌, subst, true≢false, All, bytes_eq, arith}
-use Rattle.std.specs.Prelude.{◌&&◌, ◌||◌, find, slice_get}
+use Rattle.std.proofs.Common.{◌≡◌, ◌⊎◌, ℕ, ◌<◌, true, false, Option, None, Some, List, [], ◌∷◌, inl, inr, refl, sym, ap, ◌∙◌, true≢false, bytes_eq}
+use Rattle.std.specs.Prelude.{◌||◌, slice_get}
 use Rattle.std.specs.Option.{option_map_or, option_and_then}
 use Rattle.std.proofs.lemmas.Bool.{and_parts}
 use Rattle.ice_base.specs.declared.number.BitAt.{BitAt}
 use Rattle.ice_base.specs.declared.number.TileAt.{TileAt}
 use Rattle.ice_base.proofs.Keys.{bytes_same}
-use Rattle.ice_value.specs.Order.{At, Has}
+use Rattle.ice_value.specs.Order.{Has}
 use Rattle.ice_value.proofs.Members.{Has_all, Has_filter, find_Has}
 use Rattle.ice_net.specs.Meaning.{number_of}
-use Rattle.ice_chip.specs.Database.{Parts, FunctionRow}
+use Rattle.ice_chip.specs.Database.{FunctionRow}
 use Rattle.ice_chip.specs.FunctionNames.{pin_type_function}
 use Rattle.ice_chip.specs.Functions.{is_read, is_foreign, same_kind}
 use Rattle.ice_chip.specs.Lookups.{kind_at, is_io_kind, is_function, function_of}
@@ -18,10 +18,8 @@ use Rattle.ice_chip.specs.declared.parts.TileLine.{TileLine}
 use Rattle.ice_chip.specs.declared.rows.Pad.{Pad}
 use Rattle.ice_chip.specs.declared.rows.TileKind.{TileKind}
 use Rattle.ice_chip.specs.declared.rows.TileKind.TheVariants.{Io, Logic, RamBottom, RamTop}
-use Rattle.ice_bits.specs.Configuration.{Bits}
-use Rattle.ice_bits.specs.Settings.{function_bit, set_at}
 use Rattle.ice_decode.specs.Pads.{pads_in, is_io_tile, pads, pin_type_digit, pin_type}
-use Rattle.ice_realised.specs.Premises.{Premises}
+use Rattle.ice_realised.proofs.Premises.{Premises}
 use Rattle.ice_realised.proofs.Pins.{each_two}
 use Rattle.ice_realised.proofs.Read.{has_flat}
 

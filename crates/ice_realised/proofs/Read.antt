@@ -1,22 +1,22 @@
 -- What a design reads is of the design, and a pad that it reads has a wire to read it by.
-use Rattle.std.proofs.Common.{◌≡◌, ◌⊎◌, ℕ, zero, suc, ◌+◌, ◌<◌, Bool, true, false, cond, Option, None, Some, List, [], ◌∷◌, ◌++◌, length, map, flat_map, inl, inr, refl, sym, ap, ◌∙◌, subst, All, eq-eqb, arith}
-use Rattle.std.specs.Prelude.{◌&&◌, is_some, slice_index_or}
+use Rattle.std.proofs.Common.{◌≡◌, ◌⊎◌, ℕ, zero, suc, ◌<◌, Bool, true, false, cond, Option, None, Some, List, [], ◌∷◌, ◌++◌, length, map, flat_map, inl, inr, refl, sym, ap, ◌∙◌, subst, eq-eqb, arith}
+use Rattle.std.specs.Prelude.{is_some}
 use Rattle.std.specs.List.{list_any}
 use Rattle.std.proofs.lemmas.Bool.{and_parts, true≢false}
 use Rattle.std.proofs.lemmas.Option.{same_Some, none-some, slice_get_within}
 use Rattle.indexmap.specs.IndexSet.{insert_key, insert_all}
 use Rattle.ice_base.specs.declared.number.TileAt.{TileAt}
-use Rattle.ice_base.proofs.Options.{and_then_some}
 use Rattle.ice_value.specs.Order.{At, Has}
-use Rattle.ice_value.proofs.Members.{At_left, At_right, At_map, Has_any, any_Has, Has_all, Has_map, map_Has}
-use Rattle.ice_chip.specs.Database.{Parts, PackageRows}
+use Rattle.ice_value.proofs.Members.{Has_any, any_Has, Has_all, map_Has}
+use Rattle.ice_chip.specs.Database.{Parts}
 use Rattle.ice_chip.specs.Lookups.{kind_at, wire_named}
 use Rattle.ice_chip.specs.Places.{same_pad}
-use Rattle.ice_chip.specs.Within.{IsPad, IsPackage, different_pads}
+use Rattle.ice_chip.specs.Within.{IsPad, IsPackage}
 use Rattle.ice_chip.proofs.Keys.{pad_same}
 use Rattle.ice_chip.specs.declared.rows.Pad.{Pad}
 use Rattle.ice_chip.specs.declared.rows.TileKind.{TileKind}
 use Rattle.ice_chip.specs.declared.rows.TileKind.TheVariants.{Io, Logic, RamBottom, RamTop}
+use Rattle.ice_decode.proofs.Members.{Has_left, Has_right}
 use Rattle.ice_cells.specs.declared.cell.LogicCell.{LogicCell}
 use Rattle.ice_cells.specs.declared.design.Design.{Design}
 use Rattle.ice_cells.specs.declared.design.DesignPad.{DesignPad}
@@ -25,7 +25,7 @@ use Rattle.ice_cells.specs.declared.root.Root.TheVariants.{PadIn, CellOut, Globa
 use Rattle.ice_cells.specs.Readings.{carry_root, cell_roots, pad_roots, roots_read, is_read}
 use Rattle.ice_cells.specs.Same.{same_root, same_source}
 use Rattle.ice_pads.specs.PadWires.{is_io_at, is_io_tile, has_io_wire}
-use Rattle.ice_realised.specs.Premises.{Premises}
+use Rattle.ice_realised.proofs.Premises.{Premises}
 
 -- ---- items of lists
 pub item_there : {X : Type 0} (xs : List X) (i : ℕ) → i < length xs → (x : X) × At xs i x
@@ -37,16 +37,10 @@ item_there (x ∷ xs) (suc i) lt = item_there xs i (omega arith)
 pub item_beside : {X Y : Type 0} (xs : List X) (ys : List Y) (i : ℕ) (x : X) → length xs ≡ length ys → At xs i x → (y : Y) × At ys i y
 item_beside xs ys i x long at = let lt = slice_get_within xs i x at in item_there ys i (omega (arith, long, lt))
 
-has_left : {X : Type 0} (xs ys : List X) (x : X) → Has xs x → Has (xs ++ ys) x
-has_left xs ys x has = (has.0, At_left xs ys has.0 x has.1)
-
-has_right : {X : Type 0} (xs ys : List X) (x : X) → Has ys x → Has (xs ++ ys) x
-has_right xs ys x has = (length xs + has.0, At_right xs ys has.0 x has.1)
-
 pub has_flat : {X Y : Type 0} (f : X → List Y) (xs : List X) (i : ℕ) (x : X) (y : Y) → At xs i x → Has (f x) y → Has (flat_map f xs) y
 has_flat f [] i x y at has = absurd (none-some x at)
-has_flat {X} f (z ∷ xs) zero x y at has = has_left (f z) (flat_map f xs) y (subst (λ (w : X). Has (f w) y) (sym (same_Some z x at)) has)
-has_flat f (z ∷ xs) (suc i) x y at has = has_right (f z) (flat_map f xs) y (has_flat f xs i x y at has)
+has_flat {X} f (z ∷ xs) zero x y at has = Has_left (f z) (flat_map f xs) y (subst (λ (w : X). Has (f w) y) (sym (same_Some z x at)) has)
+has_flat f (z ∷ xs) (suc i) x y at has = Has_right (f z) (flat_map f xs) y (has_flat f xs i x y at has)
 
 -- ---- roots that are read
 root_self : (r : Root) → same_root r r ≡ true
@@ -74,17 +68,17 @@ module _ (d : Design) where
   pub cell_reads : (c : ℕ) (cell : LogicCell) (j : ℕ) (o : Option Root) → At d.cells c cell → At (cell_roots cell) j o → (r : Root) → o ≡ Some r → IsReadable r
   cell_reads c cell j o at there r e =
       readable r
-      (has_left (from_carries ++ from_cells ++ from_pads) d.globals (Some r) (has_left (from_carries ++ from_cells) from_pads (Some r)
-      (has_right from_carries from_cells (Some r) (has_flat cell_roots d.cells c cell (Some r) at (j, there ∙ ap (λ (x : Option Root). Some x) e)))))
+      (Has_left (from_carries ++ from_cells ++ from_pads) d.globals (Some r) (Has_left (from_carries ++ from_cells) from_pads (Some r)
+      (Has_right from_carries from_cells (Some r) (has_flat cell_roots d.cells c cell (Some r) at (j, there ∙ ap (λ (x : Option Root). Some x) e)))))
 
   pub pad_reads : (k : ℕ) (pad : DesignPad) (j : ℕ) (o : Option Root) → At d.pads k pad → At (pad_roots pad) j o → (r : Root) → o ≡ Some r → IsReadable r
   pad_reads k pad j o at there r e =
       readable r
-      (has_left (from_carries ++ from_cells ++ from_pads) d.globals (Some r)
-      (has_right (from_carries ++ from_cells) from_pads (Some r) (has_flat pad_roots d.pads k pad (Some r) at (j, there ∙ ap (λ (x : Option Root). Some x) e))))
+      (Has_left (from_carries ++ from_cells ++ from_pads) d.globals (Some r)
+      (Has_right (from_carries ++ from_cells) from_pads (Some r) (has_flat pad_roots d.pads k pad (Some r) at (j, there ∙ ap (λ (x : Option Root). Some x) e))))
 
   pub feed_reads : (b : ℕ) (o : Option Root) → At d.globals b o → (r : Root) → o ≡ Some r → IsReadable r
-  feed_reads b o at r e = readable r (has_right (from_carries ++ from_cells ++ from_pads) d.globals (Some r) (b, at ∙ ap (λ (x : Option Root). Some x) e))
+  feed_reads b o at r e = readable r (Has_right (from_carries ++ from_cells ++ from_pads) d.globals (Some r) (b, at ∙ ap (λ (x : Option Root). Some x) e))
 
 -- ---- tiles of pads
 io_kind : (o : Option TileKind) → is_io_at o ≡ true → o ≡ Some Io

@@ -7,7 +7,6 @@ use Rattle.ice_bits.specs.Configuration.{Bits}
 use Rattle.ice_decode.specs.declared.driver.Switch.{Switch}
 use Rattle.ice_cells.specs.Clusters.{clusters_of}
 use Rattle.ice_cells.specs.declared.cluster.Cluster.{Cluster}
-use Rattle.ice_cells.specs.declared.cluster.Clusters.{Clusters}
 use Rattle.ice_chunks.specs.Chunks.{AreChunks, RunsStandInChunks}
 use Rattle.ice_cluster.specs.Slots.{AreSlots, AreDriven, CellsStandInOneSlot, FlopsAreDrivenAsTheirCluster}
 use Rattle.ice_wiring.specs.Wanted.{IsWired}
@@ -18,7 +17,7 @@ use Rattle.ice_written.specs.Realised.{Realises}
 use Rattle.ice_written.specs.Routed.{IsPlaced}
 use Rattle.ice_written.specs.Set.{AreSet}
 use Rattle.ice_realised.specs.Feeds.{FeedsNoGlobal}
-use Rattle.ice_realised.specs.Premises.{Premises, listed}
+use Rattle.ice_realised.proofs.Premises.{Premises, listed}
 use Rattle.ice_realised.proofs.Faultless.{faultless}
 use Rattle.ice_realised.proofs.Steps.{shows_same, off_elsewhere}
 

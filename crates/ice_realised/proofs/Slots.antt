@@ -1,11 +1,11 @@
 -- Where the cells of a placed design stand.
-use Rattle.std.proofs.Common.{◌≡◌, ◌⊎◌, ℕ, zero, suc, ◌+◌, ◌<◌, Bool, true, false, cond, Option, None, Some, List, [], ◌∷◌, length, get_or, inl, inr, refl, sym, ap, ◌∙◌, subst, arith}
+use Rattle.std.proofs.Common.{◌≡◌, ◌⊎◌, ℕ, zero, suc, ◌<◌, Bool, true, false, Option, None, Some, List, [], ◌∷◌, length, get_or, inl, inr, refl, sym, ap, ◌∙◌, subst, arith}
 use Rattle.std.specs.Prelude.{◌&&◌, slice_get, option_map}
 use Rattle.std.proofs.lemmas.Bool.{and_parts, true≢false, eqb-true}
 use Rattle.std.proofs.lemmas.List.Quantifiers.{position-Some}
 use Rattle.std.proofs.lemmas.Option.{same_Some, none-some, get_or_from_slice_get, slice_get-get_or}
 use Rattle.ice_base.specs.declared.number.TileAt.{TileAt}
-use Rattle.ice_base.proofs.Keys.{nat_same, tile_same, tile_self}
+use Rattle.ice_base.proofs.Keys.{tile_same, tile_self}
 use Rattle.ice_value.specs.Order.{At}
 use Rattle.ice_value.proofs.Members.{At_within}
 use Rattle.ice_value.proofs.Places.{At_same}
@@ -17,14 +17,12 @@ use Rattle.ice_chip.specs.declared.rows.TileKind.{TileKind}
 use Rattle.ice_chip.specs.declared.rows.TileKind.TheVariants.{Io, Logic, RamBottom, RamTop}
 use Rattle.ice_cells.specs.declared.cell.LogicCell.{LogicCell}
 use Rattle.ice_cells.specs.declared.cluster.Cluster.{Cluster}
-use Rattle.ice_cells.specs.declared.design.Design.{Design}
 use Rattle.ice_cells.specs.Tables.{is_place}
 use Rattle.ice_cluster.specs.Slots.{Stands}
-use Rattle.ice_sites.specs.Legal.{tile_at}
 use Rattle.ice_sites.specs.Site.{leads, has_cell, has_controls, has_entry, has_chain, is_logic, all_below, is_site}
-use Rattle.ice_plan.specs.Plan.{Plan, Slot, slot_in, in_tile, first_slot, slot_among, slot_of}
+use Rattle.ice_plan.specs.Plan.{Slot, slot_in, in_tile, first_slot, slot_among, slot_of}
 use Rattle.ice_written.specs.Slots.{IsOn, StandsIn}
-use Rattle.ice_realised.specs.Premises.{Premises, listed}
+use Rattle.ice_realised.proofs.Premises.{Premises, listed}
 use Rattle.ice_realised.proofs.Read.{item_there}
 
 -- ---- places that are found

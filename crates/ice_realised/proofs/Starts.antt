@@ -1,7 +1,7 @@
 -- Where the nodes of a design start on the chip, and what comes into the carries of slots.
-use Rattle.std.proofs.Common.{◌≡◌, ◌⊎◌, ℕ, zero, suc, ◌+◌, ◌*◌, ◌/◌, ◌%◌, ◌<◌, Bool, true, false, Option, None, Some, List, [], ◌∷◌, length, inl, inr, refl, sym, ap, ◌∙◌, subst, arith, mod-lt}
-use Rattle.std.specs.Prelude.{slice_get, slice_index_or}
-use Rattle.std.proofs.lemmas.Option.{same_Some, none-some, get_or_from_slice_get, slice_get_within}
+use Rattle.std.proofs.Common.{◌≡◌, ℕ, zero, suc, ◌+◌, ◌*◌, ◌/◌, ◌%◌, ◌<◌, true, Some, length, sym, ap, ◌∙◌, subst, arith}
+use Rattle.std.specs.Prelude.{slice_get}
+use Rattle.std.proofs.lemmas.Option.{none-some, get_or_from_slice_get, slice_get_within}
 use Rattle.ice_base.specs.declared.number.TileAt.{TileAt}
 use Rattle.ice_base.specs.declared.number.WireNo.{WireNo}
 use Rattle.ice_base.proofs.Options.{and_then_some}
@@ -24,7 +24,6 @@ use Rattle.ice_cells.specs.declared.design.Run.{Run}
 use Rattle.ice_cells.specs.declared.root.Root.{Root}
 use Rattle.ice_cells.specs.declared.root.Root.TheVariants.{PadIn, CellOut, GlobalOut, CarryOut}
 use Rattle.ice_cells.specs.Nodes.{Node, Net, Level}
-use Rattle.ice_chunks.specs.Chunks.{HoldsChunk}
 use Rattle.ice_cluster.specs.Slots.{Stands}
 use Rattle.ice_pads.specs.Globals.{global_wire}
 use Rattle.ice_plan.specs.Plan.{slot_of}
@@ -32,8 +31,8 @@ use Rattle.ice_nets.specs.Ends.{wire_no}
 use Rattle.ice_nets.specs.Nets.{pad_wire, slot_wire, root_wire}
 use Rattle.ice_written.specs.Led.{IsEntryLed}
 use Rattle.ice_written.specs.Slots.{IsOn, StandsIn}
-use Rattle.ice_realised.specs.Premises.{Premises, listed}
-use Rattle.ice_realised.proofs.CarriesIn.{IsInRun, before_at, run_before}
+use Rattle.ice_realised.proofs.Premises.{Premises, listed}
+use Rattle.ice_realised.proofs.CarriesIn.{IsInRun, run_before}
 use Rattle.ice_realised.proofs.Read.{IsReadable, item_beside, item_there}
 use Rattle.ice_realised.proofs.Slots.{first_there, slot_stands, stands_on}
 

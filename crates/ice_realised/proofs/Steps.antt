@@ -1,9 +1,8 @@
 -- The bits of a placed and routed design show, step by step, what the design shows.
-use Rattle.std.proofs.Common.{◌≡◌, ◌⊎◌, ℕ, zero, suc, ◌+◌, ◌*◌, ◌/◌, ◌<◌, ◌≤◌, Bool, true, false, cond, Option, None, Some, List, [], ◌∷◌, length, map, replicate, zip, inl, inr, refl, sym, ap, ◌∙◌, subst, true≢false, arith}
+use Rattle.std.proofs.Common.{◌≡◌, ◌⊎◌, ℕ, zero, suc, ◌+◌, ◌*◌, ◌/◌, ◌<◌, Bool, true, false, cond, Option, None, Some, List, [], ◌∷◌, length, map, replicate, zip, inl, inr, refl, sym, ap, ◌∙◌, subst, true≢false, arith}
 use Rattle.std.specs.Prelude.{◌&&◌, is_some, slice_get, slice_index_or, option_map}
 use Rattle.std.specs.Option.{option_map_or, option_and_then}
-use Rattle.std.specs.List.{range_with_len}
-use Rattle.std.proofs.lemmas.Option.{same_Some, none-some, get_or_from_slice_get, slice_get_within}
+use Rattle.std.proofs.lemmas.Option.{same_Some, none-some, get_or_from_slice_get}
 use Rattle.ice_base.specs.declared.number.TileAt.{TileAt}
 use Rattle.ice_base.specs.declared.number.WireNo.{WireNo}
 use Rattle.ice_base.proofs.Keys.{tile_self}
@@ -15,7 +14,6 @@ use Rattle.ice_value.specs.Machine.{Simulates}
 use Rattle.ice_value.proofs.Machines.{shows_always_alike}
 use Rattle.ice_value.proofs.Members.{At_map, At_within}
 use Rattle.ice_value.proofs.Values.{value_at_more}
-use Rattle.ice_chip.specs.Database.{Parts}
 use Rattle.ice_chip.specs.Lookups.{kind_at, wire_named}
 use Rattle.ice_chip.specs.Places.{same_tile}
 use Rattle.ice_chip.specs.WireNames.{input_name, clock_name, clock_enable_name, set_reset_name, pad_output_name, output_enable_name}
@@ -23,11 +21,10 @@ use Rattle.ice_chip.specs.FunctionNames.{falling_clock_function}
 use Rattle.ice_chip.specs.declared.rows.Pad.{Pad}
 use Rattle.ice_chip.specs.declared.rows.TileKind.TheVariants.{Io, Logic}
 use Rattle.ice_bits.specs.Settings.{set_at}
-use Rattle.ice_net.specs.declared.drive.Drive.{Drive}
 use Rattle.ice_net.specs.declared.drive.Drive.TheVariants.{Off}
 use Rattle.ice_net.specs.declared.kind.Reset.{Reset}
 use Rattle.ice_net.specs.declared.kind.Reset.TheVariants as reset
-use Rattle.ice_net.specs.Drives.{pad_drive, level_drive}
+use Rattle.ice_net.specs.Drives.{pad_drive}
 use Rattle.ice_net.specs.Flops.{is_edge, fired}
 use Rattle.ice_net.specs.Meaning.{State}
 use Rattle.ice_decode.specs.declared.point.Point.{Point}
@@ -37,9 +34,8 @@ use Rattle.ice_decode.specs.declared.driver.Driver.TheVariants.{Nothing}
 use Rattle.ice_decode.specs.Cells.{cells, logic_tiles, has_flop, reset_of, looked_up}
 use Rattle.ice_decode.specs.Meaning as chip
 use Rattle.ice_decode.specs.Meaning.{tile_place, kept_at, kept_after, clock_after, point_level, system_of}
-use Rattle.ice_decode.specs.Pads.{pads, pin_type, pin_level, part_drive, drive_at}
+use Rattle.ice_decode.specs.Pads.{pads, pin_level, part_drive, drive_at}
 use Rattle.ice_decode.specs.Reads.{wire_point, at_pin, cell_inputs, count_points}
-use Rattle.ice_decode.specs.Refusals.{IsFaultless}
 use Rattle.ice_decode.specs.Roles.{role_of}
 use Rattle.ice_decode.proofs.KeptLevels.{tile_at, clock_stepped}
 use Rattle.ice_decode.proofs.PointPlaces.{cell_at, wire_at}
@@ -47,7 +43,6 @@ use Rattle.ice_decode.proofs.RolePlaces as places
 use Rattle.ice_decode.proofs.Valued.{faultless_valued}
 use Rattle.ice_cells.specs.declared.cell.Control.{Control}
 use Rattle.ice_cells.specs.declared.cell.LogicCell.{LogicCell}
-use Rattle.ice_cells.specs.declared.cluster.Cluster.{Cluster}
 use Rattle.ice_cells.specs.declared.design.Design.{Design}
 use Rattle.ice_cells.specs.declared.design.DesignPad.{DesignPad}
 use Rattle.ice_cells.specs.declared.root.Root.{Root}
@@ -62,15 +57,15 @@ use Rattle.ice_pads.specs.Facts.{HasWires}
 use Rattle.ice_written.specs.Led.{IsLed, IsControlLed}
 use Rattle.ice_written.specs.Realised.{port_levels}
 use Rattle.ice_written.specs.Set.{read_reset}
-use Rattle.ice_written.specs.Slots.{IsOn, StandsIn}
-use Rattle.ice_realised.specs.Premises.{Premises}
+use Rattle.ice_written.specs.Slots.{StandsIn}
+use Rattle.ice_realised.proofs.Premises.{Premises}
 use Rattle.ice_realised.proofs.Arriving.{v, arrives, pin_reads, root_reads, table_given}
 use Rattle.ice_realised.proofs.Starts.{Starts}
-use Rattle.ice_realised.proofs.Faultless.{faultless, port_or_none}
+use Rattle.ice_realised.proofs.Faultless.{faultless}
 use Rattle.ice_realised.proofs.PadTypes.{pad_there, other_untyped, io_or_other}
 use Rattle.ice_realised.proofs.Pins.{clock_plain, enable_is, reset_plain, pad_output_plain, pad_enable_plain}
-use Rattle.ice_realised.proofs.Read.{IsReadable, cell_reads, pad_reads, io_wire, item_beside, pad_below}
-use Rattle.ice_realised.proofs.Slots.{below, logic_on, logic_there}
+use Rattle.ice_realised.proofs.Read.{IsReadable, cell_reads, pad_reads, io_wire, pad_below}
+use Rattle.ice_realised.proofs.Slots.{below, logic_there}
 use Rattle.ice_realised.proofs.WireLevels.{HasLevel, HaveLevels, Reads, wire_made}
 
 -- ---- lists and machines

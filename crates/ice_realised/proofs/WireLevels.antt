@@ -1,5 +1,5 @@
 -- Levels go along rows that are on.
-use Rattle.std.proofs.Common.{◌≡◌, ℕ, zero, suc, Bool, true, false, cond, Option, None, Some, List, [], ◌∷◌, refl, sym, ap, ◌∙◌, subst}
+use Rattle.std.proofs.Common.{◌≡◌, ℕ, Bool, true, false, cond, Option, None, Some, List, [], ◌∷◌, refl, sym, ap, ◌∙◌, subst}
 use Rattle.std.specs.Prelude.{◌&&◌}
 use Rattle.ice_base.specs.declared.number.TileAt.{TileAt}
 use Rattle.ice_base.specs.declared.number.WireNo.{WireNo}
@@ -23,9 +23,8 @@ use Rattle.ice_decode.specs.Meaning as chip
 use Rattle.ice_decode.specs.Meaning.{passes, driven_makes, makes}
 use Rattle.ice_decode.specs.Reads.{carry_inputs, driven_reads, reads, wire_point}
 use Rattle.ice_decode.specs.Roles.{role_of}
-use Rattle.ice_nets.specs.Ends.{wire_no}
 use Rattle.ice_wiring.specs.Wanted.{IsWired}
-use Rattle.ice_written.specs.Led.{LeadFrom, Here, ByRow, IsBare}
+use Rattle.ice_written.specs.Led.{LeadFrom, Here, ByRow}
 
 module _ (parts : Parts) (bits : Bits) (bonded : List Pad) (levels kept : List Bool) where
   abbrev pub HasLevel : Point → Bool → Type 0

@@ -1,4 +1,4 @@
-//! The law of the bits of placed and routed designs. The function does nothing: its contract is the law.
+//! Laws of the bits of placed and routed designs. The functions do nothing: their contracts are the laws.
 ghost use Rattle.std.specs.Prelude.{Bool, List};
 ghost use Rattle.ice_chip.specs.Database.{PackageRows};
 ghost use Rattle.ice_bits.specs.Configuration.{Bits};
@@ -10,7 +10,7 @@ ghost use Rattle.ice_written.specs.Led.{AreLed};
 ghost use Rattle.ice_written.specs.Realised.{Realises};
 ghost use Rattle.ice_written.specs.Routed.{IsPlaced};
 ghost use Rattle.ice_written.specs.Set.{AreSet};
-ghost use Rattle.ice_realised.specs.Feeds.{FeedsNoGlobal};
+ghost use Rattle.ice_realised.specs.Feeds.{AreFedByIo, FeedsNoGlobal};
 
 use ice_chip::Chip;
 use ice_chip_laws::chip_is_lawful;
@@ -29,4 +29,11 @@ pub fn bits_realise_their_design(chip: &Chip)
     cells_stand_in_one_slot();
     flops_are_driven_as_their_cluster();
     runs_stand_in_chunks();
+}
+
+/// Where each global is fed by an IO tile, none is fed by a global: there what feeds it is an input pin.
+pub fn io_tiles_feed_no_global(chip: &Chip)
+    ensures { AreFedByIo chip.now → FeedsNoGlobal chip.now }
+{
+    chip_is_lawful(chip);
 }
