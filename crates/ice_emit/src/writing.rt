@@ -31,7 +31,6 @@ use ice_writing::{Setting, set_all, turn_all_on};
 use std::alloc::Global;
 
 // The rows that are wanted: those of the trees, and those that carry runs.
-#[tactic(auto, using(crate::proofs::Wanting::wanted_are))]
 fn rows_of(alloc: Global, placed: &Placed<'_>, trees: &[Tree]) -> Result<Vec<RowNo>, NoMemory>
     ensures { IfOk result (λ rows. switches placed.now.chip.now rows.items ≡ wanted_rows placed.now.chip.now (plan_in placed.now) (map route_of trees.now)) }
 {
@@ -71,7 +70,6 @@ fn settings_of(
 }
 
 // The same, of trees that are apart.
-#[tactic(auto, using(crate::proofs::Ready::are_routed))]
 fn settings_in(
     alloc: Global,
     placed: &Placed<'_>,
@@ -96,13 +94,7 @@ fn settings_in(
 }
 
 // Bits of a chip of which these rows and settings are set, and no others.
-#[tactic(auto, using(crate::proofs::Ready::all_set))]
-fn bits_with(
-    alloc: Global,
-    chip: &Chip,
-    rows: &[RowNo],
-    made: &[Setting],
-) -> Result<Bits, NoMemory>
+fn bits_with(alloc: Global, chip: &Chip, rows: &[RowNo], made: &[Setting]) -> Result<Bits, NoMemory>
     ensures { IfOk result (AreBitsWith chip.now rows.now made.now) }
 {
     let mut bits = blank(alloc, chip)?;
@@ -117,7 +109,6 @@ fn bits_with(
 ///
 /// # Errors
 /// Want of memory alone; more than 4,294,967,295 trees count as such.
-#[tactic(auto, using(crate::proofs::Ready::are_written))]
 pub fn emit(
     alloc: Global,
     chip: &Chip,
@@ -134,5 +125,6 @@ pub fn emit(
     let placed = placed_of(chip, design, clusters, placement, pads);
     let rows = rows_of(alloc, &placed, trees)?;
     let made = settings_in(alloc, &placed, pads.pullups(), trees, rows.as_slice())?;
-    bits_with(alloc, chip, rows.as_slice(), made.as_slice())
+    let bits = bits_with(alloc, chip, rows.as_slice(), made.as_slice())?;
+    Ok(bits)
 }
