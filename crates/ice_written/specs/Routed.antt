@@ -27,7 +27,7 @@ pub record IsPlaced (parts : Parts) (rows : PackageRows) (plan : Plan) (pullups 
   pub values : HasValues plan.design
   pub clusters : plan.clusters ≡ (clusters_of plan.design).list
   pub legal : IsLegalOn parts (chunks_of plan.clusters) plan.at
-  pub package : Has parts.packages rows
+  pub «package» : Has parts.packages rows
   pub pads : ArePads parts rows plan.design (pads_of plan pullups)
 
 -- One tree for each net: it leads over usable rows from the net's root to one target of each of its sinks. No wire is in two trees.
