@@ -1,10 +1,9 @@
 -- Wanted rows enter different wires, and come from roots or are links.
-use Rattle.std.proofs.Common.{◌≡◌, ◌⊎◌, ℕ, zero, suc, ◌+◌, ◌<◌, Bool, true, false, not, Option, None, Some, List, [], ◌∷◌, inl, inr, length, refl, sym, ap, ◌∙◌, subst, true≢false, arith}
-use Rattle.std.specs.Prelude.{◌&&◌, filter, slice_index_or}
+use Rattle.std.proofs.Common.{◌≡◌, ◌⊎◌, ℕ, zero, suc, ◌+◌, ◌<◌, Bool, true, not, Option, None, Some, List, inl, inr, refl, sym, ap, ◌∙◌, subst, true≢false, arith}
+use Rattle.std.specs.Prelude.{filter, slice_index_or}
 use Rattle.std.specs.Option.{option_and_then}
 use Rattle.std.proofs.lemmas.Bool.{and_parts}
 use Rattle.std.proofs.lemmas.Option.{none-some, same_Some}
-use Rattle.ice_base.specs.declared.number.RowNo.{RowNo}
 use Rattle.ice_base.specs.declared.number.TileAt.{TileAt}
 use Rattle.ice_base.specs.declared.number.WireNo.{WireNo}
 use Rattle.ice_base.proofs.Booleans.{not_true}
@@ -14,7 +13,7 @@ use Rattle.ice_value.proofs.Places.{At_same}
 use Rattle.ice_chip.specs.Database.{Parts, PackageRows}
 use Rattle.ice_chip.specs.Lookups.{kind_at, wire_named, is_io_kind}
 use Rattle.ice_chip.specs.PinNames.{is_global_name}
-use Rattle.ice_chip.specs.WireNames.{input_name, pad_input_name, carry_out_name, carry_in_name, first_carry_name, wire_name}
+use Rattle.ice_chip.specs.WireNames.{pad_input_name, carry_out_name, carry_in_name, first_carry_name, wire_name}
 use Rattle.ice_chip.specs.declared.parts.TileLine.{TileLine}
 use Rattle.ice_chip.specs.declared.rows.Pad.{Pad}
 use Rattle.ice_chip.specs.declared.rows.TileKind.{TileKind}
@@ -33,11 +32,9 @@ use Rattle.ice_cells.specs.declared.root.Root.{Root}
 use Rattle.ice_cells.specs.declared.root.Root.TheVariants.{PadIn}
 use Rattle.ice_plan.specs.Plan.{Plan}
 use Rattle.ice_plan.specs.Loads.{Pin, Input, Clock, Enable, SetReset, Feed, Drive, DriveEnable}
-use Rattle.ice_nets.specs.Ends.{wire_no, is_free}
-use Rattle.ice_nets.specs.Nets.{root_wire}
+use Rattle.ice_nets.specs.Ends.{wire_no}
 use Rattle.ice_negotiate.specs.Trees.{Route}
-use Rattle.ice_wiring.specs.Wanted.{AreWanted}
-use Rattle.ice_written.specs.Led.{IsBare, LeadFrom, IsEntryLed, IsOfRoot, IsLink}
+use Rattle.ice_written.specs.Led.{IsBare, IsEntryLed, IsOfRoot, IsLink}
 use Rattle.ice_written.specs.Links.{switch_numbered, carry_source, tree_switch}
 use Rattle.ice_written.specs.Routed.{AreTrees}
 use Rattle.ice_written.specs.Slots.{IsOn, StandsIn}
@@ -45,14 +42,14 @@ use Rattle.ice_written.specs.Written.{wanted_rows}
 use Rattle.ice_trees.specs.Pins.{IsInput, IsOutput, wire_of}
 use Rattle.ice_trees.specs.Reads.{Reads, AtDrive, AtDriveEnable, AtFeed, AtFixed, AtFree, AtClock, AtEnable, AtReset}
 use Rattle.ice_trees.specs.RowsLed.{AreRowsLed}
-use Rattle.ice_trees.specs.Trees.{IsOnChip, IsTreeOf, IsTreeRow}
+use Rattle.ice_trees.specs.Trees.{IsOnChip, IsTreeRow}
 use Rattle.ice_trees.proofs.Pins.{output_named, inputs_same, in_or_out, outputs_same}
 use Rattle.ice_trees.proofs.Lists.{flat_Has}
 use Rattle.ice_trees.proofs.Places.{logic_tile, one_cluster, one_cell, slot_below}
 use Rattle.ice_trees.proofs.Roots.{IsRootPin, OfPad, OfCell, OfGlobal, at_below, root_at, root_of_design}
 use Rattle.ice_trees.proofs.Trees.{tree_lead, one_tree, tree_led}
-use Rattle.ice_trees.proofs.Linked.{IsCellLink, IsChunkLink, IsFirst, IsBelow, tile_below}
-use Rattle.ice_trees.proofs.Wanted.{IsSoundRow, not_entered, link_of, wanted_told, chunk_linked, entered_pin, link_input}
+use Rattle.ice_trees.proofs.Linked.{IsCellLink, IsChunkLink, IsFirst, tile_below}
+use Rattle.ice_trees.proofs.Wanted.{not_entered, link_of, wanted_told, chunk_linked, entered_pin, cell_input, chunk_input, link_input}
 
 -- ---- pins by their wires
 input_of_cell : (pin : Pin) (i k : ℕ) → wire_of pin ≡ named.CellInput i k → pin ≡ Input i k
@@ -82,7 +79,13 @@ same_cell_input i k j l e = cc e
 pad_number : (j k : ℕ) → named.PadInput j ≡ named.PadInput k → j ≡ k
 pad_number j k e = cc e
 
-first_or_later : (r q k : ℕ) → (r, 0) ≡ (q, suc k) → ⊥
+cell_not_first : (i k : ℕ) → named.CellInput i k ≡ named.FirstCarry → ⊥
+cell_not_first i k e = cc e
+
+carry_not_pad : (i pio : ℕ) → named.CarryOut i ≡ named.PadInput pio → ⊥
+carry_not_pad i pio e = cc e
+
+first_or_later : (r q k : ℕ) → ◌≡◌ {A = ℕ × ℕ} (r, 0) (q, suc k) → ⊥
 first_or_later r q k e = let f : 0 ≡ suc k = ap (λ (p : ℕ × ℕ). p.1) e in omega (arith, f)
 
 io_of : (kind : TileKind) → is_io_kind kind ≡ true → kind ≡ Io
@@ -144,32 +147,38 @@ module _ (parts : Parts) (rows : PackageRows) (plan : Plan) (pullups : List Bool
     ]
 
     -- ---- different rows enter different wires
-    tree_or_link : (s u : Switch) → IsTreeRow parts plan routes s → IsCellLink parts plan u ⊎ IsChunkLink parts plan u → s.target.0 ≡ u.target.0 → ⊥
-    tree_or_link s u p (inl l) same =
-        let in_ = link_input parts rows plan pullups on routes trees u (inl l) in
-        let got = entered_pin parts rows plan pullups on routes trees s p l.tile (named.CellInput l.place 3) (subst (λ (v : ℕ). IsInput parts l.tile (named.CellInput l.place 3) v) (sym same) in_.2) in
+    tree_or_cell : (s u : Switch) → IsTreeRow parts plan routes s → IsCellLink parts plan u → s.target.0 ≡ u.target.0 → ⊥
+    tree_or_cell s u p l same =
+        let got = entered_pin parts rows plan pullups on routes trees s p l.tile (named.CellInput l.place 3)
+        (subst (λ (v : ℕ). IsInput parts l.tile (named.CellInput l.place 3) v) (sym same) (cell_input parts rows plan pullups on routes trees u l)) in
         chained_reads l.tile got.1 got.0.0 l.place l.number l.cell got.6 (input_of_cell got.1 l.place 3 got.5) l.stands l.chained
-    tree_or_link s u p (inr l) same =
-        let in_ = link_input parts rows plan pullups on routes trees u (inr l) in
-        let got = entered_pin parts rows plan pullups on routes trees s p l.tile named.FirstCarry (subst (λ (v : ℕ). IsInput parts l.tile named.FirstCarry v) (sym same) in_.2) in
+
+    tree_or_chunk : (s u : Switch) → IsTreeRow parts plan routes s → IsChunkLink parts plan u → s.target.0 ≡ u.target.0 → ⊥
+    tree_or_chunk s u p l same =
+        let got = entered_pin parts rows plan pullups on routes trees s p l.tile named.FirstCarry (subst (λ (v : ℕ). IsInput parts l.tile named.FirstCarry v) (sym same) (chunk_input parts rows plan pullups on routes trees u l)) in
         never_first got.1 got.5
 
-    both : (s u : Switch) (a : IsCellLink parts plan s ⊎ IsChunkLink parts plan s) (b : IsCellLink parts plan u ⊎ IsChunkLink parts plan u) → s.target.0 ≡ u.target.0
-        → ((link_input parts rows plan pullups on routes trees s a).1 ≡ (link_input parts rows plan pullups on routes trees u b).1) × ((link_input parts rows plan pullups on routes trees s a).0 ≡ (link_input parts rows plan pullups on routes trees u b).0)
-    both s u a b same =
-        let x = link_input parts rows plan pullups on routes trees s a in
-        let y = link_input parts rows plan pullups on routes trees u b in
-        inputs_same parts on.lawful on.names x.0 y.0 x.1 y.1 u.target.0 (subst (λ (v : ℕ). IsInput parts x.0 x.1 v) same x.2) y.2
+    tree_or_link : (s u : Switch) → IsTreeRow parts plan routes s → IsCellLink parts plan u ⊎ IsChunkLink parts plan u → s.target.0 ≡ u.target.0 → ⊥
+    tree_or_link s u p (inl l) same = tree_or_cell s u p l same
+    tree_or_link s u p (inr l) same = tree_or_chunk s u p l same
+
+    cell_or_chunk : (s u : Switch) → IsCellLink parts plan s → IsChunkLink parts plan u → s.target.0 ≡ u.target.0 → ⊥
+    cell_or_chunk s u l m same =
+        cell_not_first l.place 3
+        (inputs_same parts on.lawful on.names l.tile m.tile (named.CellInput l.place 3) named.FirstCarry s.target.0 (cell_input parts rows plan pullups on routes trees s l)
+        (subst (λ (v : ℕ). IsInput parts m.tile named.FirstCarry v) (sym same) (chunk_input parts rows plan pullups on routes trees u m))).0
 
     one_source : (s u : Switch) → IsCellLink parts plan s ⊎ IsChunkLink parts plan s → IsCellLink parts plan u ⊎ IsChunkLink parts plan u → s.target.0 ≡ u.target.0 → s.source.0 ≡ u.source.0
     one_source s u (inl l) (inl m) same =
-        let two = both s u (inl l) (inl m) same in
+        let two = inputs_same parts on.lawful on.names l.tile m.tile (named.CellInput l.place 3) (named.CellInput m.place 3) s.target.0 (cell_input parts rows plan pullups on routes trees s l)
+        (subst (λ (v : ℕ). IsInput parts m.tile (named.CellInput m.place 3) v) (sym same) (cell_input parts rows plan pullups on routes trees u m)) in
         same_Some s.source.0 u.source.0
         (sym l.from ∙ ap (λ (t : TileAt). carry_source parts t l.place) two.1 ∙ ap (carry_source parts m.tile) (same_cell_input l.place 3 m.place 3 two.0) ∙ m.from)
-    one_source s u (inl l) (inr m) same = absurd (let two = both s u (inl l) (inr m) same in cc two.0)
-    one_source s u (inr l) (inl m) same = absurd (let two = both s u (inr l) (inl m) same in cc two.0)
+    one_source s u (inl l) (inr m) same = absurd (cell_or_chunk s u l m same)
+    one_source s u (inr l) (inl m) same = absurd (cell_or_chunk u s m l (sym same))
     one_source s u (inr l) (inr m) same =
-        let two = both s u (inr l) (inr m) same in
+        let two = inputs_same parts on.lawful on.names l.tile m.tile named.FirstCarry named.FirstCarry s.target.0 (chunk_input parts rows plan pullups on routes trees s l)
+        (subst (λ (v : ℕ). IsInput parts m.tile named.FirstCarry v) (sym same) (chunk_input parts rows plan pullups on routes trees u m)) in
         same_Some s.source.0 u.source.0 (sym l.from ∙ ap (λ (t : TileAt). wire_named parts t carry_in_name) two.1 ∙ m.from)
 
     apart : (s u : Switch) → Has (wanted_rows parts plan routes) s → Has (wanted_rows parts plan routes) u → s.target.0 ≡ u.target.0 → s ≡ u
@@ -199,11 +208,10 @@ module _ (parts : Parts) (rows : PackageRows) (plan : Plan) (pullups : List Bool
         elim (wanted_told parts rows plan pullups on routes trees s has).0 [
           | inl tree ↦ (let got = entered_pin parts rows plan pullups on routes trees s tree t named.FirstCarry input in never_first got.1 got.5)
           | inr (inl cell, first) ↦ (
-              let in_ = link_input parts rows plan pullups on routes trees s (inl cell) in
-              let two = inputs_same parts on.lawful on.names in_.0 t in_.1 named.FirstCarry s.target.0 in_.2 input in cc two.0)
+              let two = inputs_same parts on.lawful on.names cell.tile t (named.CellInput cell.place 3) named.FirstCarry s.target.0 (cell_input parts rows plan pullups on routes trees s cell) input in
+              cell_not_first cell.place 3 two.0)
           | inr (inr chunk, first) ↦ (
-              let in_ = link_input parts rows plan pullups on routes trees s (inr chunk) in
-              let two = inputs_same parts on.lawful on.names in_.0 t in_.1 named.FirstCarry s.target.0 in_.2 input in
+              let two = inputs_same parts on.lawful on.names chunk.tile t named.FirstCarry named.FirstCarry s.target.0 (chunk_input parts rows plan pullups on routes trees s chunk) input in
               let clusters : chunk.cluster ≡ cluster = one_cluster parts rows plan pullups on t chunk.cluster cluster (subst (λ (u : TileAt). IsOn plan u chunk.cluster) two.1 chunk.on) is in
               never chunk.run chunk.chunk (ap (λ (c : Cluster). c.run) (sym clusters) ∙ chunk.run_is))
         ]
@@ -242,8 +250,7 @@ module _ (parts : Parts) (rows : PackageRows) (plan : Plan) (pullups : List Bool
 
         carry_or_pad : (t : TileAt) (i : ℕ) → kind_at parts t ≡ Some Logic → i < 8 → wire_named parts t (carry_out_name i) ≡ Some s.source.0 → ⊥
         carry_or_pad t i logic lt from =
-            let two = outputs_same parts on.lawful on.names t pad.tile (named.CarryOut i) (named.PadInput pad.pio) s.source.0 (carry_output t i s.source.0 logic lt from) out in
-            cc two.0
+            carry_not_pad i pad.pio (outputs_same parts on.lawful on.names t pad.tile (named.CarryOut i) (named.PadInput pad.pio) s.source.0 (carry_output t i s.source.0 logic lt from) out).0
 
         never_link : IsCellLink parts plan s ⊎ IsChunkLink parts plan s → ⊥
         never_link (inl l) = cell_source l.place (slot_below parts rows plan pullups on l.tile l.place l.number l.cell l.stands) l.from

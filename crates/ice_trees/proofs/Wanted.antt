@@ -1,6 +1,6 @@
 -- Each wanted row is a row of a tree, or a link.
-use Rattle.std.proofs.Common.{◌≡◌, ◌⊎◌, ℕ, zero, suc, ◌+◌, ◌≤◌, ◌<◌, Bool, true, false, Option, None, Some, List, [], ◌∷◌, ◌++◌, inl, inr, length, map, refl, sym, ap, ◌∙◌, subst, true≢false, arith, add-one}
-use Rattle.std.specs.Prelude.{filter_map, flat_map, not, ◌&&◌}
+use Rattle.std.proofs.Common.{◌≡◌, ◌⊎◌, ℕ, zero, suc, ◌+◌, Bool, true, Option, Some, List, inl, inr, map, refl, sym, ap, ◌∙◌, subst, true≢false, arith}
+use Rattle.std.specs.Prelude.{filter_map, flat_map, not}
 use Rattle.std.proofs.lemmas.Bool.{and_parts}
 use Rattle.std.proofs.lemmas.Option.{same_Some, slice_get_within}
 use Rattle.ice_base.specs.declared.number.RowNo.{RowNo}
@@ -9,7 +9,6 @@ use Rattle.ice_base.specs.declared.number.WireNo.{WireNo}
 use Rattle.ice_base.proofs.Booleans.{not_true}
 use Rattle.ice_value.specs.Order.{At, Has}
 use Rattle.ice_value.proofs.Members.{map_At}
-use Rattle.ice_value.proofs.Places.{At_same}
 use Rattle.ice_chip.specs.Database.{Parts, PackageRows, SwitchGroup, SwitchRow}
 use Rattle.ice_chip.specs.Lookups.{wire_named}
 use Rattle.ice_chip.specs.WireNames.{input_name, carry_out_name, first_carry_name}
@@ -37,7 +36,7 @@ use Rattle.ice_written.specs.Slots.{IsOn, StandsIn}
 use Rattle.ice_written.specs.Written.{route_rows, wanted_rows}
 use Rattle.ice_trees.specs.Trees.{IsOnChip, IsTreeOf, IsTreeRow}
 use Rattle.ice_trees.specs.Pins.{IsInput, wire_of}
-use Rattle.ice_trees.specs.Reads.{Reads, IsEnd}
+use Rattle.ice_trees.specs.Reads.{Reads}
 use Rattle.ice_trees.proofs.Pins.{input_named, inputs_same}
 use Rattle.ice_trees.proofs.Lists.{flat_Has}
 use Rattle.ice_trees.proofs.Places.{logic_tile, slot_below}
@@ -45,7 +44,7 @@ use Rattle.ice_trees.proofs.Ends.{each_end}
 use Rattle.ice_trees.proofs.Reading.{reads_input}
 use Rattle.ice_trees.proofs.Roots.{at_below}
 use Rattle.ice_trees.proofs.Edges.{IsSwitchOf, usable_switch}
-use Rattle.ice_trees.proofs.Growing.{IsEntered, entered}
+use Rattle.ice_trees.proofs.Growing.{entered}
 use Rattle.ice_trees.proofs.Trees.{tree_lead, tree_at, tree_input}
 use Rattle.ice_trees.proofs.Linked.{IsCellLink, IsChunkLink, IsFirst, IsBelow, tile_below, link_is, cell_link, chunk_link}
 
@@ -141,12 +140,18 @@ module _ (parts : Parts) (rows : PackageRows) (plan : Plan) (pullups : List Bool
       (e.0, target.1, e.1, e.2, e.3, same.0, subst (λ (u : TileAt). Reads parts plan u target.1 e.0.0) same.1 target.2)
 
   -- a link enters an input
-  pub link_input : (s : Switch) → IsCellLink parts plan s ⊎ IsChunkLink parts plan s → (t : TileAt) × (wire : TileWire) × IsInput parts t wire s.target.0
-  link_input s (inl l) = (l.tile, named.CellInput l.place 3, record {
+  pub cell_input : (s : Switch) (l : IsCellLink parts plan s) → IsInput parts l.tile (named.CellInput l.place 3) s.target.0
+  cell_input s l = record {
     kind = Logic;
     kind_is = logic_tile parts rows plan pullups on l.tile l.stands.cluster l.stands.on;
     within = (slot_below parts rows plan pullups on l.tile l.place l.number l.cell l.stands, omega arith);
     found = l.to;
     reads = refl;
-  })
-  link_input s (inr l) = (l.tile, named.FirstCarry, record { kind = Logic; kind_is = logic_tile parts rows plan pullups on l.tile l.cluster l.on; within = tt; found = l.to; reads = refl })
+  }
+
+  pub chunk_input : (s : Switch) (l : IsChunkLink parts plan s) → IsInput parts l.tile named.FirstCarry s.target.0
+  chunk_input s l = record { kind = Logic; kind_is = logic_tile parts rows plan pullups on l.tile l.cluster l.on; within = tt; found = l.to; reads = refl }
+
+  pub link_input : (s : Switch) → IsCellLink parts plan s ⊎ IsChunkLink parts plan s → (t : TileAt) × (wire : TileWire) × IsInput parts t wire s.target.0
+  link_input s (inl l) = (l.tile, named.CellInput l.place 3, cell_input s l)
+  link_input s (inr l) = (l.tile, named.FirstCarry, chunk_input s l)
