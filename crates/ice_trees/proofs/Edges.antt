@@ -77,16 +77,18 @@ module _ (parts : Parts) (numbers : HasRows parts) where
       let r : SwitchRow = got.2.1 in
       let two = and_parts (is_sound parts g n r && may_leave parts r.source) (may_enter parts g.wire) got.2.3 in
       let sound = and_parts (is_sound parts g n r) (may_leave parts r.source) two.0 in
-      let edges : edge g n r ≡ e = sym got.2.4 in
-      (switch g n r, record {
-        group = g;
-        row_in = r;
-        is_row = record { in_groups = got.1; place = got.2.0; in_rows = got.2.2; number = refl; tile = refl; source = refl; target = refl };
-        sound = sound.0;
-        numbered = ap (λ (x : Edge). tree_switch parts x.row) (sym edges) ∙ numbered_switch g got.2.0 r got.1 got.2.2;
-        row = ap (λ (x : Edge). x.row) edges;
-        source = ap (λ (x : Edge). x.from) edges;
-        target = ap (λ (x : Edge). x.to) edges;
-        leave = sound.1;
-        enter = two.1;
-      })
+      let edges : edge g n r ≡ e = sym got.2.4 in (
+        switch g n r,
+        record {
+          group = g;
+          row_in = r;
+          is_row = record { in_groups = got.1; place = got.2.0; in_rows = got.2.2; number = refl; tile = refl; source = refl; target = refl };
+          sound = sound.0;
+          numbered = ap (λ (x : Edge). tree_switch parts x.row) (sym edges) ∙ numbered_switch g got.2.0 r got.1 got.2.2;
+          row = ap (λ (x : Edge). x.row) edges;
+          source = ap (λ (x : Edge). x.from) edges;
+          target = ap (λ (x : Edge). x.to) edges;
+          leave = sound.1;
+          enter = two.1;
+        },
+      )

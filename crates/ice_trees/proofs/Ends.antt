@@ -33,7 +33,7 @@ slot_given {A} of_cell cells t i (slot ∷ slots) x has =
     elim (Has_append_cases (slot_gives of_cell cells t i slot) (slots_give of_cell cells t (i + 1) slots) x has) [
       | inl here ↦ by slot here
       | inr there ↦ let got = slot_given of_cell cells t (i + 1) slots x there in
-        (suc got.0, got.1, got.2, got.3, got.4, subst (λ (n : ℕ). Has (of_cell t n got.2) x) (let e : i + 1 + got.0 ≡ i + suc got.0 = omega arith in e) got.5)
+          (suc got.0, got.1, got.2, got.3, got.4, subst (λ (n : ℕ). Has (of_cell t n got.2) x) (let e : i + 1 + got.0 ≡ i + suc got.0 = omega arith in e) got.5)
     ]
   where
     of : (c : ℕ) (o : Option LogicCell) → slice_get cells c ≡ o → Has (option_map_or (of_cell t i) o []) x → (cell : LogicCell) × At cells c cell × Has (of_cell t (i + 0) cell) x

@@ -1,5 +1,5 @@
 -- The links of a placed design: sound rows that bring carries to last inputs, and into tiles.
-use Rattle.std.proofs.Common.{◌≡◌, ◌⊎◌, ℕ, zero, suc, ◌+◌, ◌*◌, ◌/◌, ◌<◌, Bool, true, false, cond, Option, None, Some, List, [], ◌∷◌, inl, inr, length, refl, sym, ap, ◌∙◌, subst, true≢false, add-one, arith}
+use Rattle.std.proofs.Common.{◌≡◌, ◌⊎◌, ℕ, zero, suc, ◌+◌, ◌*◌, ◌/◌, ◌%◌, ◌<◌, Bool, true, false, cond, Option, None, Some, List, [], ◌∷◌, inl, inr, length, refl, sym, ap, ◌∙◌, subst, true≢false, add-one, arith}
 use Rattle.std.specs.Prelude.{◌==◌, ◌&&◌}
 use Rattle.std.specs.Option.{option_and_then, option_map_or}
 use Rattle.std.proofs.lemmas.Bool.{and_parts}
@@ -22,6 +22,8 @@ use Rattle.ice_rows.specs.Bundles.{groups_into}
 use Rattle.ice_rows.specs.FirstSound.{first_of, first_among, first_sound}
 use Rattle.ice_rows.specs.Sound.{is_sound}
 use Rattle.ice_cells.specs.declared.cell.LogicCell.{LogicCell}
+use Rattle.ice_chunks.specs.Chunks.{HoldsChunk}
+use Rattle.ice_cells.specs.Clusters.{clusters_of}
 use Rattle.ice_cells.specs.declared.cluster.Cluster.{Cluster}
 use Rattle.ice_sites.specs.Site.{leads, is_same_wire, is_above, is_link}
 use Rattle.ice_sites.specs.Legal.{is_next, chunk_of, tile_at}
@@ -84,15 +86,18 @@ module _ (parts : Parts) (numbers : HasRows parts) where
       let g : SwitchGroup = got.0 in
       let into = filter_Has (λ (h : SwitchGroup). h.wire == target) parts.groups g got.1 in
       let r : SwitchRow = got.2.1 in
-      let number : n ≡ g.first + got.2.0 = got.2.3 in
-      (switch g n r, subst (λ (k : ℕ). switch_numbered parts k ≡ Some (switch g k r)) (sym number) (numbered_switch parts numbers g got.2.0 r into.0 got.2.2), record {
-        group = g;
-        row_in = r;
-        is_row = record { in_groups = into.0; place = got.2.0; in_rows = got.2.2; number = number; tile = refl; source = refl; target = refl };
-        sound = got.2.5;
-        from = got.2.4;
-        to = nat_same g.wire target into.1;
-      })
+      let number : n ≡ g.first + got.2.0 = got.2.3 in (
+        switch g n r,
+        subst (λ (k : ℕ). switch_numbered parts k ≡ Some (switch g k r)) (sym number) (numbered_switch parts numbers g got.2.0 r into.0 got.2.2),
+        record {
+          group = g;
+          row_in = r;
+          is_row = record { in_groups = into.0; place = got.2.0; in_rows = got.2.2; number = number; tile = refl; source = refl; target = refl };
+          sound = got.2.5;
+          from = got.2.4;
+          to = nat_same g.wire target into.1;
+        },
+      )
 
   -- what a link is
   pub link_told : (source target : Option ℕ) (s : Switch) → Has (link parts source target) s → (v : ℕ) × (w : ℕ) × (source ≡ Some v) × (target ≡ Some w) × IsSoundLink parts v w s
@@ -151,6 +156,15 @@ same_wire_told None b e = absurd (true≢false (sym e))
 same_wire_told (Some v) None e = absurd (true≢false (sym e))
 same_wire_told (Some v) (Some w) e = (v, refl, ap (λ (n : ℕ). Some n) (sym (nat_same v w e)))
 
+-- what a link of two tiles says
+link_parts : (parts : Parts) (low high : TileAt) → is_link parts low high ≡ true
+    → (v : ℕ) × (wire_named parts low (carry_out_name 7) ≡ Some v) × (wire_named parts high carry_in_name ≡ Some v) × (leads parts (wire_named parts high carry_in_name) (wire_named parts high first_carry_name) ≡ true)
+link_parts parts low high e =
+    let two = and_parts (is_above low high && is_same_wire (wire_named parts high carry_in_name) (wire_named parts low (carry_out_name 7))) (leads parts (wire_named parts high carry_in_name) (wire_named parts high first_carry_name)) e in
+    let wires = and_parts (is_above low high) (is_same_wire (wire_named parts high carry_in_name) (wire_named parts low (carry_out_name 7))) two.0 in
+    let same = same_wire_told (wire_named parts high carry_in_name) (wire_named parts low (carry_out_name 7)) wires.1 in
+    (same.0, same.2, same.1, two.1)
+
 both_so : (a b : Bool) → a ≡ true → b ≡ true → (a && b) ≡ true
 both_so true b e f = f
 both_so false b e f = e
@@ -207,23 +221,30 @@ module _ (parts : Parts) (rows : PackageRows) (plan : Plan) (pullups : List Bool
   chunk_is : (n : ℕ) (cluster : Cluster) → At plan.clusters n cluster → chunk_of (chunks_of plan.clusters) n ≡ cluster.run
   chunk_is n cluster at = get_or_from_slice_get (chunks_of plan.clusters) n cluster.run None (At_map (λ (c : Cluster). c.run) plan.clusters n cluster at)
 
+  linked_tiles : (n m r k : ℕ) (a b : Cluster) (low t : TileAt) → At plan.clusters n a → At plan.clusters m b → At plan.at n low → At plan.at m t → a.run ≡ Some (r, k) → b.run ≡ Some (r, suc k) → is_link parts low t ≡ true
+  linked_tiles n m r k a b low t at_a at_b at_low at_t run_a run_b =
+      let next : is_next (chunk_of (chunks_of plan.clusters) n) (chunk_of (chunks_of plan.clusters) m) ≡ true =
+      ap (λ (o : Option (ℕ × ℕ)). is_next o (chunk_of (chunks_of plan.clusters) m)) (chunk_is n a at_a ∙ run_a) ∙ ap (λ (o : Option (ℕ × ℕ)). is_next (Some (r, k)) o) (chunk_is m b at_b ∙ run_b) ∙ next_chunk r k in
+      let linked = on.placed.legal.linked n m (slice_get_within plan.at n low at_low) (slice_get_within plan.at m t at_t) next in
+      subst (λ (u : TileAt). is_link parts low u ≡ true) (tile_is parts rows plan pullups on m t at_t)
+      (subst (λ (u : TileAt). is_link parts u (tile_at plan.at m) ≡ true) (tile_is parts rows plan pullups on n low at_low) linked)
+
   pub tile_below : (t : TileAt) (cluster : Cluster) (r k : ℕ) → IsOn plan t cluster → cluster.run ≡ Some (r, suc k) → IsBelow parts plan t r k
-  tile_below t cluster r k is e =
-      let holds = on.chunks.holds is.number r (suc k) cluster (subst (λ (cs : List Cluster). At cs is.number cluster) on.placed.clusters is.cluster_is) e in
-      let c = at_below holds.run.cells (8 * k) (let lt : 8 * suc k < length holds.run.cells = holds.some in omega (arith, lt)) in
-      let there = on.chunks.there r (8 * k) c.0 holds.run holds.run_is c.1 in
-      let below_is : At plan.clusters there.0 there.1 = subst (λ (cs : List Cluster). At cs there.0 there.1) (sym on.placed.clusters) there.2 in
-      let run_is : (there.1).run ≡ Some (r, k) = there.3 ∙ ap (λ (j : ℕ). Some (r, j)) (eighth k) in
-      let low = tile_of_cluster parts rows plan pullups on there.0 there.1 below_is in
-      let next : is_next (chunk_of (chunks_of plan.clusters) there.0) (chunk_of (chunks_of plan.clusters) is.number) ≡ true =
-      ap (λ (o : Option (ℕ × ℕ)). is_next o (chunk_of (chunks_of plan.clusters) is.number)) (chunk_is there.0 there.1 below_is ∙ run_is)
-      ∙ ap (λ (o : Option (ℕ × ℕ)). is_next (Some (r, k)) o) (chunk_is is.number cluster is.cluster_is ∙ e) ∙ next_chunk r k in
-      let linked = on.placed.legal.linked there.0 is.number (slice_get_within plan.at there.0 low.0 low.1) (slice_get_within plan.at is.number t is.tile_is) next in
-      let here : is_link parts low.0 t ≡ true =
-      ap (λ (u : TileAt). is_link parts u t) (sym (tile_is parts rows plan pullups on there.0 low.0 low.1)) ∙ ap (is_link parts (tile_at plan.at there.0)) (sym (tile_is parts rows plan pullups on is.number t is.tile_is)) ∙ linked in
-      let two = and_parts (is_above low.0 t && is_same_wire (wire_named parts t carry_in_name) (wire_named parts low.0 (carry_out_name 7))) (leads parts (wire_named parts t carry_in_name) (wire_named parts t first_carry_name)) here in
-      let same = same_wire_told (wire_named parts t carry_in_name) (wire_named parts low.0 (carry_out_name 7)) (and_parts (is_above low.0 t) (is_same_wire (wire_named parts t carry_in_name) (wire_named parts low.0 (carry_out_name 7))) two.0).1 in
-      record { low = low.0; below = there.1; on = record { number = there.0; cluster_is = below_is; tile_is = low.1 }; run_is = run_is; wire = same.0; out = same.2; into = same.1; leads_on = two.1 }
+  tile_below t cluster r k is e = by (on.chunks.there r (8 * k) c.0 holds.run holds.run_is c.1)
+    where
+      holds : HoldsChunk plan.design cluster r (suc k)
+      holds = on.chunks.holds is.number r (suc k) cluster (subst (λ (cs : List Cluster). At cs is.number cluster) on.placed.clusters is.cluster_is) e
+
+      c : (c : ℕ) × At holds.run.cells (8 * k) c
+      c = at_below holds.run.cells (8 * k) (let lt : 8 * suc k < length holds.run.cells = holds.some in omega (arith, lt))
+
+      by : (n : ℕ) × (below : Cluster) × At (clusters_of plan.design).list n below × (below.run ≡ Some (r, 8 * k / 8)) × At below.cells (8 * k % 8) (Some c.0) → IsBelow parts plan t r k
+      by (n, below, at, run, slot) =
+          let below_is : At plan.clusters n below = subst (λ (cs : List Cluster). At cs n below) (sym on.placed.clusters) at in
+          let run_is : below.run ≡ Some (r, k) = run ∙ ap (λ (j : ℕ). Some (r, j)) (eighth k) in
+          let low = tile_of_cluster parts rows plan pullups on n below below_is in
+          let link = link_parts parts low.0 t (linked_tiles n is.number r k below cluster low.0 t below_is is.cluster_is low.1 is.tile_is run_is e) in
+          record { low = low.0; below = below; on = record { number = n; cluster_is = below_is; tile_is = low.1 }; run_is = run_is; wire = link.0; out = link.1; into = link.2; leads_on = link.3 }
 
   -- ---- what each link is
   first_is : (source target : Option ℕ) (s : Switch) → Has (link parts source target) s → (source ≡ Some s.source.0) × (target ≡ Some s.target.0) × IsFirst parts s

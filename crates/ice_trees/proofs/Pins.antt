@@ -72,14 +72,14 @@ module _ (parts : Parts) (law : IsLawful parts) (names : WireNamesAreRead) where
   input_pin t wire w p = (
     law.names.found t (wire_name wire) w p.found,
     ap (λ (o : Option TileKind). is_pin_in o (wire_name wire)) p.kind_is
-    ∙ or_left (is_input_name p.kind (wire_name wire)) (is_output_name p.kind (wire_name wire)) (input_name_of p.kind wire p.within p.reads),
+        ∙ or_left (is_input_name p.kind (wire_name wire)) (is_output_name p.kind (wire_name wire)) (input_name_of p.kind wire p.within p.reads),
   )
 
   output_pin : (t : TileAt) (wire : TileWire) (w : ℕ) → IsOutput parts t wire w → IsPinOf parts w (placed_at t (wire_name wire))
   output_pin t wire w p = (
     law.names.found t (wire_name wire) w p.found,
     ap (λ (o : Option TileKind). is_pin_in o (wire_name wire)) p.kind_is
-    ∙ or_right (is_input_name p.kind (wire_name wire)) (is_output_name p.kind (wire_name wire)) (output_name_of p.kind wire p.within p.drives),
+        ∙ or_right (is_input_name p.kind (wire_name wire)) (is_output_name p.kind (wire_name wire)) (output_name_of p.kind wire p.within p.drives),
   )
 
   pub input_named : (t : TileAt) (wire : TileWire) (w : ℕ) → IsInput parts t wire w → has_input_name parts w ≡ true
@@ -128,14 +128,17 @@ module _ (parts : Parts) (law : IsLawful parts) (names : WireNamesAreRead) where
           → (t : TileAt) × (wire : TileWire) × IsInput parts t wire w
       told n has kind is None f g = absurd (true≢false (sym g))
       told n has kind is (Some wire) f g =
-          let name = subst (λ (o : Option TileWire). IfSome o (IsNamedWire n.name)) f (names.told n.name) in
-          (n.tile, wire, record {
-            kind = kind;
-            kind_is = is;
-            within = name.within;
-            found = law.names.named n.tile (wire_name wire) w (subst (λ (x : List ℕ). HasName parts w (placed_at n.tile x)) name.named has);
-            reads = g;
-          })
+          let name = subst (λ (o : Option TileWire). IfSome o (IsNamedWire n.name)) f (names.told n.name) in (
+            n.tile,
+            wire,
+            record {
+              kind = kind;
+              kind_is = is;
+              within = name.within;
+              found = law.names.named n.tile (wire_name wire) w (subst (λ (x : List ℕ). HasName parts w (placed_at n.tile x)) name.named has);
+              reads = g;
+            },
+          )
 
       by : (n : PlacedName) → Has (names_of parts w) n → (o : Option TileKind) → kind_at parts n.tile ≡ o → is_input_in o n.name ≡ true → (t : TileAt) × (wire : TileWire) × IsInput parts t wire w
       by n has None is f = absurd (true≢false (sym f))

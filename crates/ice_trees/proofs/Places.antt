@@ -78,7 +78,7 @@ pin_pad pin = pin.1
 
 one_more : (p : Pad → Bool) (ks : List Pad) (k : Pad) (b : Bool) → list_any p (cond b ks (ks ++ k ∷ [])) ≡ true → (list_any p ks ≡ true) ⊎ (p k ≡ true)
 one_more p ks k true any = inl any
-one_more p ks k false any = elim (or_cases (list_any p ks) (p k || false) (sym (list_any-append p ks (k ∷ [])) ∙ any) ) [
+one_more p ks k false any = elim (or_cases (list_any p ks) (p k || false) (sym (list_any-append p ks (k ∷ [])) ∙ any)) [
   | inl old ↦ inl old
   | inr new ↦ inr (sym (or_false (p k)) ∙ new)
 ]

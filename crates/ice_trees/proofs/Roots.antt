@@ -172,7 +172,7 @@ last_holds : (parts : Parts) (t : TileAt) (i : ℕ) → has_cell parts t i ≡ t
 last_holds parts t i e =
     (and_parts (has_wire parts t (input_name i 0) && has_wire parts t (input_name i 1) && has_wire parts t (input_name i 2) && has_wire parts t (input_name i 3)) (has_wire parts t (output_name i)) e).1
 
-pad_number : (j k : ℕ) → named.PadInput j ≡ named.PadInput k → j ≡ k
+pub pad_number : (j k : ℕ) → named.PadInput j ≡ named.PadInput k → j ≡ k
 pad_number j k e = cc e
 
 cell_number : (j k : ℕ) → named.CellOutput j ≡ named.CellOutput k → j ≡ k
@@ -229,27 +229,35 @@ module _ (parts : Parts) (rows : PackageRows) (plan : Plan) (pullups : List Bool
       (got.0.tile, named.PadInput got.0.pio, OfPad k got.0 got.1, record { kind = Io; kind_is = io.0; within = pio_below parts rows plan pullups on k got.0 got.1; found = got.2; drives = refl })
   root_at (CellOut c) v read e =
       let got = and_then_some (slot_wire parts) (slot_of plan c) v e in
-      let s = cell_stands c got.0 (root_of_design (CellOut c) read) got.1 in
-      (got.0.0, named.CellOutput got.0.1, OfCell got.0.0 got.0.1 c s.0 s.1, record {
-        kind = Logic;
-        kind_is = logic_tile parts rows plan pullups on got.0.0 s.1.cluster s.1.on;
-        within = slot_below parts rows plan pullups on got.0.0 got.0.1 c s.0 s.1;
-        found = got.2;
-        drives = refl;
-      })
+      let s = cell_stands c got.0 (root_of_design (CellOut c) read) got.1 in (
+        got.0.0,
+        named.CellOutput got.0.1,
+        OfCell got.0.0 got.0.1 c s.0 s.1,
+        record {
+          kind = Logic;
+          kind_is = logic_tile parts rows plan pullups on got.0.0 s.1.cluster s.1.on;
+          within = slot_below parts rows plan pullups on got.0.0 got.0.1 c s.0 s.1;
+          found = got.2;
+          drives = refl;
+        },
+      )
   root_at (GlobalOut g) v read e =
       let got = and_then_some (global_wire parts) (slice_get plan.globals g) v e in
       let passes = passing_told (has_name parts (global_name got.0)) 0 parts.wires v got.2 in
       let n = any_Has (λ (n : PlacedName). bytes_eq n.name (global_name got.0)) (names_of parts v) passes in
       let stands = on.lawful.names.placed v n.0 n.1 in
-      let has : HasName parts v (placed_at n.0.tile (global_name got.0)) = subst (λ (x : List ℕ). HasName parts v (placed_at n.0.tile x)) (bytes_same n.0.name (global_name got.0) n.2) n.1 in
-      (n.0.tile, named.Global got.0, OfGlobal g got.0 n.0.tile got.1, record {
-        kind = stands.0;
-        kind_is = stands.1;
-        within = (on.placed.pads.fed g got.0 got.1).below;
-        found = on.lawful.names.named n.0.tile (global_name got.0) v has;
-        drives = global_drives stands.0 got.0;
-      })
+      let has : HasName parts v (placed_at n.0.tile (global_name got.0)) = subst (λ (x : List ℕ). HasName parts v (placed_at n.0.tile x)) (bytes_same n.0.name (global_name got.0) n.2) n.1 in (
+        n.0.tile,
+        named.Global got.0,
+        OfGlobal g got.0 n.0.tile got.1,
+        record {
+          kind = stands.0;
+          kind_is = stands.1;
+          within = (on.placed.pads.fed g got.0 got.1).below;
+          found = on.lawful.names.named n.0.tile (global_name got.0) v has;
+          drives = global_drives stands.0 got.0;
+        },
+      )
   root_at (CarryOut c) v read e = absurd (none-some v e)
 
   pub root_out : (root : Root) (v : ℕ) → is_read plan.design root ≡ true → root_wire parts plan root ≡ Some v → has_output_name parts v ≡ true

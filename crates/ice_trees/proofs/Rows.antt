@@ -46,10 +46,10 @@ use Rattle.ice_trees.specs.Trees.{IsOnChip, IsTreeRow}
 use Rattle.ice_trees.proofs.Pins.{output_named, inputs_same, in_or_out, outputs_same}
 use Rattle.ice_trees.proofs.Lists.{flat_Has}
 use Rattle.ice_trees.proofs.Places.{logic_tile, one_cluster, one_cell, slot_below}
-use Rattle.ice_trees.proofs.Roots.{IsRootPin, OfPad, OfCell, OfGlobal, at_below, root_at, root_of_design}
+use Rattle.ice_trees.proofs.Roots.{IsRootPin, OfPad, OfCell, OfGlobal, at_below, pad_number, root_at, root_of_design}
 use Rattle.ice_trees.proofs.Trees.{tree_lead, one_tree, tree_led}
 use Rattle.ice_trees.proofs.Linked.{IsCellLink, IsChunkLink, IsFirst, tile_below}
-use Rattle.ice_trees.proofs.Wanted.{not_entered, link_of, wanted_told, chunk_linked, entered_pin, cell_input, chunk_input, link_input}
+use Rattle.ice_trees.proofs.Wanted.{not_entered, link_of, wanted_told, cell_linked, chunk_linked, entered_pin, cell_input, chunk_input, link_input}
 
 -- ---- pins by their wires
 input_of_cell : (pin : Pin) (i k : ℕ) → wire_of pin ≡ named.CellInput i k → pin ≡ Input i k
@@ -75,9 +75,6 @@ same_input i k j l e = (cc e, cc e)
 
 same_cell_input : (i k j l : ℕ) → named.CellInput i k ≡ named.CellInput j l → i ≡ j
 same_cell_input i k j l e = cc e
-
-pad_number : (j k : ℕ) → named.PadInput j ≡ named.PadInput k → j ≡ k
-pad_number j k e = cc e
 
 cell_not_first : (i k : ℕ) → named.CellInput i k ≡ named.FirstCarry → ⊥
 cell_not_first i k e = cc e
@@ -285,6 +282,7 @@ module _ (parts : Parts) (rows : PackageRows) (plan : Plan) (pullups : List Bool
       roots = λ root v read wire. let at = root_at parts rows plan pullups on root v read wire in out_bare at.0 at.1 v at.3;
       carries = λ t i w logic lt found. out_bare t (named.CarryOut i) w (carry_output t i w logic lt found);
       entries = λ t cluster is. entry t cluster is cluster.run refl;
+      chained = λ t i c cell stands takes. cell_linked parts rows plan pullups on routes trees t i c cell stands takes;
       origins = origin;
       inputs = input_pad;
     }

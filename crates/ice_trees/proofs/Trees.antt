@@ -151,16 +151,18 @@ module _ (parts : Parts) (rows : PackageRows) (plan : Plan) (pullups : List Bool
       let net = at_below (nets_of parts plan) n (let a = slice_get_within routes n route at in let b = trees.count in omega (arith, a, b)) in
       let got = Has_mapped_by (net_of parts plan (ends parts plan)) (roots plan) net.0 (n, net.1) in
       let told = net_told (root_wire parts plan got.0) (sinks_of (ends parts plan) got.0) net.0 got.2 in
-      let e = sink_told (ends parts plan) got.0 told.2.0 told.2.1 in
-      (got.0, record {
-        number = n;
-        net = net.0;
-        net_is = net.1;
-        route_is = at;
-        wire = told.0;
-        sinks = told.1;
-        read = ap (is_read plan.design) (sym e.2) ∙ end_read parts rows plan pullups on e.0 e.1;
-      })
+      let e = sink_told (ends parts plan) got.0 told.2.0 told.2.1 in (
+        got.0,
+        record {
+          number = n;
+          net = net.0;
+          net_is = net.1;
+          route_is = at;
+          wire = told.0;
+          sinks = told.1;
+          read = subst (λ (r : Root). is_read plan.design r ≡ true) e.2 (end_read parts rows plan pullups on e.0 e.1);
+        },
+      )
 
   -- the root of each sink has a net with a tree
   pub end_has_tree : (e : End) → Has (ends parts plan) e → (route : Route) × IsTreeOf parts plan routes e.0 route
