@@ -1,9 +1,9 @@
 -- The control set of a cluster is that of a flip-flop.
-use Rattle.std.proofs.Common.{◌≡◌, ◌⊎◌, ℕ, zero, suc, ◌+◌, Bool, true, false, cond, Option, None, Some, List, [], ◌∷◌, ◌++◌, inl, inr, length, map, drop, get_or, refl, sym, ap, ◌∙◌, subst}
-use Rattle.std.specs.Prelude.{filter_map, flat_map, fold, slice_get}
+use Rattle.std.proofs.Common.{◌≡◌, ◌⊎◌, ℕ, zero, suc, ◌+◌, Bool, true, false, cond, Option, None, Some, List, [], ◌∷◌, ◌++◌, inl, inr, length, map, drop, get_or, refl, ap, ◌∙◌, subst}
+use Rattle.std.specs.Prelude.{flat_map, fold, slice_get}
 use Rattle.std.specs.List.{range_with_len, list_any}
 use Rattle.std.proofs.lemmas.Option.{none-some, same_Some}
-use Rattle.ice_base.proofs.Options.{option_map_some, and_then_some}
+use Rattle.ice_base.proofs.Options.{and_then_some}
 use Rattle.ice_value.specs.Order.{At, Has}
 use Rattle.ice_value.proofs.Members.{Has_none, Has_cases, At_parts, map_At, map_Has}
 use Rattle.ice_decode.proofs.Members.{Has_append_cases}
@@ -15,7 +15,7 @@ use Rattle.ice_cells.specs.declared.cluster.Group.{Group}
 use Rattle.ice_cells.specs.declared.design.Design.{Design}
 use Rattle.ice_cells.specs.declared.design.Run.{Run}
 use Rattle.ice_cells.specs.Clusters.{room, filled_one, filled, left, run_piece, run_pieces, runs_pieces, set_piece, set_pieces, sets_pieces, plain_piece, plain_pieces, held_list, flop_if, flop_at, flops_by, loose_flops, loose_plains, opened, groups_of, with_slots, clusters_of}
-use Rattle.ice_cells.specs.Pieces.{pieces_count, piece, control_by, control_at, first_control}
+use Rattle.ice_cells.specs.Pieces.{pieces_count, piece, control_by, control_at}
 use Rattle.ice_cells.specs.Same.{same_control}
 use Rattle.ice_cells.specs.Sets.{FlopCell, with_set, sets_of, cells_with}
 use Rattle.ice_wiring.proofs.Mapped.{Has_mapped_by}

@@ -1,14 +1,12 @@
 -- The usable rows of a chip as switches.
-use Rattle.std.proofs.Common.{◌≡◌, ◌⊎◌, ℕ, zero, suc, ◌+◌, Bool, true, false, cond, Option, Some, List, [], ◌∷◌, ◌++◌, inl, inr, refl, sym, ap, ◌∙◌, subst, arith}
-use Rattle.std.specs.Prelude.{◌&&◌, option_map, slice_get}
+use Rattle.std.proofs.Common.{◌≡◌, ℕ, suc, ◌+◌, Bool, true, false, cond, Some, List, [], ◌∷◌, inl, inr, refl, sym, ap, ◌∙◌, subst, arith}
+use Rattle.std.specs.Prelude.{◌&&◌, option_map}
 use Rattle.std.proofs.lemmas.Bool.{and_parts}
-use Rattle.std.proofs.lemmas.Option.{none-some, same_Some}
 use Rattle.ice_value.specs.Order.{At, Has}
 use Rattle.ice_value.proofs.Members.{Has_none, Has_cases}
 use Rattle.ice_value.proofs.Together.{Has_head, Has_tail}
 use Rattle.ice_graph.specs.declared.edge.Edge.{Edge}
 use Rattle.ice_chip.specs.Database.{Parts, SwitchRow, SwitchGroup}
-use Rattle.ice_chip.specs.Lookups.{rows_of}
 use Rattle.ice_chip_laws.specs.Groups.{HasRows}
 use Rattle.ice_decode.specs.declared.driver.Switch.{Switch}
 use Rattle.ice_decode.specs.Drivers.{switch}

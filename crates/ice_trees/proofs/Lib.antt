@@ -10,3 +10,4 @@ pub mod Growing
 pub mod Trees
 pub mod Linked
 pub mod Wanted
+pub mod Rows

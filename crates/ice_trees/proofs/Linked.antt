@@ -1,18 +1,17 @@
 -- The links of a placed design: sound rows that bring carries to last inputs, and into tiles.
-use Rattle.std.proofs.Common.{◌≡◌, ◌⊎◌, ℕ, zero, suc, ◌+◌, ◌*◌, ◌/◌, ◌%◌, ◌<◌, ◌≤◌, Bool, true, false, cond, Option, None, Some, List, [], ◌∷◌, ◌++◌, inl, inr, length, is_some, refl, sym, ap, ◌∙◌, subst, true≢false, add-one, arith}
-use Rattle.std.specs.Prelude.{◌==◌, ◌&&◌, option_map, slice_get, slice_index_or, map}
+use Rattle.std.proofs.Common.{◌≡◌, ◌⊎◌, ℕ, zero, suc, ◌+◌, ◌*◌, ◌/◌, ◌<◌, Bool, true, false, cond, Option, None, Some, List, [], ◌∷◌, inl, inr, length, refl, sym, ap, ◌∙◌, subst, true≢false, add-one, arith}
+use Rattle.std.specs.Prelude.{◌==◌, ◌&&◌}
 use Rattle.std.specs.Option.{option_and_then, option_map_or}
-use Rattle.std.proofs.lemmas.Bool.{and_parts, eqb-true}
+use Rattle.std.proofs.lemmas.Bool.{and_parts}
 use Rattle.std.proofs.lemmas.Option.{none-some, same_Some, slice_get_within, get_or_from_slice_get}
 use Rattle.ice_base.specs.declared.number.TileAt.{TileAt}
 use Rattle.ice_base.proofs.Keys.{nat_same, nat_self}
-use Rattle.ice_base.proofs.Options.{option_map_some, and_then_some}
+use Rattle.ice_base.proofs.Options.{and_then_some}
 use Rattle.ice_value.specs.Order.{At, Has}
 use Rattle.ice_value.proofs.Members.{Has_none, Has_cases, filter_Has, At_map}
 use Rattle.ice_value.proofs.Together.{Has_head, Has_tail}
-use Rattle.ice_value.proofs.Places.{At_same}
 use Rattle.ice_chip.specs.Database.{Parts, PackageRows, SwitchGroup, SwitchRow}
-use Rattle.ice_chip.specs.Lookups.{rows_of, wire_named}
+use Rattle.ice_chip.specs.Lookups.{wire_named}
 use Rattle.ice_chip.specs.WireNames.{input_name, carry_out_name, carry_in_name, first_carry_name}
 use Rattle.ice_chip_laws.specs.Groups.{HasRows}
 use Rattle.ice_decode.specs.declared.driver.Switch.{Switch}
@@ -24,20 +23,19 @@ use Rattle.ice_rows.specs.FirstSound.{first_of, first_among, first_sound}
 use Rattle.ice_rows.specs.Sound.{is_sound}
 use Rattle.ice_cells.specs.declared.cell.LogicCell.{LogicCell}
 use Rattle.ice_cells.specs.declared.cluster.Cluster.{Cluster}
-use Rattle.ice_cells.specs.declared.design.Run.{Run}
-use Rattle.ice_sites.specs.Site.{leads, is_same_wire, is_above, is_link, has_chain, has_entry}
+use Rattle.ice_sites.specs.Site.{leads, is_same_wire, is_above, is_link}
 use Rattle.ice_sites.specs.Legal.{is_next, chunk_of, tile_at}
 use Rattle.ice_place.specs.Place.{chunks_of}
 use Rattle.ice_plan.specs.Plan.{Plan}
 use Rattle.ice_plan.specs.Loads.{slot_gives, slots_give}
 use Rattle.ice_wiring.specs.Wanted.{IsRowOf}
-use Rattle.ice_written.specs.Led.{IsLinked, IsLink}
-use Rattle.ice_written.specs.Links.{switch_of_row, switch_numbered, listed, link_row, link_into, link, carry_source, cell_links, chunk_links, cluster_links, all_links}
+use Rattle.ice_written.specs.Led.{IsLinked}
+use Rattle.ice_written.specs.Links.{switch_numbered, listed, link_row, link_into, link, carry_source, cell_links, chunk_links, cluster_links, all_links}
 use Rattle.ice_written.specs.Slots.{IsOn, StandsIn}
 use Rattle.ice_trees.specs.Trees.{IsOnChip}
 use Rattle.ice_trees.proofs.Edges.{numbered_switch}
 use Rattle.ice_trees.proofs.Ends.{slot_given}
-use Rattle.ice_trees.proofs.Places.{IsSite, tile_is, on_site, slot_below, tile_of_cluster, some_of}
+use Rattle.ice_trees.proofs.Places.{tile_is, on_site, slot_below, tile_of_cluster, some_of}
 use Rattle.ice_trees.proofs.Roots.{at_below}
 
 -- ---- the first sound row

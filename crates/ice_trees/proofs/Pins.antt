@@ -1,5 +1,5 @@
 -- A wire is of one pin.
-use Rattle.std.proofs.Common.{◌≡◌, ◌⊎◌, ℕ, ◌<◌, Bool, true, false, Option, None, Some, List, inl, inr, refl, sym, ap, ◌∙◌, subst, true≢false}
+use Rattle.std.proofs.Common.{◌≡◌, ◌⊎◌, ℕ, true, false, Option, None, Some, List, inl, inr, refl, sym, ap, ◌∙◌, subst, true≢false}
 use Rattle.std.specs.Option.{option_map_or}
 use Rattle.std.specs.Prelude.{IfSome}
 use Rattle.std.proofs.lemmas.Bool.{or_left, or_right}
@@ -8,7 +8,7 @@ use Rattle.ice_base.specs.declared.number.TileAt.{TileAt}
 use Rattle.ice_value.specs.Order.{Has}
 use Rattle.ice_value.proofs.Members.{any_Has, Has_any}
 use Rattle.ice_chip.specs.Database.{Parts}
-use Rattle.ice_chip.specs.Lookups.{kind_at, names_of, wire_named, placed_at}
+use Rattle.ice_chip.specs.Lookups.{kind_at, names_of, placed_at}
 use Rattle.ice_chip.specs.PinNames.{is_global_name, is_input_of, is_output_of, is_input_name, is_output_name}
 use Rattle.ice_chip.specs.WireNames.{IsNamedWire, IsTileWire, WireNamesAreRead, tile_wire, wire_name}
 use Rattle.ice_chip.specs.declared.rows.TileKind.{TileKind}
@@ -18,7 +18,7 @@ use Rattle.ice_chip.specs.declared.wire_names.TileWire.{TileWire}
 use Rattle.ice_chip.specs.declared.wire_names.TileWire.TheVariants.{CellInput, CellOutput, CarryOut, LookUp, Clock, ClockEnable, SetReset, CarryIn, FirstCarry, PadInput, PadOutput, OutputEnable, Fabout, Global}
 use Rattle.ice_chip_laws.specs.Laws.{IsLawful}
 use Rattle.ice_chip_laws.specs.Names.{HasName}
-use Rattle.ice_chip_laws.specs.Pins.{AreOnePin, IsPinOf, is_pin_in, is_pin_name}
+use Rattle.ice_chip_laws.specs.Pins.{IsPinOf, is_pin_in}
 use Rattle.ice_rows.specs.WireNames.{is_input_in, is_output_in, has_input_name, has_output_name}
 use Rattle.ice_trees.specs.Pins.{IsInput, IsOutput}
 

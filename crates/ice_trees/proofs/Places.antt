@@ -1,6 +1,6 @@
 -- Where the clusters, cells and ports of a placed design stand.
-use Rattle.std.proofs.Common.{◌≡◌, ◌⊎◌, ℕ, zero, suc, ◌+◌, ◌<◌, Bool, true, false, cond, Option, None, Some, List, [], ◌∷◌, ◌++◌, inl, inr, length, is_some, refl, sym, ap, ◌∙◌, subst, true≢false, arith}
-use Rattle.std.specs.Prelude.{◌&&◌, ◌||◌, map, slice_get, slice_index_or}
+use Rattle.std.proofs.Common.{◌≡◌, ◌⊎◌, ℕ, zero, suc, ◌<◌, Bool, true, false, cond, Option, None, Some, List, [], ◌∷◌, ◌++◌, inl, inr, length, is_some, refl, sym, ap, ◌∙◌, subst, true≢false, arith}
+use Rattle.std.specs.Prelude.{◌&&◌, ◌||◌, map}
 use Rattle.std.specs.List.{list_any}
 use Rattle.std.proofs.lemmas.Bool.{and_parts, cases_lt, or_cases, or_left, or_right}
 use Rattle.std.proofs.lemmas.List.{length-map}
@@ -9,23 +9,21 @@ use Rattle.std.proofs.lemmas.Option.{same_Some, slice_get_within, get_or_from_sl
 use Rattle.indexmap.specs.IndexSet.{insert_key, insert_all}
 use Rattle.ice_base.specs.declared.number.TileAt.{TileAt}
 use Rattle.ice_base.proofs.Booleans.{or_false}
-use Rattle.ice_value.specs.Order.{At, Has}
+use Rattle.ice_value.specs.Order.{At}
 use Rattle.ice_value.proofs.Members.{Has_all, any_Has, map_Has}
 use Rattle.ice_value.proofs.Places.{At_same}
 use Rattle.ice_chip.specs.Database.{Parts, PackageRows}
-use Rattle.ice_chip.specs.Lookups.{kind_at, wire_named}
+use Rattle.ice_chip.specs.Lookups.{kind_at}
 use Rattle.ice_chip.specs.Places.{same_pad}
 use Rattle.ice_chip.specs.Within.{IsPad, IsPackage}
 use Rattle.ice_chip.specs.declared.rows.Pad.{Pad}
 use Rattle.ice_chip.specs.declared.rows.TileKind.{TileKind}
 use Rattle.ice_chip.specs.declared.rows.TileKind.TheVariants.{Io, Logic, RamBottom, RamTop}
 use Rattle.ice_chip.proofs.Keys.{pad_same}
-use Rattle.ice_cells.specs.Clusters.{clusters_of}
 use Rattle.ice_cells.specs.declared.cell.LogicCell.{LogicCell}
 use Rattle.ice_cells.specs.declared.cluster.Cluster.{Cluster}
-use Rattle.ice_sites.specs.Site.{has_wire, is_logic, all_below, has_cell, has_chain, has_controls, has_entry, is_site}
+use Rattle.ice_sites.specs.Site.{is_logic, all_below, has_cell, has_chain, has_controls, has_entry, is_site}
 use Rattle.ice_sites.specs.Legal.{tile_at}
-use Rattle.ice_place.specs.Place.{chunks_of}
 use Rattle.ice_plan.specs.Plan.{Plan}
 use Rattle.ice_written.specs.Slots.{IsOn, StandsIn}
 use Rattle.ice_trees.specs.Trees.{IsOnChip}

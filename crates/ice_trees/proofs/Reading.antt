@@ -1,15 +1,13 @@
 -- What pins read is read in the design, and the wires of these pins are inputs.
-use Rattle.std.proofs.Common.{◌≡◌, ◌⊎◌, ℕ, zero, suc, ◌+◌, ◌<◌, Bool, true, false, Option, None, Some, List, [], ◌∷◌, ◌++◌, inl, inr, length, map, refl, sym, ap, ◌∙◌, subst, arith}
+use Rattle.std.proofs.Common.{◌≡◌, ◌⊎◌, ℕ, zero, suc, ◌<◌, Bool, true, Option, None, Some, List, [], ◌∷◌, ◌++◌, inl, inr, length, map, refl, sym, ap, ◌∙◌, subst, arith}
 use Rattle.std.specs.Prelude.{flat_map, slice_index_or}
 use Rattle.std.proofs.lemmas.Option.{none-some, same_Some, slice_get_within, get_or_from_slice_get}
 use Rattle.ice_base.specs.declared.number.TileAt.{TileAt}
-use Rattle.ice_base.specs.declared.number.WireNo.{WireNo}
 use Rattle.ice_value.specs.Order.{At, Has}
 use Rattle.ice_value.proofs.Members.{Has_any}
 use Rattle.ice_chip.specs.Database.{Parts, PackageRows}
-use Rattle.ice_chip.specs.Lookups.{kind_at, wire_named, global_of}
+use Rattle.ice_chip.specs.Lookups.{kind_at, wire_named}
 use Rattle.ice_chip.specs.WireNames.{fabout_name, pad_output_name, output_enable_name}
-use Rattle.ice_chip.specs.declared.rows.Pad.{Pad}
 use Rattle.ice_chip.specs.declared.rows.TileKind.TheVariants.{Io, Logic}
 use Rattle.ice_net.specs.declared.kind.Reset.{Reset}
 use Rattle.ice_decode.proofs.Members.{Has_left, Has_right}
@@ -22,11 +20,11 @@ use Rattle.ice_cells.specs.declared.cluster.Cluster.{Cluster}
 use Rattle.ice_cells.specs.declared.design.DesignPad.{DesignPad}
 use Rattle.ice_cells.specs.declared.root.Root.{Root}
 use Rattle.ice_plan.specs.Plan.{Plan}
-use Rattle.ice_plan.specs.Loads.{Pin, Input, Clock, Enable, SetReset, Feed, Drive, DriveEnable, pin_name}
+use Rattle.ice_plan.specs.Loads.{Pin, pin_name}
 use Rattle.ice_nets.specs.Ends.{End, ends}
-use Rattle.ice_written.specs.Slots.{IsOn, StandsIn}
+use Rattle.ice_written.specs.Slots.{IsOn}
 use Rattle.ice_trees.specs.Pins.{IsInput, wire_of}
-use Rattle.ice_trees.specs.Reads.{Reads, AtDrive, AtDriveEnable, AtFeed, AtFixed, AtFree, AtClock, AtEnable, AtReset, IsEnd}
+use Rattle.ice_trees.specs.Reads.{Reads, AtDrive, AtDriveEnable, AtFeed, AtFixed, AtFree, AtClock, AtEnable, AtReset}
 use Rattle.ice_trees.specs.Trees.{IsOnChip}
 use Rattle.ice_trees.proofs.Lists.{Has_flat}
 use Rattle.ice_trees.proofs.Places.{logic_tile, slot_below, pio_below}

@@ -1,17 +1,16 @@
 -- The wires of roots.
 use Rattle.std.proofs.Common.{◌≡◌, ◌⊎◌, ℕ, zero, suc, ◌+◌, ◌<◌, Bool, true, false, cond, Option, None, Some, List, [], ◌∷◌, inl, inr, length, is_some, refl, sym, ap, ◌∙◌, subst, true≢false, arith}
-use Rattle.std.specs.Prelude.{◌==◌, ◌&&◌, option_map, position, slice_get, nat_eq, bytes_eq, IsSome}
+use Rattle.std.specs.Prelude.{◌&&◌, option_map, position, slice_get, bytes_eq}
 use Rattle.std.specs.Option.{option_and_then}
-use Rattle.std.specs.List.{list_any, position_from}
+use Rattle.std.specs.List.{position_from}
 use Rattle.std.proofs.lemmas.Bool.{and_parts}
 use Rattle.std.proofs.lemmas.Iterator.Adapters.{position_from-zero}
-use Rattle.std.proofs.lemmas.Option.{none-some, same_Some, slice_get_within, slice_get-get_or}
+use Rattle.std.proofs.lemmas.Option.{none-some, same_Some}
 use Rattle.ice_base.specs.declared.number.TileAt.{TileAt}
 use Rattle.ice_base.proofs.Keys.{nat_same, nat_self, bytes_same}
-use Rattle.ice_base.proofs.Options.{option_map_some, and_then_some}
+use Rattle.ice_base.proofs.Options.{and_then_some}
 use Rattle.ice_value.specs.Order.{At, Has}
 use Rattle.ice_value.proofs.Members.{any_Has}
-use Rattle.ice_value.proofs.Places.{At_same}
 use Rattle.ice_chip.specs.Database.{Parts, PackageRows}
 use Rattle.ice_chip.specs.Lookups.{kind_at, names_of, wire_named, placed_at, global_of}
 use Rattle.ice_chip.specs.PinNames.{is_global_name, is_output_of}
@@ -23,14 +22,12 @@ use Rattle.ice_chip.specs.declared.whole.PlacedName.{PlacedName}
 use Rattle.ice_chip.specs.declared.wire_names.TileWire.{TileWire}
 use Rattle.ice_chip.specs.declared.wire_names.TileWire.TheVariants as named
 use Rattle.ice_chip_laws.specs.Names.{HasName}
-use Rattle.ice_cells.specs.Clusters.{clusters_of}
 use Rattle.ice_cells.specs.Formed.{IsRootOf}
 use Rattle.ice_cells.specs.Readings.{roots_read, is_read}
 use Rattle.ice_cells.specs.Same.{same_root, same_source}
 use Rattle.ice_cells.specs.Tables.{is_place}
 use Rattle.ice_cells.specs.declared.cell.LogicCell.{LogicCell}
 use Rattle.ice_cells.specs.declared.cluster.Cluster.{Cluster}
-use Rattle.ice_cells.specs.declared.design.DesignPad.{DesignPad}
 use Rattle.ice_cells.specs.declared.root.Root.{Root}
 use Rattle.ice_cells.specs.declared.root.Root.TheVariants.{PadIn, CellOut, GlobalOut, CarryOut}
 use Rattle.ice_pads.specs.Globals.{has_name, global_wire}
@@ -40,11 +37,11 @@ use Rattle.ice_rows.specs.WireNames.{has_output_name}
 use Rattle.ice_sites.specs.Site.{has_wire, has_cell}
 use Rattle.ice_plan.specs.Plan.{Plan, Slot, slot_in, in_tile, first_slot, slot_among, slot_of}
 use Rattle.ice_nets.specs.Nets.{pad_wire, slot_wire, root_wire}
-use Rattle.ice_written.specs.Slots.{IsOn, StandsIn}
-use Rattle.ice_trees.specs.Pins.{IsInput, IsOutput}
+use Rattle.ice_written.specs.Slots.{StandsIn}
+use Rattle.ice_trees.specs.Pins.{IsOutput}
 use Rattle.ice_trees.specs.Trees.{IsOnChip}
 use Rattle.ice_trees.proofs.Pins.{output_named, outputs_same}
-use Rattle.ice_trees.proofs.Places.{IsSite, on_site, logic_tile, one_cell, tile_of_cluster, slot_below, pio_below, some_of}
+use Rattle.ice_trees.proofs.Places.{on_site, logic_tile, one_cell, tile_of_cluster, slot_below, pio_below, some_of}
 
 -- ---- roots
 pub root_same : (a b : Root) → same_root a b ≡ true → a ≡ b

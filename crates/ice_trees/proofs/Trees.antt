@@ -1,11 +1,10 @@
 -- The trees of the nets of a placed design.
-use Rattle.std.proofs.Common.{◌≡◌, ◌⊎◌, ℕ, zero, suc, ◌+◌, ◌<◌, Bool, true, false, cond, not, Option, None, Some, List, [], ◌∷◌, ◌++◌, inl, inr, length, refl, sym, ap, ◌∙◌, subst, true≢false, arith}
-use Rattle.std.specs.Prelude.{◌&&◌, map, filter_map, flat_map, slice_get, nat_eq}
+use Rattle.std.proofs.Common.{◌≡◌, ℕ, zero, suc, ◌+◌, ◌<◌, Bool, true, false, cond, not, Option, None, Some, List, [], ◌∷◌, ◌++◌, inl, inr, length, refl, sym, ap, ◌∙◌, subst, true≢false, arith}
+use Rattle.std.specs.Prelude.{map, filter_map, flat_map, nat_eq}
 use Rattle.std.specs.List.{range_with_len, cons_option}
 use Rattle.std.proofs.lemmas.Bool.{and_parts}
 use Rattle.std.proofs.lemmas.Option.{none-some, same_Some, slice_get_within}
 use Rattle.ice_base.specs.declared.number.RowNo.{RowNo}
-use Rattle.ice_base.specs.declared.number.TileAt.{TileAt}
 use Rattle.ice_base.specs.declared.number.WireNo.{WireNo}
 use Rattle.ice_base.proofs.Booleans.{not_true}
 use Rattle.ice_base.proofs.Keys.{nat_same, nat_self}
@@ -13,39 +12,37 @@ use Rattle.ice_value.specs.Order.{At, Has}
 use Rattle.ice_value.proofs.Members.{Has_none, At_map, Has_map}
 use Rattle.ice_value.proofs.Places.{At_same}
 use Rattle.ice_chip.specs.Database.{Parts, PackageRows}
-use Rattle.ice_chip.specs.Lookups.{wire_named}
 use Rattle.ice_graph.specs.declared.edge.Edge.{Edge}
 use Rattle.ice_decode.specs.declared.driver.Switch.{Switch}
 use Rattle.ice_decode.proofs.Members.{At_range, Has_left, Has_right}
-use Rattle.ice_rows.specs.WireNames.{has_input_name, has_closed_name, has_output_name, may_leave}
+use Rattle.ice_rows.specs.WireNames.{has_input_name, has_closed_name, may_leave}
 use Rattle.ice_cells.specs.Formed.{IsRootOf}
 use Rattle.ice_cells.specs.Readings.{is_read}
 use Rattle.ice_cells.specs.Same.{same_root}
 use Rattle.ice_cells.specs.declared.root.Root.{Root}
 use Rattle.ice_cells.specs.declared.root.Root.TheVariants.{PadIn, CellOut, GlobalOut, CarryOut}
 use Rattle.ice_plan.specs.Plan.{Plan}
-use Rattle.ice_plan.specs.Loads.{pin_name}
 use Rattle.ice_fabric.specs.Edges.{usable_rows}
 use Rattle.ice_nets.specs.Ends.{End, ends, wire_no}
 use Rattle.ice_nets.specs.Nets.{Bare, pad_root, cell_root, global_root, root_wire, roots, target_of, sinks_of, net_with, net_of, nets_of}
 use Rattle.ice_path.specs.Walks.{HasEdge}
 use Rattle.ice_negotiate.specs.Trees.{Route}
-use Rattle.ice_negotiate.specs.Leading.{Leads, AreEnds, IsLeft}
+use Rattle.ice_negotiate.specs.Leading.{Leads}
 use Rattle.ice_wiring.proofs.Mapped.{Has_mapped_by, mapped_by_Has}
 use Rattle.ice_written.specs.Led.{LeadFrom}
-use Rattle.ice_written.specs.Links.{tree_switch, all_links, wanted}
+use Rattle.ice_written.specs.Links.{tree_switch, all_links}
 use Rattle.ice_written.specs.Routed.{AreTrees}
 use Rattle.ice_written.specs.Written.{tree_from, held_from, held_by, route_rows, wanted_rows}
-use Rattle.ice_trees.specs.Pins.{IsInput, IsOutput, wire_of}
-use Rattle.ice_trees.specs.Reads.{Reads, IsEnd, AreApart}
-use Rattle.ice_trees.specs.Trees.{IsOnChip, IsTreeOf, IsTreeRow}
+use Rattle.ice_trees.specs.Pins.{wire_of}
+use Rattle.ice_trees.specs.Reads.{AreApart}
+use Rattle.ice_trees.specs.Trees.{IsOnChip, IsTreeOf}
 use Rattle.ice_trees.proofs.Pins.{input_named, input_of, in_or_out}
 use Rattle.ice_trees.proofs.Ends.{each_end}
 use Rattle.ice_trees.proofs.Lists.{Has_flat}
 use Rattle.ice_trees.proofs.Reading.{end_read, reads_input}
 use Rattle.ice_trees.proofs.Roots.{root_same, root_self, at_below, root_of_design, root_at, root_wired, roots_apart}
-use Rattle.ice_trees.proofs.Edges.{IsSwitchOf, usable_switch}
-use Rattle.ice_trees.proofs.Growing.{IsEntered, entered, tree_leads, end_is, sink_has}
+use Rattle.ice_trees.proofs.Edges.{usable_switch}
+use Rattle.ice_trees.proofs.Growing.{tree_leads, end_is, sink_has}
 
 -- ---- nets
 net_told : (wire : Option ℕ) (sinks : List (List WireNo)) (net : Bare) → net_with wire sinks ≡ Some net → (wire ≡ Some net.0) × (net.1 ≡ sinks) × ((targets : List WireNo) × Has sinks targets)

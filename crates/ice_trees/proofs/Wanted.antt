@@ -1,6 +1,6 @@
 -- Each wanted row is a row of a tree, or a link.
-use Rattle.std.proofs.Common.{◌≡◌, ◌⊎◌, ℕ, zero, suc, ◌+◌, ◌≤◌, ◌<◌, Bool, true, false, Option, None, Some, List, [], ◌∷◌, ◌++◌, inl, inr, length, map, refl, sym, ap, ◌∙◌, subst, true≢false, arith, add-one}
-use Rattle.std.specs.Prelude.{filter_map, flat_map, not, ◌&&◌}
+use Rattle.std.proofs.Common.{◌≡◌, ◌⊎◌, ℕ, zero, suc, ◌+◌, Bool, true, Option, Some, List, inl, inr, map, refl, sym, ap, ◌∙◌, subst, true≢false, arith}
+use Rattle.std.specs.Prelude.{filter_map, flat_map, not}
 use Rattle.std.proofs.lemmas.Bool.{and_parts}
 use Rattle.std.proofs.lemmas.Option.{same_Some, slice_get_within}
 use Rattle.ice_base.specs.declared.number.RowNo.{RowNo}
@@ -9,10 +9,12 @@ use Rattle.ice_base.specs.declared.number.WireNo.{WireNo}
 use Rattle.ice_base.proofs.Booleans.{not_true}
 use Rattle.ice_value.specs.Order.{At, Has}
 use Rattle.ice_value.proofs.Members.{map_At}
-use Rattle.ice_value.proofs.Places.{At_same}
 use Rattle.ice_chip.specs.Database.{Parts, PackageRows, SwitchGroup, SwitchRow}
 use Rattle.ice_chip.specs.Lookups.{wire_named}
 use Rattle.ice_chip.specs.WireNames.{input_name, carry_out_name, first_carry_name}
+use Rattle.ice_chip.specs.declared.rows.TileKind.TheVariants.{Logic}
+use Rattle.ice_chip.specs.declared.wire_names.TileWire.{TileWire}
+use Rattle.ice_chip.specs.declared.wire_names.TileWire.TheVariants as named
 use Rattle.ice_decode.specs.declared.driver.Switch.{Switch}
 use Rattle.ice_decode.proofs.Members.{Has_right, Has_append_cases}
 use Rattle.ice_rows.specs.Sound.{is_sound}
@@ -22,7 +24,8 @@ use Rattle.ice_cells.specs.declared.cluster.Cluster.{Cluster}
 use Rattle.ice_cells.specs.declared.root.Root.{Root}
 use Rattle.ice_plan.specs.Plan.{Plan}
 use Rattle.ice_fabric.specs.Edges.{usable_rows}
-use Rattle.ice_nets.specs.Ends.{wire_no}
+use Rattle.ice_plan.specs.Loads.{Pin}
+use Rattle.ice_nets.specs.Ends.{End, ends, wire_no}
 use Rattle.ice_negotiate.specs.Trees.{Route}
 use Rattle.ice_wiring.specs.Wanted.{IsRowOf}
 use Rattle.ice_wiring.proofs.Mapped.{Has_mapped_by}
@@ -32,11 +35,17 @@ use Rattle.ice_written.specs.Routed.{AreTrees}
 use Rattle.ice_written.specs.Slots.{IsOn, StandsIn}
 use Rattle.ice_written.specs.Written.{route_rows, wanted_rows}
 use Rattle.ice_trees.specs.Trees.{IsOnChip, IsTreeOf, IsTreeRow}
+use Rattle.ice_trees.specs.Pins.{IsInput, wire_of}
+use Rattle.ice_trees.specs.Reads.{Reads}
+use Rattle.ice_trees.proofs.Pins.{input_named, inputs_same}
 use Rattle.ice_trees.proofs.Lists.{flat_Has}
+use Rattle.ice_trees.proofs.Places.{logic_tile, slot_below}
+use Rattle.ice_trees.proofs.Ends.{each_end}
+use Rattle.ice_trees.proofs.Reading.{reads_input}
 use Rattle.ice_trees.proofs.Roots.{at_below}
 use Rattle.ice_trees.proofs.Edges.{IsSwitchOf, usable_switch}
-use Rattle.ice_trees.proofs.Growing.{IsEntered, entered}
-use Rattle.ice_trees.proofs.Trees.{tree_lead, tree_at}
+use Rattle.ice_trees.proofs.Growing.{entered}
+use Rattle.ice_trees.proofs.Trees.{tree_lead, tree_at, tree_input}
 use Rattle.ice_trees.proofs.Linked.{IsCellLink, IsChunkLink, IsFirst, IsBelow, tile_below, link_is, cell_link, chunk_link}
 
 -- the switch is a sound row of a group
@@ -119,3 +128,30 @@ module _ (parts : Parts) (rows : PackageRows) (plan : Plan) (pullups : List Bool
       let b = tile_below parts rows plan pullups on t cluster r k is e in
       let l = chunk_link parts rows plan pullups on t cluster r k is e in
       (b, link_wanted (wire_named parts b.low (carry_out_name 7)) (wire_named parts t first_carry_name) (l.0, l.1, b.out ∙ sym b.into ∙ l.2, l.3))
+
+  -- ---- pins that wanted rows enter
+  -- where a tree's row enters an input, a pin of that name reads the tree's root
+  pub entered_pin : (s : Switch) (p : IsTreeRow parts plan routes s) (t : TileAt) (wire : TileWire) → IsInput parts t wire s.target.0
+      → (e : End) × (pin : Pin) × Has (ends parts plan) e × (e.0 ≡ p.root) × Has e.1 s.target × (wire_of pin ≡ wire) × Reads parts plan t pin e.0
+  entered_pin s p t wire input =
+      let e = tree_input parts rows plan pullups on routes trees p.root p.route s.target p.tree (p.place + 1, p.target) (input_named parts on.lawful on.names t wire s.target.0 input) in
+      let target = (each_end parts plan e.0 e.1).targets s.target e.3 in
+      let same = inputs_same parts on.lawful on.names target.0 t (wire_of target.1) wire s.target.0 (reads_input parts rows plan pullups on target.0 target.1 e.0.0 s.target.0 target.2 target.3) input in
+      (e.0, target.1, e.1, e.2, e.3, same.0, subst (λ (u : TileAt). Reads parts plan u target.1 e.0.0) same.1 target.2)
+
+  -- a link enters an input
+  pub cell_input : (s : Switch) (l : IsCellLink parts plan s) → IsInput parts l.tile (named.CellInput l.place 3) s.target.0
+  cell_input s l = record {
+    kind = Logic;
+    kind_is = logic_tile parts rows plan pullups on l.tile l.stands.cluster l.stands.on;
+    within = (slot_below parts rows plan pullups on l.tile l.place l.number l.cell l.stands, omega arith);
+    found = l.to;
+    reads = refl;
+  }
+
+  pub chunk_input : (s : Switch) (l : IsChunkLink parts plan s) → IsInput parts l.tile named.FirstCarry s.target.0
+  chunk_input s l = record { kind = Logic; kind_is = logic_tile parts rows plan pullups on l.tile l.cluster l.on; within = tt; found = l.to; reads = refl }
+
+  pub link_input : (s : Switch) → IsCellLink parts plan s ⊎ IsChunkLink parts plan s → (t : TileAt) × (wire : TileWire) × IsInput parts t wire s.target.0
+  link_input s (inl l) = (l.tile, named.CellInput l.place 3, cell_input s l)
+  link_input s (inr l) = (l.tile, named.FirstCarry, chunk_input s l)

@@ -1,5 +1,5 @@
 -- Bits that are added to others: one, several of a tile, and lists of things that each add some.
-use Rattle.std.proofs.Common.{◌≡◌, ℕ, zero, suc, ◌+◌, ◌<◌, ◌≤◌, Bool, true, false, cond, Some, List, [], ◌∷◌, ◌++◌, length, map, get_or, drop, refl, sym, ap, ◌∙◌, arith}
+use Rattle.std.proofs.Common.{◌≡◌, ℕ, zero, suc, ◌+◌, ◌<◌, ◌≤◌, Bool, true, false, cond, Some, List, [], ◌∷◌, ◌++◌, length, map, get_or, drop, add-one, refl, sym, ap, ◌∙◌, arith}
 use Rattle.std.specs.Prelude.{◌&&◌, ◌||◌}
 use Rattle.std.specs.List.{list_any}
 use Rattle.std.proofs.lemmas.Option.{slice_get-get_or}
@@ -12,7 +12,7 @@ use Rattle.ice_bits.specs.Rewriting.{Rewrites}
 use Rattle.ice_bits.specs.Written.{with_bit}
 use Rattle.ice_rows.specs.Sound.{value_at}
 use Rattle.ice_value.specs.Order.{Has}
-use Rattle.ice_writing.specs.Adds.{Adds, AreLeft, both, one_bit}
+use Rattle.ice_writing.specs.Adds.{Adds, AreLeft, both, one_bit, values_in}
 
 -- ---- nothing, two lots, and the same in other words
 none_or : (x m : Bool) → m ≡ false → x ≡ (x || m)
@@ -123,11 +123,30 @@ or_none false false v a e f = f
 pub values_all : (ps : List BitAt) (vs : List Bool) (k : ℕ) (b : BitAt) (o t a : Bool) → length ps ≡ k → (o || (t && value_at (drop k ps) (drop k vs) b)) ≡ a → o ≡ a
 values_all ps vs k b o t a e f = or_none o t (value_at (drop k ps) (drop k vs) b) a (values_end ps vs k b e) f
 
+pub values_next : (parts : Parts) (old mid new : Configuration) (tile : TileAt) (ps : List BitAt) (vs : List Bool) (k : ℕ) (p : BitAt) (v : Bool) (whole : Bits) → k < length ps → length vs ≡ length ps → p ≡ get_or ps k p → v ≡ get_or vs k v
+    → AreLeft parts old mid whole (values_in tile (drop k ps) (drop k vs)) → Adds parts mid new (one_bit tile p v) → AreLeft parts old new whole (values_in tile (drop (k + 1) ps) (drop (k + 1) vs))
+values_next parts old mid new tile ps vs k p v whole lt same at val left adds = record {
+  form = adds.form;
+  extras = adds.extras ∙ left.extras;
+  bits = λ t b. value_more ps vs k b p v (bits_of mid t b) (bits_of new t b) (same_tile tile t) (bits_of old t b || whole t b) lt same at val (adds.bits t b) (left.bits t b);
+}
+
+pub values_done : (parts : Parts) (old now : Configuration) (tile : TileAt) (ps : List BitAt) (vs : List Bool) (k : ℕ) (whole : Bits) → length ps ≡ k
+    → AreLeft parts old now whole (values_in tile (drop k ps) (drop k vs)) → Adds parts old now whole
+values_done parts old now tile ps vs k whole e left = record {
+  form = left.form;
+  extras = left.extras;
+  bits = λ t b. values_all ps vs k b (bits_of now t b) (same_tile tile t) (bits_of old t b || whole t b) e (left.bits t b);
+}
+
 -- ---- lists of things that each add some
-pub any_drop : {X : Type 0} (f : X → Bool) (xs : List X) (k : ℕ) (x : X) → k < length xs → x ≡ get_or xs k x → list_any f (drop k xs) ≡ (f x || list_any f (drop (k + 1) xs))
+any_drop : {X : Type 0} (f : X → Bool) (xs : List X) (k : ℕ) (x : X) → k < length xs → x ≡ get_or xs k x → list_any f (drop k xs) ≡ (f x || list_any f (drop (suc k) xs))
 any_drop f [] k x lt at = absurd (omega arith)
 any_drop f (y ∷ xs) zero x lt at = rw at
 any_drop f (y ∷ xs) (suc k) x lt at = any_drop f xs k x (omega arith) at
+
+pub any_next : {X : Type 0} (f : X → Bool) (xs : List X) (k : ℕ) (x : X) → k < length xs → x ≡ get_or xs k x → list_any f (drop k xs) ≡ (f x || list_any f (drop (k + 1) xs))
+any_next f xs k x lt at = any_drop f xs k x lt at ∙ ap (λ n. f x || list_any f (drop n xs)) (sym (add-one k))
 
 pub any_end : {X : Type 0} (f : X → Bool) (xs : List X) (k : ℕ) → length xs ≤ k → list_any f (drop k xs) ≡ false
 any_end f [] zero le = refl

@@ -27,6 +27,7 @@ fn set_if(bits: &mut Bits, chip: &Chip, tile: TileAt, place: BitAt, value: bool)
 }
 
 // Sets those bits at these places of a tile that have the value 1.
+#[tactic(auto, using(crate::proofs::Adding::all_left, crate::proofs::Adding::values_next, crate::proofs::Adding::values_done, crate::proofs::Adding::has_read))]
 fn set_ones(bits: &mut Bits, chip: &Chip, tile: TileAt, places: &[BitAt], values: &[bool])
     requires form { IsOf chip.now bits.old }
     requires places { (place : BitAt) → Has places.now place → is_bit_of chip.now tile place ≡ true }

@@ -63,6 +63,7 @@ fn set(bits: &mut Bits, chip: &Chip, setting: &Setting)
 }
 
 /// Sets the bits of functions that are listed, and no others. A bit that no tile has is passed over. It takes no memory.
+#[tactic(auto, using(crate::proofs::Adding::all_left, crate::proofs::Listing::settings_next, crate::proofs::Listing::settings_done))]
 pub fn set_all(bits: &mut Bits, chip: &Chip, settings: &[Setting])
     requires form { IsOf chip.now bits.old }
     ensures { Adds chip.now bits.old bits.new (function_bits chip.now (map setting_view settings.now)) }
@@ -73,6 +74,7 @@ pub fn set_all(bits: &mut Bits, chip: &Chip, settings: &[Setting])
 }
 
 /// Sets the bits that turn on these rows of the chip, and no others. A number that no row has is passed over. It takes no memory.
+#[tactic(auto, using(crate::proofs::Adding::all_left, crate::proofs::Listing::rows_next, crate::proofs::Listing::rows_done))]
 pub fn turn_all_on(bits: &mut Bits, chip: &Chip, rows: &[RowNo])
     requires form { IsOf chip.now bits.old }
     ensures { Adds chip.now bits.old bits.new (all_rows chip.now rows.now) }

@@ -1,5 +1,5 @@
 -- Placed and routed designs: what has to hold of one for its bits to mean it.
-use Rattle.std.specs.Prelude.{◌≡◌, ℕ, Bool, Some, List, length}
+use Rattle.std.specs.Prelude.{◌≡◌, ◌<◌, ℕ, Bool, Some, List, length}
 use Rattle.ice_base.specs.declared.number.WireNo.{WireNo}
 use Rattle.ice_value.specs.Order.{At, Has}
 use Rattle.ice_chip.specs.Database.{Parts, PackageRows}
@@ -30,8 +30,10 @@ pub record IsPlaced (parts : Parts) (rows : PackageRows) (plan : Plan) (pullups 
   pub «package» : Has parts.packages rows
   pub pads : ArePads parts rows plan.design (pads_of plan pullups)
 
--- One tree for each net: it leads over usable rows from the net's root to one target of each of its sinks. No wire is in two trees.
+-- One tree for each net: it leads over usable rows from the net's root to one target of each of its sinks, on wires of the chip. No
+-- wire is in two trees.
 pub record AreTrees (parts : Parts) (plan : Plan) (routes : List Route) : Type 0 where
   pub count : length routes ≡ length (nets_of parts plan)
   pub lead : (n : ℕ) (net : Bare) (route : Route) → At (nets_of parts plan) n net → At routes n route → Leads (usable_rows parts) (wire_no net.0) net.1 route
+  pub within : (n : ℕ) (route : Route) (w : WireNo) → At routes n route → Has route.wires w → w.0 < parts.wires
   pub apart : (j k : ℕ) (one other : Route) (w : WireNo) → At routes j one → At routes k other → Has one.wires w → Has other.wires w → j ≡ k

@@ -16,14 +16,14 @@ use Rattle.ice_written.specs.Arrivals.{Held}
 use Rattle.ice_written.specs.Links.{wanted}
 use Rattle.ice_written.specs.Functions.{settings}
 
+abbrev pub starts_at : List WireNo → ℕ → Bool
+starts_at [] w = false
+starts_at (first ∷ wires) w = nat_eq first.0 w
+
 -- the wires of the tree that begins at a wire
 abbrev pub tree_from : List Route → ℕ → List WireNo
 tree_from [] w = []
 tree_from (route ∷ routes) w = if starts_at route.wires w then route.wires else tree_from routes w
-  where
-    starts_at : List WireNo → ℕ → Bool
-    starts_at [] w = false
-    starts_at (first ∷ wires) w = nat_eq first.0 w
 
 abbrev pub held_from : List Route → Option ℕ → List WireNo
 held_from routes None = []

@@ -1,0 +1,5 @@
+mod Ranges
+mod Rooted
+mod Owning
+mod Arrived
+mod Beside
