@@ -1,7 +1,7 @@
-pub mod Targets
-pub mod IoTiles
-pub mod Ending
-pub mod Sinks
-pub mod Apart
-pub mod Asking
+mod Targets
+mod IoTiles
+mod Ending
+mod Sinks
+mod Apart
+mod Asking
 pub mod Pinned
