@@ -5,12 +5,16 @@ use Rattle.std.specs.List.{zip}
 use Rattle.ice_base.specs.declared.number.TileAt.{TileAt}
 use Rattle.ice_chip.specs.Database.{Parts}
 use Rattle.ice_chip.specs.declared.rows.Pad.{Pad}
+use Rattle.ice_cells.specs.declared.cell.LogicCell.{LogicCell}
 use Rattle.ice_cells.specs.declared.cluster.Cluster.{Cluster}
 use Rattle.ice_cells.specs.declared.design.DesignPad.{DesignPad}
+use Rattle.ice_decode.specs.declared.driver.Switch.{Switch}
 use Rattle.ice_nets.specs.Sides.{sides}
 use Rattle.ice_nets.proofs.Siding.{sides_are}
 use Rattle.ice_wiring.specs.Settings.{Setting}
 use Rattle.ice_written.specs.Functions.{clusters_settings, ports_settings}
+use Rattle.ice_written.specs.Links.{all_links}
+use Rattle.ice_emit.specs.Links.{cluster_link}
 use Rattle.ice_emit.specs.Ports.{both_of, place_in, port_gives}
 use Rattle.ice_emit.specs.Routed.{held_in, cluster_gives}
 use Rattle.ice_emit.specs.declared.routed.Routed.{Routed}
@@ -55,3 +59,11 @@ ports_are parts pads pullups ports old new e =
     right : (xs : List (Pad × Bool)) → all_ports parts xs [] ≡ []
     right [] = refl
     right (x ∷ xs) = refl
+
+-- ---- the rows of clusters
+pub links_are : (parts : Parts) (cells : List LogicCell) (tiles : List TileAt) (clusters : List Cluster) (old new : List Switch) → new ≡ old ++ sides (cluster_link parts cells) tiles 0 clusters → new ≡ old ++ all_links parts cells tiles clusters
+links_are parts cells tiles clusters old new e = e ∙ ap (λ xs. old ++ xs) (sides_are (cluster_link parts cells) (all_links parts cells) (λ cs. refl) right (λ t ts c cs. refl) tiles clusters)
+  where
+    right : (ts : List TileAt) → all_links parts cells ts [] ≡ []
+    right [] = refl
+    right (t ∷ ts) = refl

@@ -3,3 +3,10 @@ mod Rooted
 mod Owning
 mod Arrived
 mod Beside
+mod Listed
+mod Buffered
+mod Holdings
+mod Enabling
+mod Wanting
+mod Slotless
+mod Ready
