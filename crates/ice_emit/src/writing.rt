@@ -1,8 +1,11 @@
 //! The bit writer.
 ghost use Rattle.std.specs.Prelude.{◌≡◌, map, IfOk};
+ghost use Rattle.ice_bits.specs.Configuration.{bits_of};
 ghost use Rattle.ice_negotiate.specs.Trees.{route_of};
 ghost use Rattle.ice_nets.specs.Plans.{plan_in, plan_of};
 ghost use Rattle.ice_written.specs.Functions.{settings};
+ghost use Rattle.ice_realised.specs.Feeds.{FeedsNoGlobal};
+ghost use Rattle.ice_written.specs.Realised.{Realises};
 ghost use Rattle.ice_written.specs.Routed.{AreTrees};
 ghost use Rattle.ice_written.specs.Written.{held_by, wanted_rows, IsWritten};
 ghost use Rattle.ice_emit.specs.Placed.{IsPlacedOn};
@@ -23,10 +26,14 @@ use ice_cells::{Clusters, Design};
 use ice_chip::Chip;
 use ice_cluster::laws::cells_stand_in_one_slot;
 use ice_graph::Tree;
+use ice_led::laws::roots_are_led_to_pins;
 use ice_nets::{Placed, placed_of, wires_of};
 use ice_pads::Pads;
 use ice_place::Placement;
+use ice_realised::laws::bits_realise_their_design;
 use ice_rows::index_of;
+use ice_set::laws::designs_are_set;
+use ice_wiring::laws::wanted_rows_drive;
 use ice_writing::{Setting, set_all, turn_all_on};
 use std::alloc::Global;
 
@@ -107,6 +114,10 @@ fn bits_with(alloc: Global, chip: &Chip, rows: &[RowNo], made: &[Setting]) -> Re
 /// cells, their tables rewired to the inputs at which their signals arrive; of clocks' edges and carries into runs; of the pads'
 /// types and pull-ups, of inputs that nothing reads, and of the column buffers that globals pass. No other bit is set.
 ///
+/// Decoding these bits gives no fault: each wanted row drives its wire and no other wire has a driver, the ports' pads show for every
+/// list of levels what the design shows, and every other pad is off. It is so on every chip on which no global is fed by a global,
+/// as where each global is fed in an IO tile.
+///
 /// # Errors
 /// Want of memory alone; more than 4,294,967,295 trees count as such.
 pub fn emit(
@@ -121,7 +132,12 @@ pub fn emit(
     requires placed { IsPlacedOn chip.now (plan_of design.now clusters.now placement.now pads.now) pads.now.pullups }
     requires trees { AreTrees chip.now (plan_of design.now clusters.now placement.now pads.now) (map route_of trees.now) }
     ensures written { IfOk result (IsWritten chip.now (plan_of design.now clusters.now placement.now pads.now) pads.now.pullups (map route_of trees.now)) }
+    ensures realised { FeedsNoGlobal chip.now → IfOk result (λ bits. Realises chip.now (plan_of design.now clusters.now placement.now pads.now) (wanted_rows chip.now (plan_of design.now clusters.now placement.now pads.now) (map route_of trees.now)) (bits_of bits)) }
 {
+    roots_are_led_to_pins(chip);
+    designs_are_set(chip);
+    wanted_rows_drive(chip);
+    bits_realise_their_design(chip);
     let placed = placed_of(chip, design, clusters, placement, pads);
     let rows = rows_of(alloc, &placed, trees)?;
     let made = settings_in(alloc, &placed, pads.pullups(), trees, rows.as_slice())?;
