@@ -1,3 +1,5 @@
 pub mod Bounds
 pub mod Raising
 pub mod Moving
+pub mod Sums
+pub mod Counting

@@ -1,2 +1,5 @@
 pub mod Congestion
 pub mod Moves
+pub mod Routes
+pub mod Machine
+pub mod Moments
