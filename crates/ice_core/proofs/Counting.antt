@@ -13,7 +13,7 @@ use Rattle.ice_core.specs.Moments.{held_of, routes_by, routes_of, holds, CoreCou
 use Rattle.ice_core.proofs.Sums.{sum_of_ones, is_at, at_itself, at_other, below_lists, times_cons, times_append, times_push}
 
 -- ---- one worker changes
-some_same : {A : Type 0} (xs : List A) (i : ℕ) (a b : A) → slice_get xs i ≡ Some a → slice_get xs i ≡ Some b → a ≡ b
+pub some_same : {A : Type 0} (xs : List A) (i : ℕ) (a b : A) → slice_get xs i ≡ Some a → slice_get xs i ≡ Some b → a ≡ b
 some_same xs i a b at there = sym (get_or_from_slice_get xs i a a at) ∙ get_or_from_slice_get xs i b a there
 
 sum_changed : (h : Worker → ℕ) (us : List Worker) (k : ℕ) (u : Worker) (f : Worker → Worker) → slice_get us k ≡ Some u → sum_by h (changed_at k f us) + h u ≡ sum_by h us + h (f u)
@@ -32,6 +32,11 @@ each_read : (P : Worker → Type 0) (us : List Worker) (k : ℕ) (u : Worker) �
 each_read P [] k u each at = absurd (let none : List Worker = [] in let lt : k < 0 = slice_get_within none k u at in omega arith)
 each_read P (x ∷ us) zero u each at = subst P (some_same (x ∷ us) 0 x u refl at) each.0
 each_read P (x ∷ us) (suc k) u each at = each_read P us k u each.1 at
+
+as_many : (k : ℕ) (f : Worker → Worker) (us : List Worker) → length (changed_at k f us) ≡ length us
+as_many k f [] = refl
+as_many zero f (u ∷ us) = refl
+as_many (suc k) f (u ∷ us) = ap suc (as_many k f us)
 
 -- ---- a worker's routes
 take_own : (xs ys : List ℕ) → take (length xs) (xs ++ ys) ≡ xs
@@ -140,6 +145,7 @@ wide lists t = length (wires_of lists t)
 
 pub record IsCounted (olds news : List (List ℕ)) (opening : List ℕ) (s : CoreState) : Type 0 where
   pub workers : AllByRecursion (IsSteady olds news s.number) s.workers
+  pub few : length s.workers ≤ 8
   pub long : length s.counts ≡ length opening
   pub each : (w : ℕ) → w < length opening → slice_index s.counts w ≡ holds olds news opening s w
   pub draws : (f : ℕ → ℕ) → sum_by (claimed_by f) s.workers ≡ sum_below (min s.number (length olds)) f
@@ -180,6 +186,7 @@ claim_task olds news opening s k u is at may lt =
     let change = λ (h : Worker → ℕ). sum_changed h s.workers k u f at in
     let going : ends u ≡ 0 = ap (λ b. cond b 1 0) may.2 in
     record {
+      few = omega (arith, as_many k f s.workers, is.few);
       workers = each_changed (IsSteady olds news (n + 1)) s.workers k u f (later olds news n (n + 1) (omega arith) s.workers is.workers) at (λ old. record { rest = ([], refl); ended = λ over. absurd (true≢false (sym over)) });
       long = is.long;
       each = λ w le. omega (arith, is.each w le, change (load news w), claim_load olds news w n u.claimed u.left u.rest steady.rest may.0 may.1, drop_sum (times w) olds n lt);
@@ -199,6 +206,7 @@ claim_none olds news opening s k u is at may ge =
     let change = λ (h : Worker → ℕ). sum_changed h s.workers k u ending at in
     let going : ends u ≡ 0 = ap (λ b. cond b 1 0) may.2 in
     record {
+      few = omega (arith, as_many k ending s.workers, is.few);
       workers = each_changed (IsSteady olds news (n + 1)) s.workers k u ending (later olds news n (n + 1) (omega arith) s.workers is.workers) at (λ old. record { rest = old.rest; ended = λ over. (may.0, may.1, omega arith) });
       long = is.long;
       each = λ w le. omega (arith, is.each w le, change (load news w), drop_none (times w) olds n ge, drop_none (times w) olds (n + 1) (omega arith));
@@ -227,6 +235,7 @@ release_counted olds news opening s k v u is at may =
     let here = λ (le : x < length opening). (let lt : x < length s.counts = omega (arith, le, is.long) in
     let e : slice_index counts x ≡ holds olds news opening (next olds news s (Release k v)) x = omega (arith, get_or-set_same s.counts x (n - 1) 0 lt, is.each x le, change (load news x), step x, at_itself x) in e) in
     record {
+      few = omega (arith, as_many k (releasing n) s.workers, is.few);
       workers = each_changed (IsSteady olds news s.number) s.workers k u (releasing n) is.workers at (λ old. record { rest = release_rest news u.claimed u.left u.rest old.rest; ended = λ over. absurd (nil_cons x may.0 u.left may.1 (old.ended over).0) });
       long = length-set s.counts x (n - 1) ∙ is.long;
       each = λ w le. elim (cases_eq w x) [
@@ -251,6 +260,7 @@ hold_counted olds news opening s k v u is at may =
     let here = λ (le : x < length opening). (let lt : x < length s.counts = omega (arith, le, is.long) in
     let e : slice_index counts x ≡ holds olds news opening (next olds news s (Hold k v)) x = omega (arith, get_or-set_same s.counts x (n + 1) 0 lt, is.each x le, change (load news x), step x, at_itself x) in e) in
     record {
+      few = omega (arith, as_many k (holding n) s.workers, is.few);
       workers = each_changed (IsSteady olds news s.number) s.workers k u (holding n) is.workers at (λ old. record { rest = hold_rest news x u.claimed u.left u.rest may.1.0 old.rest may.1.1; ended = λ over. absurd (nil_cons x may.1.0 u.rest may.1.1 (old.ended over).1) });
       long = length-set s.counts x (n + 1) ∙ is.long;
       each = λ w le. elim (cases_eq w x) [
@@ -269,6 +279,7 @@ post_counted olds news opening s k true u is at =
     let own : (worker_at s k).up ≡ u.up = ap (λ (w : Worker). w.up) (get_or_from_slice_get s.workers k u idle at) in
     let change = λ (h : Worker → ℕ). sum_changed h s.workers k u (posting true) at in
     record {
+      few = omega (arith, as_many k (posting true) s.workers, is.few);
       workers = each_changed (IsSteady olds news s.number) s.workers k u (posting true) is.workers at (λ old. record { rest = old.rest; ended = old.ended });
       long = is.long;
       each = λ w le. omega (arith, is.each w le, change (load news w));
@@ -282,6 +293,7 @@ post_counted olds news opening s k false u is at =
     let own : (worker_at s k).down ≡ u.down = ap (λ (w : Worker). w.down) (get_or_from_slice_get s.workers k u idle at) in
     let change = λ (h : Worker → ℕ). sum_changed h s.workers k u (posting false) at in
     record {
+      few = omega (arith, as_many k (posting false) s.workers, is.few);
       workers = each_changed (IsSteady olds news s.number) s.workers k u (posting false) is.workers at (λ old. record { rest = old.rest; ended = old.ended });
       long = is.long;
       each = λ w le. omega (arith, is.each w le, change (load news w));
@@ -324,6 +336,19 @@ all_counted : (olds news : List (List ℕ)) (opening : List ℕ) (s t : CoreStat
 all_counted olds news opening s t [] is leads = subst (IsCounted olds news opening) leads is
 all_counted olds news opening s t (e ∷ events) is leads = all_counted olds news opening (next olds news s e) t events (step_counted olds news opening s e is leads.0) leads.1
 
+-- one event more
+pub leads_push : (olds news : List (List ℕ)) (s : CoreState) (events : List Event) (t : CoreState) (e : Event) → Leads olds news s events t → Allowed t e → Leads olds news s (events ++ e ∷ []) (next olds news t e)
+leads_push olds news s [] t e is may = (subst (λ u. Allowed u e) (sym is) may, ap (λ u. next olds news u e) is)
+leads_push olds news s (d ∷ events) t e leads may = (leads.0, leads_push olds news (next olds news s d) events t e leads.1 may)
+
+pub reached_more : (olds news : List (List ℕ)) (opening : List ℕ) (t : CoreState) (e : Event) → IsReached olds news opening t → Allowed t e → IsReached olds news opening (next olds news t e)
+reached_more olds news opening t e r may = record {
+  start = r.start;
+  begins = r.begins;
+  events = r.events ++ e ∷ [];
+  leads = leads_push olds news r.start r.events t e r.leads may;
+}
+
 -- ---- the start and the end
 abbrev IsIdle : Worker → Type 0
 IsIdle u = u ≡ record { claimed = []; left = []; rest = []; ended = false; up = 0; down = 0 }
@@ -340,6 +365,7 @@ starts_counted : (olds news : List (List ℕ)) (opening : List ℕ) (s : CoreSta
 starts_counted olds news opening s fits is =
     let none = λ (h : Worker → ℕ) (zero : h idle ≡ 0). idle_sum h s.workers zero is.idle in
     record {
+      few = is.few;
       workers = subst (λ n. AllByRecursion (IsSteady olds news n) s.workers) (sym is.number) (idle_steady olds news s.workers is.idle);
       long = ap length is.counts;
       each = λ w le.

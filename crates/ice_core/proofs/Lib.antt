@@ -3,3 +3,4 @@ pub mod Raising
 pub mod Moving
 pub mod Sums
 pub mod Counting
+pub mod Running

@@ -145,3 +145,9 @@ below_first (suc n) f = omega (arith, below_first n f)
 pub below_lists : (g : List ℕ → ℕ) (lists : List (List ℕ)) → sum_below (length lists) (λ t. g (wires_of lists t)) ≡ sum_by g lists
 below_lists g [] = refl
 below_lists g (x ∷ lists) = omega (arith, below_first (length lists) (λ t. g (wires_of (x ∷ lists) t)), below_lists g lists, sum_by-cons g x lists)
+
+-- ---- what is read of a list
+pub read_at : (xs : List ℕ) (i a : ℕ) → get_elem? xs i ≡ some a → a ≡ slice_index xs i
+read_at [] i a e = absurd (some-ne-none a (sym e))
+read_at (x ∷ xs) zero a e = sym (some-injective x a e)
+read_at (x ∷ xs) (suc i) a e = read_at xs i a e

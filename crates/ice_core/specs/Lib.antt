@@ -3,3 +3,4 @@ pub mod Moves
 pub mod Routes
 pub mod Machine
 pub mod Moments
+pub mod Program

@@ -9,6 +9,8 @@ pub mod laws;
 mod log;
 mod net;
 mod prices;
+mod progress;
+mod round_prices;
 mod rounds;
 mod task;
 
@@ -18,5 +20,6 @@ pub use history::raise;
 pub use log::RoundLog;
 pub use net::Net;
 pub use prices::Prices;
+pub use round_prices::RoundPrices;
 pub use rounds::{holders, movers};
 pub use task::Task;
