@@ -669,11 +669,6 @@ closed_view olds counts id v words t main none no_up no_down =
     let h = t.1.0 in
     rw (← t.2) (closes olds counts t.0 id v h t.1.1 main none, few_numbers olds counts t.0 id v h t.1.1, λ w lt. few_held olds counts t.0 w h lt, posts_all olds counts t.0 id v h t.1.1 main none no_up no_down)
 
-pub read_at : (xs : List ℕ) (i a : ℕ) → get_elem? xs i ≡ some a → a ≡ slice_index xs i
-read_at [] i a e = absurd (some-ne-none a (sym e))
-read_at (x ∷ xs) zero a e = sym (some-injective x a e)
-read_at (x ∷ xs) (suc i) a e = read_at xs i a e
-
 -- ---- the start
 push_index : (counts : List ℕ) (w : ℕ) → slice_index (0 ∷ 0 ∷ 0 ∷ counts) (w + 3) ≡ slice_index counts w
 push_index counts w = let e : w + 3 ≡ suc (suc (suc w)) = omega arith in ap (λ k. slice_index (0 ∷ 0 ∷ 0 ∷ counts) k) e

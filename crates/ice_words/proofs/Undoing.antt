@@ -14,8 +14,9 @@ use Rattle.ice_words.specs.Lawful.{AreFinished, IsNewestUnderWay, IsNewestFinish
 use Rattle.ice_base.specs.declared.number.WireNo.{WireNo}
 use Rattle.ice_core.specs.declared.event.Event.{Event}
 use Rattle.ice_core.specs.declared.event.Event.TheVariants.{Claim as Claims, Release as Releases, Hold as Holds, Post as Posts}
-use Rattle.ice_core.specs.Machine.{Worker, CoreState, Allowed, with_task, ending, claiming, releasing, holding, posting, changed_at, next, Leads, IsReached}
+use Rattle.ice_core.specs.Machine.{Worker, CoreState, Allowed, with_task, ending, claiming, releasing, holding, posting, changed_at, next, IsReached}
 use Rattle.ice_words.specs.Showing.{left_of, rest_of, worker_of, core_of, bare, bare_state, IsShown}
+use Rattle.ice_core.proofs.Counting.{reached_more}
 use Rattle.ice_core.proofs.Sums.{sum_set, sum_at, each_set, each_at, sum_at_most, below_ones, below_upto, at_itself, at_other, times_push, times_append}
 use Rattle.ice_words.proofs.Fronts.{before_claim}
 
@@ -56,10 +57,6 @@ same_list (x ∷ xs) (y ∷ ys) long same =
 -- ---- a step more in the core
 core_same : (n m : ℕ) (xs ys : List ℕ) (us vs : List Worker) → n ≡ m → xs ≡ ys → us ≡ vs → core_of n xs us ≡ core_of m ys vs
 core_same n m xs ys us vs number counts workers = λ k. record { number = number k; counts = counts k; up = 0; down = 0; workers = workers k }
-
-leads_push : (olds news : List (List ℕ)) (s : CoreState) (events : List Event) (t : CoreState) (e : Event) → Leads olds news s events t → Allowed t e → Leads olds news s (events ++ e ∷ []) (next olds news t e)
-leads_push olds news s [] t e is may = (subst (λ u. Allowed u e) (sym is) may, ap (λ u. next olds news u e) is)
-leads_push olds news s (d ∷ events) t e leads may = (leads.0, leads_push olds news (next olds news s d) events t e leads.1 may)
 
 -- what the bare worker may do, the worker may do
 bare_at : (us : List Worker) (k : ℕ) (v : Worker) → slice_get (map bare us) k ≡ Some v → (u : Worker) × (slice_get us k ≡ Some u) × (bare u ≡ v)
@@ -106,12 +103,7 @@ bare_next olds news s (Posts k false) = ap (λ us. core_of s.number s.counts us)
 reach_more : (olds news : List (List ℕ)) (opening : List ℕ) (t u : CoreState) (e : Event) → IsShown olds news opening t → Allowed t e → bare_state (next olds news t e) ≡ u → IsShown olds news opening u
 reach_more olds news opening t u e r may is = record {
   state = next olds news r.state e;
-  reached = record {
-    start = r.reached.start;
-    begins = r.reached.begins;
-    events = r.reached.events ++ e ∷ [];
-    leads = leads_push olds news r.reached.start r.reached.events r.state e r.reached.leads (bare_allowed r.state e (subst (λ s. Allowed s e) (sym r.same) may));
-  };
+  reached = reached_more olds news opening r.state e r.reached (bare_allowed r.state e (subst (λ s. Allowed s e) (sym r.same) may));
   same = bare_next olds news r.state e ∙ (ap (λ s. bare_state (next olds news s e)) r.same ∙ is);
 }
 

@@ -9,7 +9,8 @@ use ice_base::WireNo;
 use std::alloc::Global;
 use std::marker::Model;
 
-/// The counts at the end of a round.
+/// The counts at the end of a round, beside those that it began with. Contracts see both lists, what was posted, and how many tasks, releases and holds
+/// there were.
 pub struct Counts {
     pub(crate) closed: Closed<u64, Global>,
     pub(crate) opened: Vec<u32>,
@@ -42,7 +43,7 @@ impl Drop for Counts {
 }
 
 impl Counts {
-    /// The count of a wire.
+    /// The count of a wire, which is one of those of the round. Takes no memory.
     pub fn of(&self, wire: WireNo) -> u32
         requires { wire.0 < length self.now.opened }
         ensures { result ≡ slice_index self.now.closed wire.0 }
@@ -50,14 +51,14 @@ impl Counts {
         self.closed.word(wire.0 as usize + 3) as u32
     }
 
-    /// What was posted, up and down.
+    /// The overuses that came and that went, as they were posted. Takes no memory.
     pub fn posted(&self) -> (u64, u64)
         ensures { (result.0 ≡ self.now.up) × (result.1 ≡ self.now.down) }
     {
         (self.closed.word(1), self.closed.word(2))
     }
 
-    /// How much the counts are above 1, over all wires: nothing where no wire is held twice.
+    /// How much the counts are above 1, over all wires: 0 exactly where no wire is held twice. Takes no memory.
     pub fn over(&self) -> u64
         ensures { result ≡ overuse self.now.closed }
     {
@@ -65,7 +66,7 @@ impl Counts {
         self.over_opened + up - down
     }
 
-    /// What is kept of the round.
+    /// What is kept of the round. No other call makes a tally.
     pub fn tally(self) -> Tally
         ensures { result ≡ self }
     {
@@ -73,7 +74,7 @@ impl Counts {
     }
 }
 
-/// What is kept of a round.
+/// What is kept of a round: the counts that it began and ended with, and how many tasks, releases and holds there were.
 #[derive(Drop)]
 pub struct Tally {
     counts: Counts,
@@ -107,7 +108,7 @@ impl Tally {
         self.counts.holds
     }
 
-    /// The opening count of a wire.
+    /// The count of a wire as the round began.
     pub fn opened(&self, wire: WireNo) -> u32
         requires { wire.0 < length self.now.opened }
         ensures { result ≡ slice_index self.now.opened wire.0 }
@@ -115,7 +116,7 @@ impl Tally {
         self.counts.opened[wire.0 as usize]
     }
 
-    /// The closing count of a wire.
+    /// The count of a wire as the round ended.
     pub fn closed(&self, wire: WireNo) -> u32
         requires { wire.0 < length self.now.opened }
         ensures { result ≡ slice_index self.now.closed wire.0 }

@@ -1,10 +1,9 @@
 //! The words, and hands on them.
 ghost use Rattle.std.specs.Prelude.{◌≡◌, ◌+◌, ◌-◌, ◌<◌, ◌≤◌, ◌^◌, [], ◌∷◌, ℕ, false, length, map, min, slice_index, IfOk, IfSome, IfNone};
 ghost use Rattle.std.specs.List.{AllByRecursion};
-ghost use Rattle.ice_core.specs.Routes.{overuse, sum_below, IsOpening};
+ghost use Rattle.ice_core.specs.Routes.{overuse, old_wires, IsOpening};
 ghost use Rattle.ice_words.specs.Views.{total, one, task_by, released_on, held_on, releases_of, holds_of, ends, claiming, ending, with_own, released_at, held_at, posted_up, posted_down, posted, own, first_view, worker_view, with_worker, with_parts, spent_view};
 ghost use Rattle.ice_words.specs.Rule.{IsNewestReleased, IsAfter, MayRelease, MayHold, Holds, Draws, AreFew, Looks, IsClosing, IsPosted};
-ghost use Rattle.ice_core.specs.Routes.{old_wires};
 ghost use Rattle.ice_words.specs.Grips.{Grip, Board, IsHandOf, grip_of, board_of, olds_of};
 
 use crate::counts::Counts;
@@ -15,6 +14,7 @@ use ice_core::{Task, old_routes};
 use std::alloc::Global;
 use std::marker::Model;
 
+/// The rule of the words: what holds of them and of what all hands know, between any two steps.
 pub struct Counted;
 
 impl TableRule<u64, View, Opening> for Counted {
@@ -23,48 +23,56 @@ impl TableRule<u64, View, Opening> for Counted {
     ghost first = { λ opening. first_view (olds_of opening) opening.counts.items };
 }
 
+// A number was drawn.
 struct Drawing;
 
 impl Play<u64, View> for Drawing {
     ghost then = { λ s v n w. Draws v.0 n w.0 × (w.1 ≡ v.1) };
 }
 
+// A wire was released.
 struct Releasing;
 
 impl Play<u64, View> for Releasing {
     ghost then = { λ s v n w. Looks v.0 (s.word - 3) n × (w.0 ≡ released_at n (s.word - 3) v.0) × AreFew w.0 × (w.1 ≡ v.1) };
 }
 
+// A wire was held.
 struct Holding;
 
 impl Play<u64, View> for Holding {
     ghost then = { λ s v n w. Looks v.0 (s.word - 3) n × (w.0 ≡ held_at n (s.word - 3) v.0) × AreFew w.0 × (w.1 ≡ v.1) };
 }
 
+// A count was read.
 struct Looking;
 
 impl Play<u64, View> for Looking {
     ghost then = { λ s v n w. Looks v.0 (s.word - 3) n × (n ≤ 131072) × (w ≡ v) };
 }
 
+// The numbers of two hands are added.
 struct Adding;
 
 impl Play<u64, View> for Adding {
     ghost then = { λ s v n w. AreFew v.0 × (w ≡ v) };
 }
 
+// The overuses that came are posted.
 struct PostingUp;
 
 impl Play<u64, View> for PostingUp {
     ghost then = { λ s v n w. (w.0 ≡ posted_up v.0) × (w.1 ≡ v.1) };
 }
 
+// The overuses that went are posted.
 struct PostingDown;
 
 impl Play<u64, View> for PostingDown {
     ghost then = { λ s v n w. (w.0 ≡ posted_down v.0) × (w.1 ≡ v.1) };
 }
 
+// A hand is split off the main one, or joined to it.
 struct Cut;
 
 impl Split<View> for Cut {
@@ -79,7 +87,8 @@ impl Join<View> for Cut {
     ghost spent = { spent_view };
 }
 
-/// A hand on words, with its three numbers, and the two that it has still to post.
+/// A hand on words, by which one thread makes its steps on them. Contracts see what it knows: the tasks that it claimed, and what it
+/// released and held. It counts how many tasks, releases and holds these are, and the overuses that came and went by it and that it hasn't posted.
 #[derive(Drop)]
 pub struct Hand {
     pub(crate) seat: Seat<u64, View>,
@@ -98,7 +107,9 @@ impl Model for Hand {
     ghost invariant = { λ h. (h.seat.me.1 ≡ []) × (1 ≤ length h.seat.me.0.parts) × (h.claims ≡ total one h.seat.me.0) × (h.releases ≡ total releases_of h.seat.me.0) × (h.holds ≡ total holds_of h.seat.me.0) × (h.up ≡ h.seat.me.0.up) × (h.down ≡ h.seat.me.0.down) };
 }
 
-/// The words of a round.
+/// The words that the workers of a round share. Word 0 is the number that is drawn next, words 1 and 2 are the overuses that came and that went, as
+/// they were posted, and word w + 3 is the number of routes that hold wire w. Each step is one atomic operation on one word. None of the calls but
+/// `start` takes memory, and none waits.
 #[derive(Drop)]
 pub struct Words {
     table: Table<u64, View, Opening, Counted, Global>,
@@ -153,7 +164,9 @@ fn overuse_of(counts: &[u32]) -> u64
 }
 
 impl Words {
-    /// Words for these tasks and counts, and the main hand.
+    /// Words for these tasks and counts, and the main hand, which alone splits, joins and closes. There are at most 65,536 tasks. `counts` has one entry
+    /// for each of the `wires`, at most 65,536 and at least the number of tasks that have the wire as an old one; no task has an old wire twice. It answers
+    /// `NoMemory` where it finds no memory for its words.
     pub fn start(
         alloc: Global,
         wires: u32,
@@ -191,7 +204,8 @@ impl Words {
         Ok((words, hand))
     }
 
-    /// The counts at the end.
+    /// The counts at the end, when every hand that was split off has been joined: for each wire the old count less all releases plus all holds. The hand's
+    /// overuses are posted.
     pub fn close(self, hand: Hand) -> Counts
         requires of { IsHandOf self hand }
         requires main { hand.view.main ≡ 1 }
@@ -226,7 +240,8 @@ impl Words {
         }
     }
 
-    /// A number that no other claim gives, if it is below the number of tasks.
+    /// Draws a number. It is a task that no other claim has or will have; None where it isn't below the number of tasks, after which the hand claims no
+    /// more. The hand was never answered None, and has released all old wires of the last task that it claimed.
     pub fn claim(&self, hand: &mut Hand) -> Option<u32>
         requires of { IsHandOf self.now hand.old }
         requires going { (own hand.old.view).ended ≡ false }
@@ -243,7 +258,8 @@ impl Words {
         Some(n as u32)
     }
 
-    /// Takes one from a wire's count. It goes down where the wire is still held.
+    /// Takes one from a wire's count. The task is the last that the hand claimed, and the wire is the first of its old wires that the hand hasn't released. An
+    /// overuse went where the count was at least 2.
     pub fn release(&self, hand: &mut Hand, task: u32, wire: WireNo)
         requires of { IsHandOf self.now hand.old }
         requires going { (own hand.old.view).ended ≡ false }
@@ -263,7 +279,8 @@ impl Words {
         }
     }
 
-    /// Adds one to a wire's count. It goes up where the wire was held.
+    /// Adds one to a wire's count. The task is the last that the hand claimed, all its old wires are released, and the hand hasn't held the wire for it. An
+    /// overuse came where the count was at least 1.
     pub fn hold(&self, hand: &mut Hand, task: u32, wire: WireNo)
         requires of { IsHandOf self.now hand.old }
         requires going { (own hand.old.view).ended ≡ false }
@@ -283,7 +300,7 @@ impl Words {
         }
     }
 
-    /// Adds the hand's two numbers to the posted ones.
+    /// Posts the overuses that came and went by the hand since it last posted: one step for each of the two numbers.
     pub fn post(&self, hand: &mut Hand)
         requires of { IsHandOf self.now hand.old }
         ensures of { IsHandOf self.now hand.new }
@@ -299,7 +316,8 @@ impl Words {
         hand.down = 0;
     }
 
-    /// The count of a wire at this moment.
+    /// The count of a wire at this moment. It differs from what the hand's own releases and holds make of the old count by at most the tasks that the hand
+    /// didn't claim: it is less by at most those of them that have the wire as an old one, and more by at most all of them.
     pub fn look(&self, hand: &mut Hand, wire: WireNo) -> u32
         requires of { IsHandOf self.now hand.old }
         requires wire { wire.0 < length hand.old.view.counts }
@@ -311,7 +329,7 @@ impl Words {
             .load::<Looking>(&mut hand.seat, wire.0 as usize + 3) as u32
     }
 
-    /// A hand for another thread.
+    /// A hand for another thread. The main hand splits fewer than 65,536 times.
     pub fn split(&self, hand: &mut Hand) -> Hand
         requires of { IsHandOf self.now hand.old }
         requires main { hand.old.view.main ≡ 1 }
@@ -330,7 +348,7 @@ impl Words {
         }
     }
 
-    /// Takes in what another hand did.
+    /// Takes in what another hand did, as a part of its own. The other's overuses are posted.
     pub fn join(&self, hand: &mut Hand, other: Hand)
         requires of { IsHandOf self.now hand.old × IsHandOf self.now other }
         requires main { hand.old.view.main ≡ 1 }

@@ -2,7 +2,7 @@ use Rattle.std.proofs.Common.{◌≡◌, ◌+◌, ◌<◌, length, slice_index, 
 use Rattle.std.proofs.lemmas.List.{get_or-drop}
 use Rattle.std.specs.Mem.Slots.{slots_items}
 use Rattle.ice_words.specs.Grips.{Shut}
-use Rattle.ice_words.proofs.Steps.{read_at}
+use Rattle.ice_core.proofs.Sums.{read_at}
 use Rattle.ice_words.proofs.counts.Counts.of.Goals as goal
 
 pub overflow_cast-result : goal.overflow_cast-result
