@@ -8,9 +8,9 @@ use Rattle.ice_base.specs.declared.number.WireNo.{WireNo}
 use Rattle.ice_core.specs.declared.event.Event.{Event}
 use Rattle.ice_core.specs.declared.event.Event.TheVariants.{Claim, Release, Hold, Post}
 use Rattle.ice_core.specs.Routes.{times, sum_below, wires_of, overuse, IsOpening}
-use Rattle.ice_core.specs.Machine.{Worker, CoreState, idle, MayClaim, MayRelease, MayHold, Allowed, with_task, ending, claiming, releasing, holding, posting, changed_at, worker_at, next, Leads, IsStart, IsReached}
+use Rattle.ice_core.specs.Machine.{Worker, CoreState, idle, MayClaim, MayRelease, MayHold, Allowed, with_task, ending, releasing, holding, posting, changed_at, worker_at, next, Leads, IsStart, IsReached}
 use Rattle.ice_core.specs.Moments.{held_of, routes_by, routes_of, holds, CoreCounts}
-use Rattle.ice_core.proofs.Sums.{sum_of_ones, is_at, at_itself, at_other, below_lists, times_cons, times_append, times_push}
+use Rattle.ice_core.proofs.Sums.{is_at, at_itself, at_other, below_lists, times_cons, times_append, times_push}
 
 -- ---- one worker changes
 pub some_same : {A : Type 0} (xs : List A) (i : ℕ) (a b : A) → slice_get xs i ≡ Some a → slice_get xs i ≡ Some b → a ≡ b

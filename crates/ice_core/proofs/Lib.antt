@@ -4,3 +4,4 @@ pub mod Moving
 pub mod Sums
 pub mod Counting
 pub mod Running
+pub mod Stepping

@@ -1,19 +1,18 @@
 -- The core as a program: how the progress of a worker changes, and that no number of a state that is reached is large.
-use Rattle.std.proofs.Common.{◌≡◌, ◌↔◌, ℕ, zero, suc, ◌+◌, ◌-◌, ◌*◌, ◌^◌, ◌≤◌, ◌<◌, List, [], ◌∷◌, ◌++◌, length, map, min, set, take, drop, reverse, Bool, true, false, true≢false, nat_lt, if◌then◌else◌, cond, eqb, lt-ltb, le-ltb, inl, inr, Option, Some, None, slice_get, slice_index, slice_set, refl, sym, ap, subst, arith, ◌∙◌}
-use Rattle.std.proofs.lemmas.Bool.{cases_eq, cases_lt}
+use Rattle.std.proofs.Common.{◌≡◌, ◌↔◌, ℕ, zero, suc, ◌+◌, ◌-◌, ◌*◌, ◌^◌, ◌≤◌, ◌<◌, List, [], ◌∷◌, ◌++◌, length, map, min, set, drop, reverse, Bool, true, false, nat_lt, if◌then◌else◌, cond, lt-ltb, le-ltb, Some, slice_get, slice_index, refl, sym, ap, subst, arith, ◌∙◌}
 use Rattle.std.proofs.lemmas.List.{reverse-append, length-map}
 use Rattle.std.proofs.lemmas.List.Sums.{sum_by-cons}
-use Rattle.std.proofs.lemmas.Option.{slice_get_within, slice_get_past, get_or_from_slice_get}
+use Rattle.std.proofs.lemmas.Option.{slice_get_within}
 use Rattle.std.specs.Global.{Vec}
 use Rattle.std.specs.List.{sum_by, AllByRecursion}
 use Rattle.ice_base.specs.declared.number.WireNo.{WireNo}
 use Rattle.ice_core.specs.declared.event.Event.{Event}
 use Rattle.ice_core.specs.declared.progress.Progress.{Progress}
 use Rattle.ice_core.specs.Routes.{numbers, lists_of, times, wires_of, sum_below, overuse, IsOpening, AreNews}
-use Rattle.ice_core.specs.Machine.{Worker, CoreState, with_task, ending, claiming, releasing, holding, posting, changed_at, Allowed, next, Leads, IsReached}
-use Rattle.ice_core.specs.Program.{Moment, worker_by, HasRoom, IsFresh, IsRunning}
-use Rattle.ice_core.proofs.Sums.{each_append, each_set, below_ones, below_at_most, once_short}
-use Rattle.ice_core.proofs.Counting.{some_same, claimed_by, ends, ups, downs, lefts, rests, wide, IsCounted, reached_counted, reached_more}
+use Rattle.ice_core.specs.Machine.{Worker, CoreState, with_task, ending, claiming, releasing, holding, changed_at, Allowed, next, IsReached}
+use Rattle.ice_core.specs.Program.{Moment, HasRoom, IsFresh, IsRunning}
+use Rattle.ice_core.proofs.Sums.{each_append, below_ones, below_at_most, once_short}
+use Rattle.ice_core.proofs.Counting.{some_same, ends, ups, downs, wide, reached_counted, reached_more}
 
 -- ---- the wire behind the first so many
 behind_get : (wires : List WireNo) (d : ℕ) (w : WireNo) → slice_get wires d ≡ Some w → drop d (numbers wires) ≡ w.0 ∷ drop (suc d) (numbers wires)

@@ -1,10 +1,8 @@
 -- The core as a program keeps it.
-use Rattle.std.specs.Prelude.{◌≡◌, ℕ, ◌+◌, ◌-◌, ◌≤◌, ◌<◌, false, List, [], ◌∷◌, drop, length, map, reverse, vec_capacity}
-use Rattle.std.specs.Global.{Vec}
+use Rattle.std.specs.Prelude.{◌≡◌, ℕ, ◌+◌, ◌-◌, ◌≤◌, false, List, [], drop, length, map, reverse, vec_capacity}
 use Rattle.std.specs.List.{AllByRecursion}
-use Rattle.ice_base.specs.declared.number.WireNo.{WireNo}
 use Rattle.ice_core.specs.declared.progress.Progress.{Progress}
-use Rattle.ice_core.specs.Routes.{lists_of, wires_of, IsOpening, AreNews}
+use Rattle.ice_core.specs.Routes.{wires_of, IsOpening, AreNews}
 use Rattle.ice_core.specs.Machine.{Worker, CoreState, IsReached}
 
 -- the tasks' old and new wires, and the state

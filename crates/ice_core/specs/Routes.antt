@@ -1,5 +1,5 @@
 -- Routes as lists of wires by number, what is counted in them, and what the tasks and counts of a round are to be.
-use Rattle.std.specs.Prelude.{◌≡◌, ℕ, zero, suc, ◌+◌, ◌-◌, ◌≤◌, ◌<◌, ◌^◌, List, [], ◌∷◌, count_by, nat_eq, length, map, slice_index, slice_index_or}
+use Rattle.std.specs.Prelude.{◌≡◌, ℕ, zero, suc, ◌+◌, ◌-◌, ◌≤◌, ◌<◌, ◌^◌, List, [], count_by, nat_eq, length, map, slice_index, slice_index_or}
 use Rattle.std.specs.Global.{Vec}
 use Rattle.std.specs.List.{sum_by, AllByRecursion}
 use Rattle.ice_base.specs.declared.number.WireNo.{WireNo}

@@ -1,8 +1,8 @@
-use Rattle.std.proofs.Common.{◌≡◌, List, length, slice_get, Some, None, IfSome, IfNone, refl, ap, sym, subst, arith, ◌∙◌}
+use Rattle.std.proofs.Common.{◌≡◌, List, length, slice_get, Some, refl, ap, sym, ◌∙◌}
 use Rattle.std.specs.Global.{Vec}
-use Rattle.std.proofs.lemmas.Option.{slice_get_read, slice_get_past, IfSome_then}
+use Rattle.std.proofs.lemmas.Option.{slice_get_read, IfSome_then}
 use Rattle.ice_base.specs.declared.number.WireNo.{WireNo}
-use Rattle.ice_core.proofs.Running.{behind_some, behind_end, behind_past}
+use Rattle.ice_core.proofs.Running.{behind_some}
 use Rattle.ice_core.proofs.progress.wire_behind.Goals as goal
 
 pub returns-in-Some-clause-some : goal.returns-in-Some-clause-some
