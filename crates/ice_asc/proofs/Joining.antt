@@ -5,12 +5,13 @@ use Rattle.std.specs.List.{flat_map, range_with_len}
 use Rattle.std.proofs.lemmas.List.{take_more}
 use Rattle.std.proofs.lemmas.List.FromFn.{map-range_with_len_more}
 use Rattle.ice_base.specs.declared.number.BitAt.{BitAt}
+use Rattle.ice_base.specs.Text.{text_of_lines}
 use Rattle.ice_chip.specs.declared.tile.Tile.{Tile}
 use Rattle.ice_chip.specs.Database.{Parts}
 use Rattle.ice_chip.specs.Lookups.{tile_of}
 use Rattle.ice_chip.specs.Places.{columns}
 use Rattle.ice_bits.specs.Configuration.{Configuration, bit_at, rows_at}
-use Rattle.ice_asc.specs.Text.{digit_of_bit, bit_at_place, row_line, tile_heading, tile_lines, extra_line, text_of_lines, asc_text}
+use Rattle.ice_asc.specs.Text.{digit_of_bit, bit_at_place, row_line, tile_heading, tile_lines, extra_line, asc_text}
 
 -- lines behind other lines
 pub joined : (out : List ℕ) (ls ms : List (List ℕ)) → (out ++ text_of_lines ls) ++ text_of_lines ms ≡ out ++ text_of_lines (ls ++ ms)

@@ -3,12 +3,12 @@ use Rattle.std.proofs.Common.{◌≡◌, ◌≢◌, ℕ, ◌<◌, ◌==◌, ◌^
 use Rattle.std.specs.Prelude.{codes, decimal}
 use Rattle.std.specs.List.{AllByRecursion, list_all}
 use Rattle.std.proofs.lemmas.Bool.{and_parts}
-use Rattle.ice_base.specs.Text.{lines, ends_word, IsLine, IsWord}
+use Rattle.ice_base.specs.Text.{lines, ends_word, IsLine, IsWord, text_of_lines}
 use Rattle.ice_base.proofs.TextLaws.{no_lines_left, first_line, decimal_is_word}
 use Rattle.ice_chip.specs.declared.rows.TileKind.{TileKind}
 use Rattle.ice_chip.specs.declared.rows.TileKind.TheVariants.{Io, Logic, RamBottom, RamTop}
 use Rattle.ice_asc.specs.Headings.{heading_of_kind}
-use Rattle.ice_asc.specs.Text.{digit_of_bit, text_of_lines}
+use Rattle.ice_asc.specs.Text.{digit_of_bit}
 
 -- ---- pieces of text
 pub lines_read : (ls : List (List ℕ)) → AllByRecursion IsLine ls → lines (text_of_lines ls) ≡ ls

@@ -2,6 +2,7 @@
 use Rattle.std.specs.Prelude.{ℕ, Bool, List, [], ◌∷◌, ◌++◌, map, codes, decimal, if◌then◌else◌}
 use Rattle.std.specs.List.{flat_map, range_with_len}
 use Rattle.ice_base.specs.declared.number.BitAt.{BitAt}
+use Rattle.ice_base.specs.Text.{text_of_lines}
 use Rattle.ice_chip.specs.Database.{Parts}
 use Rattle.ice_chip.specs.Lookups.{tile_of}
 use Rattle.ice_chip.specs.Places.{columns}
@@ -38,10 +39,6 @@ extra_line extra = spaced (codes ".extra_bit") (spaced (decimal extra.0) (spaced
 abbrev pub asc_lines : Parts → Configuration → List (List ℕ)
 asc_lines parts k =
     codes ".comment" ∷ codes "placed and routed" ∷ codes ".device 1k" ∷ (flat_map (tile_lines k) (map tile_of parts.tiles) ++ map extra_line k.extras)
-
--- lines, each ended by a line feed
-abbrev pub text_of_lines : List (List ℕ) → List ℕ
-text_of_lines ls = flat_map (λ (line : List ℕ). line ++ 10 ∷ []) ls
 
 -- the text that is written for the bits of a chip
 abbrev pub asc_text : Parts → Configuration → List ℕ

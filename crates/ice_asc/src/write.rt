@@ -1,12 +1,13 @@
 //! Writing the text of bits.
 ghost use Rattle.std.specs.Prelude.{◌≡◌, ◌≤◌, ◌<◌, ◌^◌, ◌∷◌, [], ◌++◌, map, decimal, option_map, All, Ok, OnOk, OnErr};
 ghost use Rattle.std.specs.List.{flat_map, range_with_len};
+ghost use Rattle.ice_base.specs.Text.{text_of_lines};
 ghost use Rattle.ice_bits.specs.Configuration.{bit_at, bits_of, IsOf};
 ghost use Rattle.ice_chip.specs.Lookups.{tile_of};
 ghost use Rattle.ice_asc.specs.Grammar.{asc_in};
 ghost use Rattle.ice_asc.specs.Headings.{heading_of_kind};
 ghost use Rattle.ice_asc.specs.RoundTrip.{IsSmall};
-ghost use Rattle.ice_asc.specs.Text.{digit_of_bit, row_line, tile_heading, tile_lines, extra_line, text_of_lines, asc_text};
+ghost use Rattle.ice_asc.specs.Text.{digit_of_bit, row_line, tile_heading, tile_lines, extra_line, asc_text};
 
 use crate::laws::written_is_read;
 use ice_base::{BitAt, NoMemory};

@@ -1,6 +1,6 @@
 -- Lines and words of a text. A text is a list of bytes.
 use Rattle.std.specs.Prelude.{ℕ, ◌+◌, ◌-◌, ◌^◌, min, ◌<◌, ◌≡◌, ◌≢◌, Bool, false, ◌||◌, List, [], ◌∷◌, ◌++◌, length, filter, nat_lt, ◌==◌, if◌then◌else◌}
-use Rattle.std.specs.List.{AllByRecursion}
+use Rattle.std.specs.List.{AllByRecursion, flat_map}
 
 -- the byte joins the first piece
 abbrev pub onto_first : ℕ → List (List ℕ) → List (List ℕ)
@@ -11,6 +11,10 @@ onto_first b (piece ∷ pieces) = (b ∷ piece) ∷ pieces
 unfoldable pub lines : List ℕ → List (List ℕ)
 lines [] = []
 lines (b ∷ bytes) = if b == 10 then [] ∷ lines bytes else onto_first b (lines bytes)
+
+-- the text of these lines, each ended by a line feed
+abbrev pub text_of_lines : List (List ℕ) → List ℕ
+text_of_lines ls = flat_map (λ (line : List ℕ). line ++ 10 ∷ []) ls
 
 -- the number of the line after line n: every line beyond the last number has that number too
 abbrev pub next_number : ℕ → ℕ

@@ -4,7 +4,8 @@ use Rattle.std.specs.Prelude.{◌&&◌, option_map, slice_index_or, All}
 use Rattle.std.proofs.lemmas.Bool.{and_parts, eqb-true, eq-eqb}
 use Rattle.std.proofs.lemmas.List.Elements.{All-head}
 use Rattle.ice_base.specs.declared.number.SignalNo.{SignalNo}
-use Rattle.ice_value.specs.System.{together, value}
+use Rattle.ice_base.specs.Lists.{all_known}
+use Rattle.ice_value.specs.System.{value}
 use Rattle.ice_value.specs.Inputs.{present, filled}
 use Rattle.ice_value.specs.Machine as machine
 use Rattle.ice_net.specs.declared.cell.Cell.{Cell}
@@ -59,14 +60,14 @@ module _ (names : List (List ℕ)) (line s t : ℕ) (levels kept : List Bool) wh
   abbrev made : ℕ → Driver → Option Bool
   made steps d =
       option_map (λ xs. makes (buffer names line s t) levels kept d (filled false (reads (buffer names line s t) d) xs))
-      (together (map (λ read. value (system_of (buffer names line s t) levels kept) steps read) (present (reads (buffer names line s t) d))))
+      (all_known (map (λ read. value (system_of (buffer names line s t) levels kept) steps read) (present (reads (buffer names line s t) d))))
 
   value_by_pad : (x steps : ℕ) → driver_of (buffer names line s t) x ≡ Pad 0 → value (system_of (buffer names line s t) levels kept) (suc steps) x ≡ Some (slice_index_or levels 0 false)
   value_by_pad x steps e = ap (λ d. made steps d) e
 
   value_by_cell : (x steps : ℕ) → driver_of (buffer names line s t) x ≡ Output 0 → value (system_of (buffer names line s t) levels kept) (suc (suc steps)) x ≡ Some (slice_index_or levels 0 false)
   value_by_cell x steps e =
-      ap (λ d. made (suc steps) d) e ∙ ap (λ (v : Option Bool). option_map (λ xs. table_bit 2 (number_of (filled false (Some s ∷ []) xs))) (together (v ∷ []))) (value_by_pad s steps driver_in)
+      ap (λ d. made (suc steps) d) e ∙ ap (λ (v : Option Bool). option_map (λ xs. table_bit 2 (number_of (filled false (Some s ∷ []) xs))) (all_known (v ∷ []))) (value_by_pad s steps driver_in)
       ∙ ap Some (passes_on (slice_index_or levels 0 false))
 
   pub value_out : (steps : ℕ) → value (system_of (buffer names line s t) levels kept) (suc (suc steps)) t ≡ Some (slice_index_or levels 0 false)

@@ -2,10 +2,11 @@
 use Rattle.std.proofs.Common.{◌≡◌, ◌⊎◌, ℕ, zero, suc, ◌+◌, ◌-◌, ◌/◌, Bool, false, Option, Some, List, [], ◌∷◌, length, map, inl, inr, refl, ap, sym, ◌∙◌, subst, arith}
 use Rattle.std.specs.Prelude.{◌&&◌, not, option_map, replicate, unwrap_or}
 use Rattle.ice_base.specs.declared.number.TileAt.{TileAt}
+use Rattle.ice_base.specs.Lists.{all_known}
 use Rattle.ice_value.specs.Inputs.{present, filled}
 use Rattle.ice_value.specs.Machine as machine
 use Rattle.ice_value.specs.Order.{Has}
-use Rattle.ice_value.specs.System.{together, value}
+use Rattle.ice_value.specs.System.{value}
 use Rattle.ice_net.specs.declared.drive.Drive.{Drive}
 use Rattle.ice_net.specs.declared.drive.Drive.TheVariants.{Off}
 use Rattle.ice_net.specs.Drives.{level_drive}
@@ -107,13 +108,13 @@ module _ (gs : List chip.SwitchGroup) (rows : List Row) (are : AreNumbered 0 gs)
     abbrev level_from : Driver → ℕ → ℕ → Option Bool
     level_from d steps w =
         option_map (λ xs. driven_makes parts bits bonded levels kept (role_of parts w) d (filled false (driven_reads parts bits (role_of parts w) d) xs))
-        (together (map (λ p. value (system_of parts bits bonded levels kept) steps p) (present (driven_reads parts bits (role_of parts w) d))))
+        (all_known (map (λ p. value (system_of parts bits bonded levels kept) steps p) (present (driven_reads parts bits (role_of parts w) d))))
 
     -- a row of the walk takes the level of its source on
     level_entered : (steps : ℕ) (r : Row) (x : Bool) → Has rows r → level_after steps r.source ≡ Some x → level_after (suc steps) r.target ≡ Some x
     level_entered steps r x has e =
         ap (λ d. level_from d steps r.target) (driver_entered r has)
-        ∙ ap (λ (o : Option Bool). option_map (λ xs. passes parts bits (as_switch r) && first_level (filled false (Some (wire_point r.source) ∷ []) xs)) (together (o ∷ []))) e
+        ∙ ap (λ (o : Option Bool). option_map (λ xs. passes parts bits (as_switch r) && first_level (filled false (Some (wire_point r.source) ∷ []) xs)) (all_known (o ∷ []))) e
         ∙ ap (λ b. Some (b && x)) (all_pass gs bits (as_switch r))
 
     -- and so do the rows of a walk, one after another

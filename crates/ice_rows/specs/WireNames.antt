@@ -1,14 +1,10 @@
 -- Names of wires that routes may not leave or enter.
-use Rattle.std.specs.Prelude.{ℕ, Bool, false, not, ◌&&◌, ◌||◌, Option, None, Some, List, codes, bytes_eq, nat_eq}
-use Rattle.std.specs.List.{list_any, starts_with}
+use Rattle.std.specs.Prelude.{ℕ, Bool, false, not, ◌&&◌, ◌||◌, Option, None, Some, List, codes, bytes_eq}
+use Rattle.std.specs.List.{list_any}
 use Rattle.ice_chip.specs.Database.{Parts}
 use Rattle.ice_chip.specs.Lookups.{kind_at, names_of}
-use Rattle.ice_chip.specs.PinNames.{cell_pin, is_input_name, is_output_name}
+use Rattle.ice_chip.specs.PinNames.{cell_pin, is_input_name, is_memory_name, is_output_name}
 use Rattle.ice_chip.specs.declared.rows.TileKind.{TileKind}
-
--- a name of a memory's wire
-abbrev pub is_memory_name : List ℕ → Bool
-is_memory_name name = starts_with nat_eq name (codes "ram/")
 
 -- a name of a wire that no route uses: of a memory, or `lutff_I/lout`
 abbrev pub is_closed_name : List ℕ → Bool

@@ -1,16 +1,9 @@
 //! Names of wires that routes may not leave or enter.
 ghost use Rattle.std.specs.Prelude.{◌≡◌, ◌<◌};
-ghost use Rattle.ice_rows.specs.WireNames.{is_memory_name, is_closed_name, is_input_in, is_output_in, has_memory_name, has_closed_name, has_input_name, has_output_name, may_leave, may_enter};
+ghost use Rattle.ice_rows.specs.WireNames.{is_closed_name, is_input_in, is_output_in, has_memory_name, has_closed_name, has_input_name, has_output_name, may_leave, may_enter};
 
 use ice_base::WireNo;
-use ice_chip::{Chip, TileKind, cell_pin, is_input_name, is_output_name};
-
-// Whether this is the name of a memory's wire.
-fn is_memory_name(name: &[u8]) -> bool
-    ensures { result ≡ is_memory_name name.now }
-{
-    name.starts_with(b"ram/".as_slice())
-}
+use ice_chip::{Chip, TileKind, cell_pin, is_input_name, is_memory_name, is_output_name};
 
 // Whether this is the name of a wire that no route uses.
 fn is_closed_name(name: &[u8]) -> bool

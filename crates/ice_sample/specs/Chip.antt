@@ -1,10 +1,10 @@
 -- The text of the sample chip.
 use Rattle.std.specs.Prelude.{ℕ, List, ◌++◌}
 use Rattle.ice_base.specs.declared.number.TileAt.{TileAt}
+use Rattle.ice_base.specs.Text.{text_of_lines}
 use Rattle.ice_sample.specs.declared.grid.Tile.{Tile}
 use Rattle.ice_sample.specs.declared.pads.Pad.{Pad}
 use Rattle.ice_sample.specs.Tiles.{tiles_of}
-use Rattle.ice_sample.specs.Lines.{text_of_lines}
 use Rattle.ice_sample.specs.Sections.{device_lines, io_places, logic_places, pads_at, pin_lines, global_lines, input_enable_lines, column_buffer_lines, tile_lines}
 use Rattle.ice_sample.specs.Bits.{io_bit_lines, logic_bit_lines}
 use Rattle.ice_sample.specs.Wires.{all_wire_lines}

@@ -1,11 +1,6 @@
 -- Lines of a text, and lines of things that are numbered one after another.
 use Rattle.std.specs.Prelude.{ℕ, ◌+◌, ◌/◌, ◌%◌, ◌^◌, zero, suc, List, [], ◌∷◌, ◌++◌, codes, decimal}
-use Rattle.std.specs.List.{flat_map}
 use Rattle.ice_base.specs.declared.number.TileAt.{TileAt}
-
--- lines, each ended by a line feed
-unfoldable pub text_of_lines : List (List ℕ) → List ℕ
-text_of_lines lines = flat_map (λ (line : List ℕ). line ++ 10 ∷ []) lines
 
 -- The lines of things that are numbered one after another: the first thing begins with the number n, each takes as many
 -- numbers as its size, and `lines` gives the lines of a thing from its first number.

@@ -1,6 +1,6 @@
 //! The names of bits, and the sections of the functions of tiles.
 ghost use Rattle.std.specs.Prelude.{◌≡◌, ◌++◌, ◌+◌, ◌*◌, ◌<◌, ◌≤◌, decimal, OnOk};
-ghost use Rattle.ice_sample.specs.Lines.{text_of_lines};
+ghost use Rattle.ice_base.specs.Text.{text_of_lines};
 ghost use Rattle.ice_sample.specs.Bits.{columns_of, bit_word, bit_words, function_row, function_rows, function_series, lone_function, io_bit_lines, logic_bit_lines};
 
 use crate::grid::TileKind;
@@ -44,7 +44,6 @@ pub fn put_bits(text: &mut Vec<u8>, kind: TileKind, first: u16, count: u16) -> R
 }
 
 // Writes the row of a function of one bit.
-#[tactic(auto, unfolding(crate::specs::Lines::text_of_lines))]
 fn put_function(text: &mut Vec<u8>, kind: TileKind, title: &[u8], bit: u16) -> Result<(), NoMemory>
     requires { bit ≤ 500 }
     ensures { OnOk result (text.new.items ≡ text.old.items ++ text_of_lines (function_rows (columns_of kind) bit (lone_function title.now))) }
@@ -56,7 +55,6 @@ fn put_function(text: &mut Vec<u8>, kind: TileKind, title: &[u8], bit: u16) -> R
 }
 
 // Writes the row of a function whose name ends in a number.
-#[tactic(auto, unfolding(crate::specs::Lines::text_of_lines))]
 fn put_numbered_function(
     text: &mut Vec<u8>,
     kind: TileKind,

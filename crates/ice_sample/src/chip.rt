@@ -1,7 +1,7 @@
 //! The sample chip.
 ghost use Rattle.std.specs.Prelude.{◌≡◌, ◌++◌, ◌<◌, ◌≤◌, OnOk, OnErr};
+ghost use Rattle.ice_base.specs.Text.{text_of_lines};
 ghost use Rattle.ice_sample.specs.Tiles.{IsWithin};
-ghost use Rattle.ice_sample.specs.Lines.{text_of_lines};
 ghost use Rattle.ice_sample.specs.Groups.{own_group_lines, tile_group_lines, all_group_lines};
 ghost use Rattle.ice_sample.specs.Chip.{sections_of, layout_lines, sample_chip_text};
 

@@ -1,6 +1,7 @@
 //! The sections of groups of switches.
 ghost use Rattle.std.specs.Prelude.{◌≡◌, ◌++◌, ◌+◌, ◌*◌, ◌<◌, ◌≤◌, ◌∷◌, [], codes, decimal, length, OnOk};
-ghost use Rattle.ice_sample.specs.Lines.{text_of_lines, binary};
+ghost use Rattle.ice_base.specs.Text.{text_of_lines};
+ghost use Rattle.ice_sample.specs.Lines.{binary};
 ghost use Rattle.ice_sample.specs.Groups.{group_heading, source_rows, group_lines};
 
 use crate::bits::put_bits;
@@ -9,7 +10,6 @@ use crate::text::{put_binary, put_number, put_placed};
 use ice_base::NoMemory;
 
 // Writes the heading of a group: the wire that it drives, and its bits.
-#[tactic(auto, unfolding(crate::specs::Lines::text_of_lines))]
 fn put_group_heading(
     text: &mut Vec<u8>,
     tile: Tile,
@@ -28,7 +28,6 @@ fn put_group_heading(
 }
 
 // Writes the row of a source of a group.
-#[tactic(auto, unfolding(crate::specs::Lines::text_of_lines))]
 fn put_source(text: &mut Vec<u8>, size: u16, value: u64, source: u32) -> Result<(), NoMemory>
     requires { size ≤ 32 }
     ensures { OnOk result (text.new.items ≡ text.old.items ++ text_of_lines ((binary size value ++ codes " " ++ decimal source) ∷ [])) }

@@ -1,6 +1,6 @@
 //! The sample netlist.
 ghost use Rattle.std.specs.Prelude.{◌≡◌, ◌+◌, ◌^◌, ◌<◌, ◌++◌, ◌∷◌, [], OnOk, OnErr, decimal};
-ghost use Rattle.ice_sample.specs.Lines.{text_of_lines};
+ghost use Rattle.ice_base.specs.Text.{text_of_lines};
 ghost use Rattle.ice_sample.specs.Netlist.{started_at, drawn, after, has_flip_flop, cell_name, names, name_at, found, picked, drawn_inputs, gate_line, table_line, flip_flop_line, flip_flop_lines, cell_lines, output_lines, head_lines, all_cell_lines, all_output_lines, sample_net_text, word};
 
 use crate::text::{put_binary, put_line, put_number};
@@ -103,7 +103,6 @@ fn put_inputs(text: &mut Vec<u8>, rng: &mut Lcg64Xsh32, cell: u32) -> Result<(),
 }
 
 // Writes the line of a cell's table.
-#[tactic(auto, unfolding(crate::specs::Lines::text_of_lines))]
 fn put_gate(text: &mut Vec<u8>, rng: &mut Lcg64Xsh32, cell: u32) -> Result<(), NoMemory>
     ensures written { OnOk result (text.new.items ≡ text.old.items ++ text_of_lines (gate_line cell (drawn_inputs cell rng.old) ∷ [])) }
     ensures drawn { OnOk result (rng.new ≡ after 4 rng.old) }
@@ -116,7 +115,6 @@ fn put_gate(text: &mut Vec<u8>, rng: &mut Lcg64Xsh32, cell: u32) -> Result<(), N
 }
 
 // Writes the line of what a table holds.
-#[tactic(auto, unfolding(crate::specs::Lines::text_of_lines))]
 fn put_table(text: &mut Vec<u8>, word: u32) -> Result<(), NoMemory>
     ensures { OnOk result (text.new.items ≡ text.old.items ++ text_of_lines (table_line word ∷ [])) }
 {
@@ -127,7 +125,6 @@ fn put_table(text: &mut Vec<u8>, word: u32) -> Result<(), NoMemory>
 }
 
 // Writes the line of the flip-flop of a cell that has one.
-#[tactic(auto, unfolding(crate::specs::Lines::text_of_lines))]
 fn put_flip_flop(text: &mut Vec<u8>, cell: u32) -> Result<(), NoMemory>
     ensures { OnOk result (text.new.items ≡ text.old.items ++ text_of_lines (flip_flop_line cell ∷ [])) }
 {
@@ -138,7 +135,6 @@ fn put_flip_flop(text: &mut Vec<u8>, cell: u32) -> Result<(), NoMemory>
 }
 
 // Writes the line of the flip-flop of a cell, if it has one.
-#[tactic(auto, unfolding(crate::specs::Lines::text_of_lines))]
 fn put_flip_flop_of(text: &mut Vec<u8>, cell: u32) -> Result<(), NoMemory>
     ensures { OnOk result (text.new.items ≡ text.old.items ++ text_of_lines (flip_flop_lines cell)) }
 {
@@ -171,7 +167,6 @@ fn put_cells(text: &mut Vec<u8>, number: u64, cells: u32) -> Result<(), NoMemory
 }
 
 // Writes the lines of an output.
-#[tactic(auto, unfolding(crate::specs::Lines::text_of_lines))]
 fn put_output(text: &mut Vec<u8>, cells: u32, output: u32) -> Result<(), NoMemory>
     requires { output < 8 }
     ensures { OnOk result (text.new.items ≡ text.old.items ++ text_of_lines (output_lines (names cells) output)) }
@@ -194,7 +189,7 @@ fn put_outputs(text: &mut Vec<u8>, cells: u32) -> Result<(), NoMemory>
 }
 
 // Writes the lines before the cells.
-#[tactic(auto, unfolding(crate::specs::Lines::text_of_lines, crate::specs::Netlist::head_lines))]
+#[tactic(auto, unfolding(crate::specs::Netlist::head_lines))]
 fn put_head(text: &mut Vec<u8>) -> Result<(), NoMemory>
     ensures { OnOk result (text.new.items ≡ text.old.items ++ text_of_lines head_lines) }
 {

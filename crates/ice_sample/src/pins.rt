@@ -1,6 +1,6 @@
 //! The groups of pins, behind those of the tracks.
 ghost use Rattle.std.specs.Prelude.{◌≡◌, ◌++◌, ◌+◌, ◌*◌, ◌<◌, ◌≤◌, ◌∷◌, [], OnOk};
-ghost use Rattle.ice_sample.specs.Lines.{text_of_lines};
+ghost use Rattle.ice_base.specs.Text.{text_of_lines};
 ghost use Rattle.ice_sample.specs.Groups.{group_lines, groups_from, input_group, cell_groups, input_groups, control_group, control_groups, carry_in, carry_groups, io_pin_group, io_pin_groups};
 
 use crate::grid::{Grid, Tile};

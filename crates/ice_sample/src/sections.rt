@@ -1,6 +1,7 @@
 //! The sections before the bits: the device, pins, globals, input enables, column buffers and tiles.
 ghost use Rattle.std.specs.Prelude.{◌≡◌, ◌++◌, ◌+◌, ◌∷◌, [], ◌<◌, ◌≤◌, ◌^◌, take, length, codes, decimal, OnOk};
-ghost use Rattle.ice_sample.specs.Lines.{text_of_lines, number_words, placed_words};
+ghost use Rattle.ice_base.specs.Text.{text_of_lines};
+ghost use Rattle.ice_sample.specs.Lines.{number_words, placed_words};
 ghost use Rattle.ice_sample.specs.Sections.{device_lines, pad_words, pin_lines, global_lines, input_enable_lines, column_buffer_lines, tile_heading, tile_lines};
 
 use crate::grid::{Grid, Tile, TileKind};
@@ -9,7 +10,6 @@ use crate::text::{put_line, put_number, put_numbers, put_place, put_placed};
 use ice_base::{NoMemory, TileAt};
 
 // Writes the line of a device of a size and so many wires.
-#[tactic(auto, unfolding(crate::specs::Lines::text_of_lines))]
 fn put_size(text: &mut Vec<u8>, width: u16, height: u16, wires: u32) -> Result<(), NoMemory>
     ensures { OnOk result (text.new.items ≡ text.old.items ++ text_of_lines ((codes ".device 1k " ++ number_words width height ++ codes " " ++ decimal wires) ∷ [])) }
 {
@@ -36,7 +36,6 @@ fn put_pad(text: &mut Vec<u8>, pad: Pad) -> Result<(), NoMemory>
 }
 
 // Writes the row of a pin.
-#[tactic(auto, unfolding(crate::specs::Lines::text_of_lines))]
 fn put_pin(text: &mut Vec<u8>, pin: u64, pad: Pad) -> Result<(), NoMemory>
     ensures { OnOk result (text.new.items ≡ text.old.items ++ text_of_lines ((decimal pin ++ codes " " ++ pad_words pad) ∷ [])) }
 {
@@ -72,7 +71,6 @@ fn first_eight(places: &[TileAt]) -> &[TileAt]
 }
 
 // Writes the row of a global.
-#[tactic(auto, unfolding(crate::specs::Lines::text_of_lines))]
 fn put_global(text: &mut Vec<u8>, global: u64, at: TileAt) -> Result<(), NoMemory>
     ensures { OnOk result (text.new.items ≡ text.old.items ++ text_of_lines (placed_words at global ∷ [])) }
 {
@@ -95,7 +93,6 @@ pub fn put_globals(text: &mut Vec<u8>, places: &[TileAt]) -> Result<(), NoMemory
 }
 
 /// Writes the section of the input enables.
-#[tactic(auto, unfolding(crate::specs::Lines::text_of_lines))]
 pub fn put_input_enables(text: &mut Vec<u8>, pads: &[Pad]) -> Result<(), NoMemory>
     ensures { OnOk result (text.new.items ≡ text.old.items ++ text_of_lines (input_enable_lines pads.now)) }
 {
@@ -110,7 +107,6 @@ pub fn put_input_enables(text: &mut Vec<u8>, pads: &[Pad]) -> Result<(), NoMemor
 }
 
 /// Writes the section of the column buffers, of the places of the logic tiles.
-#[tactic(auto, unfolding(crate::specs::Lines::text_of_lines))]
 pub fn put_column_buffers(text: &mut Vec<u8>, places: &[TileAt]) -> Result<(), NoMemory>
     ensures { OnOk result (text.new.items ≡ text.old.items ++ text_of_lines (column_buffer_lines places.now)) }
 {
@@ -135,7 +131,6 @@ fn tile_heading(kind: TileKind) -> &'static [u8]
 }
 
 /// Writes the sections of the tiles.
-#[tactic(auto, unfolding(crate::specs::Lines::text_of_lines))]
 pub fn put_tiles(text: &mut Vec<u8>, tiles: &[Tile]) -> Result<(), NoMemory>
     ensures { OnOk result (text.new.items ≡ text.old.items ++ text_of_lines (tile_lines tiles.now)) }
 {

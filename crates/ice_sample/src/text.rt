@@ -1,12 +1,12 @@
 //! Pieces of lines.
 ghost use Rattle.std.specs.Prelude.{◌≡◌, ◌++◌, ◌∷◌, [], ◌≤◌, ◌<◌, OnOk, decimal};
-ghost use Rattle.ice_sample.specs.Lines.{text_of_lines, number_words, place_words, placed_words, binary};
+ghost use Rattle.ice_base.specs.Text.{text_of_lines};
+ghost use Rattle.ice_sample.specs.Lines.{number_words, place_words, placed_words, binary};
 
 use ice_base::{NoMemory, TileAt};
 use itoa::Buffer;
 
 /// Writes a line.
-#[tactic(auto, unfolding(crate::specs::Lines::text_of_lines))]
 pub fn put_line(text: &mut Vec<u8>, line: &[u8]) -> Result<(), NoMemory>
     ensures { OnOk result (text.new.items ≡ text.old.items ++ text_of_lines (line.now ∷ [])) }
 {

@@ -1,7 +1,7 @@
 //! The groups of tracks.
 ghost use Rattle.std.specs.Prelude.{◌≡◌, ◌++◌, ◌+◌, ◌*◌, ◌<◌, ◌≤◌, OnOk};
+ghost use Rattle.ice_base.specs.Text.{text_of_lines};
 ghost use Rattle.ice_sample.specs.Tiles.{IsWithin, first_wire};
-ghost use Rattle.ice_sample.specs.Lines.{text_of_lines};
 ghost use Rattle.ice_sample.specs.Groups.{track_size, outputs, tracks_beside, group_lines, groups_from, track_group, track_groups};
 
 use crate::grid::{Grid, Tile, TileKind};

@@ -1,7 +1,8 @@
 //! The sections of the wires: the names of each wire.
 ghost use Rattle.std.specs.Prelude.{◌≡◌, ◌++◌, ◌+◌, ◌<◌, ◌≤◌, ◌∷◌, [], List, ℕ, map, length, codes, decimal, All, OnOk};
+ghost use Rattle.ice_base.specs.Text.{text_of_lines};
 ghost use Rattle.ice_sample.specs.Tiles.{IsWithin};
-ghost use Rattle.ice_sample.specs.Lines.{text_of_lines, place_words};
+ghost use Rattle.ice_sample.specs.Lines.{place_words};
 ghost use Rattle.ice_sample.specs.Kinds.{kind_at};
 ghost use Rattle.ice_sample.specs.Wires.{wire_heading, name_line, wire_lines, named_wires, global_wire_lines, all_global_lines, track_names, io_names, cell_name, cell_pins, cell_names, control_names, carry_in_line, own_wire_lines, tile_wire_lines, all_wire_lines};
 
@@ -32,7 +33,6 @@ const CONTROL_NAMES: [&[u8]; 4] = [
 ];
 
 // Writes the heading of a wire.
-#[tactic(auto, unfolding(crate::specs::Lines::text_of_lines))]
 fn put_wire_heading(text: &mut Vec<u8>, wire: u32) -> Result<(), NoMemory>
     ensures { OnOk result (text.new.items ≡ text.old.items ++ text_of_lines (wire_heading wire ∷ [])) }
 {
@@ -43,7 +43,6 @@ fn put_wire_heading(text: &mut Vec<u8>, wire: u32) -> Result<(), NoMemory>
 }
 
 // Writes the row of a name.
-#[tactic(auto, unfolding(crate::specs::Lines::text_of_lines))]
 fn put_name(text: &mut Vec<u8>, at: TileAt, name: &[u8]) -> Result<(), NoMemory>
     ensures { OnOk result (text.new.items ≡ text.old.items ++ text_of_lines (name_line at name.now ∷ [])) }
 {
@@ -55,7 +54,6 @@ fn put_name(text: &mut Vec<u8>, at: TileAt, name: &[u8]) -> Result<(), NoMemory>
 }
 
 // Writes the row of a name that ends in a number.
-#[tactic(auto, unfolding(crate::specs::Lines::text_of_lines))]
 fn put_numbered_name(
     text: &mut Vec<u8>,
     at: TileAt,
@@ -73,7 +71,6 @@ fn put_numbered_name(
 }
 
 // Writes the row of a name of a logic cell.
-#[tactic(auto, unfolding(crate::specs::Lines::text_of_lines))]
 fn put_cell_name(text: &mut Vec<u8>, at: TileAt, cell: u32, pin: &[u8]) -> Result<(), NoMemory>
     ensures { OnOk result (text.new.items ≡ text.old.items ++ text_of_lines (name_line at (cell_name cell pin.now) ∷ [])) }
 {
@@ -86,7 +83,6 @@ fn put_cell_name(text: &mut Vec<u8>, at: TileAt, cell: u32, pin: &[u8]) -> Resul
 }
 
 // Writes a wire with one name.
-#[tactic(auto, unfolding(crate::specs::Lines::text_of_lines))]
 fn put_wire(text: &mut Vec<u8>, at: TileAt, wire: u32, name: &[u8]) -> Result<(), NoMemory>
     ensures { OnOk result (text.new.items ≡ text.old.items ++ text_of_lines (wire_lines at wire name.now)) }
 {
@@ -96,7 +92,6 @@ fn put_wire(text: &mut Vec<u8>, at: TileAt, wire: u32, name: &[u8]) -> Result<()
 }
 
 // Writes a wire with the name of a pin of a logic cell.
-#[tactic(auto, unfolding(crate::specs::Lines::text_of_lines))]
 fn put_cell_wire(
     text: &mut Vec<u8>,
     at: TileAt,
@@ -112,7 +107,6 @@ fn put_cell_wire(
 }
 
 // Writes a track.
-#[tactic(auto, unfolding(crate::specs::Lines::text_of_lines))]
 fn put_track_wire(text: &mut Vec<u8>, at: TileAt, wire: u32, track: u32) -> Result<(), NoMemory>
     ensures { OnOk result (text.new.items ≡ text.old.items ++ text_of_lines (wire_lines at wire (codes "trk_" ++ decimal track))) }
 {
@@ -122,7 +116,6 @@ fn put_track_wire(text: &mut Vec<u8>, at: TileAt, wire: u32, track: u32) -> Resu
 }
 
 // Writes a global wire, which has its name in each of the tiles.
-#[tactic(auto, unfolding(crate::specs::Lines::text_of_lines))]
 fn put_global_wire(text: &mut Vec<u8>, tiles: &[Tile], global: u32) -> Result<(), NoMemory>
     ensures { OnOk result (text.new.items ≡ text.old.items ++ text_of_lines (global_wire_lines tiles.now global)) }
 {
@@ -205,7 +198,6 @@ fn put_track_wires(text: &mut Vec<u8>, at: TileAt, first: u32) -> Result<(), NoM
 }
 
 // Writes that a wire is the carry into the tile at a place, if that is a logic tile.
-#[tactic(auto, unfolding(crate::specs::Lines::text_of_lines))]
 fn put_carry_in(text: &mut Vec<u8>, kind: Option<TileKind>, at: TileAt) -> Result<(), NoMemory>
     ensures { OnOk result (text.new.items ≡ text.old.items ++ text_of_lines (carry_in_line kind at)) }
 {

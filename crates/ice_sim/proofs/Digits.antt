@@ -4,7 +4,7 @@ use Rattle.std.proofs.lemmas.Option.{same_Some}
 use Rattle.std.specs.Prelude.{option_map}
 use Rattle.std.proofs.lemmas.List.{drop_more, length-map}
 use Rattle.std.proofs.lemmas.Bool.{lt-ltb}
-use Rattle.ice_value.specs.System.{together}
+use Rattle.ice_base.specs.Lists.{all_known}
 use Rattle.ice_sim.specs.Steps.{steps_of}
 use Rattle.ice_sim.specs.LevelTexts.{digit_level, levels_and, word_levels}
 use Rattle.ice_sim.proofs.StepLists.{steps_more, suc_times}
@@ -15,38 +15,38 @@ onto levels x (Some others) = ap Some (sym (append_assoc levels (x ∷ []) other
 
 -- one digit more
 pub digit_added : (levels : List Bool) (word : List ℕ) (i d : ℕ) (x : Bool) → i < length word → digit_level (get_or word i d) ≡ Some x
-    → levels_and levels (together (map digit_level (drop i word))) ≡ levels_and (levels ++ x ∷ []) (together (map digit_level (drop (i + 1) word)))
-digit_added levels word i d x lt e = rw (drop_more word i d lt, e) (onto levels x (together (map digit_level (drop (i + 1) word))))
+    → levels_and levels (all_known (map digit_level (drop i word))) ≡ levels_and (levels ++ x ∷ []) (all_known (map digit_level (drop (i + 1) word)))
+digit_added levels word i d x lt e = rw (drop_more word i d lt, e) (onto levels x (all_known (map digit_level (drop (i + 1) word))))
 
 -- a word with another byte
 pub digit_refused : (levels : List Bool) (word : List ℕ) (i d : ℕ) → i < length word → digit_level (get_or word i d) ≡ None
-    → levels_and levels (together (map digit_level (drop i word))) ≡ None
+    → levels_and levels (all_known (map digit_level (drop i word))) ≡ None
 digit_refused levels word i d lt e = rw (drop_more word i d lt, e) refl
 
 -- the end of the word
-pub digits_end : (levels : List Bool) (word : List ℕ) (i : ℕ) → length word ≤ i → levels_and levels (together (map digit_level (drop i word))) ≡ Some levels
+pub digits_end : (levels : List Bool) (word : List ℕ) (i : ℕ) → length word ≤ i → levels_and levels (all_known (map digit_level (drop i word))) ≡ Some levels
 digits_end levels word i le = rw (drop_of_length-le word le) (ap Some (append-nil levels))
 
-together_long : (os : List (Option Bool)) (xs : List Bool) → together os ≡ Some xs → length xs ≡ length os
+together_long : (os : List (Option Bool)) (xs : List Bool) → all_known os ≡ Some xs → length xs ≡ length os
 together_long [] xs e = let same : [] ≡ xs = cc in rw (← same) refl
 together_long (None ∷ os) xs e = cc
-together_long (Some x ∷ os) xs e = of (together os) refl e (λ ys f. together_long os ys f)
+together_long (Some x ∷ os) xs e = of (all_known os) refl e (λ ys f. together_long os ys f)
   where
-    of : (o : Option (List Bool)) → together os ≡ o → option_map (λ ys. x ∷ ys) o ≡ Some xs → ((ys : List Bool) → together os ≡ Some ys → length ys ≡ length os) → length xs ≡ suc (length os)
+    of : (o : Option (List Bool)) → all_known os ≡ o → option_map (λ ys. x ∷ ys) o ≡ Some xs → ((ys : List Bool) → all_known os ≡ Some ys → length ys ≡ length os) → length xs ≡ suc (length os)
     of None f g rec = cc
     of (Some ys) f g rec = let same : x ∷ ys ≡ xs = cc in rw (← same) (ap suc (rec ys f))
 
-word_is : (ports : ℕ) (word : List ℕ) → 0 < ports → length word ≡ ports → word_levels ports word ≡ together (map digit_level word)
+word_is : (ports : ℕ) (word : List ℕ) → 0 < ports → length word ≡ ports → word_levels ports word ≡ all_known (map digit_level word)
 word_is ports word lt long = rw (lt-ltb 0 ports lt, eq-eqb (length word) ports long) refl
 
 -- the step that a word of the right length says
 pub step_said : (ports count : ℕ) (old new : List Bool) (word : List ℕ) (all : Bool) → length old ≡ count * ports → 0 < ports → length word ≡ ports
-    → cond all (Some new) None ≡ levels_and old (together (map digit_level word))
+    → cond all (Some new) None ≡ levels_and old (all_known (map digit_level word))
     → cond all (Some (steps_of ports (count + 1) new)) None ≡ option_map (λ step. steps_of ports count old ++ step ∷ []) (word_levels ports word)
 step_said ports count old new word all long some wide said =
-    rw (word_is ports word some wide, add-one) (of (together (map digit_level word)) all refl said)
+    rw (word_is ports word some wide, add-one) (of (all_known (map digit_level word)) all refl said)
   where
-    of : (o : Option (List Bool)) (all : Bool) → together (map digit_level word) ≡ o → cond all (Some new) None ≡ levels_and old o
+    of : (o : Option (List Bool)) (all : Bool) → all_known (map digit_level word) ≡ o → cond all (Some new) None ≡ levels_and old o
         → cond all (Some (steps_of ports (suc count) new)) None ≡ option_map (λ step. steps_of ports count old ++ step ∷ []) o
     of None true e s = cc
     of None false e s = refl
@@ -58,10 +58,10 @@ step_said ports count old new word all long some wide said =
 
 -- how long the levels are then
 pub step_long : (ports count : ℕ) (old new : List Bool) (word : List ℕ) → length old ≡ count * ports → length word ≡ ports
-    → Some new ≡ levels_and old (together (map digit_level word)) → length new ≡ (count + 1) * ports
-step_long ports count old new word long wide said = of (together (map digit_level word)) refl said
+    → Some new ≡ levels_and old (all_known (map digit_level word)) → length new ≡ (count + 1) * ports
+step_long ports count old new word long wide said = of (all_known (map digit_level word)) refl said
   where
-    of : (o : Option (List Bool)) → together (map digit_level word) ≡ o → Some new ≡ levels_and old o → length new ≡ (count + 1) * ports
+    of : (o : Option (List Bool)) → all_known (map digit_level word) ≡ o → Some new ≡ levels_and old o → length new ≡ (count + 1) * ports
     of None e s = cc
     of (Some step) e s =
         let is : new ≡ old ++ step = same_Some _ _ s in

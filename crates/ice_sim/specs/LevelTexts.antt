@@ -2,7 +2,7 @@
 use Rattle.std.specs.Prelude.{◌≡◌, ℕ, Bool, true, false, ◌==◌, ◌&&◌, nat_lt, List, [], ◌∷◌, ◌++◌, length, map, Option, Some, None, Result, Ok, Err, if◌then◌else◌}
 use Rattle.ice_base.specs.Text.{lines, numbered, words}
 use Rattle.ice_base.specs.Comments.{uncommented}
-use Rattle.ice_value.specs.System.{together}
+use Rattle.ice_base.specs.Lists.{all_known}
 use Rattle.ice_sim.specs.declared.fault.LevelFault.{LevelFault}
 use Rattle.ice_sim.specs.declared.fault.LevelFault.TheVariants.{BadLine, NoMemory}
 
@@ -17,7 +17,7 @@ levels_and levels (Some others) = Some (levels ++ others)
 
 -- the levels that a word writes, where it has one digit for each port; without ports no word is accepted
 abbrev pub word_levels : ℕ → List ℕ → Option (List Bool)
-word_levels ports word = if nat_lt 0 ports && length word == ports then together (map digit_level word) else None
+word_levels ports word = if nat_lt 0 ports && length word == ports then all_known (map digit_level word) else None
 
 -- the one step with these levels; a line without levels is refused with its number
 abbrev pub one_step : ℕ → Option (List Bool) → Result (List (List Bool)) ℕ

@@ -75,6 +75,34 @@ fn wire(
     Ok(())
 }
 
+// What sets the signals of a netlist, in an order of evaluation.
+struct Wiring {
+    // The signals that ports feed.
+    pads: Vec<Link>,
+    // The signals that flip-flops feed.
+    keeps: Vec<Link>,
+    // The signals that tables make.
+    gates: Vec<Gate>,
+}
+
+// The wiring of a netlist.
+fn wiring(
+    alloc: Global,
+    netlist: &Netlist,
+    drivers: &[Driver],
+    order: &[usize],
+) -> Result<Wiring, NoMemory>
+    requires drivers { AreDrivers netlist.now drivers.now }
+    requires order { IsOrder (length netlist.now.names) (depends_on netlist.now) order.now }
+    ensures { IfOk result (λ wiring. IsWiring netlist.now order.now wiring.pads.items wiring.keeps.items wiring.gates.items) }
+{
+    let mut pads = Vec::new(alloc);
+    let mut keeps = Vec::new(alloc);
+    let mut gates = Vec::new(alloc);
+    wire(netlist, drivers, order, &mut pads, &mut keeps, &mut gates)?;
+    Ok(Wiring { pads, keeps, gates })
+}
+
 // What each port drives.
 fn taps(alloc: Global, netlist: &Netlist, buffers: &[Option<usize>]) -> Result<Vec<Tap>, NoMemory>
     requires { ArePlaces (length netlist.now.names) (map pin_of netlist.now.cells) buffers.now }
@@ -114,16 +142,13 @@ pub(crate) fn compile(
     requires order { IsOrder (length netlist.now.names) (depends_on netlist.now) order.now }
     ensures { IfOk result (IsPlan netlist.now) }
 {
-    let mut pads = Vec::new(alloc);
-    let mut keeps = Vec::new(alloc);
-    let mut gates = Vec::new(alloc);
-    wire(netlist, drivers, order, &mut pads, &mut keeps, &mut gates)?;
+    let wiring = wiring(alloc, netlist, drivers, order)?;
     let taps = taps(alloc, netlist, buffers)?;
     let keepers = keepers(alloc, netlist.signals(), netlist.cells())?;
     Ok(Plan {
-        pads,
-        keeps,
-        gates,
+        pads: wiring.pads,
+        keeps: wiring.keeps,
+        gates: wiring.gates,
         taps,
         keepers,
     })

@@ -1,7 +1,7 @@
 //! Reading a text of levels.
 ghost use Rattle.std.specs.Prelude.{◌≡◌, ◌≤◌, ◌+◌, ◌*◌, ◌++◌, ◌∷◌, [], true, map, length, All, Some, None, Ok, IfOk, IfErr, option_map, if◌then◌else◌};
 ghost use Rattle.ice_base.specs.Cursors.{line_view};
-ghost use Rattle.ice_value.specs.System.{together};
+ghost use Rattle.ice_base.specs.Lists.{all_known};
 ghost use Rattle.ice_sim.specs.Steps.{steps_of};
 ghost use Rattle.ice_sim.specs.LevelTexts.{digit_level, levels_and, word_levels, line_steps, then_steps, levels_of, Gives, IsRefusal, HasWidth};
 
@@ -23,7 +23,7 @@ fn digit_level(digit: u8) -> Option<bool>
 // Adds the levels that the digits of a word write. Where one of them is no digit, some may have been added.
 #[tactic(auto, using(crate::proofs::Digits::digit_added, crate::proofs::Digits::digit_refused, crate::proofs::Digits::digits_end))]
 fn add_digits(levels: &mut Vec<bool>, word: &[u8]) -> Result<bool, NoMemory>
-    ensures { IfOk result (λ all. (if all then Some levels.new.items else None) ≡ levels_and levels.old.items (together (map digit_level word.now))) }
+    ensures { IfOk result (λ all. (if all then Some levels.new.items else None) ≡ levels_and levels.old.items (all_known (map digit_level word.now))) }
 {
     for digit in word {
         let Some(level) = digit_level(*digit) else {

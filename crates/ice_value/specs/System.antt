@@ -3,7 +3,6 @@
 use Rattle.std.specs.Prelude.{◌≡◌, ℕ, Option, None, List, map, option_map}
 use Rattle.std.proofs.Common.{zero, suc}
 use Rattle.ice_base.specs.Lists.{all_known}
-pub use Rattle.ice_base.specs.Lists.{all_known as together}
 
 -- What the points of a circuit read, and what they make of it. P names the points, A is what a point has for a value: a
 -- level, or the time at which it arrives. A source, as a pad, a constant or the output of a flip-flop, depends on nothing.

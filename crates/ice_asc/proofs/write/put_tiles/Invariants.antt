@@ -1,6 +1,7 @@
 use Rattle.std.proofs.Common.{◌≡◌, ◌++◌, take}
 use Rattle.std.specs.List.{flat_map}
-use Rattle.ice_asc.specs.Text.{tile_lines, text_of_lines}
+use Rattle.ice_base.specs.Text.{text_of_lines}
+use Rattle.ice_asc.specs.Text.{tile_lines}
 use Rattle.ice_asc.proofs.write.put_tiles.Given as goal
 
 abbrev pub invariant-loop-tile : goal.invariant-loop-tile

@@ -1,6 +1,7 @@
 use Rattle.std.proofs.Common.{◌≡◌, drop}
 use Rattle.std.specs.List.{list_any}
-use Rattle.ice_rows.specs.WireNames.{is_memory_name, has_memory_name}
+use Rattle.ice_chip.specs.PinNames.{is_memory_name}
+use Rattle.ice_rows.specs.WireNames.{has_memory_name}
 use Rattle.ice_rows.proofs.names.has_memory_name.Given as goal
 
 abbrev pub invariant-loop-placed : goal.invariant-loop-placed

@@ -1,8 +1,8 @@
 use Rattle.std.proofs.Common.{◌≡◌, ℕ, ◌++◌, List, ap, ◌∙◌}
 use Rattle.ice_base.specs.declared.number.TileAt.{TileAt}
+use Rattle.ice_base.specs.Text.{text_of_lines}
 use Rattle.ice_sample.specs.declared.grid.Tile.{Tile}
 use Rattle.ice_sample.specs.declared.pads.Pad.{Pad}
-use Rattle.ice_sample.specs.Lines.{text_of_lines}
 use Rattle.ice_sample.specs.Sections.{io_places, logic_places, pads_at}
 use Rattle.ice_sample.specs.Chip.{sections_of}
 use Rattle.ice_sample.proofs.chip.put_layout.Goals as goal

@@ -1,5 +1,5 @@
 use Rattle.std.proofs.Common.{◌++◌, sym, arith, append-nil, ap, ◌∙◌}
-use Rattle.ice_sample.specs.Lines.{text_of_lines}
+use Rattle.ice_base.specs.Text.{text_of_lines}
 use Rattle.ice_sample.specs.Wires.{all_global_lines, tile_wire_lines}
 use Rattle.ice_sample.proofs.Counting.{tile_within}
 use Rattle.ice_sample.proofs.Numbering.{lines_more, further}
