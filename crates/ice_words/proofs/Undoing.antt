@@ -11,10 +11,9 @@ use Rattle.ice_words.specs.declared.view.Part.{Part}
 use Rattle.ice_core.specs.Routes.{times, sum_below, wires_of}
 use Rattle.ice_words.specs.Views.{total_in, one, task_by, released_on, held_on, ends_of}
 use Rattle.ice_words.specs.Lawful.{AreFinished, IsNewestUnderWay, IsNewestFinished, IsLawful}
-use Rattle.ice_base.specs.declared.number.WireNo.{WireNo}
 use Rattle.ice_core.specs.declared.event.Event.{Event}
 use Rattle.ice_core.specs.declared.event.Event.TheVariants.{Claim as Claims, Release as Releases, Hold as Holds, Post as Posts}
-use Rattle.ice_core.specs.Machine.{Worker, CoreState, Allowed, with_task, ending, claiming, releasing, holding, posting, changed_at, next, IsReached}
+use Rattle.ice_core.specs.Machine.{Worker, CoreState, Allowed, with_task, ending, claiming, releasing, holding, posting, changed_at, next}
 use Rattle.ice_words.specs.Showing.{left_of, rest_of, worker_of, core_of, bare, bare_state, IsShown}
 use Rattle.ice_core.proofs.Counting.{reached_more}
 use Rattle.ice_core.proofs.Sums.{sum_set, sum_at, each_set, each_at, sum_at_most, below_ones, below_upto, at_itself, at_other, times_push, times_append}
