@@ -1,0 +1,10 @@
+use Rattle.std.proofs.Common.{◌+◌, ◌++◌, drop}
+use Rattle.std.specs.List.{flat_map}
+use Rattle.ice_blif_write.specs.Text.{behind_space, connections, port_names}
+use Rattle.ice_blif_write.proofs.Joining.{connections_end}
+use Rattle.ice_blif_write.proofs.cells.put_connections.Goals as goal
+
+pub returns : goal.returns
+returns c =
+    connections_end (c.args.out.now.items ++ flat_map behind_space (connections c.args.netlist.now.names (drop c.args.first (port_names c.args.kind)) c.args.signals.now)) c.loop-place.out.items c.args.netlist.now.names
+    (port_names c.args.kind) c.args.signals.now (c.args.first + c.loop-place.place) c.loop-place.place c.loop-place-test.false c.loop-place.invariant
