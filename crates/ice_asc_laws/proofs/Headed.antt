@@ -1,16 +1,16 @@
 -- What the first word of a line tells of the line.
-use Rattle.std.proofs.Common.{◌≡◌, ℕ, Bool, true, false, Option, None, Some, List, [], ◌∷◌, refl, sym, ap, ◌∙◌, subst, true≢false, codes, bytes_eq, if◌then◌else◌}
+use Rattle.std.proofs.Common.{◌≡◌, ℕ, Bool, true, false, None, Some, List, [], ◌∷◌, length, nat_eq, refl, sym, ap, ◌∙◌, subst, true≢false, codes, bytes_eq, if◌then◌else◌}
+use Rattle.ice_base.specs.BitNames.{values_in}
 use Rattle.ice_base.specs.Comments.{begins_with}
-use Rattle.ice_base.specs.declared.number.TileAt.{TileAt}
-use Rattle.ice_base.proofs.Keys.{bytes_same}
+use Rattle.ice_base.proofs.Keys.{bytes_same, nat_same}
 use Rattle.ice_chip.specs.Functions.{same_kind}
 use Rattle.ice_chip.specs.declared.rows.TileKind.{TileKind}
 use Rattle.ice_chip.specs.declared.rows.TileKind.TheVariants.{Io, Logic, RamBottom, RamTop}
 use Rattle.ice_asc.specs.Headings.{heading_of_kind, heading_of}
-use Rattle.ice_asc.specs.Words.{tile_of_words, extra_of_words}
+use Rattle.ice_asc.specs.Words.{bits_of_digits}
 use Rattle.ice_asc.specs.declared.section.Heading.{Heading}
 use Rattle.ice_asc.specs.declared.section.Heading.TheVariants.{Device, Tile, ExtraBit, Symbol, Other}
-use Rattle.ice_asc_laws.specs.NamedTiles.{IsHeading, extra_of}
+use Rattle.ice_asc_laws.specs.NamedTiles.{Begins, begins_extra}
 
 -- the word that a heading is; of one without a name here, that it is not `.extra_bit`
 abbrev IsWordOf : List ℕ → Heading → Type 0
@@ -62,29 +62,29 @@ is_tile ExtraBit = false
 is_tile Symbol = false
 is_tile Other = false
 
-pub other_heading : (w : List ℕ) (ws : List (List ℕ)) (h : Heading) → heading_of w ≡ h → is_tile h ≡ false → (kind : TileKind) (t : TileAt) → IsHeading (w ∷ ws) kind t → ⊥
-other_heading w ws h e none kind t is = true≢false (sym (ap is_tile (tile_of_word w kind is.0)) ∙ (ap is_tile e ∙ none))
+pub other_heading : (w : List ℕ) (ws : List (List ℕ)) (h : Heading) → heading_of w ≡ h → is_tile h ≡ false → (kind : TileKind) → Begins (w ∷ ws) kind → ⊥
+other_heading w ws h e none kind is = true≢false (sym (ap is_tile (tile_of_word w kind is)) ∙ (ap is_tile e ∙ none))
 
 -- ---- extra bits
-abbrev pub extra_behind : Heading → List (List ℕ) → Option (ℕ × ℕ × ℕ)
-extra_behind Device ws = None
-extra_behind (Tile kind) ws = None
-extra_behind ExtraBit ws = extra_of_words ws
-extra_behind Symbol ws = None
-extra_behind Other ws = None
+abbrev is_extra : Heading → Bool
+is_extra Device = false
+is_extra (Tile kind) = false
+is_extra ExtraBit = true
+is_extra Symbol = false
+is_extra Other = false
 
-extra_by : (w : List ℕ) (ws : List (List ℕ)) (h : Heading) → IsWordOf w h → extra_of (w ∷ ws) ≡ extra_behind h ws
-extra_by w ws Device e = ap (λ v. extra_of (v ∷ ws)) e
-extra_by w ws (Tile Io) e = ap (λ v. extra_of (v ∷ ws)) e
-extra_by w ws (Tile Logic) e = ap (λ v. extra_of (v ∷ ws)) e
-extra_by w ws (Tile RamBottom) e = ap (λ v. extra_of (v ∷ ws)) e
-extra_by w ws (Tile RamTop) e = ap (λ v. extra_of (v ∷ ws)) e
-extra_by w ws ExtraBit e = ap (λ v. extra_of (v ∷ ws)) e
-extra_by w ws Symbol e = ap (λ v. extra_of (v ∷ ws)) e
-extra_by w ws Other e = ap (λ x. if x then extra_of_words ws else None) e
+extra_by : (w : List ℕ) (h : Heading) → IsWordOf w h → bytes_eq w (codes ".extra_bit") ≡ is_extra h
+extra_by w Device e = ap (λ v. bytes_eq v (codes ".extra_bit")) e
+extra_by w (Tile Io) e = ap (λ v. bytes_eq v (codes ".extra_bit")) e
+extra_by w (Tile Logic) e = ap (λ v. bytes_eq v (codes ".extra_bit")) e
+extra_by w (Tile RamBottom) e = ap (λ v. bytes_eq v (codes ".extra_bit")) e
+extra_by w (Tile RamTop) e = ap (λ v. bytes_eq v (codes ".extra_bit")) e
+extra_by w ExtraBit e = ap (λ v. bytes_eq v (codes ".extra_bit")) e
+extra_by w Symbol e = ap (λ v. bytes_eq v (codes ".extra_bit")) e
+extra_by w Other e = e
 
-pub extra_is : (w : List ℕ) (ws : List (List ℕ)) (h : Heading) → heading_of w ≡ h → extra_of (w ∷ ws) ≡ extra_behind h ws
-extra_is w ws h e = extra_by w ws h (subst (IsWordOf w) e (is_word w))
+pub extra_is : (w : List ℕ) (ws : List (List ℕ)) (h : Heading) → heading_of w ≡ h → begins_extra (w ∷ ws) ≡ is_extra h
+extra_is w ws h e = extra_by w h (subst (IsWordOf w) e (is_word w))
 
 -- ---- lines of other words
 dotted : (kind : TileKind) → begins_with 46 (heading_of_kind kind) ≡ true
@@ -93,26 +93,28 @@ dotted Logic = refl
 dotted RamBottom = refl
 dotted RamTop = refl
 
-pub plain_line : (w : List ℕ) (ws : List (List ℕ)) → begins_with 46 w ≡ false → (kind : TileKind) (t : TileAt) → IsHeading (w ∷ ws) kind t → ⊥
-plain_line w ws plain kind t is = true≢false (sym (dotted kind) ∙ (ap (begins_with 46) (sym is.0) ∙ plain))
+pub plain_line : (w : List ℕ) (ws : List (List ℕ)) → begins_with 46 w ≡ false → (kind : TileKind) → Begins (w ∷ ws) kind → ⊥
+plain_line w ws plain kind is = true≢false (sym (dotted kind) ∙ (ap (begins_with 46) (sym is) ∙ plain))
 
-pub plain_extra : (w : List ℕ) (ws : List (List ℕ)) → begins_with 46 w ≡ false → extra_of (w ∷ ws) ≡ None
+pub plain_extra : (w : List ℕ) (ws : List (List ℕ)) → begins_with 46 w ≡ false → begins_extra (w ∷ ws) ≡ false
 plain_extra w ws plain = by (bytes_eq w (codes ".extra_bit")) refl
   where
-    by : (x : Bool) → bytes_eq w (codes ".extra_bit") ≡ x → (if x then extra_of_words ws else None) ≡ None
+    by : (x : Bool) → bytes_eq w (codes ".extra_bit") ≡ x → x ≡ false
     by false e = refl
     by true e = absurd (true≢false (ap (begins_with 46) (sym (bytes_same w (codes ".extra_bit") e)) ∙ plain))
 
--- a line of one word is no heading, and writes no extra bit
-pub one_word : (w : List ℕ) (kind : TileKind) (t : TileAt) → IsHeading (w ∷ []) kind t → ⊥
-one_word w kind t is = let none : None ≡ Some t = is.1 in absurd (cc)
-
-pub one_word_extra : (w : List ℕ) → extra_of (w ∷ []) ≡ None
-one_word_extra w = by (bytes_eq w (codes ".extra_bit"))
+-- a row of digits begins with no dot
+pub row_plain : (width : ℕ) (w : List ℕ) (row : List Bool) → bits_of_digits width w ≡ Some row → begins_with 46 w ≡ false
+row_plain width [] row is = refl
+row_plain width (c ∷ w) row is = by (nat_eq c 46) refl
   where
-    by : (x : Bool) → (if x then extra_of_words [] else None) ≡ None
-    by true = refl
-    by false = refl
+    dot : (x : Bool) → (if x then values_in (46 ∷ w) else None) ≡ Some row → ⊥
+    dot true e = let none : None ≡ Some row = e in absurd (cc)
+    dot false e = absurd (cc)
+
+    by : (x : Bool) → nat_eq c 46 ≡ x → x ≡ false
+    by false e = refl
+    by true e = absurd (dot (nat_eq (length (46 ∷ w)) width) (subst (λ d. bits_of_digits width (d ∷ w) ≡ Some row) (nat_same c 46 e) is))
 
 -- ---- kinds of tiles
 pub kind_same : (a b : TileKind) → same_kind a b ≡ true → a ≡ b

@@ -1,8 +1,9 @@
 -- What the lines of a text say, from what was read before them.
-use Rattle.std.proofs.Common.{◌≡◌, ℕ, zero, suc, ◌+◌, ◌<◌, Bool, true, false, cond, Option, None, Some, is_some, Result, Ok, Err, IfOk, List, [], ◌∷◌, ◌++◌, length, map, filter, filter_map, drop, slice_get, nat_eq, codes, bytes_eq, if◌then◌else◌, refl, sym, ap, ◌∙◌, subst, true≢false, append_assoc, append-nil, arith, rules, tests}
-use Rattle.std.specs.List.{list_any, cons_option}
+use Rattle.std.proofs.Common.{◌≡◌, ℕ, zero, suc, ◌+◌, ◌<◌, Bool, true, false, cond, Option, None, Some, is_some, Result, Ok, Err, IfOk, List, [], ◌∷◌, ◌++◌, length, map, filter, drop, IsSomeAnd, slice_get, nat_eq, codes, bytes_eq, if◌then◌else◌, refl, sym, ap, ◌∙◌, subst, true≢false, append_assoc, append-nil, arith, rules, tests}
+use Rattle.std.specs.List.{list_any}
 use Rattle.std.specs.Option.{option_and_then}
 use Rattle.std.proofs.lemmas.Bool.{or_parts}
+use Rattle.std.proofs.lemmas.List.{map-append}
 use Rattle.std.proofs.lemmas.List.Folds.{list_any-append}
 use Rattle.std.proofs.lemmas.Result.{IfOk-weaker}
 use Rattle.ice_base.specs.Text.{lines, numbered, next_number, words}
@@ -18,7 +19,7 @@ use Rattle.ice_bits.specs.Configuration.{Configuration, is_of_kind, rows_at, bit
 use Rattle.ice_bits.specs.Rewriting.{with_rows}
 use Rattle.ice_asc.specs.Faults.{◌>>=◌}
 use Rattle.ice_asc.specs.Headings.{heading_of_kind, heading_of}
-use Rattle.ice_asc.specs.Words.{bits_of_digits, row_of_words, tile_of_words, extra_of_words}
+use Rattle.ice_asc.specs.Words.{bits_of_digits, tile_of_words, extra_of_words}
 use Rattle.ice_asc.specs.Grammar.{Reading, start, with_row, known_row, row_says, device_says, opened, tile_says, extra_says, heading_says, words_say, line_says, at_line, lines_say, end_says, asc_in}
 use Rattle.ice_asc.specs.declared.fault.AscFault.{AscFault}
 use Rattle.ice_asc.specs.declared.fault.AscFault.TheVariants as fault
@@ -26,8 +27,8 @@ use Rattle.ice_asc.specs.declared.section.Section.{Section}
 use Rattle.ice_asc.specs.declared.section.Section.TheVariants.{Nowhere, ReadOver, Rows}
 use Rattle.ice_asc.specs.declared.section.Heading.{Heading}
 use Rattle.ice_asc.specs.declared.section.Heading.TheVariants.{Device, Tile, ExtraBit, Symbol, Other}
-use Rattle.ice_asc_laws.specs.NamedTiles.{Line, has_words, worded, IsHeading, row_of, extra_of, Names, IsUnnamed, HasItsRows, SayBits}
-use Rattle.ice_asc_laws.proofs.Headed.{word_of_tile, tile_of_word, is_tile, other_heading, extra_behind, extra_is, plain_line, plain_extra, one_word, one_word_extra, kind_same}
+use Rattle.ice_asc_laws.specs.NamedTiles.{Line, has_words, worded, Begins, IsHeading, row_of, begins_extra, extra_of, Names, IsUnnamed, HasItsRows, SayBits}
+use Rattle.ice_asc_laws.proofs.Headed.{word_of_tile, tile_of_word, is_tile, other_heading, extra_is, plain_line, plain_extra, row_plain, kind_same}
 use Rattle.ice_asc_laws.proofs.TilesWith.{Grid, changed_here, same_elsewhere, tiles_stay, blank_has, blank_bit}
 
 -- ---- what was read so far
@@ -72,22 +73,44 @@ is_open Nowhere t = false
 is_open ReadOver t = false
 is_open (Rows heading at kind) t = same_tile at t
 
+abbrev BeginsAt : List Line → ℕ → TileKind → Type 0
+BeginsAt lines i kind = IsSomeAnd (slice_get lines i) (λ (line : Line). Begins line kind)
+
+-- what extra bits there are behind these, if the lines are right
+abbrev extras_with : List (ℕ × ℕ × ℕ) → List Line → List (Option (ℕ × ℕ × ℕ))
+extras_with extras lines = map Some extras ++ map extra_of (filter begins_extra lines)
+
+-- a line that writes none
+no_extra : (extras : List (ℕ × ℕ × ℕ)) (line : Line) (lines : List Line) → begins_extra line ≡ false → extras_with extras (line ∷ lines) ≡ extras_with extras lines
+no_extra extras line lines none = ap (λ (x : Bool). map Some extras ++ map extra_of (cond x (line ∷ filter begins_extra lines) (filter begins_extra lines))) none
+
+-- a line that writes one
+extra_more : (extras : List (ℕ × ℕ × ℕ)) (extra : ℕ × ℕ × ℕ) (line : Line) (lines : List Line) → begins_extra line ≡ true → extra_of line ≡ Some extra
+    → extras_with extras (line ∷ lines) ≡ extras_with (extras ++ extra ∷ []) lines
+extra_more extras extra line lines begins is =
+    ap (λ (x : Bool). map Some extras ++ map extra_of (cond x (line ∷ filter begins_extra lines) (filter begins_extra lines))) begins
+    ∙ ap (λ (o : Option (ℕ × ℕ × ℕ)). map Some extras ++ o ∷ map extra_of (filter begins_extra lines)) is
+    ∙ sym (append_assoc (map Some extras) (Some extra ∷ []) (map extra_of (filter begins_extra lines)))
+    ∙ ap (λ (os : List (Option (ℕ × ℕ × ℕ))). os ++ map extra_of (filter begins_extra lines)) (sym (map-append Some extras (extra ∷ [])))
+
 record Says (parts : Parts) (section : Section) (rows : Grid) (seen : List TileAt) (bits : Configuration) (lines : List Line) (k : Configuration) : Type 0 where
+  placed : (i : ℕ) (kind : TileKind) → BeginsAt lines i kind → (t : TileAt) × Names lines i kind t
   named : (i : ℕ) (kind : TileKind) (t : TileAt) → Names lines i kind t → HasRows parts (drop (suc i) lines) kind t k
   fresh : (i : ℕ) (kind : TileKind) (t : TileAt) → Names lines i kind t → list_any (same_tile t) seen ≡ false
   once : (i j : ℕ) (kind other : TileKind) (t : TileAt) → Names lines i kind t → Names lines j other t → i ≡ j
   others : (t : TileAt) → is_open section t ≡ false → IsUnnamed lines t → rows_at k t ≡ rows_at bits t
-  extras : k.extras ≡ bits.extras ++ filter_map extra_of lines
+  extras : extras_with bits.extras lines ≡ map Some k.extras
   closes : Closes section rows lines k
 
 -- a line that names no tile, before others
 beside : (parts : Parts) (section next : Section) (rows next_rows : Grid) (seen : List TileAt) (bits next_bits : Configuration) (line : Line) (lines : List Line) (k : Configuration)
-    → ((kind : TileKind) (t : TileAt) → IsHeading line kind t → ⊥)
+    → ((kind : TileKind) → Begins line kind → ⊥)
     → ((t : TileAt) → is_open section t ≡ false → IsUnnamed lines t → rows_at k t ≡ rows_at bits t)
-    → k.extras ≡ bits.extras ++ filter_map extra_of (line ∷ lines)
+    → extras_with bits.extras (line ∷ lines) ≡ map Some k.extras
     → Closes section rows (line ∷ lines) k
     → Says parts next next_rows seen next_bits lines k → Says parts section rows seen bits (line ∷ lines) k
-beside parts section next rows next_rows seen bits next_bits line lines k unnamed others extras closes f = record {
+beside parts section next rows next_rows seen bits next_bits line lines k other others extras closes f = record {
+  placed = placed;
   named = named;
   fresh = fresh;
   once = once;
@@ -96,18 +119,26 @@ beside parts section next rows next_rows seen bits next_bits line lines k unname
   closes = closes;
 }
   where
+    unnamed : (one : Line) → ((kind : TileKind) → Begins one kind → ⊥) → (kind : TileKind) (t : TileAt) → IsHeading one kind t → ⊥
+    unnamed [] other kind t is = is
+    unnamed (w ∷ ws) other kind t is = other kind is.0
+
+    placed : (i : ℕ) (kind : TileKind) → BeginsAt (line ∷ lines) i kind → (t : TileAt) × Names (line ∷ lines) i kind t
+    placed zero kind is = absurd (other kind is)
+    placed (suc i) kind is = f.placed i kind is
+
     named : (i : ℕ) (kind : TileKind) (t : TileAt) → Names (line ∷ lines) i kind t → HasRows parts (drop (suc i) (line ∷ lines)) kind t k
-    named zero kind t is = absurd (unnamed kind t is)
+    named zero kind t is = absurd (unnamed line other kind t is)
     named (suc i) kind t is = f.named i kind t is
 
     fresh : (i : ℕ) (kind : TileKind) (t : TileAt) → Names (line ∷ lines) i kind t → list_any (same_tile t) seen ≡ false
-    fresh zero kind t is = absurd (unnamed kind t is)
+    fresh zero kind t is = absurd (unnamed line other kind t is)
     fresh (suc i) kind t is = f.fresh i kind t is
 
     once : (i j : ℕ) (kind other : TileKind) (t : TileAt) → Names (line ∷ lines) i kind t → Names (line ∷ lines) j other t → i ≡ j
-    once zero j kind other t is too = absurd (unnamed kind t is)
-    once (suc i) zero kind other t is too = absurd (unnamed other t too)
-    once (suc i) (suc j) kind other t is too = ap suc (f.once i j kind other t is too)
+    once zero j kind two t is too = absurd (unnamed line other kind t is)
+    once (suc i) zero kind two t is too = absurd (unnamed line other two t too)
+    once (suc i) (suc j) kind two t is too = ap suc (f.once i j kind two t is too)
 
 -- ---- lines while no tile is open
 abbrev IsShut : Section → Type 0
@@ -127,33 +158,35 @@ none_open (Rows heading at kind) t shut = absurd shut
 
 -- a line that says nothing of the bits
 skipped : (parts : Parts) (section next : Section) (rows next_rows : Grid) (seen : List TileAt) (bits : Configuration) (line : Line) (lines : List Line) (k : Configuration)
-    → IsShut section → IsShut next → ((kind : TileKind) (t : TileAt) → IsHeading line kind t → ⊥) → extra_of line ≡ None
+    → IsShut section → IsShut next → ((kind : TileKind) → Begins line kind → ⊥) → begins_extra line ≡ false
     → Says parts next next_rows seen bits lines k → Says parts section rows seen bits (line ∷ lines) k
-skipped parts section next rows next_rows seen bits line lines k shut shut_next unnamed none f =
-    beside parts section next rows next_rows seen bits bits line lines k unnamed (λ t _ free. f.others t (none_open next t shut_next) free)
-    (f.extras ∙ ap (λ (o : Option (ℕ × ℕ × ℕ)). bits.extras ++ cons_option o (filter_map extra_of lines)) (sym none)) (shut_closes section rows (line ∷ lines) k shut) f
+skipped parts section next rows next_rows seen bits line lines k shut shut_next other none f =
+    beside parts section next rows next_rows seen bits bits line lines k other (λ t _ free. f.others t (none_open next t shut_next) free)
+    (no_extra bits.extras line lines none ∙ f.extras) (shut_closes section rows (line ∷ lines) k shut) f
 
 -- the heading of a tile
 named_first : (parts : Parts) (section : Section) (rows : Grid) (seen : List TileAt) (bits : Configuration) (n : ℕ) (at : TileAt) (kind : TileKind) (w : List ℕ) (ws : List (List ℕ)) (lines : List Line) (k : Configuration)
     → IsShut section → heading_of w ≡ Tile kind → tile_of_words ws ≡ Some at → kind_at parts at ≡ Some kind → list_any (same_tile at) seen ≡ false
     → Says parts (Rows n at kind) [] (seen ++ at ∷ []) bits lines k → Says parts section rows seen bits ((w ∷ ws) ∷ lines) k
 named_first parts section rows seen bits n at kind w ws lines k shut is_word is_place known unseen f = record {
+  placed = placed;
   named = named;
   fresh = fresh;
   once = once;
   others = λ t _ free. elsewhere t free (same_tile at t) refl;
-  extras = f.extras ∙ ap (λ (o : Option (ℕ × ℕ × ℕ)). bits.extras ++ cons_option o (filter_map extra_of lines)) (sym (extra_is w ws (Tile kind) is_word));
+  extras = no_extra bits.extras (w ∷ ws) lines (extra_is w ws (Tile kind) is_word) ∙ f.extras;
   closes = shut_closes section rows ((w ∷ ws) ∷ lines) k shut;
 }
   where
-    line : Line
-    line = w ∷ ws
+    this_kind : (other : TileKind) → w ≡ heading_of_kind other → kind ≡ other
+    this_kind other is = let kinds : Tile kind ≡ Tile other = sym is_word ∙ tile_of_word w other is in cc
 
     is_this : (other : TileKind) (t : TileAt) → IsHeading (w ∷ ws) other t → (kind ≡ other) × (at ≡ t)
-    is_this other t is =
-        let kinds : Tile kind ≡ Tile other = sym is_word ∙ tile_of_word w other is.0 in
-        let places : Some at ≡ Some t = sym is_place ∙ is.1 in
-        (cc, cc)
+    is_this other t is = let places : Some at ≡ Some t = sym is_place ∙ is.1 in (this_kind other is.0, cc)
+
+    placed : (i : ℕ) (other : TileKind) → BeginsAt ((w ∷ ws) ∷ lines) i other → (t : TileAt) × Names ((w ∷ ws) ∷ lines) i other t
+    placed zero other is = (at, (is, is_place))
+    placed (suc i) other is = f.placed i other is
 
     here : HasRows parts lines kind at k
     here = record {
@@ -200,8 +233,8 @@ one_more rows row more = append_assoc rows (row ∷ []) more
 row_before : (parts : Parts) (rows : Grid) (seen : List TileAt) (bits : Configuration) (n : ℕ) (at : TileAt) (kind : TileKind) (w : List ℕ) (row : List Bool) (lines : List Line) (k : Configuration)
     → bits_of_digits (columns kind) w ≡ Some row → Says parts (Rows n at kind) (rows ++ row ∷ []) seen bits lines k → Says parts (Rows n at kind) rows seen bits ((w ∷ []) ∷ lines) k
 row_before parts rows seen bits n at kind w row lines k is f =
-    beside parts (Rows n at kind) (Rows n at kind) rows (rows ++ row ∷ []) seen bits bits (w ∷ []) lines k (one_word w) f.others
-    (f.extras ∙ ap (λ (o : Option (ℕ × ℕ × ℕ)). bits.extras ++ cons_option o (filter_map extra_of lines)) (sym (one_word_extra w)))
+    beside parts (Rows n at kind) (Rows n at kind) rows (rows ++ row ∷ []) seen bits bits (w ∷ []) lines k (plain_line w [] (row_plain (columns kind) w row is)) f.others
+    (no_extra bits.extras (w ∷ []) lines (plain_extra w [] (row_plain (columns kind) w row is)) ∙ f.extras)
     (record {
       more = row ∷ f.closes.more;
       whole = ap length (sym (one_more rows row f.closes.more)) ∙ f.closes.whole;
@@ -219,9 +252,9 @@ row_last : (parts : Parts) (rows : Grid) (seen : List TileAt) (bits : Configurat
     → bits_of_digits (columns kind) w ≡ Some row → IsReady parts (Rows n at kind) seen bits → length (rows ++ row ∷ []) ≡ 16
     → Says parts Nowhere [] seen (with_rows at (rows ++ row ∷ []) bits) lines k → Says parts (Rows n at kind) rows seen bits ((w ∷ []) ∷ lines) k
 row_last parts rows seen bits n at kind w row lines k is ready tall f =
-    beside parts (Rows n at kind) Nowhere rows [] seen bits (with_rows at (rows ++ row ∷ []) bits) (w ∷ []) lines k (one_word w)
+    beside parts (Rows n at kind) Nowhere rows [] seen bits (with_rows at (rows ++ row ∷ []) bits) (w ∷ []) lines k (plain_line w [] (row_plain (columns kind) w row is))
     (λ t other free. f.others t refl free ∙ same_elsewhere at t (rows ++ row ∷ []) bits.tiles other)
-    (f.extras ∙ ap (λ (o : Option (ℕ × ℕ × ℕ)). bits.extras ++ cons_option o (filter_map extra_of lines)) (sym (one_word_extra w)))
+    (no_extra bits.extras (w ∷ []) lines (plain_extra w [] (row_plain (columns kind) w row is)) ∙ f.extras)
     (record {
       more = row ∷ [];
       whole = tall;
@@ -256,12 +289,13 @@ row_line parts r n at kind w [] ready = by (bits_of_digits (columns kind) w) ref
     of_length : (row : List Bool) → bits_of_digits (columns kind) w ≡ Some row → (x : Bool) → nat_eq (length (r.rows ++ row ∷ [])) 16 ≡ x
         → GoesOn parts (Rows n at kind) r (w ∷ [])
         (cond x (record r { section = Nowhere; rows = []; bits = with_rows at (r.rows ++ row ∷ []) r.bits }) (record r { section = Rows n at kind; rows = r.rows ++ row ∷ [] }))
-    of_length row is true test =
-        (record {
-          there = λ t other known. tiles_stay at t (r.rows ++ row ∷ []) r.bits.tiles ∙ ready.there t other known;
-          begun = tt;
-        },
-        λ lines k f. row_last parts r.rows r.seen r.bits n at kind w row lines k is ready (tall row test) f)
+    of_length row is true test = (
+      record {
+        there = λ t other known. tiles_stay at t (r.rows ++ row ∷ []) r.bits.tiles ∙ ready.there t other known;
+        begun = tt;
+      },
+      λ lines k f. row_last parts r.rows r.seen r.bits n at kind w row lines k is ready (tall row test) f,
+    )
     of_length row is false test = (ready, λ lines k f. row_before parts r.rows r.seen r.bits n at kind w row lines k is f)
 
     by : (o : Option (List Bool)) → bits_of_digits (columns kind) w ≡ o
@@ -271,11 +305,12 @@ row_line parts r n at kind w [] ready = by (bits_of_digits (columns kind) w) ref
 
 -- a heading that names no tile and writes no extra bit
 other_line : (parts : Parts) (section next : Section) (r : Reading) (h : Heading) (device : Bool) (w : List ℕ) (ws : List (List ℕ)) → IsShut section → IsShut next → BeganRight parts r.seen next
-    → IsReady parts section r.seen r.bits → heading_of w ≡ h → is_tile h ≡ false → extra_behind h ws ≡ None
+    → IsReady parts section r.seen r.bits → heading_of w ≡ h → is_tile h ≡ false → begins_extra (w ∷ ws) ≡ false
     → GoesOn parts section r (w ∷ ws) (record r { has_device = device; section = next })
-other_line parts section next r h device w ws shut shut_next begun ready is none no_extra =
-    (record { there = ready.there; begun = begun },
-    λ lines k f. skipped parts section next r.rows r.rows r.seen r.bits (w ∷ ws) lines k shut shut_next (other_heading w ws h is none) (extra_is w ws h is ∙ no_extra) f)
+other_line parts section next r h device w ws shut shut_next begun ready is none not_extra = (
+  record { there = ready.there; begun = begun },
+  λ lines k f. skipped parts section next r.rows r.rows r.seen r.bits (w ∷ ws) lines k shut shut_next (other_heading w ws h is none) not_extra f,
+)
 
 device_line : (parts : Parts) (section : Section) (r : Reading) (w : List ℕ) (ws : List (List ℕ)) → IsShut section → IsReady parts section r.seen r.bits → heading_of w ≡ Device
     → IfOk (device_says r ws) (GoesOn parts section r (w ∷ ws))
@@ -284,7 +319,7 @@ device_line parts section r w (name ∷ v ∷ ws) shut ready is = tt
 device_line parts section r w (name ∷ []) shut ready is = by (bytes_eq name (codes "1k"))
   where
     by : (x : Bool) → IfOk (if x then Ok (record r { has_device = true; section = Nowhere }) else Err (fault.OtherDevice r.line)) (GoesOn parts section r (w ∷ name ∷ []))
-    by true = other_line parts section Nowhere r Device true w (name ∷ []) shut tt tt ready is refl refl
+    by true = other_line parts section Nowhere r Device true w (name ∷ []) shut tt tt ready is refl (extra_is w (name ∷ []) Device is)
     by false = tt
 
 extra_line : (parts : Parts) (section : Section) (r : Reading) (w : List ℕ) (ws : List (List ℕ)) → IsShut section → IsReady parts section r.seen r.bits → heading_of w ≡ ExtraBit
@@ -293,13 +328,13 @@ extra_line parts section r w ws shut ready is = by (extra_of_words ws) refl
   where
     by : (o : Option (ℕ × ℕ × ℕ)) → extra_of_words ws ≡ o → IfOk (extra_says r o) (GoesOn parts section r (w ∷ ws))
     by None e = tt
-    by (Some extra) e =
-        (record { there = ready.there; begun = tt },
-        λ lines k f. beside parts section Nowhere r.rows r.rows r.seen r.bits (record { tiles = r.bits.tiles; kinds = r.bits.kinds; extras = r.bits.extras ++ extra ∷ [] }) (w ∷ ws) lines k
-        (other_heading w ws ExtraBit is refl) (λ t _ free. f.others t refl free)
-        (f.extras ∙ append_assoc r.bits.extras (extra ∷ []) (filter_map extra_of lines)
-        ∙ ap (λ (o : Option (ℕ × ℕ × ℕ)). r.bits.extras ++ cons_option o (filter_map extra_of lines)) (sym (extra_is w ws ExtraBit is ∙ e)))
-        (shut_closes section r.rows ((w ∷ ws) ∷ lines) k shut) f)
+    by (Some extra) e = (
+      record { there = ready.there; begun = tt },
+      λ lines k f. beside parts section Nowhere r.rows r.rows r.seen r.bits (record { tiles = r.bits.tiles; kinds = r.bits.kinds; extras = r.bits.extras ++ extra ∷ [] }) (w ∷ ws) lines k
+          (other_heading w ws ExtraBit is refl) (λ t _ free. f.others t refl free)
+          (extra_more r.bits.extras extra (w ∷ ws) lines (extra_is w ws ExtraBit is) e ∙ f.extras)
+          (shut_closes section r.rows ((w ∷ ws) ∷ lines) k shut) f,
+    )
 
 tile_line : (parts : Parts) (section : Section) (r : Reading) (kind : TileKind) (w : List ℕ) (ws : List (List ℕ)) → IsShut section → IsReady parts section r.seen r.bits → heading_of w ≡ Tile kind
     → IfOk (tile_says parts r kind (tile_of_words ws)) (GoesOn parts section r (w ∷ ws))
@@ -314,9 +349,10 @@ tile_line parts section r kind w ws shut ready is = by (tile_of_words ws) refl
         by : (x : Bool) → list_any (same_tile at) r.seen ≡ x
             → IfOk (if x then Err (fault.TileTwice r.line) else Ok (record r { section = Rows r.line at kind; rows = []; seen = r.seen ++ at ∷ [] })) (GoesOn parts section r (w ∷ ws))
         by true e = tt
-        by false e =
-            (record { there = ready.there; begun = record { known = known; noted = noted e } },
-            λ lines k f. named_first parts section r.rows r.seen r.bits r.line at kind w ws lines k shut is place known e f)
+        by false e = (
+          record { there = ready.there; begun = record { known = known; noted = noted e } },
+          λ lines k f. named_first parts section r.rows r.seen r.bits r.line at kind w ws lines k shut is place known e f,
+        )
 
     of_kind : (at : TileAt) → tile_of_words ws ≡ Some at → (o : Option TileKind) → kind_at parts at ≡ o
         → IfOk (if is_of_kind kind o then opened r kind at else Err (fault.UnknownTile r.line)) (GoesOn parts section r (w ∷ ws))
@@ -340,8 +376,8 @@ heading_line parts section r w ws shut ready (Tile kind) is = by r.has_device
     by true = tile_line parts section r kind w ws shut ready is
     by false = tt
 heading_line parts section r w ws shut ready ExtraBit is = extra_line parts section r w ws shut ready is
-heading_line parts section r w ws shut ready Symbol is = other_line parts section Nowhere r Symbol r.has_device w ws shut tt tt ready is refl refl
-heading_line parts section r w ws shut ready Other is = other_line parts section ReadOver r Other r.has_device w ws shut tt tt ready is refl refl
+heading_line parts section r w ws shut ready Symbol is = other_line parts section Nowhere r Symbol r.has_device w ws shut tt tt ready is refl (extra_is w ws Symbol is)
+heading_line parts section r w ws shut ready Other is = other_line parts section ReadOver r Other r.has_device w ws shut tt tt ready is refl (extra_is w ws Other is)
 
 words_line : (parts : Parts) (r : Reading) (section : Section) (w : List ℕ) (ws : List (List ℕ)) → section ≡ r.section → IsReady parts section r.seen r.bits
     → IfOk (words_say parts r section w ws) (GoesOn parts section r (w ∷ ws))
@@ -354,9 +390,10 @@ words_line parts r Nowhere w ws same ready = by (begins_with 46 w)
 words_line parts r ReadOver w ws same ready = by (begins_with 46 w) refl
   where
     over : begins_with 46 w ≡ false → GoesOn parts ReadOver r (w ∷ ws) (record r { section = ReadOver })
-    over plain =
-        (record { there = ready.there; begun = tt },
-        λ lines k f. skipped parts ReadOver ReadOver r.rows r.rows r.seen r.bits (w ∷ ws) lines k tt tt (plain_line w ws plain) (plain_extra w ws plain) f)
+    over plain = (
+      record { there = ready.there; begun = tt },
+      λ lines k f. skipped parts ReadOver ReadOver r.rows r.rows r.seen r.bits (w ∷ ws) lines k tt tt (plain_line w ws plain) (plain_extra w ws plain) f,
+    )
 
     by : (x : Bool) → begins_with 46 w ≡ x → IfOk (if x then heading_says parts r (heading_of w) ws else Ok r) (GoesOn parts ReadOver r (w ∷ ws))
     by true dot = heading_line parts ReadOver r w ws tt ready (heading_of w) refl
@@ -373,11 +410,12 @@ at_end parts r ReadOver = by r.has_device
   where
     by : (x : Bool) → IfOk (if x then Ok r.bits else Err (fault.NoDevice r.line)) (Says parts ReadOver r.rows r.seen r.bits [])
     by true = record {
+      placed = λ i kind is. absurd is;
       named = λ i kind t is. absurd is;
       fresh = λ i kind t is. absurd is;
       once = λ i j kind other t is too. absurd is;
       others = λ t shut free. refl;
-      extras = sym (append-nil r.bits.extras);
+      extras = append-nil (map Some r.bits.extras);
       closes = tt;
     }
     by false = tt
@@ -385,11 +423,12 @@ at_end parts r Nowhere = by r.has_device
   where
     by : (x : Bool) → IfOk (if x then Ok r.bits else Err (fault.NoDevice r.line)) (Says parts Nowhere r.rows r.seen r.bits [])
     by true = record {
+      placed = λ i kind is. absurd is;
       named = λ i kind t is. absurd is;
       fresh = λ i kind t is. absurd is;
       once = λ i j kind other t is too. absurd is;
       others = λ t shut free. refl;
-      extras = sym (append-nil r.bits.extras);
+      extras = append-nil (map Some r.bits.extras);
       closes = tt;
     }
     by false = tt
@@ -447,6 +486,7 @@ text_says parts text k e =
     let numbered_lines : Says parts Nowhere [] [] (blank parts) (worded_lines ls) k = subst (λ (said : Result Configuration AscFault). IfOk said (Says parts Nowhere [] [] (blank parts) (worded_lines ls))) e all in
     let f : Says parts Nowhere [] [] (blank parts) (worded text) k = subst (λ (lines : List Line). Says parts Nowhere [] [] (blank parts) lines k) (are_worded 1 (lines text)) numbered_lines in
     record {
+      placed = f.placed;
       named = λ i kind t is. held parts k (worded text) i kind t (f.named i kind t is);
       once = f.once;
       others = λ t free b. ap (λ (o : Option Grid). bit_at o b) (f.others t refl free) ∙ blank_bit parts.tiles t b;
