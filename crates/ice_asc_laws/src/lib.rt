@@ -1,0 +1,4 @@
+//! What texts of bits say, without the steps of their reader.
+#![tactic(auto)]
+
+pub mod laws;
