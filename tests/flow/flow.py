@@ -1,6 +1,6 @@
 """What tests/flow/run does beside the program: cases to compare, netlists to play, and a plain reading of packed designs.
 
-words FOLDER               says the names of the texts of each case of a folder, in order; it takes the places from the dump
+words FOLDER               says the names of the texts of each case of a folder, in order
 netlists COUNT FOLDER      makes netlists at random, each with its text of levels; the same count makes the same netlists
 compare FOLDER SHOWN       compares what the program showed with the dumps of a folder
 play FOLDER SHOWN PROGRAM  plays the designs that the program showed, and the netlists by play-net of PROGRAM
@@ -9,9 +9,6 @@ import pathlib
 import random
 import subprocess
 import sys
-
-# From the first line of these on, a dump says what isn't shown.
-BEHIND = ("net", "report")
 
 
 def shown(file):
@@ -29,10 +26,10 @@ def wanted(dump):
     """The lines of a dump that the program shows too."""
     lines = []
     for line in dump.read_text(encoding="latin-1").splitlines():
-        if line.split()[0] in BEHIND or line.startswith("error 9"):
+        # From here on a dump says what isn't shown.
+        if line == "report" or line.startswith("error 9"):
             break
-        if not line.startswith("place "):
-            lines.append(line)
+        lines.append(line)
     return lines
 
 
@@ -253,13 +250,8 @@ def netlists(count, folder):
 
 def words(folder):
     for blif in sorted(pathlib.Path(folder).glob("*.blif")):
-        pcf, dump, places = (blif.with_suffix(it) for it in (".pcf", ".dump", ".places"))
-        if not dump.exists():
-            print(blif, "-", "-")
-            continue
-        lines = map(str.split, dump.read_text(encoding="latin-1").splitlines())
-        places.write_text("".join(f"{it[3]} {it[4]}\n" for it in lines if it[0] == "place"))
-        print(blif, pcf, places)
+        pcf = blif.with_suffix(".pcf")
+        print(blif, pcf if pcf.exists() else "-")
 
 
 if __name__ == "__main__":

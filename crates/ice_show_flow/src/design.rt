@@ -1,0 +1,126 @@
+//! Packed designs and their clusters, as they are said.
+use anyhow::Result;
+use ice_cells::{Cluster, Control, Design, DesignPad, LogicCell, Root, Run};
+use ice_net::Reset;
+
+fn say_root(rt: &impl Print, root: Option<Root>) -> Result<()> {
+    match root {
+        None => print!(rt; " -")?,
+        Some(Root::PadIn(n)) => print!(rt; " pad:{n}")?,
+        Some(Root::CellOut(n)) => print!(rt; " cell:{n}")?,
+        Some(Root::GlobalOut(n)) => print!(rt; " global:{n}")?,
+        Some(Root::CarryOut(n)) => print!(rt; " carry:{n}")?,
+    }
+    Ok(())
+}
+
+fn say_control(rt: &impl Print, control: Control) -> Result<()> {
+    say_root(rt, control.clock)?;
+    let edge = if control.falling { "falling" } else { "rising" };
+    print!(rt; " {edge}")?;
+    say_root(rt, control.enable)?;
+    say_root(rt, control.reset)
+}
+
+// Whether a flip-flop is set to 1, and whether it is at once.
+fn reset_bits(reset: Reset) -> (u8, u8) {
+    match reset {
+        Reset::Nothing | Reset::SyncReset => (0, 0),
+        Reset::AsyncReset => (0, 1),
+        Reset::SyncSet => (1, 0),
+        Reset::AsyncSet => (1, 1),
+    }
+}
+
+fn say_cell(rt: &impl Print, number: usize, cell: &LogicCell) -> Result<()> {
+    print!(rt; "cell {number} table {:016b} ins", cell.table)?;
+    for root in &cell.ins {
+        say_root(rt, *root)?;
+    }
+    let carry = if cell.carry { " carry" } else { "" };
+    let in3 = if cell.carry_to_in3 { " in3" } else { "" };
+    print!(rt; "{carry}{in3}")?;
+    if let Some((control, reset)) = cell.flop {
+        print!(rt; " flop")?;
+        say_control(rt, control)?;
+        let (set, at_once) = reset_bits(reset);
+        print!(rt; " set {set} async {at_once}")?;
+    }
+    println!(rt; "")?;
+    Ok(())
+}
+
+fn say_run(rt: &impl Print, number: usize, run: &Run) -> Result<()> {
+    print!(rt; "run {number} set {} cells", u8::from(run.set))?;
+    for cell in run.cells.as_slice() {
+        print!(rt; " {cell}")?;
+    }
+    println!(rt; "")?;
+    Ok(())
+}
+
+fn say_pad(rt: &impl Print, pad: &DesignPad) -> Result<()> {
+    let pullup = u8::from(pad.pullup);
+    print!(rt;
+        "pad {} type {:06b} pullup {pullup} drive",
+        pad.port, pad.pin_type
+    )?;
+    say_root(rt, pad.drive)?;
+    print!(rt; " enable")?;
+    say_root(rt, pad.enable)?;
+    println!(rt; " reads {}", u8::from(pad.reads))?;
+    Ok(())
+}
+
+// The counts of a design, its cells, runs, pads and globals, each in order.
+pub(crate) fn say_design(rt: &impl Print, design: &Design) -> Result<()> {
+    let (cells, runs) = (design.cells(), design.runs());
+    let (pads, globals) = (design.pads(), design.globals());
+    print!(rt; "cells {} runs {} ", cells.len(), runs.len())?;
+    println!(rt; "pads {} globals {}", pads.len(), globals.len())?;
+    for (number, cell) in cells.iter().enumerate() {
+        say_cell(rt, number, cell)?;
+    }
+    for (number, run) in runs.iter().enumerate() {
+        say_run(rt, number, run)?;
+    }
+    for pad in pads {
+        say_pad(rt, pad)?;
+    }
+    for (number, root) in globals.iter().enumerate() {
+        print!(rt; "global {number} reads")?;
+        say_root(rt, *root)?;
+        println!(rt; "")?;
+    }
+    Ok(())
+}
+
+fn say_cluster(rt: &impl Print, number: usize, cluster: &Cluster) -> Result<()> {
+    print!(rt; "cluster {number} run ")?;
+    match cluster.run {
+        None => print!(rt; "-")?,
+        Some((run, chunk)) => print!(rt; "{run}.{chunk}")?,
+    }
+    print!(rt; " cells")?;
+    for slot in cluster.cells.as_slice() {
+        match slot {
+            None => print!(rt; " -")?,
+            Some(cell) => print!(rt; " {cell}")?,
+        }
+    }
+    print!(rt; " control")?;
+    match cluster.control {
+        None => print!(rt; " -")?,
+        Some(control) => say_control(rt, control)?,
+    }
+    println!(rt; "")?;
+    Ok(())
+}
+
+// The clusters of a design, in order.
+pub(crate) fn say_clusters(rt: &impl Print, clusters: &[Cluster]) -> Result<()> {
+    for (number, cluster) in clusters.iter().enumerate() {
+        say_cluster(rt, number, cluster)?;
+    }
+    Ok(())
+}
