@@ -1,3 +1,4 @@
 mod Headed
 mod TilesWith
 mod Sections
+mod TextSays

@@ -1,83 +1,74 @@
--- What the lines of a text say, from what was read before them.
-use Rattle.std.proofs.Common.{◌≡◌, ℕ, zero, suc, ◌+◌, ◌<◌, Bool, true, false, cond, Option, None, Some, is_some, Result, Ok, Err, IfOk, List, [], ◌∷◌, ◌++◌, length, map, filter, drop, IsSomeAnd, slice_get, nat_eq, codes, bytes_eq, if◌then◌else◌, refl, sym, ap, ◌∙◌, subst, true≢false, append_assoc, append-nil, arith, rules, tests}
+-- What lines say from what was read before them: with one line more in front, they say the same from before that line.
+use Rattle.std.proofs.Common.{◌≡◌, ℕ, zero, suc, ◌<◌, Bool, true, false, cond, Option, Some, is_some, List, [], ◌∷◌, ◌++◌, length, map, filter, drop, IsSomeAnd, slice_get, refl, sym, ap, ◌∙◌, subst, true≢false, append_assoc, arith}
 use Rattle.std.specs.List.{list_any}
 use Rattle.std.specs.Option.{option_and_then}
 use Rattle.std.proofs.lemmas.Bool.{or_parts}
 use Rattle.std.proofs.lemmas.List.{map-append}
 use Rattle.std.proofs.lemmas.List.Folds.{list_any-append}
-use Rattle.std.proofs.lemmas.Result.{IfOk-weaker}
-use Rattle.ice_base.specs.Text.{lines, numbered, next_number, words}
-use Rattle.ice_base.specs.Comments.{begins_with}
 use Rattle.ice_base.specs.declared.number.TileAt.{TileAt}
 use Rattle.ice_base.proofs.Keys.{tile_same, tile_self}
 use Rattle.ice_chip.specs.Database.{Parts}
-use Rattle.ice_chip.specs.Functions.{same_kind}
 use Rattle.ice_chip.specs.Lookups.{kind_at}
 use Rattle.ice_chip.specs.Places.{same_tile, columns}
 use Rattle.ice_chip.specs.declared.rows.TileKind.{TileKind}
-use Rattle.ice_bits.specs.Configuration.{Configuration, is_of_kind, rows_at, bit_at, blank}
+use Rattle.ice_bits.specs.Configuration.{Configuration, rows_at}
 use Rattle.ice_bits.specs.Rewriting.{with_rows}
-use Rattle.ice_asc.specs.Faults.{◌>>=◌}
 use Rattle.ice_asc.specs.Headings.{heading_of_kind, heading_of}
-use Rattle.ice_asc.specs.Words.{bits_of_digits, tile_of_words, extra_of_words}
-use Rattle.ice_asc.specs.Grammar.{Reading, start, with_row, known_row, row_says, device_says, opened, tile_says, extra_says, heading_says, words_say, line_says, at_line, lines_say, end_says, asc_in}
-use Rattle.ice_asc.specs.declared.fault.AscFault.{AscFault}
-use Rattle.ice_asc.specs.declared.fault.AscFault.TheVariants as fault
+use Rattle.ice_asc.specs.Words.{bits_of_digits, tile_of_words}
 use Rattle.ice_asc.specs.declared.section.Section.{Section}
 use Rattle.ice_asc.specs.declared.section.Section.TheVariants.{Nowhere, ReadOver, Rows}
-use Rattle.ice_asc.specs.declared.section.Heading.{Heading}
-use Rattle.ice_asc.specs.declared.section.Heading.TheVariants.{Device, Tile, ExtraBit, Symbol, Other}
-use Rattle.ice_asc_laws.specs.NamedTiles.{Line, has_words, worded, Begins, IsHeading, row_of, begins_extra, extra_of, Names, IsUnnamed, HasItsRows, SayBits}
-use Rattle.ice_asc_laws.proofs.Headed.{word_of_tile, tile_of_word, is_tile, other_heading, extra_is, plain_line, plain_extra, row_plain, kind_same}
-use Rattle.ice_asc_laws.proofs.TilesWith.{Grid, changed_here, same_elsewhere, tiles_stay, blank_has, blank_bit}
+use Rattle.ice_asc.specs.declared.section.Heading.TheVariants.{Tile}
+use Rattle.ice_asc_laws.specs.NamedTiles.{Line, Begins, IsHeading, row_of, begins_extra, extra_of, Names, IsUnnamed}
+use Rattle.ice_asc_laws.proofs.Headed.{word_of_tile, tile_of_word, extra_is, plain_line, plain_extra, row_plain}
+use Rattle.ice_asc_laws.proofs.TilesWith.{Grid, changed_here, same_elsewhere}
 
 -- ---- what was read so far
 -- the tile that is open is one of the chip's, and is among those that had a heading
-record IsBegun (parts : Parts) (seen : List TileAt) (at : TileAt) (kind : TileKind) : Type 0 where
-  known : kind_at parts at ≡ Some kind
-  noted : list_any (same_tile at) seen ≡ true
+pub record IsBegun (parts : Parts) (seen : List TileAt) (at : TileAt) (kind : TileKind) : Type 0 where
+  pub known : kind_at parts at ≡ Some kind
+  pub noted : list_any (same_tile at) seen ≡ true
 
-abbrev BeganRight : Parts → List TileAt → Section → Type 0
+abbrev pub BeganRight : Parts → List TileAt → Section → Type 0
 BeganRight parts seen Nowhere = Unit {0}
 BeganRight parts seen ReadOver = Unit {0}
 BeganRight parts seen (Rows heading at kind) = IsBegun parts seen at kind
 
 -- there are rows for each tile of the chip
-record IsReady (parts : Parts) (section : Section) (seen : List TileAt) (bits : Configuration) : Type 0 where
-  there : (t : TileAt) (kind : TileKind) → kind_at parts t ≡ Some kind → is_some (rows_at bits t) ≡ true
-  begun : BeganRight parts seen section
+pub record IsReady (parts : Parts) (section : Section) (seen : List TileAt) (bits : Configuration) : Type 0 where
+  pub there : (t : TileAt) (kind : TileKind) → kind_at parts t ≡ Some kind → is_some (rows_at bits t) ≡ true
+  pub begun : BeganRight parts seen section
 
 -- ---- what the lines that are left say, if in the end these are the bits
 -- the lines begin with the rest of the sixteen rows of the tile that is open
-record Finishes (at : TileAt) (kind : TileKind) (rows : Grid) (lines : List Line) (k : Configuration) : Type 0 where
-  more : Grid
-  whole : length (rows ++ more) ≡ 16
-  has : rows_at k at ≡ Some (rows ++ more)
-  each : (j : ℕ) → j < length more → option_and_then (row_of (columns kind)) (slice_get lines j) ≡ slice_get more j
+pub record Finishes (at : TileAt) (kind : TileKind) (rows : Grid) (lines : List Line) (k : Configuration) : Type 0 where
+  pub more : Grid
+  pub whole : length (rows ++ more) ≡ 16
+  pub has : rows_at k at ≡ Some (rows ++ more)
+  pub each : (j : ℕ) → j < length more → option_and_then (row_of (columns kind)) (slice_get lines j) ≡ slice_get more j
 
-abbrev Closes : Section → Grid → List Line → Configuration → Type 0
+abbrev pub Closes : Section → Grid → List Line → Configuration → Type 0
 Closes Nowhere rows lines k = Unit {0}
 Closes ReadOver rows lines k = Unit {0}
 Closes (Rows heading at kind) rows lines k = Finishes at kind rows lines k
 
 -- a tile of this kind stands there, and its sixteen rows are those of the lines behind its heading
-record HasRows (parts : Parts) (behind : List Line) (kind : TileKind) (t : TileAt) (k : Configuration) : Type 0 where
-  of_kind : kind_at parts t ≡ Some kind
-  rows : Grid
-  has : rows_at k t ≡ Some rows
-  tall : length rows ≡ 16
-  each : (j : ℕ) → j < 16 → option_and_then (row_of (columns kind)) (slice_get behind j) ≡ slice_get rows j
+pub record HasRows (parts : Parts) (behind : List Line) (kind : TileKind) (t : TileAt) (k : Configuration) : Type 0 where
+  pub of_kind : kind_at parts t ≡ Some kind
+  pub rows : Grid
+  pub has : rows_at k t ≡ Some rows
+  pub tall : length rows ≡ 16
+  pub each : (j : ℕ) → j < 16 → option_and_then (row_of (columns kind)) (slice_get behind j) ≡ slice_get rows j
 
-abbrev is_open : Section → TileAt → Bool
+abbrev pub is_open : Section → TileAt → Bool
 is_open Nowhere t = false
 is_open ReadOver t = false
 is_open (Rows heading at kind) t = same_tile at t
 
-abbrev BeginsAt : List Line → ℕ → TileKind → Type 0
+abbrev pub BeginsAt : List Line → ℕ → TileKind → Type 0
 BeginsAt lines i kind = IsSomeAnd (slice_get lines i) (λ (line : Line). Begins line kind)
 
 -- what extra bits there are behind these, if the lines are right
-abbrev extras_with : List (ℕ × ℕ × ℕ) → List Line → List (Option (ℕ × ℕ × ℕ))
+abbrev pub extras_with : List (ℕ × ℕ × ℕ) → List Line → List (Option (ℕ × ℕ × ℕ))
 extras_with extras lines = map Some extras ++ map extra_of (filter begins_extra lines)
 
 -- a line that writes none
@@ -85,7 +76,7 @@ no_extra : (extras : List (ℕ × ℕ × ℕ)) (line : Line) (lines : List Line)
 no_extra extras line lines none = ap (λ (x : Bool). map Some extras ++ map extra_of (cond x (line ∷ filter begins_extra lines) (filter begins_extra lines))) none
 
 -- a line that writes one
-extra_more : (extras : List (ℕ × ℕ × ℕ)) (extra : ℕ × ℕ × ℕ) (line : Line) (lines : List Line) → begins_extra line ≡ true → extra_of line ≡ Some extra
+pub extra_more : (extras : List (ℕ × ℕ × ℕ)) (extra : ℕ × ℕ × ℕ) (line : Line) (lines : List Line) → begins_extra line ≡ true → extra_of line ≡ Some extra
     → extras_with extras (line ∷ lines) ≡ extras_with (extras ++ extra ∷ []) lines
 extra_more extras extra line lines begins is =
     ap (λ (x : Bool). map Some extras ++ map extra_of (cond x (line ∷ filter begins_extra lines) (filter begins_extra lines))) begins
@@ -93,17 +84,17 @@ extra_more extras extra line lines begins is =
     ∙ sym (append_assoc (map Some extras) (Some extra ∷ []) (map extra_of (filter begins_extra lines)))
     ∙ ap (λ (os : List (Option (ℕ × ℕ × ℕ))). os ++ map extra_of (filter begins_extra lines)) (sym (map-append Some extras (extra ∷ [])))
 
-record Says (parts : Parts) (section : Section) (rows : Grid) (seen : List TileAt) (bits : Configuration) (lines : List Line) (k : Configuration) : Type 0 where
-  placed : (i : ℕ) (kind : TileKind) → BeginsAt lines i kind → (t : TileAt) × Names lines i kind t
-  named : (i : ℕ) (kind : TileKind) (t : TileAt) → Names lines i kind t → HasRows parts (drop (suc i) lines) kind t k
-  fresh : (i : ℕ) (kind : TileKind) (t : TileAt) → Names lines i kind t → list_any (same_tile t) seen ≡ false
-  once : (i j : ℕ) (kind other : TileKind) (t : TileAt) → Names lines i kind t → Names lines j other t → i ≡ j
-  others : (t : TileAt) → is_open section t ≡ false → IsUnnamed lines t → rows_at k t ≡ rows_at bits t
-  extras : extras_with bits.extras lines ≡ map Some k.extras
-  closes : Closes section rows lines k
+pub record Says (parts : Parts) (section : Section) (rows : Grid) (seen : List TileAt) (bits : Configuration) (lines : List Line) (k : Configuration) : Type 0 where
+  pub placed : (i : ℕ) (kind : TileKind) → BeginsAt lines i kind → (t : TileAt) × Names lines i kind t
+  pub named : (i : ℕ) (kind : TileKind) (t : TileAt) → Names lines i kind t → HasRows parts (drop (suc i) lines) kind t k
+  pub fresh : (i : ℕ) (kind : TileKind) (t : TileAt) → Names lines i kind t → list_any (same_tile t) seen ≡ false
+  pub once : (i j : ℕ) (kind other : TileKind) (t : TileAt) → Names lines i kind t → Names lines j other t → i ≡ j
+  pub others : (t : TileAt) → is_open section t ≡ false → IsUnnamed lines t → rows_at k t ≡ rows_at bits t
+  pub extras : extras_with bits.extras lines ≡ map Some k.extras
+  pub closes : Closes section rows lines k
 
 -- a line that names no tile, before others
-beside : (parts : Parts) (section next : Section) (rows next_rows : Grid) (seen : List TileAt) (bits next_bits : Configuration) (line : Line) (lines : List Line) (k : Configuration)
+pub beside : (parts : Parts) (section next : Section) (rows next_rows : Grid) (seen : List TileAt) (bits next_bits : Configuration) (line : Line) (lines : List Line) (k : Configuration)
     → ((kind : TileKind) → Begins line kind → ⊥)
     → ((t : TileAt) → is_open section t ≡ false → IsUnnamed lines t → rows_at k t ≡ rows_at bits t)
     → extras_with bits.extras (line ∷ lines) ≡ map Some k.extras
@@ -141,12 +132,12 @@ beside parts section next rows next_rows seen bits next_bits line lines k other 
     once (suc i) (suc j) kind two t is too = ap suc (f.once i j kind two t is too)
 
 -- ---- lines while no tile is open
-abbrev IsShut : Section → Type 0
+abbrev pub IsShut : Section → Type 0
 IsShut Nowhere = Unit {0}
 IsShut ReadOver = Unit {0}
 IsShut (Rows heading at kind) = ⊥
 
-shut_closes : (section : Section) (rows : Grid) (lines : List Line) (k : Configuration) → IsShut section → Closes section rows lines k
+pub shut_closes : (section : Section) (rows : Grid) (lines : List Line) (k : Configuration) → IsShut section → Closes section rows lines k
 shut_closes Nowhere rows lines k shut = tt
 shut_closes ReadOver rows lines k shut = tt
 shut_closes (Rows heading at kind) rows lines k shut = absurd shut
@@ -157,7 +148,7 @@ none_open ReadOver t shut = refl
 none_open (Rows heading at kind) t shut = absurd shut
 
 -- a line that says nothing of the bits
-skipped : (parts : Parts) (section next : Section) (rows next_rows : Grid) (seen : List TileAt) (bits : Configuration) (line : Line) (lines : List Line) (k : Configuration)
+pub skipped : (parts : Parts) (section next : Section) (rows next_rows : Grid) (seen : List TileAt) (bits : Configuration) (line : Line) (lines : List Line) (k : Configuration)
     → IsShut section → IsShut next → ((kind : TileKind) → Begins line kind → ⊥) → begins_extra line ≡ false
     → Says parts next next_rows seen bits lines k → Says parts section rows seen bits (line ∷ lines) k
 skipped parts section next rows next_rows seen bits line lines k shut shut_next other none f =
@@ -165,7 +156,7 @@ skipped parts section next rows next_rows seen bits line lines k shut shut_next 
     (no_extra bits.extras line lines none ∙ f.extras) (shut_closes section rows (line ∷ lines) k shut) f
 
 -- the heading of a tile
-named_first : (parts : Parts) (section : Section) (rows : Grid) (seen : List TileAt) (bits : Configuration) (n : ℕ) (at : TileAt) (kind : TileKind) (w : List ℕ) (ws : List (List ℕ)) (lines : List Line) (k : Configuration)
+pub named_first : (parts : Parts) (section : Section) (rows : Grid) (seen : List TileAt) (bits : Configuration) (n : ℕ) (at : TileAt) (kind : TileKind) (w : List ℕ) (ws : List (List ℕ)) (lines : List Line) (k : Configuration)
     → IsShut section → heading_of w ≡ Tile kind → tile_of_words ws ≡ Some at → kind_at parts at ≡ Some kind → list_any (same_tile at) seen ≡ false
     → Says parts (Rows n at kind) [] (seen ++ at ∷ []) bits lines k → Says parts section rows seen bits ((w ∷ ws) ∷ lines) k
 named_first parts section rows seen bits n at kind w ws lines k shut is_word is_place known unseen f = record {
@@ -230,7 +221,7 @@ one_more : (rows : Grid) (row : List Bool) (more : Grid) → (rows ++ row ∷ []
 one_more rows row more = append_assoc rows (row ∷ []) more
 
 -- a row before others
-row_before : (parts : Parts) (rows : Grid) (seen : List TileAt) (bits : Configuration) (n : ℕ) (at : TileAt) (kind : TileKind) (w : List ℕ) (row : List Bool) (lines : List Line) (k : Configuration)
+pub row_before : (parts : Parts) (rows : Grid) (seen : List TileAt) (bits : Configuration) (n : ℕ) (at : TileAt) (kind : TileKind) (w : List ℕ) (row : List Bool) (lines : List Line) (k : Configuration)
     → bits_of_digits (columns kind) w ≡ Some row → Says parts (Rows n at kind) (rows ++ row ∷ []) seen bits lines k → Says parts (Rows n at kind) rows seen bits ((w ∷ []) ∷ lines) k
 row_before parts rows seen bits n at kind w row lines k is f =
     beside parts (Rows n at kind) (Rows n at kind) rows (rows ++ row ∷ []) seen bits bits (w ∷ []) lines k (plain_line w [] (row_plain (columns kind) w row is)) f.others
@@ -248,7 +239,7 @@ row_before parts rows seen bits n at kind w row lines k is f =
     each (suc j) lt = f.closes.each j (omega arith)
 
 -- the last row
-row_last : (parts : Parts) (rows : Grid) (seen : List TileAt) (bits : Configuration) (n : ℕ) (at : TileAt) (kind : TileKind) (w : List ℕ) (row : List Bool) (lines : List Line) (k : Configuration)
+pub row_last : (parts : Parts) (rows : Grid) (seen : List TileAt) (bits : Configuration) (n : ℕ) (at : TileAt) (kind : TileKind) (w : List ℕ) (row : List Bool) (lines : List Line) (k : Configuration)
     → bits_of_digits (columns kind) w ≡ Some row → IsReady parts (Rows n at kind) seen bits → length (rows ++ row ∷ []) ≡ 16
     → Says parts Nowhere [] seen (with_rows at (rows ++ row ∷ []) bits) lines k → Says parts (Rows n at kind) rows seen bits ((w ∷ []) ∷ lines) k
 row_last parts rows seen bits n at kind w row lines k is ready tall f =
@@ -266,229 +257,3 @@ row_last parts rows seen bits n at kind w row lines k is ready tall f =
     each : (j : ℕ) → j < length (row ∷ []) → option_and_then (row_of (columns kind)) (slice_get ((w ∷ []) ∷ lines) j) ≡ slice_get (row ∷ []) j
     each zero lt = is
     each (suc j) lt = absurd (omega arith)
-
--- ---- one line
-abbrev with_line : Line → List Line → List Line
-with_line [] lines = lines
-with_line (w ∷ ws) lines = (w ∷ ws) ∷ lines
-
--- what is read with the line is ready for the next one, and what the later lines say from there, the line and these say from here
-abbrev GoesOn : Parts → Section → Reading → Line → Reading → Type 0
-GoesOn parts section r line next =
-    IsReady parts next.section next.seen next.bits
-    × ((lines : List Line) (k : Configuration) → Says parts next.section next.rows next.seen next.bits lines k → Says parts section r.rows r.seen r.bits (with_line line lines) k)
-
-row_line : (parts : Parts) (r : Reading) (n : ℕ) (at : TileAt) (kind : TileKind) (w : List ℕ) (ws : List (List ℕ)) → IsReady parts (Rows n at kind) r.seen r.bits
-    → IfOk (row_says r n at kind w ws) (GoesOn parts (Rows n at kind) r (w ∷ ws))
-row_line parts r n at kind w (v ∷ ws) ready = tt
-row_line parts r n at kind w [] ready = by (bits_of_digits (columns kind) w) refl
-  where
-    tall : (row : List Bool) → nat_eq (length (r.rows ++ row ∷ [])) 16 ≡ true → length (r.rows ++ row ∷ []) ≡ 16
-    tall row test = search (rules, tests)
-
-    of_length : (row : List Bool) → bits_of_digits (columns kind) w ≡ Some row → (x : Bool) → nat_eq (length (r.rows ++ row ∷ [])) 16 ≡ x
-        → GoesOn parts (Rows n at kind) r (w ∷ [])
-        (cond x (record r { section = Nowhere; rows = []; bits = with_rows at (r.rows ++ row ∷ []) r.bits }) (record r { section = Rows n at kind; rows = r.rows ++ row ∷ [] }))
-    of_length row is true test = (
-      record {
-        there = λ t other known. tiles_stay at t (r.rows ++ row ∷ []) r.bits.tiles ∙ ready.there t other known;
-        begun = tt;
-      },
-      λ lines k f. row_last parts r.rows r.seen r.bits n at kind w row lines k is ready (tall row test) f,
-    )
-    of_length row is false test = (ready, λ lines k f. row_before parts r.rows r.seen r.bits n at kind w row lines k is f)
-
-    by : (o : Option (List Bool)) → bits_of_digits (columns kind) w ≡ o
-        → IfOk (known_row r.line o >>= (λ row. Ok (with_row r n at kind (r.rows ++ row ∷ [])))) (GoesOn parts (Rows n at kind) r (w ∷ []))
-    by None is = tt
-    by (Some row) is = of_length row is (nat_eq (length (r.rows ++ row ∷ [])) 16) refl
-
--- a heading that names no tile and writes no extra bit
-other_line : (parts : Parts) (section next : Section) (r : Reading) (h : Heading) (device : Bool) (w : List ℕ) (ws : List (List ℕ)) → IsShut section → IsShut next → BeganRight parts r.seen next
-    → IsReady parts section r.seen r.bits → heading_of w ≡ h → is_tile h ≡ false → begins_extra (w ∷ ws) ≡ false
-    → GoesOn parts section r (w ∷ ws) (record r { has_device = device; section = next })
-other_line parts section next r h device w ws shut shut_next begun ready is none not_extra = (
-  record { there = ready.there; begun = begun },
-  λ lines k f. skipped parts section next r.rows r.rows r.seen r.bits (w ∷ ws) lines k shut shut_next (other_heading w ws h is none) not_extra f,
-)
-
-device_line : (parts : Parts) (section : Section) (r : Reading) (w : List ℕ) (ws : List (List ℕ)) → IsShut section → IsReady parts section r.seen r.bits → heading_of w ≡ Device
-    → IfOk (device_says r ws) (GoesOn parts section r (w ∷ ws))
-device_line parts section r w [] shut ready is = tt
-device_line parts section r w (name ∷ v ∷ ws) shut ready is = tt
-device_line parts section r w (name ∷ []) shut ready is = by (bytes_eq name (codes "1k"))
-  where
-    by : (x : Bool) → IfOk (if x then Ok (record r { has_device = true; section = Nowhere }) else Err (fault.OtherDevice r.line)) (GoesOn parts section r (w ∷ name ∷ []))
-    by true = other_line parts section Nowhere r Device true w (name ∷ []) shut tt tt ready is refl (extra_is w (name ∷ []) Device is)
-    by false = tt
-
-extra_line : (parts : Parts) (section : Section) (r : Reading) (w : List ℕ) (ws : List (List ℕ)) → IsShut section → IsReady parts section r.seen r.bits → heading_of w ≡ ExtraBit
-    → IfOk (extra_says r (extra_of_words ws)) (GoesOn parts section r (w ∷ ws))
-extra_line parts section r w ws shut ready is = by (extra_of_words ws) refl
-  where
-    by : (o : Option (ℕ × ℕ × ℕ)) → extra_of_words ws ≡ o → IfOk (extra_says r o) (GoesOn parts section r (w ∷ ws))
-    by None e = tt
-    by (Some extra) e = (
-      record { there = ready.there; begun = tt },
-      λ lines k f. beside parts section Nowhere r.rows r.rows r.seen r.bits (record { tiles = r.bits.tiles; kinds = r.bits.kinds; extras = r.bits.extras ++ extra ∷ [] }) (w ∷ ws) lines k
-          (other_heading w ws ExtraBit is refl) (λ t _ free. f.others t refl free)
-          (extra_more r.bits.extras extra (w ∷ ws) lines (extra_is w ws ExtraBit is) e ∙ f.extras)
-          (shut_closes section r.rows ((w ∷ ws) ∷ lines) k shut) f,
-    )
-
-tile_line : (parts : Parts) (section : Section) (r : Reading) (kind : TileKind) (w : List ℕ) (ws : List (List ℕ)) → IsShut section → IsReady parts section r.seen r.bits → heading_of w ≡ Tile kind
-    → IfOk (tile_says parts r kind (tile_of_words ws)) (GoesOn parts section r (w ∷ ws))
-tile_line parts section r kind w ws shut ready is = by (tile_of_words ws) refl
-  where
-    opens : (at : TileAt) → tile_of_words ws ≡ Some at → kind_at parts at ≡ Some kind → IfOk (opened r kind at) (GoesOn parts section r (w ∷ ws))
-    opens at place known = by (list_any (same_tile at) r.seen) refl
-      where
-        noted : list_any (same_tile at) r.seen ≡ false → list_any (same_tile at) (r.seen ++ at ∷ []) ≡ true
-        noted unseen = list_any-append (same_tile at) r.seen (at ∷ []) ∙ (rw (unseen, tile_self at) refl)
-
-        by : (x : Bool) → list_any (same_tile at) r.seen ≡ x
-            → IfOk (if x then Err (fault.TileTwice r.line) else Ok (record r { section = Rows r.line at kind; rows = []; seen = r.seen ++ at ∷ [] })) (GoesOn parts section r (w ∷ ws))
-        by true e = tt
-        by false e = (
-          record { there = ready.there; begun = record { known = known; noted = noted e } },
-          λ lines k f. named_first parts section r.rows r.seen r.bits r.line at kind w ws lines k shut is place known e f,
-        )
-
-    of_kind : (at : TileAt) → tile_of_words ws ≡ Some at → (o : Option TileKind) → kind_at parts at ≡ o
-        → IfOk (if is_of_kind kind o then opened r kind at else Err (fault.UnknownTile r.line)) (GoesOn parts section r (w ∷ ws))
-    of_kind at place None e = tt
-    of_kind at place (Some known) e = tested (same_kind known kind) refl
-      where
-        tested : (x : Bool) → same_kind known kind ≡ x → IfOk (if x then opened r kind at else Err (fault.UnknownTile r.line)) (GoesOn parts section r (w ∷ ws))
-        tested true same = opens at place (e ∙ ap (λ (one : TileKind). Some one) (kind_same known kind same))
-        tested false other = tt
-
-    by : (o : Option TileAt) → tile_of_words ws ≡ o → IfOk (tile_says parts r kind o) (GoesOn parts section r (w ∷ ws))
-    by None e = tt
-    by (Some at) e = of_kind at e (kind_at parts at) refl
-
-heading_line : (parts : Parts) (section : Section) (r : Reading) (w : List ℕ) (ws : List (List ℕ)) → IsShut section → IsReady parts section r.seen r.bits → (h : Heading) → heading_of w ≡ h
-    → IfOk (heading_says parts r h ws) (GoesOn parts section r (w ∷ ws))
-heading_line parts section r w ws shut ready Device is = device_line parts section r w ws shut ready is
-heading_line parts section r w ws shut ready (Tile kind) is = by r.has_device
-  where
-    by : (x : Bool) → IfOk (if x then tile_says parts r kind (tile_of_words ws) else Err (fault.NoDevice r.line)) (GoesOn parts section r (w ∷ ws))
-    by true = tile_line parts section r kind w ws shut ready is
-    by false = tt
-heading_line parts section r w ws shut ready ExtraBit is = extra_line parts section r w ws shut ready is
-heading_line parts section r w ws shut ready Symbol is = other_line parts section Nowhere r Symbol r.has_device w ws shut tt tt ready is refl (extra_is w ws Symbol is)
-heading_line parts section r w ws shut ready Other is = other_line parts section ReadOver r Other r.has_device w ws shut tt tt ready is refl (extra_is w ws Other is)
-
-words_line : (parts : Parts) (r : Reading) (section : Section) (w : List ℕ) (ws : List (List ℕ)) → section ≡ r.section → IsReady parts section r.seen r.bits
-    → IfOk (words_say parts r section w ws) (GoesOn parts section r (w ∷ ws))
-words_line parts r (Rows n at kind) w ws same ready = row_line parts r n at kind w ws ready
-words_line parts r Nowhere w ws same ready = by (begins_with 46 w)
-  where
-    by : (x : Bool) → IfOk (if x then heading_says parts r (heading_of w) ws else Err (fault.UnknownWord r.line)) (GoesOn parts Nowhere r (w ∷ ws))
-    by true = heading_line parts Nowhere r w ws tt ready (heading_of w) refl
-    by false = tt
-words_line parts r ReadOver w ws same ready = by (begins_with 46 w) refl
-  where
-    over : begins_with 46 w ≡ false → GoesOn parts ReadOver r (w ∷ ws) (record r { section = ReadOver })
-    over plain = (
-      record { there = ready.there; begun = tt },
-      λ lines k f. skipped parts ReadOver ReadOver r.rows r.rows r.seen r.bits (w ∷ ws) lines k tt tt (plain_line w ws plain) (plain_extra w ws plain) f,
-    )
-
-    by : (x : Bool) → begins_with 46 w ≡ x → IfOk (if x then heading_says parts r (heading_of w) ws else Ok r) (GoesOn parts ReadOver r (w ∷ ws))
-    by true dot = heading_line parts ReadOver r w ws tt ready (heading_of w) refl
-    by false plain = subst (λ (s : Section). GoesOn parts ReadOver r (w ∷ ws) (record r { section = s })) same (over plain)
-
-said_line : (parts : Parts) (r : Reading) (ws : Line) → IsReady parts r.section r.seen r.bits → IfOk (line_says parts r ws) (GoesOn parts r.section r ws)
-said_line parts r [] ready = (ready, λ lines k f. f)
-said_line parts r (w ∷ ws) ready = words_line parts r r.section w ws refl ready
-
--- ---- all lines
-at_end : (parts : Parts) (r : Reading) (section : Section) → IfOk (end_says r section) (Says parts section r.rows r.seen r.bits [])
-at_end parts r (Rows n at kind) = tt
-at_end parts r ReadOver = by r.has_device
-  where
-    by : (x : Bool) → IfOk (if x then Ok r.bits else Err (fault.NoDevice r.line)) (Says parts ReadOver r.rows r.seen r.bits [])
-    by true = record {
-      placed = λ i kind is. absurd is;
-      named = λ i kind t is. absurd is;
-      fresh = λ i kind t is. absurd is;
-      once = λ i j kind other t is too. absurd is;
-      others = λ t shut free. refl;
-      extras = append-nil (map Some r.bits.extras);
-      closes = tt;
-    }
-    by false = tt
-at_end parts r Nowhere = by r.has_device
-  where
-    by : (x : Bool) → IfOk (if x then Ok r.bits else Err (fault.NoDevice r.line)) (Says parts Nowhere r.rows r.seen r.bits [])
-    by true = record {
-      placed = λ i kind is. absurd is;
-      named = λ i kind t is. absurd is;
-      fresh = λ i kind t is. absurd is;
-      once = λ i j kind other t is too. absurd is;
-      others = λ t shut free. refl;
-      extras = append-nil (map Some r.bits.extras);
-      closes = tt;
-    }
-    by false = tt
-
-abbrev worded_lines : List (ℕ × List ℕ) → List Line
-worded_lines [] = []
-worded_lines (l ∷ ls) = with_line (words l.1) (worded_lines ls)
-
-all_said : (parts : Parts) (r : Reading) (ls : List (ℕ × List ℕ)) → IsReady parts r.section r.seen r.bits
-    → IfOk (lines_say parts r ls >>= (λ (s : Reading). end_says s s.section)) (Says parts r.section r.rows r.seen r.bits (worded_lines ls))
-all_said parts r [] ready = at_end parts r r.section
-all_said parts r (l ∷ ls) ready =
-    by (line_says parts (at_line r l.0) (words l.1)) (said_line parts (at_line r l.0) (words l.1) (record { there = ready.there; begun = ready.begun })) (λ next now. all_said parts next ls now)
-  where
-    by : (said : Result Reading AscFault) → IfOk said (GoesOn parts r.section (at_line r l.0) (words l.1))
-        → ((next : Reading) → IsReady parts next.section next.seen next.bits
-        → IfOk (lines_say parts next ls >>= (λ (s : Reading). end_says s s.section)) (Says parts next.section next.rows next.seen next.bits (worded_lines ls)))
-        → IfOk ((said >>= (λ (s : Reading). lines_say parts s ls)) >>= (λ (s : Reading). end_says s s.section)) (Says parts r.section r.rows r.seen r.bits (with_line (words l.1) (worded_lines ls)))
-    by (Ok next) goes later =
-        IfOk-weaker (lines_say parts next ls >>= (λ (s : Reading). end_says s s.section)) (Says parts next.section next.rows next.seen next.bits (worded_lines ls))
-        (Says parts r.section r.rows r.seen r.bits (with_line (words l.1) (worded_lines ls))) (λ k f. goes.1 (worded_lines ls) k f) (later next goes.0)
-    by (Err e) goes later = tt
-
--- ---- a whole text
-are_worded : (n : ℕ) (ls : List (List ℕ)) → worded_lines (numbered n ls) ≡ filter has_words (map words ls)
-are_worded n [] = refl
-are_worded n (l ∷ ls) = by (words l) (are_worded (next_number n) ls)
-  where
-    by : (line : Line) → worded_lines (numbered (next_number n) ls) ≡ filter has_words (map words ls)
-        → with_line line (worded_lines (numbered (next_number n) ls)) ≡ cond (has_words line) (line ∷ filter has_words (map words ls)) (filter has_words (map words ls))
-    by [] rest = rest
-    by (w ∷ ws) rest = ap (λ (lines : List Line). (w ∷ ws) ∷ lines) rest
-
-line_behind : (lines : List Line) (i j at : ℕ) → at ≡ i + j → slice_get (drop i lines) j ≡ slice_get lines at
-line_behind lines zero j at e = let same : j ≡ at = omega arith in ap (slice_get lines) same
-line_behind [] (suc i) j at e = refl
-line_behind (l ∷ lines) (suc i) j zero e = absurd (omega arith)
-line_behind (l ∷ lines) (suc i) j (suc at) e = line_behind lines i j at (omega arith)
-
-held : (parts : Parts) (k : Configuration) (lines : List Line) (i : ℕ) (kind : TileKind) (t : TileAt) → HasRows parts (drop (suc i) lines) kind t k → HasItsRows parts k lines i kind t
-held parts k lines i kind t h = record {
-  of_kind = h.of_kind;
-  rows = h.rows;
-  has = h.has;
-  held = record {
-    tall = h.tall;
-    each = λ j lt. ap (option_and_then (row_of (columns kind))) (sym (line_behind lines (suc i) j (i + 1 + j) (omega arith))) ∙ h.each j lt;
-  };
-}
-
-pub text_says : (parts : Parts) (text : List ℕ) (k : Configuration) → asc_in parts text ≡ Ok k → SayBits parts (worded text) k
-text_says parts text k e =
-    let ls : List (ℕ × List ℕ) = numbered 1 (lines text) in
-    let all = all_said parts (start parts) ls (record { there = blank_has parts.tiles; begun = tt }) in
-    let numbered_lines : Says parts Nowhere [] [] (blank parts) (worded_lines ls) k = subst (λ (said : Result Configuration AscFault). IfOk said (Says parts Nowhere [] [] (blank parts) (worded_lines ls))) e all in
-    let f : Says parts Nowhere [] [] (blank parts) (worded text) k = subst (λ (lines : List Line). Says parts Nowhere [] [] (blank parts) lines k) (are_worded 1 (lines text)) numbered_lines in
-    record {
-      placed = f.placed;
-      named = λ i kind t is. held parts k (worded text) i kind t (f.named i kind t is);
-      once = f.once;
-      others = λ t free b. ap (λ (o : Option Grid). bit_at o b) (f.others t refl free) ∙ blank_bit parts.tiles t b;
-      extras = f.extras;
-    }
