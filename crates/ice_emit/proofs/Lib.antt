@@ -10,3 +10,4 @@ mod Enabling
 mod Wanting
 mod Slotless
 mod Ready
+mod Meant

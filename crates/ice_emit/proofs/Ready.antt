@@ -62,11 +62,11 @@ zero_row (suc n) w (suc row) col = zero_row n w row col
 
 zero_tile : (tiles : List (TileAt × TileLine)) (t : TileAt) (b : BitAt) → bit_at (lookup (same_tile t) (map blank_tile tiles)) b ≡ false
 zero_tile [] t b = refl
-zero_tile (tile ∷ tiles) t b = by (same_tile t tile.0)
+zero_tile (tile ∷ tiles) t b = by (same_tile t tile.0) (zero_tile tiles t b)
   where
-    by : (x : Bool) → bit_at (cond x (Some (blank_rows (columns tile.1.kind))) (lookup (same_tile t) (map blank_tile tiles))) b ≡ false
-    by true = zero_row 16 (columns tile.1.kind) b.row b.col
-    by false = zero_tile tiles t b
+    by : (x : Bool) → bit_at (lookup (same_tile t) (map blank_tile tiles)) b ≡ false → bit_at (cond x (Some (blank_rows (columns tile.1.kind))) (lookup (same_tile t) (map blank_tile tiles))) b ≡ false
+    by true rest = zero_row 16 (columns tile.1.kind) b.row b.col
+    by false rest = rest
 
 no_bit : (parts : Parts) (t : TileAt) (b : BitAt) → bits_of (blank parts) t b ≡ false
 no_bit parts t b = zero_tile parts.tiles t b
@@ -103,3 +103,16 @@ are_written parts plan pullups trees rows made k wanted all are = record {
       ∙ ap (λ xs. list_any (λ s. sets_switch parts s t b) (switches parts rows) || function_bits parts xs t b) all
       ∙ ap (λ ws. list_any (λ s. sets_switch parts s t b) ws || function_bits parts (settings parts plan pullups (held_by parts plan (map route_of trees)) ws) t b) wanted;
 }
+
+-- the same, where chip, plan, pull-ups and lists come under other names
+pub written_for : (parts q : Parts) (plan p : Plan) (pullups u : List Bool) (trees : List Tree) (rows r s : List RowNo) (made m : List Setting) (k : Configuration)
+    → q ≡ parts → p ≡ plan → u ≡ pullups → r ≡ rows → s ≡ rows → m ≡ made → switches q rows ≡ wanted_rows q p (map route_of trees)
+    → views made ≡ settings q p u (held_by q p (map route_of trees)) (switches q r) → AreBitsWith parts s m k → IsWritten parts plan pullups (map route_of trees) k
+written_for parts q plan p pullups u trees rows r s made m k eq ep eu er es em wanted all are =
+    are_written parts plan pullups trees rows made k
+    (subst (λ x. switches x rows ≡ wanted_rows x plan (map route_of trees)) eq (subst (λ y. switches q rows ≡ wanted_rows q y (map route_of trees)) ep wanted))
+    (subst (λ x. views made ≡ settings x plan pullups (held_by x plan (map route_of trees)) (switches x rows)) eq
+    (subst (λ y. views made ≡ settings q y pullups (held_by q y (map route_of trees)) (switches q rows)) ep
+    (subst (λ z. views made ≡ settings q p z (held_by q p (map route_of trees)) (switches q rows)) eu
+    (subst (λ (x : List RowNo). views made ≡ settings q p u (held_by q p (map route_of trees)) (switches q x)) er all))))
+    (subst (λ (x : List RowNo). AreBitsWith parts x made k) es (subst (λ (y : List Setting). AreBitsWith parts s y k) em are))

@@ -60,11 +60,7 @@ fn push_buffer(made: &mut Vec<Setting>, chip: &Chip, row: RowNo) -> Result<(), N
 }
 
 /// Adds the column buffers of rows.
-pub fn push_buffers(
-    made: &mut Vec<Setting>,
-    chip: &Chip,
-    rows: &[RowNo],
-) -> Result<(), NoMemory>
+pub fn push_buffers(made: &mut Vec<Setting>, chip: &Chip, rows: &[RowNo]) -> Result<(), NoMemory>
     ensures { OnOk result (views made.new.items ≡ views made.old.items ++ flat_map (buffer_settings chip.now) (switches chip.now rows.now)) }
 {
     for k in 0..rows.len() {

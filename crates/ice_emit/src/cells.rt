@@ -69,12 +69,7 @@ fn push_entry(
 
 // Adds the entries of a table that are 1.
 #[tactic(auto, using(crate::proofs::Ranges::made_more))]
-fn push_table(
-    made: &mut Vec<Setting>,
-    tile: TileAt,
-    cell: u8,
-    table: u16,
-) -> Result<(), NoMemory>
+fn push_table(made: &mut Vec<Setting>, tile: TileAt, cell: u8, table: u16) -> Result<(), NoMemory>
     ensures { OnOk result (views made.new.items ≡ views made.old.items ++ table_settings tile (cell_function cell) table) }
 {
     for entry in 0..16u8 {
@@ -84,12 +79,7 @@ fn push_table(
 }
 
 // Adds how a flip-flop is set or reset.
-fn push_reset(
-    made: &mut Vec<Setting>,
-    tile: TileAt,
-    cell: u8,
-    reset: Reset,
-) -> Result<(), NoMemory>
+fn push_reset(made: &mut Vec<Setting>, tile: TileAt, cell: u8, reset: Reset) -> Result<(), NoMemory>
     ensures { OnOk result (views made.new.items ≡ views made.old.items ++ reset_settings tile (cell_function cell) reset) }
 {
     match reset {

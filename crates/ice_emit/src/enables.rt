@@ -44,11 +44,7 @@ fn add_read(pads: &mut IndexSet<Pad>, port: DesignPad, pad: Pad) -> Result<(), N
 }
 
 // The same, if there is a pad for it.
-fn add_read_at(
-    pads: &mut IndexSet<Pad>,
-    port: DesignPad,
-    pad: Option<Pad>,
-) -> Result<(), NoMemory>
+fn add_read_at(pads: &mut IndexSet<Pad>, port: DesignPad, pad: Option<Pad>) -> Result<(), NoMemory>
     ensures { OnOk result (pads.new.keys ≡ insert_all same_pad pads.old.keys (option_map_or (read_pads_at port) pad [])) }
 {
     match pad {
@@ -109,11 +105,7 @@ fn add_all_needed(
 }
 
 // Adds that an input is disabled, where no pad that is read is enabled there.
-fn push_enable(
-    made: &mut Vec<Setting>,
-    needed: &IndexSet<Pad>,
-    enable: Pad,
-) -> Result<(), NoMemory>
+fn push_enable(made: &mut Vec<Setting>, needed: &IndexSet<Pad>, enable: Pad) -> Result<(), NoMemory>
     ensures { OnOk result (views made.new.items ≡ views made.old.items ++ disabled_unless needed.now.keys enable) }
 {
     push_if(

@@ -23,12 +23,7 @@ fn digit(number: u8, place: u8) -> bool
 }
 
 // Adds a digit of a pin type, where it is 1.
-fn push_digit(
-    made: &mut Vec<Setting>,
-    pad: Pad,
-    pin_type: u8,
-    place: u8,
-) -> Result<(), NoMemory>
+fn push_digit(made: &mut Vec<Setting>, pad: Pad, pin_type: u8, place: u8) -> Result<(), NoMemory>
     requires { place < 6 }
     ensures { OnOk result (views made.new.items ≡ views made.old.items ++ digit_settings pad pin_type place) }
 {

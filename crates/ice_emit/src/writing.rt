@@ -1,8 +1,11 @@
 //! The bit writer.
 ghost use Rattle.std.specs.Prelude.{◌≡◌, map, IfOk};
+ghost use Rattle.ice_bits.specs.Configuration.{bits_of};
 ghost use Rattle.ice_negotiate.specs.Trees.{route_of};
 ghost use Rattle.ice_nets.specs.Plans.{plan_in, plan_of};
 ghost use Rattle.ice_written.specs.Functions.{settings};
+ghost use Rattle.ice_realised.specs.Feeds.{FeedsNoGlobal};
+ghost use Rattle.ice_written.specs.Realised.{Realises};
 ghost use Rattle.ice_written.specs.Routed.{AreTrees};
 ghost use Rattle.ice_written.specs.Written.{held_by, wanted_rows, IsWritten};
 ghost use Rattle.ice_emit.specs.Placed.{IsPlacedOn};
@@ -23,15 +26,18 @@ use ice_cells::{Clusters, Design};
 use ice_chip::Chip;
 use ice_cluster::laws::cells_stand_in_one_slot;
 use ice_graph::Tree;
+use ice_led::laws::roots_are_led_to_pins;
 use ice_nets::{Placed, placed_of, wires_of};
 use ice_pads::Pads;
 use ice_place::Placement;
+use ice_realised::laws::bits_realise_their_design;
 use ice_rows::index_of;
+use ice_set::laws::designs_are_set;
+use ice_wiring::laws::wanted_rows_drive;
 use ice_writing::{Setting, set_all, turn_all_on};
 use std::alloc::Global;
 
 // The rows that are wanted: those of the trees, and those that carry runs.
-#[tactic(auto, using(crate::proofs::Wanting::wanted_are))]
 fn rows_of(alloc: Global, placed: &Placed<'_>, trees: &[Tree]) -> Result<Vec<RowNo>, NoMemory>
     ensures { IfOk result (λ rows. switches placed.now.chip.now rows.items ≡ wanted_rows placed.now.chip.now (plan_in placed.now) (map route_of trees.now)) }
 {
@@ -71,7 +77,6 @@ fn settings_of(
 }
 
 // The same, of trees that are apart.
-#[tactic(auto, using(crate::proofs::Ready::are_routed))]
 fn settings_in(
     alloc: Global,
     placed: &Placed<'_>,
@@ -96,13 +101,7 @@ fn settings_in(
 }
 
 // Bits of a chip of which these rows and settings are set, and no others.
-#[tactic(auto, using(crate::proofs::Ready::all_set))]
-fn bits_with(
-    alloc: Global,
-    chip: &Chip,
-    rows: &[RowNo],
-    made: &[Setting],
-) -> Result<Bits, NoMemory>
+fn bits_with(alloc: Global, chip: &Chip, rows: &[RowNo], made: &[Setting]) -> Result<Bits, NoMemory>
     ensures { IfOk result (AreBitsWith chip.now rows.now made.now) }
 {
     let mut bits = blank(alloc, chip)?;
@@ -115,9 +114,12 @@ fn bits_with(
 /// cells, their tables rewired to the inputs at which their signals arrive; of clocks' edges and carries into runs; of the pads'
 /// types and pull-ups, of inputs that nothing reads, and of the column buffers that globals pass. No other bit is set.
 ///
+/// Decoding these bits gives no fault: each wanted row drives its wire and no other wire has a driver, the ports' pads show for every
+/// list of levels what the design shows, and every other pad is off. It is so on every chip on which no global is fed by a global,
+/// as where each global is fed in an IO tile.
+///
 /// # Errors
 /// Want of memory alone; more than 4,294,967,295 trees count as such.
-#[tactic(auto, using(crate::proofs::Ready::are_written))]
 pub fn emit(
     alloc: Global,
     chip: &Chip,
@@ -130,9 +132,15 @@ pub fn emit(
     requires placed { IsPlacedOn chip.now (plan_of design.now clusters.now placement.now pads.now) pads.now.pullups }
     requires trees { AreTrees chip.now (plan_of design.now clusters.now placement.now pads.now) (map route_of trees.now) }
     ensures written { IfOk result (IsWritten chip.now (plan_of design.now clusters.now placement.now pads.now) pads.now.pullups (map route_of trees.now)) }
+    ensures realised { FeedsNoGlobal chip.now → IfOk result (λ bits. Realises chip.now (plan_of design.now clusters.now placement.now pads.now) (wanted_rows chip.now (plan_of design.now clusters.now placement.now pads.now) (map route_of trees.now)) (bits_of bits)) }
 {
+    roots_are_led_to_pins(chip);
+    designs_are_set(chip);
+    wanted_rows_drive(chip);
+    bits_realise_their_design(chip);
     let placed = placed_of(chip, design, clusters, placement, pads);
     let rows = rows_of(alloc, &placed, trees)?;
     let made = settings_in(alloc, &placed, pads.pullups(), trees, rows.as_slice())?;
-    bits_with(alloc, chip, rows.as_slice(), made.as_slice())
+    let bits = bits_with(alloc, chip, rows.as_slice(), made.as_slice())?;
+    Ok(bits)
 }

@@ -84,7 +84,7 @@ abbrev pub IsLink : Parts → Plan → Switch → Type 0
 IsLink parts plan s =
     ((t : TileAt) × (i c : ℕ) × (cell : LogicCell) × StandsIn plan t i c cell × (cell.carry_to_in3 ≡ true) × (carry_source parts t i ≡ Some s.source.0) × (wire_named parts t (input_name i 3) ≡ Some s.target.0))
     ⊎ ((t low : TileAt) × (cluster below : Cluster) × (r k : ℕ) × IsOn plan t cluster × (cluster.run ≡ Some (r, suc k)) × IsOn plan low below × (below.run ≡ Some (r, k))
-      × (wire_named parts low (carry_out_name 7) ≡ Some s.source.0) × (wire_named parts t first_carry_name ≡ Some s.target.0))
+    × (wire_named parts low (carry_out_name 7) ≡ Some s.source.0) × (wire_named parts t first_carry_name ≡ Some s.target.0))
 
 -- ---- all of it
 pub record AreLed (parts : Parts) (plan : Plan) (wanted : List Switch) (held : Held) : Type 0 where

@@ -1,0 +1,13 @@
+mod Pins
+mod CarriesIn
+mod Read
+mod Slots
+mod Starts
+mod WireLevels
+mod Arriving
+mod CellRoles
+mod AllWires
+mod PadTypes
+mod Faultless
+mod Steps
+mod Realising
