@@ -1,0 +1,15 @@
+-- The faults of building, from those of its steps: want of memory is one fault.
+use Rattle.ice_pads.specs.declared.fault.PinFault.{PinFault}
+use Rattle.ice_pads.specs.declared.fault.PinFault.TheVariants as pin
+use Rattle.ice_place.specs.declared.fault.PlaceFault.{PlaceFault}
+use Rattle.ice_place.specs.declared.fault.PlaceFault.TheVariants as place
+use Rattle.ice_build.specs.declared.answer.BuildFault.{BuildFault}
+use Rattle.ice_build.specs.declared.answer.BuildFault.TheVariants.{Pins, Places, NoMemory}
+
+abbrev pub pin_fault : PinFault → BuildFault
+pin_fault pin.NoMemory = NoMemory
+pin_fault fault = Pins fault
+
+abbrev pub place_fault : PlaceFault → BuildFault
+place_fault place.NoMemory = NoMemory
+place_fault fault = Places fault

@@ -1,0 +1,5 @@
+pub mod Faults
+pub mod Shown
+pub mod Laid
+pub mod Answers
+pub mod Stages

@@ -1,0 +1,66 @@
+-- What the stages of building answer.
+use Rattle.std.specs.Prelude.{◌≡◌, ℕ, ◌≤◌, Ok, Err}
+use Rattle.ice_chip.specs.Database.{Parts}
+use Rattle.ice_cells.specs.declared.cluster.Clusters.{Clusters}
+use Rattle.ice_cells.specs.declared.design.Design.{Design}
+use Rattle.ice_negotiate.specs.declared.fault.RouteFault.{RouteFault}
+use Rattle.ice_negotiate.specs.declared.fault.RouteFault.TheVariants as route
+use Rattle.ice_pads.specs.Assign.{PadsData}
+use Rattle.ice_place.specs.Place.{place_of}
+use Rattle.ice_plan.specs.Plan.{Plan}
+use Rattle.ice_sites.specs.Stretches.{stretches_of}
+use Rattle.ice_written.specs.Routed.{AreTrees}
+use Rattle.ice_written.specs.Written.{IsWritten}
+use Rattle.ice_build.specs.Answers.{IsRouted, IsStuck, IsGivenUp, routes_in, pins_said, places_said}
+use Rattle.ice_build.specs.Laid.{Task, plan_in}
+use Rattle.ice_build.specs.declared.answer.Built.{Built}
+use Rattle.ice_build.specs.declared.answer.Effort.{Effort}
+use Rattle.ice_build.specs.declared.answer.Layout.{Layout}
+use Rattle.ice_build.specs.declared.answer.BuildFault.{BuildFault}
+use Rattle.ice_build.specs.declared.answer.BuildFault.TheVariants.{Pins, Places, Unreachable, GaveUp, NoMemory}
+
+-- from 1 to 64 rounds and from 1 to 8 workers
+pub record IsPermitted (effort : Effort) : Type 0 where
+  pub some : 1 ≤ effort.rounds
+  pub few : effort.rounds ≤ 64
+  pub worked : 1 ≤ effort.workers
+  pub manned : effort.workers ≤ 8
+
+-- why clusters get no places
+abbrev pub IsPlaceFault : Parts → Clusters → Design → BuildFault → Type 0
+IsPlaceFault parts clusters d (Pins fault) = ⊥
+IsPlaceFault parts clusters d (Places fault) = place_of (stretches_of parts) clusters d ≡ Err fault
+IsPlaceFault parts clusters d (Unreachable layout net sink) = ⊥
+IsPlaceFault parts clusters d (GaveUp layout logs) = ⊥
+IsPlaceFault parts clusters d NoMemory = Unit {0}
+
+-- why a netlist is not placed
+abbrev pub IsLayFault : Task → BuildFault → Type 0
+IsLayFault task (Pins fault) = pins_said task ≡ Err fault
+IsLayFault task (Places fault) = (pads : PadsData) × (pins_said task ≡ Ok pads) × (places_said task ≡ Err fault)
+IsLayFault task (Unreachable layout net sink) = ⊥
+IsLayFault task (GaveUp layout logs) = ⊥
+IsLayFault task NoMemory = Unit {0}
+
+-- why the nets of a placed design are not routed
+abbrev pub IsRouteFault : Parts → Plan → ℕ → RouteFault → Type 0
+IsRouteFault parts plan rounds (route.Unreachable net sink) = IsStuck parts plan net sink
+IsRouteFault parts plan rounds (route.GaveUp logs) = IsGivenUp parts plan rounds logs.items
+IsRouteFault parts plan rounds route.NoMemory = Unit {0}
+
+-- the same of building, with the placed design
+abbrev pub unrouted : Layout → RouteFault → BuildFault
+unrouted layout (route.Unreachable net sink) = Unreachable layout net sink
+unrouted layout (route.GaveUp logs) = GaveUp layout logs
+unrouted layout route.NoMemory = NoMemory
+
+-- a placed design is routed, and its bits are written
+pub record IsFinished (parts : Parts) (rounds : ℕ) (layout : Layout) (built : Built) : Type 0 where
+  pub same : built.layout ≡ layout
+  pub routed : IsRouted parts (plan_in layout) rounds built.routed
+  pub trees : AreTrees parts (plan_in layout) (routes_in built.routed)
+  pub written : IsWritten parts (plan_in layout) layout.pads.pullups (routes_in built.routed) built.bits
+
+-- why it is not
+abbrev pub IsEndFault : Parts → ℕ → Layout → BuildFault → Type 0
+IsEndFault parts rounds layout fault = (stop : RouteFault) × IsRouteFault parts (plan_in layout) rounds stop × (fault ≡ unrouted layout stop)

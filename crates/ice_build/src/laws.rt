@@ -1,0 +1,41 @@
+//! The laws of placed designs and of their bits. The functions do nothing: their contracts are the laws.
+ghost use Rattle.std.specs.Prelude.{◌≡◌, ℕ, List};
+ghost use Rattle.ice_bits.specs.Configuration.{Configuration, bits_of};
+ghost use Rattle.ice_chip.specs.Database.{Parts};
+ghost use Rattle.ice_negotiate.specs.Trees.{Route};
+ghost use Rattle.ice_pcf.specs.declared.constraint.Constraint.{Constraint};
+ghost use Rattle.ice_written.specs.Realised.{Realises};
+ghost use Rattle.ice_written.specs.Written.{IsWritten, wanted_rows};
+ghost use Rattle.ice_build.specs.Laid.{IsLaidOut, StandsOn, plan_in, task_of};
+ghost use Rattle.ice_build.specs.Shown.{IsCircuitOf};
+ghost use Rattle.ice_build.specs.declared.answer.Layout.{Layout};
+
+use ice_check::Sound;
+use ice_chip::Chip;
+use ice_pack_form::laws::{designs_are_formed, designs_have_values, designs_show_the_same};
+use ice_pads::assigned_pads_fit;
+use ice_sites::clusters_stand_on_sites;
+
+/// The placed design of a sound netlist keeps to its form and has no loop; its clusters stand on sites of the chip, and its ports
+/// have pads of the package, with the wires that they need.
+pub fn layouts_stand_on_their_chip(chip: &Chip, sound: &Sound)
+    ensures { (name : List ℕ) (constraints : List Constraint) (layout : Layout) → IsLaidOut (task_of chip.now name constraints sound.now) layout → StandsOn chip.now name layout }
+{
+    chip.wires();
+    sound.netlist().cells();
+    sound.signal_order();
+    designs_are_formed();
+    designs_have_values();
+    assigned_pads_fit();
+    clusters_stand_on_sites();
+}
+
+/// The bits of the placed and routed design of a sound netlist are a circuit that shows what the netlist shows, where they realise
+/// the design.
+pub fn realised_layouts_show_their_netlist(sound: &Sound)
+    ensures { (parts : Parts) (name : List ℕ) (constraints : List Constraint) (layout : Layout) (routes : List Route) (k : Configuration) → IsLaidOut (task_of parts name constraints sound.now) layout → StandsOn parts name layout → IsWritten parts (plan_in layout) layout.pads.pullups routes k → Realises parts (plan_in layout) (wanted_rows parts (plan_in layout) routes) (bits_of k) → IsCircuitOf sound.now layout.pads.ports parts k }
+{
+    sound.netlist().cells();
+    sound.signal_order();
+    designs_show_the_same();
+}

@@ -1,0 +1,11 @@
+//! From a netlist that was read and checked to the bits of a chip: the design is packed, placed, routed and written.
+#![tactic(auto)]
+
+mod answer;
+mod building;
+pub mod laws;
+mod laying;
+mod routing;
+
+pub use answer::{BuildFault, Built, Effort, Layout};
+pub use building::build;

@@ -1,0 +1,127 @@
+//! The trees and the bits of a placed design.
+ghost use Rattle.std.specs.Prelude.{◌≡◌, map, IfOk, IfErr};
+ghost use Rattle.ice_bits.specs.Configuration.{bits_of};
+ghost use Rattle.ice_emit.specs.Placed.{IsPlacedOn};
+ghost use Rattle.ice_realised.specs.Feeds.{FeedsNoGlobal};
+ghost use Rattle.ice_written.specs.Realised.{Realises};
+ghost use Rattle.ice_written.specs.Routed.{AreTrees};
+ghost use Rattle.ice_written.specs.Written.{IsWritten, wanted_rows};
+ghost use Rattle.ice_build.specs.Answers.{IsRouted, routes_in};
+ghost use Rattle.ice_build.specs.Laid.{plan_in};
+ghost use Rattle.ice_build.specs.Stages.{IsPermitted, IsRouteFault, IsFinished, IsEndFault, unrouted};
+
+use crate::answer::{BuildFault, Built, Effort, Layout};
+use ice_base::NoMemory;
+use ice_chip::Chip;
+use ice_desk::Gate;
+use ice_emit::emit;
+use ice_fabric::fabric;
+use ice_negotiate::{RouteFault, Routed, negotiate};
+use ice_nets::nets_of;
+use ice_routable::laws::placed_nets_are_routable;
+use ice_routed_trees::laws::routed_nets_are_trees;
+use std::alloc::Global;
+
+// As many nets can be counted on a wire.
+const MOST_NETS: usize = 65_536;
+
+// The trees of the nets of a placed design. More nets than are counted are want of memory.
+fn route<G: Gate + Sync>(
+    alloc: Global,
+    chip: &Chip,
+    layout: &Layout,
+    effort: Effort,
+    gate: &G,
+) -> Result<Routed, RouteFault>
+    requires placed { IsPlacedOn chip.now (plan_in layout.now) layout.now.pads.pullups }
+    requires effort { IsPermitted effort }
+    ensures routed { IfOk result (IsRouted chip.now (plan_in layout.now) effort.rounds) }
+    ensures trees { IfOk result (λ routed. AreTrees chip.now (plan_in layout.now) (routes_in routed)) }
+    ensures fault { IfErr result (IsRouteFault chip.now (plan_in layout.now) effort.rounds) }
+{
+    let _wires = chip.wires();
+    placed_nets_are_routable();
+    routed_nets_are_trees();
+    let nets = nets_of(
+        alloc,
+        chip,
+        &layout.design,
+        &layout.clusters,
+        &layout.placement,
+        &layout.pads,
+    )?;
+    if nets.len() > MOST_NETS {
+        return Err(RouteFault::NoMemory);
+    }
+    let graph = fabric(alloc, chip)?;
+    negotiate(
+        alloc,
+        &graph,
+        nets.as_slice(),
+        effort.rounds,
+        effort.workers,
+        gate,
+    )
+}
+
+// Why nothing is built of a placed design that is not routed.
+fn unrouted(layout: Layout, fault: RouteFault) -> BuildFault
+    ensures { result ≡ unrouted layout fault }
+{
+    match fault {
+        RouteFault::Unreachable { net, sink } => BuildFault::Unreachable { layout, net, sink },
+        RouteFault::GaveUp { logs } => BuildFault::GaveUp { layout, logs },
+        RouteFault::NoMemory => BuildFault::NoMemory,
+    }
+}
+
+// The bits of a placed and routed design.
+fn write(alloc: Global, chip: &Chip, layout: Layout, routed: Routed) -> Result<Built, NoMemory>
+    requires placed { IsPlacedOn chip.now (plan_in layout) layout.pads.pullups }
+    requires trees { AreTrees chip.now (plan_in layout) (routes_in routed) }
+    ensures layout { IfOk result (λ built. built.layout ≡ layout) }
+    ensures routed { IfOk result (λ built. built.routed ≡ routed) }
+    ensures written { IfOk result (λ built. IsWritten chip.now (plan_in layout) layout.pads.pullups (routes_in routed) built.bits) }
+    ensures realised { FeedsNoGlobal chip.now → IfOk result (λ built. Realises chip.now (plan_in layout) (wanted_rows chip.now (plan_in layout) (routes_in routed)) (bits_of built.bits)) }
+{
+    let bits = emit(
+        alloc,
+        chip,
+        &layout.design,
+        &layout.clusters,
+        &layout.placement,
+        &layout.pads,
+        routed.trees.as_slice(),
+    )?;
+    Ok(Built {
+        layout,
+        routed,
+        bits,
+    })
+}
+
+/// The bits of a placed design, routed within the permitted rounds.
+///
+/// # Errors
+/// A sink that can't be reached, or permitted rounds that all end with an overused wire, with the placed design; want of memory.
+pub fn finish<G: Gate + Sync>(
+    alloc: Global,
+    chip: &Chip,
+    layout: Layout,
+    effort: Effort,
+    gate: &G,
+) -> Result<Built, BuildFault>
+    requires placed { IsPlacedOn chip.now (plan_in layout) layout.pads.pullups }
+    requires effort { IsPermitted effort }
+    ensures finished { IfOk result (IsFinished chip.now effort.rounds layout) }
+    ensures realised { FeedsNoGlobal chip.now → IfOk result (λ built. Realises chip.now (plan_in layout) (wanted_rows chip.now (plan_in layout) (routes_in built.routed)) (bits_of built.bits)) }
+    ensures fault { IfErr result (IsEndFault chip.now effort.rounds layout) }
+{
+    match route(alloc, chip, &layout, effort, gate) {
+        Err(fault) => Err(unrouted(layout, fault)),
+        Ok(routed) => {
+            let built = write(alloc, chip, layout, routed)?;
+            Ok(built)
+        }
+    }
+}
