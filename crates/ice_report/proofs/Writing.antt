@@ -1,53 +1,19 @@
 -- Texts that are written piece by piece.
-use Rattle.std.proofs.Common.{◌≡◌, ℕ, ◌+◌, ◌<◌, ◌++◌, ◌∷◌, [], List, map, length, take, get_or, min, refl, ap, ap₂, sym, ◌∙◌, arith, append_assoc, append-nil, codes, decimal}
+use Rattle.std.proofs.Common.{◌≡◌, ℕ, ◌+◌, ◌<◌, ◌++◌, ◌∷◌, [], List, map, length, take, get_or, min, ap, ap₂, sym, ◌∙◌, arith, append_assoc, append-nil}
 use Rattle.std.specs.List.{flat_map, zip}
 use Rattle.std.proofs.lemmas.List.{take_all, take_more, map_more}
 use Rattle.std.proofs.lemmas.List.Concat.{flat_map-append}
-use Rattle.std.proofs.lemmas.List.Folds.{flat_map-map}
 use Rattle.std.proofs.lemmas.Slice.Zip.{length-zip, get_or-zip}
 use Rattle.ice_base.specs.Text.{text_of_lines}
-use Rattle.ice_base.specs.declared.number.NetNo.{NetNo}
-use Rattle.ice_base.specs.declared.number.RowNo.{RowNo}
-use Rattle.ice_report.specs.RouteReport.{sizes_line, rows_line}
 
 -- lines behind lines
 pub text_join : (a b : List (List ℕ)) → text_of_lines a ++ text_of_lines b ≡ text_of_lines (a ++ b)
 text_join a b = sym (flat_map-append (λ (line : List ℕ). line ++ 10 ∷ []) a b)
 
--- no lines are no text
-pub nothing_more : (start : List ℕ) → start ≡ start ++ text_of_lines []
-nothing_more start = sym (append-nil start)
-
 -- a text that was written further
 pub further : (start old new a b whole : List ℕ) → old ≡ start ++ a → new ≡ old ++ b → a ++ b ≡ whole → new ≡ start ++ whole
 further start old new a b whole before put e =
     put ∙ ap (λ t. t ++ b) before ∙ append_assoc start a b ∙ ap (λ t. start ++ t) e
-
--- a line that is written to its end
-pub ended : (start old new line : List ℕ) → old ≡ start ++ line → new ≡ old ++ 10 ∷ [] → new ≡ start ++ text_of_lines (line ∷ [])
-ended start old new line before put =
-    further start old new line (10 ∷ []) (text_of_lines (line ∷ [])) before put (sym (append-nil (line ++ 10 ∷ [])))
-
--- a line that is written to its end in three pieces
-pub line_third : (start s t u new a b c line : List ℕ) → s ≡ start ++ a → t ≡ s ++ b → u ≡ t ++ c → new ≡ u ++ 10 ∷ [] → a ++ (b ++ c) ≡ line
-    → new ≡ start ++ text_of_lines (line ∷ [])
-line_third start s t u new a b c line first second third put e =
-    let two = further start s t a b (a ++ b) first second refl in
-    ended start u new line (further start t u (a ++ b) c line two third (append_assoc a b c ∙ e)) put
-
--- a line that is written to its end in four pieces
-pub line_fourth : (start s t u v new a b c d line : List ℕ) → s ≡ start ++ a → t ≡ s ++ b → u ≡ t ++ c → v ≡ u ++ d → new ≡ v ++ 10 ∷ [] → a ++ (b ++ (c ++ d)) ≡ line
-    → new ≡ start ++ text_of_lines (line ∷ [])
-line_fourth start s t u v new a b c d line first second third fourth put e =
-    let two = further start s t a b (a ++ b) first second refl in
-    line_third start t u v new (a ++ b) c d line two third fourth put (append_assoc a b (c ++ d) ∙ e)
-
--- three pieces of text, each of whole lines
-pub lines_third : (start s t new : List ℕ) (a b c : List (List ℕ)) → s ≡ start ++ text_of_lines a → t ≡ s ++ text_of_lines b → new ≡ t ++ text_of_lines c
-    → new ≡ start ++ text_of_lines ((a ++ b) ++ c)
-lines_third start s t new a b c first second third =
-    further start t new (text_of_lines (a ++ b)) (text_of_lines c) (text_of_lines ((a ++ b) ++ c))
-    (further start s t (text_of_lines a) (text_of_lines b) (text_of_lines (a ++ b)) first second (text_join a b)) third (text_join (a ++ b) c)
 
 -- the line of one thing further
 pub line_more : {X : Type 0} (f : X → List ℕ) (xs : List X) (i : ℕ) (d : X) → i < length xs
@@ -81,15 +47,3 @@ pub pairs_end : {A B : Type 0} (f : A × B → List ℕ) (ks : List A) (vs : Lis
     → text ≡ start ++ text_of_lines (map f (take i (zip ks vs))) → text ≡ start ++ text_of_lines (map f (zip ks vs))
 pairs_end f ks vs i start text all so_far =
     so_far ∙ ap (λ pairs. start ++ text_of_lines (map f pairs)) (take_all i (zip ks vs) (omega (arith, length-zip ks vs)))
-
--- the words of the line of a net
-pub rows_words : (net : NetNo) (rows : List RowNo)
-    → codes "net" ++ ((32 ∷ decimal net.0) ++ ((32 ∷ codes "rows") ++ flat_map (λ (row : RowNo). 32 ∷ decimal row.0) rows)) ≡ rows_line net rows
-rows_words net rows =
-    ap (λ words. codes "net" ++ ((32 ∷ decimal net.0) ++ ((32 ∷ codes "rows") ++ words))) (sym (flat_map-map (λ (word : List ℕ). 32 ∷ word) (λ (row : RowNo). decimal row.0) rows))
-
--- the words of the line of sizes
-pub sizes_words : (cells tiles nets : ℕ)
-    → codes "cells" ++ ((32 ∷ decimal cells) ++ ((32 ∷ (codes "tiles" ++ (32 ∷ decimal tiles))) ++ (32 ∷ (codes "nets" ++ (32 ∷ decimal nets))))) ≡ sizes_line cells tiles nets
-sizes_words cells tiles nets =
-    ap (λ last. codes "cells" ++ ((32 ∷ decimal cells) ++ ((32 ∷ (codes "tiles" ++ (32 ∷ decimal tiles))) ++ (32 ∷ (codes "nets" ++ (32 ∷ last)))))) (sym (append-nil (decimal nets)))

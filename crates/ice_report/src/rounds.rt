@@ -66,6 +66,7 @@ fn put_over(text: &mut Vec<u8>, entry: &(WireNo, u32)) -> Result<(), NoMemory>
 }
 
 // Writes the wires that had been overused before.
+#[tactic(auto, using(crate::proofs::Writing::line_more))]
 fn put_histories(text: &mut Vec<u8>, history: &[(WireNo, u64)]) -> Result<(), NoMemory>
     ensures { OnOk result (text.new.items ≡ text.old.items ++ text_of_lines (map (wire_line (codes "history")) history.now)) }
 {
@@ -76,6 +77,7 @@ fn put_histories(text: &mut Vec<u8>, history: &[(WireNo, u64)]) -> Result<(), No
 }
 
 // Writes the wires that are overused.
+#[tactic(auto, using(crate::proofs::Writing::line_more))]
 fn put_overused(text: &mut Vec<u8>, over: &[(WireNo, u32)]) -> Result<(), NoMemory>
     ensures { OnOk result (text.new.items ≡ text.old.items ++ text_of_lines (map (wire_line (codes "over")) over.now)) }
 {
@@ -87,7 +89,7 @@ fn put_overused(text: &mut Vec<u8>, over: &[(WireNo, u32)]) -> Result<(), NoMemo
 
 // Writes the rows of a tree behind words.
 fn put_rows(text: &mut Vec<u8>, rows: &[RowNo]) -> Result<(), NoMemory>
-    ensures { OnOk result (text.new.items ≡ text.old.items ++ flat_map (λ row. 32 ∷ decimal row.0) rows.now) }
+    ensures { OnOk result (text.new.items ≡ text.old.items ++ flat_map (λ word. 32 ∷ word) (map (λ row. decimal row.0) rows.now)) }
 {
     for row in rows {
         put_number(text, u64::from(row.0))?;
