@@ -1,0 +1,9 @@
+mod Places
+mod Buffers
+mod NewDrivers
+mod NewValues
+mod NewSteps
+mod Clocks
+mod NewFormed
+mod NewSound
+mod PromotionExamples

@@ -1,0 +1,2 @@
+pub mod Promoted
+pub mod PromotionLaws

@@ -1,0 +1,102 @@
+-- Clocks that take a free global network: a buffer is put behind each, and the flip-flops read the buffer's output.
+use Rattle.std.specs.Prelude.{ℕ, ◌+◌, ◌-◌, min, ◌==◌, ◌&&◌, Bool, true, false, nat_lt, codes, List, [], ◌∷◌, ◌++◌, length, map, take, Option, Some, None, if◌then◌else◌, slice_index_or}
+use Rattle.std.specs.List.{filter, range_with_len}
+use Rattle.ice_base.specs.declared.number.SignalNo.{SignalNo}
+use Rattle.ice_net.specs.declared.cell.Cell.{Cell}
+use Rattle.ice_net.specs.declared.kind.CellKind.{CellKind}
+use Rattle.ice_net.specs.declared.kind.CellKind.TheVariants.{Lut, Cover, Carry, Flop, PadCell, Global}
+use Rattle.ice_net.specs.NetlistData.{NetlistData}
+use Rattle.ice_net.specs.Drivers.{output_of}
+use Rattle.ice_check.specs.Tables.{times}
+
+-- ---- which clocks
+-- the signal at the clock input of a flip-flop; other cells have none
+abbrev pub clock_by : CellKind → List (Option SignalNo) → Option SignalNo
+clock_by (Lut table) ins = None
+clock_by (Cover table width) ins = None
+clock_by Carry ins = None
+clock_by (Flop falling enable reset) ins = slice_index_or ins 0 None
+clock_by (PadCell pin_type pullup) ins = None
+clock_by Global ins = None
+
+abbrev pub clock_of : Cell → Option SignalNo
+clock_of cell = clock_by cell.kind cell.ins
+
+-- at least sixteen flip-flops have the signal as their clock
+abbrev pub is_clock : NetlistData → ℕ → Bool
+is_clock n s = nat_lt 15 (times s (map clock_of n.cells))
+
+-- the output of the cell needs no buffer: it is a global network already, or that of a cover without inputs, which never changes
+abbrev pub is_settled : CellKind → Bool
+is_settled (Lut table) = false
+is_settled (Cover table width) = width == 0
+is_settled Carry = false
+is_settled (Flop falling enable reset) = false
+is_settled (PadCell pin_type pullup) = false
+is_settled Global = true
+
+-- the output of such a cell
+abbrev pub settled_of : Cell → Option SignalNo
+settled_of cell = if is_settled cell.kind then output_of cell else None
+
+-- a clock that may take a global network: it is not the output of such a cell
+abbrev pub is_promotable : NetlistData → ℕ → Bool
+is_promotable n s = is_clock n s && times s (map settled_of n.cells) == 0
+
+-- the most signals of a netlist that is placed
+abbrev pub most_signals : ℕ
+most_signals = 65534
+
+-- the clocks that are promoted: the first ones, at most as many as there are free global networks and room for new signals
+abbrev pub promoted_clocks : NetlistData → ℕ → List ℕ
+promoted_clocks n free = take (min free (most_signals - length n.names)) (filter (is_promotable n) (range_with_len 0 (length n.names)))
+
+-- ---- what becomes of the netlist
+-- the name of the signal behind a clock's buffer
+abbrev pub buffered_name : List ℕ → List ℕ
+buffered_name name = name ++ codes " gb"
+
+-- what a reader of the signal reads where the clocks have buffers: the first of them drives the signal `next`, and so on
+abbrev pub buffered : ℕ → List ℕ → ℕ → ℕ
+buffered next [] s = s
+buffered next (clock ∷ clocks) s = if clock == s then next else buffered (next + 1) clocks s
+
+abbrev pub buffered_pin : ℕ → List ℕ → Option SignalNo → Option SignalNo
+buffered_pin next clocks None = None
+buffered_pin next clocks (Some signal) = Some (record { 0 = buffered next clocks signal.0 })
+
+abbrev pub buffered_first : ℕ → List ℕ → List (Option SignalNo) → List (Option SignalNo)
+buffered_first next clocks [] = []
+buffered_first next clocks (pin ∷ pins) = buffered_pin next clocks pin ∷ pins
+
+-- the clock input of a flip-flop reads the buffer; no other input does
+abbrev pub buffered_ins : ℕ → List ℕ → CellKind → List (Option SignalNo) → List (Option SignalNo)
+buffered_ins next clocks (Lut table) ins = ins
+buffered_ins next clocks (Cover table width) ins = ins
+buffered_ins next clocks Carry ins = ins
+buffered_ins next clocks (Flop falling enable reset) ins = buffered_first next clocks ins
+buffered_ins next clocks (PadCell pin_type pullup) ins = ins
+buffered_ins next clocks Global ins = ins
+
+abbrev pub buffered_cell : ℕ → List ℕ → Cell → Cell
+buffered_cell next clocks cell = record cell { ins = buffered_ins next clocks cell.kind cell.ins }
+
+-- a global buffer, which stands in no line of a text
+abbrev pub buffer : ℕ → ℕ → Cell
+buffer clock out = record { kind = Global; line = 0; ins = Some (record { 0 = clock }) ∷ []; outs = Some (record { 0 = out }) ∷ [] }
+
+abbrev pub buffers : ℕ → List ℕ → List Cell
+buffers next [] = []
+buffers next (clock ∷ clocks) = buffer clock next ∷ buffers (next + 1) clocks
+
+-- the netlist with a buffer for each of these clocks
+abbrev pub with_buffers : NetlistData → List ℕ → NetlistData
+with_buffers n clocks = record {
+  names = n.names ++ map (λ clock. buffered_name (slice_index_or n.names clock [])) clocks;
+  ports = n.ports;
+  cells = map (buffered_cell (length n.names) clocks) n.cells ++ buffers (length n.names) clocks;
+}
+
+-- The netlist in which clocks of many flip-flops take the free global networks. Nothing else of it changes.
+abbrev pub promoted : NetlistData → ℕ → NetlistData
+promoted n free = with_buffers n (promoted_clocks n free)
