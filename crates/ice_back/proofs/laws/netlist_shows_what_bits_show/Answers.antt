@@ -1,0 +1,4 @@
+use Rattle.ice_back.proofs.laws.netlist_shows_what_bits_show.Goals as goal
+
+pub returns : goal.returns
+returns c = ?

@@ -1,0 +1,6 @@
+//! The netlist of a configured chip.
+#![tactic(auto)]
+
+mod laws;
+
+pub use laws::netlist_shows_what_bits_show;
