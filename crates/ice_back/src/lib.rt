@@ -3,4 +3,4 @@
 
 mod laws;
 
-pub use laws::netlist_shows_what_bits_show;
+pub use laws::{netlist_shows_what_bits_show, points_have_their_roots_levels};
