@@ -6,6 +6,7 @@ mod full;
 mod improving;
 mod placing;
 mod shake;
+mod trial;
 
 pub use improving::improve_nets;
 pub use placing::improve;

@@ -3,6 +3,7 @@ ghost use Rattle.std.specs.Prelude.{◌≡◌, ◌<◌, ◌≤◌, ◌^◌, leng
 ghost use Rattle.ice_board.specs.Wiring.{IsWiring};
 ghost use Rattle.ice_board.specs.Board.{IsBoard, IsFree, Keeps};
 
+use crate::trial::trial;
 use ice_board::{Board, Wiring};
 use rand_core::utils::NextWord;
 use rand_pcg::Pcg32;
@@ -20,11 +21,11 @@ fn below(words: &mut Pcg32, m: usize) -> usize
 }
 
 // Whether an exchange is kept: where the length grows by no more than a random part of the heat, which is in parts of 256.
-fn is_kept(before: u64, after: u64, heat: u64, word: u32) -> bool {
-    after.saturating_sub(before).saturating_mul(256) <= heat.wrapping_mul(u64::from(word)) >> 32
+fn is_kept(now: u64, after: u64, heat: u64, word: u32) -> bool {
+    after.saturating_sub(now).saturating_mul(256) <= heat.wrapping_mul(u64::from(word)) >> 32
 }
 
-// Exchanges two, and takes that back where it isn't kept.
+// Exchanges two, where that is kept.
 fn try_exchange(
     board: &mut Board,
     wiring: &Wiring,
@@ -43,9 +44,8 @@ fn try_exchange(
     ensures board { IsBoard wiring.now board.new }
     ensures keeps { Keeps free.now board.old.place.items board.new.place.items }
 {
-    let before = board.total;
-    board.exchange(wiring, c, d);
-    if !is_kept(before, board.total, heat, word) {
+    let (now, after) = trial(board, wiring, c, d);
+    if is_kept(now, after, heat, word) {
         board.exchange(wiring, c, d);
     }
 }

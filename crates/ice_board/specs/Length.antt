@@ -1,5 +1,5 @@
 -- Wire length by nodes.
-use Rattle.std.specs.Prelude.{ℕ, ◌<◌, List, [], ◌∷◌, map, fold, slice_index_or}
+use Rattle.std.specs.Prelude.{ℕ, ◌<◌, List, map, fold, slice_index_or}
 use Rattle.std.specs.List.{All, sum}
 use Rattle.ice_base.specs.declared.number.TileAt.{TileAt}
 use Rattle.ice_plan.specs.Length.{Box, box_at, with_tile, half_perimeter}

@@ -1,3 +1,4 @@
 pub mod Length
 pub mod Wiring
+pub mod Noting
 pub mod Board

@@ -27,7 +27,7 @@ use Rattle.ice_chains.proofs.DesignChains.{chain_below}
 use Rattle.ice_chains.proofs.DesignRuns.{in_run}
 use Rattle.ice_chains.proofs.FedNumbers.{number_there}
 use Rattle.ice_chains.proofs.RunsOnce.{CellFrom, Fed as FedFrom, Carried, from_where}
-use Rattle.ice_carry_laws.proofs.Levels.{range_at}
+use Rattle.ice_cells.proofs.NodeLevels.{range_at}
 use Rattle.ice_carry_laws.proofs.ReadRoots.{Has_flat}
 use Rattle.ice_carry_laws.proofs.Shown.{at_within}
 

@@ -25,7 +25,7 @@ use Rattle.ice_chains.proofs.DesignRuns.{old_at}
 use Rattle.ice_carry_laws.specs.AreRuns.{IsIn, home, own, taking, passing}
 use Rattle.ice_carry_laws.specs.RunLaws.{ReadsWithin}
 use Rattle.ice_carry_laws.proofs.Arriving.{arrives, read_value, have_four, table_new}
-use Rattle.ice_carry_laws.proofs.Levels.{level_there, level_meets, level_rank, level_falls}
+use Rattle.ice_cells.proofs.NodeLevels.{level_there, level_meets, level_rank, level_falls}
 use Rattle.ice_carry_laws.proofs.NewCells.{NewCell, Kept, Taking, Passing, Gone, new_cell}
 use Rattle.ice_carry_laws.proofs.ReadRoots.{four_read}
 use Rattle.ice_carry_laws.proofs.Shown.{roots_in, reads_in}

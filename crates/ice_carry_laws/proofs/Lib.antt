@@ -1,4 +1,3 @@
-mod Levels
 mod ReadRoots
 mod Renaming
 mod Arriving

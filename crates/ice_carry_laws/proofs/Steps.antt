@@ -25,7 +25,7 @@ use Rattle.ice_cells.specs.Readings.{control_roots, cell_roots, roots_read}
 use Rattle.ice_cells.specs.Runs.{renamed_pad}
 use Rattle.ice_cells.proofs.TableLaws.{get_or-table}
 use Rattle.ice_carry_laws.proofs.Arriving.{arrives, read_value, have_four, table_new}
-use Rattle.ice_carry_laws.proofs.Levels.{level_is, level_meets, level_rank, level_falls}
+use Rattle.ice_cells.proofs.NodeLevels.{level_is, level_meets, level_rank, level_falls}
 use Rattle.ice_carry_laws.proofs.ReadRoots.{cell_read, four_read, pad_read}
 use Rattle.ice_carry_laws.proofs.Renaming.{four, four_new, old_inputs, new_inputs}
 use Rattle.ice_carry_laws.specs.AreRuns.{IsIn, home, own, AreRuns}

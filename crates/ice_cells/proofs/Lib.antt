@@ -3,3 +3,4 @@ pub mod RangeFilters
 pub mod SameControls
 pub mod SamePairs
 mod DesignExamples
+pub mod NodeLevels

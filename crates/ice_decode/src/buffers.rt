@@ -43,9 +43,9 @@ fn global_named(chip: &Chip, tile: TileAt, wire: WireNo) -> Option<u8>
     None
 }
 
-// The number of the global whose name stands among those of a wire at a place: of a wire that is a global's, all pin names are of
-// this global, so that eight look-ups find it, however many names the wire has.
-fn global_at(chip: &Chip, tile: TileAt, wire: WireNo) -> Option<u8>
+/// The number of the global, from 0 to 7, whose name a wire has in a tile. Of a wire that is a global's all pin names are of this
+/// global, so that eight look-ups find it, however many names the wire has. It takes no memory.
+pub fn global_at(chip: &Chip, tile: TileAt, wire: WireNo) -> Option<u8>
     ensures { result ≡ global_at tile (names_of chip.now wire.0) }
 {
     chip_is_lawful(chip);

@@ -24,7 +24,7 @@ mod tables;
 mod tiles;
 mod wires;
 
-pub use buffers::passes;
+pub use buffers::{global_at, passes};
 pub use circuit::Circuit;
 pub use decoding::decode;
 pub use driver::{Driver, Switch};

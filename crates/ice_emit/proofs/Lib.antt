@@ -1,0 +1,13 @@
+mod Ranges
+mod Rooted
+mod Owning
+mod Arrived
+mod Beside
+mod Listed
+mod Buffered
+mod Holdings
+mod Enabling
+mod Wanting
+mod Slotless
+mod Ready
+mod Meant

@@ -1,4 +1,10 @@
-pub mod Arrivals
+pub mod Views
+pub mod Cells
+pub mod Routed
+pub mod Owners
+pub mod Ports
 pub mod Links
-pub mod Functions
-pub mod Written
+pub mod Buffers
+pub mod Holding
+pub mod Enables
+pub mod Placed

@@ -1,2 +1,17 @@
-//! What is written for a placed and routed design. `specs/` says which rows are turned on and which bits of functions are set.
+//! The bit writer: the bits of a placed and routed design, and what they mean.
 #![tactic(auto)]
+
+mod arriving;
+mod buffers;
+mod cells;
+mod clusters;
+mod enables;
+mod links;
+mod making;
+mod owners;
+mod ports;
+mod routed;
+mod rows;
+mod writing;
+
+pub use writing::emit;

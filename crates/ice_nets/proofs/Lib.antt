@@ -1,6 +1,6 @@
 mod Targets
 mod Seen
-mod Siding
+pub mod Siding
 mod Slotting
 mod Rooting
 mod Numbers

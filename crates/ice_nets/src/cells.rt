@@ -10,8 +10,8 @@ use ice_cells::{Control, LogicCell, Root};
 use ice_chip::Chip;
 use std::alloc::Global;
 
-// Whether the signals of a cell may arrive at any of its inputs.
-fn is_free(cell: &LogicCell) -> bool
+/// Whether the signals of a cell may arrive at any of its inputs: it has no carry, and takes none into its last input.
+pub fn is_free(cell: &LogicCell) -> bool
     ensures { result ≡ is_free cell.now }
 {
     !cell.carry && !cell.carry_to_in3

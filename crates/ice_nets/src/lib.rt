@@ -15,4 +15,8 @@ mod placed;
 mod slots;
 mod wires;
 
-pub use making::nets_of;
+pub use cells::is_free;
+pub use making::{nets_of, placed_of};
+pub use pins::{TilePin, pin_wire};
+pub use placed::Placed;
+pub use wires::{Wires, wires_of};

@@ -30,8 +30,8 @@ fn nets_in(alloc: Global, placed: &Placed<'_>) -> Result<Vec<Net>, NoMemory>
     Ok(nets)
 }
 
-// A placed design, by its parts.
-fn placed_of<'a>(
+/// A placed design, by its parts.
+pub fn placed_of<'a>(
     chip: &'a Chip,
     design: &'a Design,
     clusters: &'a Clusters,

@@ -49,8 +49,8 @@ fn input_wire(chip: &Chip, tile: TileAt, i: usize, input: u8) -> Option<WireNo>
     named(chip, tile, &input_name((i % 10) as u8, input))
 }
 
-// The wire of a pin.
-pub(crate) fn pin_wire(chip: &Chip, tile: TileAt, pin: TilePin) -> Option<WireNo>
+/// The wire of a pin, where the tile has it. It takes no memory.
+pub fn pin_wire(chip: &Chip, tile: TileAt, pin: TilePin) -> Option<WireNo>
     ensures { result ≡ pin_wire chip.now tile (pin_in pin) }
 {
     match pin {

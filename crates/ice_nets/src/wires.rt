@@ -21,8 +21,11 @@ use std::alloc::Global;
 /// The wire that each pad, each cell and each global buffer drives, if there is one, by their numbers.
 #[derive(Drop)]
 pub struct Wires {
+    /// The input of the pad of each port.
     pub pads: Vec<Option<WireNo>>,
+    /// The output of each cell.
     pub cells: Vec<Option<WireNo>>,
+    /// The global of each global buffer.
     pub globals: Vec<Option<WireNo>>,
 }
 
@@ -96,6 +99,9 @@ fn global_wires(alloc: Global, chip: &Chip, globals: &[u8]) -> Result<Vec<Option
 }
 
 /// The wires that the roots of a placed design drive.
+///
+/// # Errors
+/// Want of memory alone.
 pub fn wires_of(alloc: Global, placed: &Placed<'_>) -> Result<Wires, NoMemory>
     ensures { IfOk result (λ wires. wires_in wires ≡ root_wires placed.now.chip.now (plan_in placed.now)) }
 {

@@ -1,8 +1,8 @@
 -- Nets by nodes are as long as those of the placed design.
-use Rattle.std.proofs.Common.{◌≡◌, ℕ, zero, suc, ◌+◌, ◌<◌, ◌≤◌, min, max, Bool, true, false, cond, Option, None, Some, List, [], ◌∷◌, ◌++◌, map, length, get_or, sum, refl, ap, ap₂, sym, ◌∙◌, arith}
+use Rattle.std.proofs.Common.{◌≡◌, ℕ, suc, ◌+◌, ◌<◌, min, max, Bool, true, false, cond, Option, None, Some, List, [], ◌∷◌, ◌++◌, map, length, get_or, sum, refl, ap, ap₂, sym, ◌∙◌, arith}
 use Rattle.std.specs.Prelude.{slice_get, option_map, is_some}
 use Rattle.std.specs.Option.{option_map_or}
-use Rattle.std.specs.List.{fold, filter, range_with_len, sum_by}
+use Rattle.std.specs.List.{fold, filter, range_with_len}
 use Rattle.std.proofs.lemmas.List.{map-append}
 use Rattle.std.proofs.lemmas.List.Sums.{sum_by-append}
 use Rattle.ice_base.specs.declared.number.TileAt.{TileAt}
@@ -16,13 +16,13 @@ use Rattle.ice_cells.specs.declared.design.DesignPad.{DesignPad}
 use Rattle.ice_cells.specs.declared.root.Root.{Root}
 use Rattle.ice_cells.specs.declared.root.Root.TheVariants.{PadIn, CellOut, GlobalOut, CarryOut}
 use Rattle.ice_cells.specs.Same.{same_root}
-use Rattle.ice_plan.specs.Plan.{Plan, Slot, slot_in, in_tile, first_slot, slot_among, slot_tile, pad_tile, root_tile}
+use Rattle.ice_plan.specs.Plan.{Plan, slot_in, in_tile, first_slot, slot_among, slot_tile, pad_tile, root_tile}
 use Rattle.ice_plan.specs.Loads.{Pin, Input, Clock, Enable, SetReset, Feed, Drive, DriveEnable, Load, load_at, pad_loads, pads_loads, feed_load, global_loads, globals_loads, cell_loads, control_loads, slot_gives, slots_give, clusters_give, loads}
-use Rattle.ice_plan.specs.Length.{Box, box_at, with_tile, half_perimeter, is_of_root, load_tile, net_length as length_by, length_of, pad_root, cell_root}
+use Rattle.ice_plan.specs.Length.{box_at, with_tile, half_perimeter, is_of_root, load_tile, net_length as length_by, length_of, pad_root, cell_root}
 use Rattle.ice_board.specs.declared.net.Node.{Node}
 use Rattle.ice_board.specs.declared.net.Node.TheVariants.{Cluster as of_cluster, Fixed as of_tile}
 use Rattle.ice_board.specs.declared.net.Net.{Net}
-use Rattle.ice_board.specs.Length.{origin, tile_of, box_of, net_length, wire_length}
+use Rattle.ice_board.specs.Length.{origin, tile_of, net_length, wire_length}
 use Rattle.ice_nodes.specs.declared.read.Read.{Read}
 use Rattle.ice_nodes.specs.Reads.{read_at, pad_reads, pads_reads, feed_reads, global_reads, globals_reads, cell_reads, control_reads, slot_reads, slots_reads, cluster_reads, clusters_reads}
 use Rattle.ice_nodes.specs.Nodes.{reads_of, pad_node, holder, root_node, is_of, read_node, readers, behind, nodes_of, all_nodes, nodes_in}

@@ -1,28 +1,18 @@
 -- Lists that are made piece by piece.
-use Rattle.std.proofs.Common.{◌≡◌, ◌⊎◌, inl, inr, ℕ, zero, suc, ◌+◌, ◌<◌, ◌≤◌, min, Bool, true, false, cond, Option, None, Some, List, [], ◌∷◌, ◌++◌, map, drop, length, get_or, refl, ap, ap₂, sym, ◌∙◌, add-one, drop-cons, append_assoc, append-nil, arith}
-use Rattle.std.specs.Prelude.{slice_get, is_some}
+use Rattle.std.proofs.Common.{◌≡◌, ◌⊎◌, inl, inr, ℕ, ◌+◌, ◌<◌, ◌≤◌, min, Option, None, Some, List, [], ◌∷◌, ◌++◌, drop, length, get_or, refl, ap, ap₂, sym, ◌∙◌, add-one, drop-cons, append_assoc, append-nil, arith}
+use Rattle.std.specs.Prelude.{slice_get}
 use Rattle.std.specs.Option.{option_map_or}
-use Rattle.std.specs.List.{filter, range_with_len}
 use Rattle.std.proofs.lemmas.Bool.{cases_lt}
-use Rattle.std.proofs.lemmas.List.{map-append}
-use Rattle.std.proofs.lemmas.List.FromFn.{map-range_with_len_more}
 use Rattle.std.proofs.Math.ListN.{drop_of_length-le}
-use Rattle.ice_base.specs.declared.number.TileAt.{TileAt}
 use Rattle.ice_chip.specs.Database.{Parts}
-use Rattle.ice_chip.specs.Lookups.{global_of}
 use Rattle.ice_chip.specs.declared.rows.Pad.{Pad}
 use Rattle.ice_cells.specs.declared.cell.LogicCell.{LogicCell}
 use Rattle.ice_cells.specs.declared.cluster.Cluster.{Cluster}
 use Rattle.ice_cells.specs.declared.design.DesignPad.{DesignPad}
 use Rattle.ice_cells.specs.declared.root.Root.{Root}
-use Rattle.ice_cells.specs.Same.{same_root}
-use Rattle.ice_plan.specs.Plan.{slot_in}
 use Rattle.ice_board.specs.declared.net.Node.{Node}
-use Rattle.ice_board.specs.declared.net.Node.TheVariants.{Cluster as of_cluster}
-use Rattle.ice_board.specs.declared.net.Net.{Net}
 use Rattle.ice_nodes.specs.declared.read.Read.{Read}
-use Rattle.ice_nodes.specs.Reads.{pad_reads, pads_reads, global_reads, globals_reads, feed_reads, cell_reads, slot_reads, slots_reads, cluster_reads, clusters_reads}
-use Rattle.ice_nodes.specs.Nodes.{holder, is_of, read_node, readers, nodes_in}
+use Rattle.ice_nodes.specs.Reads.{pad_reads, pads_reads, global_reads, globals_reads, cell_reads, slot_reads, slots_reads, cluster_reads, clusters_reads}
 
 -- two pieces
 pub joined_two : (old mid new a b : List Read) → mid ≡ old ++ a → new ≡ mid ++ b → new ≡ old ++ (a ++ b)
@@ -40,14 +30,14 @@ pub end_joined : {X : Type 0} → (now left end : List X) → left ≡ [] → no
 end_joined now left end e inv = joined_none now left e ∙ inv
 
 -- ---- two lists side by side
-both_more : {A B : Type 0} → (f : List A → List B → List Read) (g : A → B → List Read) → ((a : A) (b : B) (as' : List A) (bs : List B) → f (a ∷ as') (b ∷ bs) ≡ g a b ++ f as' bs)
+pub both_more : {A B C : Type 0} → (f : List A → List B → List C) (g : A → B → List C) → ((a : A) (b : B) (as' : List A) (bs : List B) → f (a ∷ as') (b ∷ bs) ≡ g a b ++ f as' bs)
     → (xs : List A) (ys : List B) (k : ℕ) (x d : A) (y e : B) → k < length xs → k < length ys → x ≡ get_or xs k d → y ≡ get_or ys k e → f (drop k xs) (drop k ys) ≡ g x y ++ f (drop (k + 1) xs) (drop (k + 1) ys)
 both_more f g step xs ys k x d y e lt lt' is is' =
     let first : drop k xs ≡ x ∷ drop (k + 1) xs = rw (add-one, is) (drop-cons xs k d lt) in
     let second : drop k ys ≡ y ∷ drop (k + 1) ys = rw (add-one, is') (drop-cons ys k e lt') in
     ap₂ f first second ∙ step x y (drop (k + 1) xs) (drop (k + 1) ys)
 
-both_end : {A B : Type 0} → (f : List A → List B → List Read) → ((bs : List B) → f [] bs ≡ []) → ((as' : List A) → f as' [] ≡ []) → (xs : List A) (ys : List B) (k : ℕ) → min (length xs) (length ys) ≤ k → f (drop k xs) (drop k ys) ≡ []
+pub both_end : {A B C : Type 0} → (f : List A → List B → List C) → ((bs : List B) → f [] bs ≡ []) → ((as' : List A) → f as' [] ≡ []) → (xs : List A) (ys : List B) (k : ℕ) → min (length xs) (length ys) ≤ k → f (drop k xs) (drop k ys) ≡ []
 both_end f left right xs ys k le = by (cases_lt k (length xs))
   where
     by : (k < length xs) ⊎ (length xs ≤ k) → f (drop k xs) (drop k ys) ≡ []
@@ -102,42 +92,6 @@ clusters_more cells clusters k x e lt is = (let first : drop k clusters ≡ x �
 
 pub clusters_end : (cells : List LogicCell) (clusters : List Cluster) (k : ℕ) → length clusters ≤ k → clusters_reads cells k (drop k clusters) ≡ []
 clusters_end cells clusters k le = ap (clusters_reads cells k) (drop_of_length-le clusters {i = k} le)
-
--- ---- the cluster that holds a cell
-pub holder_more : (clusters : List Cluster) (k : ℕ) (x : Cluster) (cell : ℕ) → k < length clusters → x ≡ get_or clusters k x → is_some (slot_in x cell) ≡ false → holder (k + 1) (drop (k + 1) clusters) cell ≡ holder k (drop k clusters) cell
-holder_more clusters k x cell lt is none =
-    let first : drop k clusters ≡ x ∷ drop (k + 1) clusters = rw (add-one, is) (drop-cons clusters k x lt) in
-    sym (ap (λ l. holder k l cell) first ∙ ap (λ b. cond b (Some (of_cluster k)) (holder (k + 1) (drop (k + 1) clusters) cell)) none)
-
-pub holder_here : (clusters : List Cluster) (k : ℕ) (x : Cluster) (cell : ℕ) → k < length clusters → x ≡ get_or clusters k x → is_some (slot_in x cell) ≡ true → Some (of_cluster k) ≡ holder k (drop k clusters) cell
-holder_here clusters k x cell lt is some =
-    let first : drop k clusters ≡ x ∷ drop (k + 1) clusters = rw (add-one, is) (drop-cons clusters k x lt) in
-    sym (ap (λ l. holder k l cell) first ∙ ap (λ b. cond b (Some (of_cluster k)) (holder (k + 1) (drop (k + 1) clusters) cell)) some)
-
-pub holder_end : (clusters : List Cluster) (k cell : ℕ) → length clusters ≤ k → None ≡ holder k (drop k clusters) cell
-holder_end clusters k cell le = sym (ap (λ l. holder k l cell) (drop_of_length-le clusters {i = k} le))
-
--- ---- readers
-pub readers_here : (all : List Read) (root : Root) (k : ℕ) (d : Read) → k < length all → same_root (get_or all k d).root root ≡ true
-    → readers (drop k all) root ≡ ((get_or all k d).node ∷ []) ++ readers (drop (k + 1) all) root
-readers_here all root k d lt same =
-    let first : drop k all ≡ get_or all k d ∷ drop (k + 1) all = rw add-one (drop-cons all k d lt) in
-    ap (λ l. readers l root) first ∙ ap (λ b. map read_node (cond b (get_or all k d ∷ filter (is_of root) (drop (k + 1) all)) (filter (is_of root) (drop (k + 1) all)))) same
-
-pub readers_other : (all : List Read) (root : Root) (k : ℕ) (d : Read) → k < length all → same_root (get_or all k d).root root ≡ false → readers (drop k all) root ≡ readers (drop (k + 1) all) root
-readers_other all root k d lt other =
-    let first : drop k all ≡ get_or all k d ∷ drop (k + 1) all = rw add-one (drop-cons all k d lt) in
-    ap (λ l. readers l root) first ∙ ap (λ b. map read_node (cond b (get_or all k d ∷ filter (is_of root) (drop (k + 1) all)) (filter (is_of root) (drop (k + 1) all)))) other
-
-pub readers_end : (all : List Read) (root : Root) (k : ℕ) → length all ≤ k → readers (drop k all) root ≡ []
-readers_end all root k le = ap (λ l. readers l root) (drop_of_length-le all {i = k} le)
-
--- ---- nets
-pub nets_more : (f : ℕ → List Node) (old now new : List Net) (net : Net) (k : ℕ) → nodes_in now ≡ nodes_in old ++ map f (range_with_len 0 k) → new ≡ now ++ net ∷ [] → net.nodes.items ≡ f k
-    → nodes_in new ≡ nodes_in old ++ map f (range_with_len 0 (k + 1))
-nets_more f old now new net k e h is =
-    ap nodes_in h ∙ map-append (λ (n : Net). n.nodes.items) now (net ∷ []) ∙ ap (λ l. l ++ net.nodes.items ∷ []) e ∙ append_assoc (nodes_in old) (map f (range_with_len 0 k)) (net.nodes.items ∷ [])
-    ∙ ap (λ l. nodes_in old ++ l) (ap (λ x. map f (range_with_len 0 k) ++ x ∷ []) is ∙ sym (map-range_with_len_more f 0 k k (let z : 0 + k ≡ k = omega arith in z)))
 
 -- ---- a cell by its number
 pub numbered_none : (cells : List LogicCell) (node : Node) (c : ℕ) (old : List Read) → slice_get cells c ≡ None → old ≡ old ++ slot_reads cells node (Some c)

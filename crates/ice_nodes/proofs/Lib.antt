@@ -1,3 +1,5 @@
 mod Joining
+mod Holding
+mod ByRoots
 mod Bridge
 mod Fits

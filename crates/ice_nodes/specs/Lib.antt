@@ -1,2 +1,4 @@
 pub mod Reads
 pub mod Nodes
+pub mod Sorted
+pub mod Holders

@@ -1,143 +1,89 @@
 //! Nets by nodes.
-ghost use Rattle.std.specs.Prelude.{◌≡◌, ◌++◌, IfOk, OnOk, length, map, option_map, slice_get};
-ghost use Rattle.std.specs.List.{range_with_len};
-ghost use Rattle.ice_cells.specs.Tables.{is_place};
-ghost use Rattle.ice_cells.specs.Same.{same_root};
-ghost use Rattle.ice_plan.specs.Plan.{slot_in};
-ghost use Rattle.ice_plan.specs.Length.{pad_root, cell_root};
+ghost use Rattle.std.specs.Prelude.{◌≡◌, ◌++◌, IfOk, OnOk, length, option_map, slice_get};
+ghost use Rattle.ice_cells.specs.Tables.{table};
 ghost use Rattle.ice_length.specs.Grown.{plan_in};
-ghost use Rattle.ice_nodes.specs.Nodes.{reads_of, pad_node, holder, root_node, is_of, readers, behind, nodes_of, all_nodes, nodes_in};
+ghost use Rattle.ice_nodes.specs.Nodes.{reads_of, pad_node, holder, behind, all_nodes, nodes_in};
+ghost use Rattle.ice_nodes.specs.Sorted.{net_by, nets_by};
 
-use crate::Read;
-use crate::reading::reads_of;
+use crate::holders::holders_of;
+use crate::sorting::readers_of;
 use ice_base::NoMemory;
 use ice_board::{Net, Node};
-use ice_cells::{Cluster, Root, short};
+use ice_cells::Items;
 use ice_chip::Pad;
 use ice_length::Placed;
 use std::alloc::Global;
 
-// Whether a slot holds the cell.
-fn is_place(cell: u32, slot: Option<u32>) -> bool
-    ensures { result ≡ is_place cell slot }
-{
-    match slot {
-        None => false,
-        Some(c) => c == cell,
-    }
-}
-
-// The slot of a cluster that holds the cell.
-fn slot_in(cluster: &Cluster, cell: u32) -> Option<usize>
-    ensures { result ≡ slot_in cluster.now cell }
-{
-    cluster
-        .cells
-        .as_slice()
-        .iter()
-        .position(|slot| is_place(cell, *slot))
-}
-
-// The first cluster that holds a cell.
-fn holder(clusters: &[Cluster], cell: u32) -> Option<Node>
-    ensures { result ≡ holder 0 clusters.now cell }
-{
-    for k in 0..clusters.len() {
-        if slot_in(&clusters[k], cell).is_some() {
-            return Some(Node::Cluster(k));
-        }
-    }
-    None
-}
-
 // The node of a pad.
-fn pad_node(ports: &[Pad], k: u32) -> Option<Node>
+fn pad_node(ports: &[Pad], k: usize) -> Option<Node>
     ensures { result ≡ option_map pad_node (slice_get ports.now k) }
 {
-    match ports.get(k as usize) {
+    match ports.get(k) {
         None => None,
         Some(pad) => Some(Node::Fixed(pad.tile)),
     }
 }
 
-// The node of a root, other than a global.
-fn root_node(placed: &Placed<'_>, root: Root) -> Option<Node>
-    ensures { result ≡ root_node (plan_in placed.now) root }
+// The nodes of all pads.
+#[tactic(auto, using(crate::proofs::ByRoots::table_more))]
+fn pad_nodes(alloc: Global, ports: &[Pad]) -> Result<Vec<Option<Node>>, NoMemory>
+    ensures { IfOk result (λ nodes. nodes.items ≡ table (λ k. option_map pad_node (slice_get ports.now k)) (length ports.now)) }
 {
-    match root {
-        Root::PadIn(k) => pad_node(placed.ports, k),
-        Root::CellOut(c) => holder(placed.clusters, c),
-        Root::GlobalOut(_) => None,
-        Root::CarryOut(_) => None,
+    let mut nodes = Vec::new(alloc);
+    for k in 0..ports.len() {
+        nodes.push(pad_node(ports, k))?;
     }
-}
-
-// Whether the two are one root.
-fn same_root(root: Root, other: Root) -> bool
-    ensures { result ≡ same_root root other }
-{
-    match (root, other) {
-        (Root::PadIn(j), Root::PadIn(k)) => j == k,
-        (Root::CellOut(j), Root::CellOut(k)) => j == k,
-        (Root::GlobalOut(j), Root::GlobalOut(k)) => j == k,
-        (Root::CarryOut(j), Root::CarryOut(k)) => j == k,
-        _ => false,
-    }
-}
-
-// Adds the nodes that read a root.
-fn add_readers(nodes: &mut Vec<Node>, all: &[Read], root: Root) -> Result<(), NoMemory>
-    ensures { OnOk result (nodes.new.items ≡ nodes.old.items ++ readers all.now root) }
-{
-    for read in all {
-        if same_root(read.root, root) {
-            nodes.push(read.node)?;
-        }
-    }
-    Ok(())
+    Ok(nodes)
 }
 
 // A node, and those that read a root.
-fn with_readers(alloc: Global, node: Node, all: &[Read], root: Root) -> Result<Vec<Node>, NoMemory>
-    ensures { IfOk result (λ nodes. nodes.items ≡ behind (readers all.now root) node) }
+fn with_readers(alloc: Global, node: Node, readers: &[Node]) -> Result<Vec<Node>, NoMemory>
+    ensures { IfOk result (λ nodes. nodes.items ≡ behind readers.now node) }
 {
     let mut nodes = Vec::new(alloc);
     nodes.push(node)?;
-    add_readers(&mut nodes, all, root)?;
+    nodes.extend_from_slice(readers)?;
     Ok(nodes)
 }
 
 // The node of a root, and those that read it.
-fn nodes_of(
-    alloc: Global,
-    placed: &Placed<'_>,
-    all: &[Read],
-    root: Root,
-) -> Result<Vec<Node>, NoMemory>
-    ensures { IfOk result (λ nodes. nodes.items ≡ nodes_of (plan_in placed.now) all.now root) }
+fn nodes_of(alloc: Global, root: Option<Node>, readers: &[Node]) -> Result<Vec<Node>, NoMemory>
+    ensures { IfOk result (λ nodes. nodes.items ≡ net_by readers.now root) }
 {
-    match root_node(placed, root) {
+    match root {
         None => Ok(Vec::new(alloc)),
-        Some(node) => Ok(with_readers(alloc, node, all, root)?),
+        Some(node) => Ok(with_readers(alloc, node, readers)?),
     }
+}
+
+// Adds the nets of roots, by the node of each and those that read it.
+fn add_nets(
+    alloc: Global,
+    nets: &mut Vec<Net>,
+    roots: &[Option<Node>],
+    readers: &[Items<Node>],
+) -> Result<(), NoMemory>
+    ensures { OnOk result (nodes_in nets.new.items ≡ nodes_in nets.old.items ++ nets_by roots.now readers.now) }
+{
+    for k in 0..roots.len().min(readers.len()) {
+        nets.push(Net {
+            nodes: nodes_of(alloc, roots[k], readers[k].as_slice())?,
+        })?;
+    }
+    Ok(())
 }
 
 // Adds the nets of pads.
 fn add_pads(
     alloc: Global,
     nets: &mut Vec<Net>,
-    placed: &Placed<'_>,
-    all: &[Read],
+    ports: &[Pad],
+    readers: &[Items<Node>],
 ) -> Result<(), NoMemory>
-    ensures { OnOk result (nodes_in nets.new.items ≡ nodes_in nets.old.items ++ map (λ k. nodes_of (plan_in placed.now) all.now (pad_root k)) (range_with_len 0 (length placed.now.ports.now))) }
+    ensures { OnOk result (nodes_in nets.new.items ≡ nodes_in nets.old.items ++ nets_by (table (λ k. option_map pad_node (slice_get ports.now k)) (length ports.now)) readers.now) }
 {
-    for k in 0..placed.ports.len() {
-        let root = Root::PadIn(short(k)?);
-        nets.push(Net {
-            nodes: nodes_of(alloc, placed, all, root)?,
-        })?;
-    }
-    Ok(())
+    let roots = pad_nodes(alloc, ports)?;
+    add_nets(alloc, nets, roots.as_slice(), readers)
 }
 
 // Adds the nets of cells.
@@ -145,26 +91,21 @@ fn add_cells(
     alloc: Global,
     nets: &mut Vec<Net>,
     placed: &Placed<'_>,
-    all: &[Read],
+    readers: &[Items<Node>],
 ) -> Result<(), NoMemory>
-    ensures { OnOk result (nodes_in nets.new.items ≡ nodes_in nets.old.items ++ map (λ c. nodes_of (plan_in placed.now) all.now (cell_root c)) (range_with_len 0 (length placed.now.design.now.cells))) }
+    ensures { OnOk result (nodes_in nets.new.items ≡ nodes_in nets.old.items ++ nets_by (table (holder 0 placed.now.clusters.now) (length placed.now.design.now.cells)) readers.now) }
 {
-    for c in 0..placed.design.cells().len() {
-        let root = Root::CellOut(short(c)?);
-        nets.push(Net {
-            nodes: nodes_of(alloc, placed, all, root)?,
-        })?;
-    }
-    Ok(())
+    let roots = holders_of(alloc, placed.clusters, placed.design.cells().len())?;
+    add_nets(alloc, nets, roots.as_slice(), readers)
 }
 
-/// The nets of a design whose roots are no globals, by nodes.
+/// The nets of a design whose roots are no globals, by nodes. Takes time near the number of pins.
 pub fn nets_of(alloc: Global, placed: &Placed<'_>) -> Result<Vec<Net>, NoMemory>
     ensures { IfOk result (λ nets. nodes_in nets.items ≡ all_nodes (plan_in placed.now) (reads_of placed.now.chip.now (plan_in placed.now))) }
 {
-    let all = reads_of(alloc, placed)?;
+    let readers = readers_of(alloc, placed)?;
     let mut nets = Vec::new(alloc);
-    add_pads(alloc, &mut nets, placed, all.as_slice())?;
-    add_cells(alloc, &mut nets, placed, all.as_slice())?;
+    add_pads(alloc, &mut nets, placed.ports, readers.pads.as_slice())?;
+    add_cells(alloc, &mut nets, placed, readers.cells.as_slice())?;
     Ok(nets)
 }

@@ -2,9 +2,12 @@
 #![tactic(auto)]
 
 mod building;
+mod holders;
 mod measuring;
 mod read;
 mod reading;
+mod sorting;
 
 pub use measuring::measuring_nets;
 pub use read::Read;
+pub use sorting::Readers;

@@ -21,7 +21,7 @@ use Rattle.ice_cells.specs.Packed.{Plan, no_inputs, ins_at, sink}
 use Rattle.ice_cells.specs.Tables.{table}
 use Rattle.ice_cells.proofs.TableLaws.{get_or-table}
 use Rattle.ice_pack_laws.specs.IsPacked.{root_at, Stands, keeps, gives, carries, fixed, IsSunk}
-use Rattle.ice_pack_laws.proofs.Levels.{level_there}
+use Rattle.ice_cells.proofs.NodeLevels.{level_there}
 use Rattle.ice_pack_laws.proofs.Values.{KeepsSame, IsReady, HasD, HaveD, lev, made, put, sunk, input_claims, cell_claims, below_at, inputs_are, out_reads, table_there, carry_value}
 use Rattle.ice_pack_laws.proofs.Inputs.{input_at}
 

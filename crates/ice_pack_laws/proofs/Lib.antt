@@ -1,5 +1,4 @@
 mod Inputs
-mod Levels
 mod Values
 mod Pins
 pub mod AllValues

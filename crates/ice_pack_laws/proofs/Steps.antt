@@ -42,7 +42,7 @@ use Rattle.ice_cells.specs.Packed.{bare_drive as packed_drive}
 use Rattle.ice_cells.proofs.TableLaws.{get_or-table}
 use Rattle.ice_pack_laws.specs.IsPacked.{root_at, IsOpen, IsSunk, IsEnabled, IsAlone, IsBehind, HasFlop, IsPadOf, lies, through}
 use Rattle.ice_pack_laws.proofs.Inputs.{at_all, input_at}
-use Rattle.ice_pack_laws.proofs.Levels.{level_is}
+use Rattle.ice_cells.proofs.NodeLevels.{level_is}
 use Rattle.ice_pack_laws.proofs.Values.{KeepsSame, IsReady, HaveD, ReadsAt, Carries, lv, sink_reads, sunk, signal_level, plain_reads, constant_value, table_there, input_claims, cell_claims, below_at, inputs_are}
 
 -- what both states have of a clock: the same, or of a constant clock its level, which is 0 in the design

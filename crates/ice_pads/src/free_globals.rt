@@ -38,8 +38,8 @@ fn first_named(chip: &Chip, name: &[u8]) -> Option<WireNo>
     None
 }
 
-// The least wire that has the name of a global.
-fn global_wire(chip: &Chip, number: u8) -> Option<WireNo>
+/// The wire of a global, from 0 to 7: the least wire that has its name in some tile. It takes no memory.
+pub fn global_wire(chip: &Chip, number: u8) -> Option<WireNo>
     ensures { option_map (λ w. w.0) result ≡ global_wire chip.now number }
 {
     first_named(chip, &global_name(number))

@@ -18,7 +18,7 @@ mod wires;
 
 pub use assigning::{Pads, assign};
 pub use fault::PinFault;
-pub use free_globals::{globals, serves};
+pub use free_globals::{global_wire, globals, serves};
 pub use given::{Chosen, Given};
 pub use laws::assigned_pads_fit;
 pub use needs::{pins_of, wants};

@@ -10,7 +10,6 @@ use Rattle.ice_sample.specs.Lines.{numbered, binary}
 use Rattle.ice_sample.proofs.Counting.{map_range_more, flat_map_range_more}
 
 pub text-append : (a b : List (List ℕ)) → text_of_lines (a ++ b) ≡ text_of_lines a ++ text_of_lines b
-unfolding text_of_lines
 text-append a b = flat_map-append (λ (line : List ℕ). line ++ 10 ∷ []) a b
 
 pub numbered-append : {A : Type 0} (size : A → ℕ) (lines : ℕ → A → List (List ℕ)) (n : ℕ) (xs ys : List A)
@@ -105,7 +104,6 @@ rows_join head size lines n xs ys m e =
 
 -- no lines are no text
 pub nothing_more : (start : List ℕ) → start ≡ start ++ text_of_lines []
-unfolding text_of_lines
 nothing_more start = sym (append-nil start)
 
 -- one thing further in a list of things that are made from others and take one number each

@@ -56,7 +56,6 @@ output_name cells j =
 
 -- a line that is written to its end
 pub ended : (start old new line : List ℕ) → old ≡ start ++ line → new ≡ old ++ 10 ∷ [] → new ≡ start ++ text_of_lines (line ∷ [])
-unfolding text_of_lines
 ended start old new line before put =
     further start old new line (10 ∷ []) (text_of_lines (line ∷ [])) before put (sym (append-nil (line ++ 10 ∷ [])))
 
@@ -68,7 +67,6 @@ ended_third start s t u new a b c first second third put =
 -- the line of an output in three pieces, and the line behind it
 pub two_lines : (start s t u new a b c line : List ℕ) → s ≡ start ++ a → t ≡ s ++ b → u ≡ t ++ c → new ≡ u ++ 10 ∷ (line ++ 10 ∷ [])
     → new ≡ start ++ text_of_lines ((a ++ b ++ c) ∷ line ∷ [])
-unfolding text_of_lines
 two_lines start s t u new a b c line first second third put =
     let whole = a ++ b ++ c in
     let written : u ≡ start ++ whole = further start t u (a ++ b) c whole (further start s t a b (a ++ b) first second refl) third refl in

@@ -76,6 +76,7 @@ fn wire(
 }
 
 // What sets the signals of a netlist, in an order of evaluation.
+#[derive(Drop)]
 struct Wiring {
     // The signals that ports feed.
     pads: Vec<Link>,
@@ -86,7 +87,7 @@ struct Wiring {
 }
 
 // The wiring of a netlist.
-fn wiring(
+fn wiring_of(
     alloc: Global,
     netlist: &Netlist,
     drivers: &[Driver],
@@ -142,7 +143,7 @@ pub(crate) fn compile(
     requires order { IsOrder (length netlist.now.names) (depends_on netlist.now) order.now }
     ensures { IfOk result (IsPlan netlist.now) }
 {
-    let wiring = wiring(alloc, netlist, drivers, order)?;
+    let wiring = wiring_of(alloc, netlist, drivers, order)?;
     let taps = taps(alloc, netlist, buffers)?;
     let keepers = keepers(alloc, netlist.signals(), netlist.cells())?;
     Ok(Plan {

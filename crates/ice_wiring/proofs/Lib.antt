@@ -2,4 +2,3 @@ pub mod Mapped
 pub mod SoundRows
 pub mod Wired
 pub mod SetBits
-pub mod Values

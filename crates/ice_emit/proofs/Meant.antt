@@ -1,0 +1,43 @@
+-- What the written bits mean, from the laws of which each says a part.
+use Rattle.std.proofs.Common.{◌≡◌, Bool, List, sym, subst}
+use Rattle.std.proofs.Math.Path.{fun_ext}
+use Rattle.ice_base.specs.declared.number.BitAt.{BitAt}
+use Rattle.ice_base.specs.declared.number.TileAt.{TileAt}
+use Rattle.ice_chip.specs.Database.{Parts, PackageRows}
+use Rattle.ice_bits.specs.Configuration.{Bits, Configuration, bits_of}
+use Rattle.ice_decode.specs.declared.driver.Switch.{Switch}
+use Rattle.ice_negotiate.specs.Trees.{Route}
+use Rattle.ice_plan.specs.Plan.{Plan}
+use Rattle.ice_realised.specs.Feeds.{FeedsNoGlobal}
+use Rattle.ice_set.specs.SetLaws.{SetsDesigns, SetsNoGroups, design_bits}
+use Rattle.ice_wiring.specs.Wanted.{AreWanted, AreNoGroups, IsWired, set_bits}
+use Rattle.ice_written.specs.Arrivals.{Held}
+use Rattle.ice_written.specs.Led.{AreLed}
+use Rattle.ice_written.specs.Realised.{Realises}
+use Rattle.ice_written.specs.Routed.{AreTrees, IsPlaced}
+use Rattle.ice_written.specs.Set.{AreSet}
+use Rattle.ice_written.specs.Written.{held_by, wanted_rows, written_bits, IsWritten}
+
+-- what each law says of the chip
+abbrev pub Leads : Parts → Type 0
+Leads parts =
+    (rows : PackageRows) (plan : Plan) (pullups : List Bool) (routes : List Route) → IsPlaced parts rows plan pullups → AreTrees parts plan routes → AreLed parts plan (wanted_rows parts plan routes) (held_by parts plan routes)
+
+abbrev pub Drives : Parts → Type 0
+Drives parts = (wanted : List Switch) (more : Bits) → AreWanted parts wanted → AreNoGroups parts more → IsWired parts (set_bits parts wanted more) wanted
+
+abbrev pub Means : Parts → Type 0
+Means parts =
+    (rows : PackageRows) (plan : Plan) (pullups : List Bool) (wanted : List Switch) (held : Held) (bits : Bits) → FeedsNoGlobal parts → IsPlaced parts rows plan pullups → AreLed parts plan wanted held → AreSet parts plan wanted held bits
+    → IsWired parts bits wanted → Realises parts plan wanted bits
+
+pub are_meant : (parts : Parts) (rows : PackageRows) (plan : Plan) (pullups : List Bool) (routes : List Route) (k : Configuration) → Leads parts → SetsNoGroups parts → SetsDesigns parts → Drives parts → Means parts → FeedsNoGlobal parts
+    → IsPlaced parts rows plan pullups → AreTrees parts plan routes → IsWritten parts plan pullups routes k → Realises parts plan (wanted_rows parts plan routes) (bits_of k)
+are_meant parts rows plan pullups routes k leads apart sets drives means feeds placed trees written =
+    let wanted : List Switch = wanted_rows parts plan routes in
+    let held : Held = held_by parts plan routes in
+    let led = leads rows plan pullups routes placed trees in
+    let own : Bits = design_bits parts plan pullups held wanted in
+    let same : written_bits parts plan pullups routes ≡ bits_of k = fun_ext (λ (t : TileAt). fun_ext (λ (b : BitAt). sym (written.bits t b))) in
+    subst (λ (bits : Bits). Realises parts plan wanted bits) same
+    (means rows plan pullups wanted held (set_bits parts wanted own) feeds placed led (sets rows plan pullups held wanted placed led.rows) (drives wanted own led.rows (apart rows plan pullups held wanted placed)))

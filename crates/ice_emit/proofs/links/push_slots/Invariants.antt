@@ -1,0 +1,9 @@
+use Rattle.std.proofs.Common.{◌≡◌, ◌++◌, drop}
+use Rattle.ice_plan.specs.Loads.{slots_give}
+use Rattle.ice_written.specs.Links.{cell_links}
+use Rattle.ice_emit.specs.Views.{switches}
+use Rattle.ice_emit.proofs.links.push_slots.Given as goal
+
+abbrev pub invariant-loop-i : goal.invariant-loop-i
+invariant-loop-i l =
+    switches l.chip l.rows.items ++ slots_give (cell_links l.chip) l.cells l.tile l.i (drop l.i l.slots) ≡ switches l.chip l.initial.rows.items ++ slots_give (cell_links l.chip) l.cells l.tile 0 l.slots

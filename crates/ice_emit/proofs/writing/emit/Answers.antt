@@ -1,0 +1,19 @@
+use Rattle.std.proofs.Common.{map}
+use Rattle.ice_nets.specs.Plans.{plan_in, plan_of}
+use Rattle.ice_negotiate.specs.Trees.{route_of}
+use Rattle.ice_emit.proofs.Meant.{are_meant}
+use Rattle.ice_emit.proofs.Ready.{written_for}
+use Rattle.ice_emit.proofs.writing.emit.Goals as goal
+
+pub returns : goal.returns
+returns c =
+    let parts = c.args.chip.now in
+    let plan = plan_of c.args.design.now c.args.clusters.now c.args.placement.now c.args.pads.now in
+    let written = written_for parts c.placed_of-placed.result.chip.now plan (plan_in c.placed_of-placed.result)
+    c.args.pads.now.pullups c.pullups.result.now c.args.trees.now c.in_ok-rows.rows.items c.as_slice.result.now c.as_slice-2.result.now c.in_ok-made.made.items c.as_slice-3.result.now c.in_ok-bits.bits
+    c.placed_of-placed.ensures.chip c.placed_of-placed.ensures.plan c.pullups.ensures c.as_slice.ensures.value c.as_slice-2.ensures.value c.as_slice-3.ensures.value c.in_ok-rows.ensures c.in_ok-made.ensures c.in_ok-bits.ensures in
+    record {
+      written = written;
+      realised = λ feeds. are_meant parts c.requires.placed.0 plan c.args.pads.now.pullups (map route_of c.args.trees.now) c.in_ok-bits.bits c.roots_are_led_to_pins.ensures c.designs_are_set.ensures.apart c.designs_are_set.ensures.set
+          c.wanted_rows_drive.ensures c.bits_realise_their_design.ensures feeds c.requires.placed.1 c.requires.trees written;
+    }

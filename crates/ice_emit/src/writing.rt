@@ -1,0 +1,146 @@
+//! The bit writer.
+ghost use Rattle.std.specs.Prelude.{◌≡◌, map, IfOk};
+ghost use Rattle.ice_bits.specs.Configuration.{bits_of};
+ghost use Rattle.ice_negotiate.specs.Trees.{route_of};
+ghost use Rattle.ice_nets.specs.Plans.{plan_in, plan_of};
+ghost use Rattle.ice_written.specs.Functions.{settings};
+ghost use Rattle.ice_realised.specs.Feeds.{FeedsNoGlobal};
+ghost use Rattle.ice_written.specs.Realised.{Realises};
+ghost use Rattle.ice_written.specs.Routed.{AreTrees};
+ghost use Rattle.ice_written.specs.Written.{held_by, wanted_rows, IsWritten};
+ghost use Rattle.ice_emit.specs.Placed.{IsPlacedOn};
+ghost use Rattle.ice_emit.specs.Routed.{IsRouted, held_in};
+ghost use Rattle.ice_emit.specs.Views.{views, switches, AreBitsWith};
+
+use crate::buffers::push_buffers;
+use crate::clusters::push_clusters;
+use crate::enables::push_enables;
+use crate::links::push_links;
+use crate::owners::owners_of;
+use crate::ports::push_ports;
+use crate::routed::Routed;
+use crate::rows::push_trees;
+use ice_base::{NoMemory, RowNo};
+use ice_bits::{Bits, blank};
+use ice_cells::{Clusters, Design};
+use ice_chip::Chip;
+use ice_cluster::laws::cells_stand_in_one_slot;
+use ice_graph::Tree;
+use ice_led::laws::roots_are_led_to_pins;
+use ice_nets::{Placed, placed_of, wires_of};
+use ice_pads::Pads;
+use ice_place::Placement;
+use ice_realised::laws::bits_realise_their_design;
+use ice_rows::index_of;
+use ice_set::laws::designs_are_set;
+use ice_wiring::laws::wanted_rows_drive;
+use ice_writing::{Setting, set_all, turn_all_on};
+use std::alloc::Global;
+
+// The rows that are wanted: those of the trees, and those that carry runs.
+fn rows_of(alloc: Global, placed: &Placed<'_>, trees: &[Tree]) -> Result<Vec<RowNo>, NoMemory>
+    ensures { IfOk result (λ rows. switches placed.now.chip.now rows.items ≡ wanted_rows placed.now.chip.now (plan_in placed.now) (map route_of trees.now)) }
+{
+    let index = index_of(alloc, placed.chip)?;
+    let mut rows = Vec::new(alloc);
+    push_trees(&mut rows, trees)?;
+    push_links(
+        &mut rows,
+        placed.chip,
+        &index,
+        placed.design.cells(),
+        placed.tiles,
+        placed.clusters,
+    )?;
+    Ok(rows)
+}
+
+// The settings of cells, ports, inputs and column buffers.
+#[tactic(auto, using(crate::proofs::Wanting::settings_are))]
+fn settings_of(
+    alloc: Global,
+    routed: &Routed<'_>,
+    pullups: &[bool],
+    rows: &[RowNo],
+) -> Result<Vec<Setting>, NoMemory>
+    requires { IsRouted routed.now }
+    ensures { IfOk result (λ made. views made.items ≡ settings routed.now.placed.chip.now (plan_in routed.now.placed) pullups.now (held_in routed.now) (switches routed.now.placed.chip.now rows.now)) }
+{
+    let chip = routed.placed.chip;
+    let ports = routed.placed.design.pads();
+    let mut made = Vec::new(alloc);
+    push_clusters(&mut made, routed)?;
+    push_ports(&mut made, chip, routed.placed.ports, pullups, ports)?;
+    push_enables(alloc, &mut made, chip, routed.placed.ports, ports)?;
+    push_buffers(&mut made, chip, rows)?;
+    Ok(made)
+}
+
+// The same, of trees that are apart.
+fn settings_in(
+    alloc: Global,
+    placed: &Placed<'_>,
+    pullups: &[bool],
+    trees: &[Tree],
+    rows: &[RowNo],
+) -> Result<Vec<Setting>, NoMemory>
+    requires placed { IsPlacedOn placed.now.chip.now (plan_in placed.now) pullups.now }
+    requires trees { AreTrees placed.now.chip.now (plan_in placed.now) (map route_of trees.now) }
+    ensures { IfOk result (λ made. views made.items ≡ settings placed.now.chip.now (plan_in placed.now) pullups.now (held_by placed.now.chip.now (plan_in placed.now) (map route_of trees.now)) (switches placed.now.chip.now rows.now)) }
+{
+    cells_stand_in_one_slot();
+    let wires = wires_of(alloc, placed)?;
+    let owners = owners_of(alloc, placed.chip.wires(), trees)?;
+    let routed = Routed {
+        placed: *placed,
+        wires: &wires,
+        trees,
+        owners: owners.as_slice(),
+    };
+    settings_of(alloc, &routed, pullups, rows)
+}
+
+// Bits of a chip of which these rows and settings are set, and no others.
+fn bits_with(alloc: Global, chip: &Chip, rows: &[RowNo], made: &[Setting]) -> Result<Bits, NoMemory>
+    ensures { IfOk result (AreBitsWith chip.now rows.now made.now) }
+{
+    let mut bits = blank(alloc, chip)?;
+    turn_all_on(&mut bits, chip, rows);
+    set_all(&mut bits, chip, made);
+    Ok(bits)
+}
+
+/// The bits of a placed and routed design: of each tree's rows, and of the rows that carry runs into last inputs and across tiles; of
+/// cells, their tables rewired to the inputs at which their signals arrive; of clocks' edges and carries into runs; of the pads'
+/// types and pull-ups, of inputs that nothing reads, and of the column buffers that globals pass. No other bit is set.
+///
+/// Decoding these bits gives no fault: each wanted row drives its wire and no other wire has a driver, the ports' pads show for every
+/// list of levels what the design shows, and every other pad is off. It is so on every chip on which no global is fed by a global,
+/// as where each global is fed in an IO tile.
+///
+/// # Errors
+/// Want of memory alone; more than 4,294,967,295 trees count as such.
+pub fn emit(
+    alloc: Global,
+    chip: &Chip,
+    design: &Design,
+    clusters: &Clusters,
+    placement: &Placement,
+    pads: &Pads,
+    trees: &[Tree],
+) -> Result<Bits, NoMemory>
+    requires placed { IsPlacedOn chip.now (plan_of design.now clusters.now placement.now pads.now) pads.now.pullups }
+    requires trees { AreTrees chip.now (plan_of design.now clusters.now placement.now pads.now) (map route_of trees.now) }
+    ensures written { IfOk result (IsWritten chip.now (plan_of design.now clusters.now placement.now pads.now) pads.now.pullups (map route_of trees.now)) }
+    ensures realised { FeedsNoGlobal chip.now → IfOk result (λ bits. Realises chip.now (plan_of design.now clusters.now placement.now pads.now) (wanted_rows chip.now (plan_of design.now clusters.now placement.now pads.now) (map route_of trees.now)) (bits_of bits)) }
+{
+    roots_are_led_to_pins(chip);
+    designs_are_set(chip);
+    wanted_rows_drive(chip);
+    bits_realise_their_design(chip);
+    let placed = placed_of(chip, design, clusters, placement, pads);
+    let rows = rows_of(alloc, &placed, trees)?;
+    let made = settings_in(alloc, &placed, pads.pullups(), trees, rows.as_slice())?;
+    let bits = bits_with(alloc, chip, rows.as_slice(), made.as_slice())?;
+    Ok(bits)
+}

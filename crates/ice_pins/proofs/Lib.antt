@@ -1,0 +1,7 @@
+mod Targets
+mod IoTiles
+mod Ending
+mod Sinks
+mod Apart
+mod Asking
+pub mod Pinned

@@ -1,0 +1,13 @@
+use Rattle.ice_pins.proofs.Pinned.{pins_led}
+use Rattle.ice_pins.proofs.laws.pins_are_led.Goals as goal
+
+pub returns : goal.returns
+returns c parts rows plan pullups routes chip placed trees =
+    pins_led parts rows plan pullups (record {
+      placed = placed;
+      read = chip.read;
+      lawful = c.lookups_are_lawful.ensures parts chip;
+      names = c.wire_names_are_read.ensures;
+      slots = c.cells_stand_in_one_slot.ensures plan.design placed.formed;
+      chunks = c.runs_stand_in_chunks.ensures plan.design placed.formed;
+    }) routes trees

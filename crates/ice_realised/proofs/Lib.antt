@@ -1,0 +1,15 @@
+mod Premises
+mod Pins
+mod IoFeeds
+mod CarriesIn
+mod Read
+mod Slots
+mod Starts
+mod WireLevels
+mod Arriving
+mod CellRoles
+mod AllWires
+mod PadTypes
+mod Faultless
+mod Steps
+mod Realising

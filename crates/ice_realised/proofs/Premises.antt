@@ -1,0 +1,43 @@
+-- What a law over the bits of a placed and routed design rests on, in one record.
+use Rattle.std.specs.Prelude.{Bool, List}
+use Rattle.ice_chip.specs.Database.{Parts, PackageRows}
+use Rattle.ice_chip.specs.IsRead.{IsRead}
+use Rattle.ice_chip_laws.specs.Laws.{IsLawful}
+use Rattle.ice_bits.specs.Configuration.{Bits}
+use Rattle.ice_decode.specs.declared.driver.Switch.{Switch}
+use Rattle.ice_cells.specs.declared.cluster.Clusters.{Clusters}
+use Rattle.ice_cluster.specs.Slots.{AreSlots, AreDriven}
+use Rattle.ice_chunks.specs.Chunks.{AreChunks}
+use Rattle.ice_wiring.specs.Wanted.{IsWired}
+use Rattle.ice_plan.specs.Plan.{Plan}
+use Rattle.ice_written.specs.Arrivals.{Held}
+use Rattle.ice_written.specs.Led.{AreLed}
+use Rattle.ice_written.specs.Routed.{IsPlaced}
+use Rattle.ice_written.specs.Set.{AreSet}
+use Rattle.ice_realised.specs.Feeds.{FeedsNoGlobal}
+
+-- the clusters of a plan, as they are made
+abbrev pub listed : Plan → Clusters
+listed plan = record { list = plan.clusters }
+
+pub record Premises : Type 0 where
+  pub parts : Parts
+  pub bonded : PackageRows
+  pub plan : Plan
+  pub pullups : List Bool
+  pub wanted : List Switch
+  pub held : Held
+  pub bits : Bits
+  -- the chip
+  pub chip_read : IsRead parts
+  pub lawful : IsLawful parts
+  pub unfed : FeedsNoGlobal parts
+  -- what is placed, led and set
+  pub placed : IsPlaced parts bonded plan pullups
+  pub led : AreLed parts plan wanted held
+  pub are_set : AreSet parts plan wanted held bits
+  pub wired : IsWired parts bits wanted
+  -- what stands in slots
+  pub slots : AreSlots plan.design (listed plan)
+  pub driven : AreDriven plan.design (listed plan)
+  pub chunks : AreChunks plan.design plan.clusters

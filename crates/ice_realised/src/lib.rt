@@ -1,0 +1,4 @@
+//! The bits of a placed and routed design realise it.
+#![tactic(auto)]
+
+pub mod laws;

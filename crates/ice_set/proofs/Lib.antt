@@ -1,0 +1,10 @@
+mod Lists
+mod FunctionKinds
+mod SetAt
+mod CellNumbers
+mod Inside
+mod Told
+mod CellsSet
+mod PadsSet
+mod RowsSet
+mod DesignSet

@@ -1,0 +1,13 @@
+pub mod Pins
+pub mod Lists
+pub mod Places
+pub mod Controls
+pub mod Ends
+pub mod Roots
+pub mod Reading
+pub mod Edges
+pub mod Growing
+pub mod Trees
+pub mod Linked
+pub mod Wanted
+pub mod Rows

@@ -1,0 +1,4 @@
+pub mod Pins
+pub mod Reads
+pub mod Trees
+pub mod RowsLed

@@ -1,0 +1,9 @@
+pub mod Arrivals
+pub mod Links
+pub mod Functions
+pub mod Written
+pub mod Slots
+pub mod Routed
+pub mod Led
+pub mod Set
+pub mod Realised
