@@ -1,10 +1,10 @@
 -- The netlist of a configured chip in a package.
-use Rattle.std.specs.Prelude.{ℕ, ◌+◌, ◌*◌, ◌/◌, ◌==◌, Bool, true, false, Option, Some, None, List, [], ◌∷◌, ◌++◌, map, length, option_map, if◌then◌else◌, codes}
+use Rattle.std.specs.Prelude.{ℕ, ◌+◌, ◌*◌, ◌/◌, ◌==◌, Bool, true, false, Option, Some, None, List, [], ◌∷◌, ◌++◌, map, length, if◌then◌else◌, codes}
 use Rattle.std.specs.List.{flat_map, zip, range_with_len}
 use Rattle.ice_base.specs.declared.number.TileAt.{TileAt}
 use Rattle.ice_base.specs.declared.number.SignalNo.{SignalNo}
 use Rattle.ice_chip.specs.Database.{Parts, PackageRows}
-use Rattle.ice_chip.specs.WireNames.{input_name, pad_output_name, output_enable_name}
+use Rattle.ice_chip.specs.WireNames.{pad_output_name, output_enable_name}
 use Rattle.ice_chip.specs.declared.rows.Pad.{Pad}
 use Rattle.ice_bits.specs.Configuration.{Bits}
 use Rattle.ice_bits.specs.Settings.{set_at}
@@ -21,7 +21,7 @@ use Rattle.ice_decode.specs.Cells.{cells, has_carry, has_flop, reset_of}
 use Rattle.ice_decode.specs.Pads.{pin_type}
 use Rattle.ice_decode.specs.Reads.{at_pin, cell_inputs, carry_inputs}
 use Rattle.ice_back.specs.Numbers.{port_number, input_number, cell_number, reader_of, signal, back_names}
-use Rattle.ice_back.specs.Roots.{Root, cell_table, table_root, root_of}
+use Rattle.ice_back.specs.Roots.{cell_table, table_root, root_of}
 
 -- the input of a cell that reads a point; one without a wire is missing
 abbrev pub reader : Parts → Bits → List Pad → Bool → Option Point → Option SignalNo

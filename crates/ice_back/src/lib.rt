@@ -1,4 +1,4 @@
-//! The netlist of a configured chip.
+//! The netlist of a configured chip: its definition and its laws. The program that makes it comes next.
 #![tactic(auto)]
 
 mod laws;
