@@ -1,0 +1,93 @@
+-- The cells whose outputs wires are, are cells of the chip.
+use Rattle.std.proofs.Common.{◌≡◌, ◌⊎◌, ℕ, ◌-◌, ◌<◌, ◌≤◌, Bool, true, false, cond, List, [], ◌∷◌, Some, None, Option, inl, inr, refl, sym, subst, eqb, leb, arith}
+use Rattle.std.specs.Prelude.{◌&&◌, codes, bytes_eq}
+use Rattle.std.proofs.lemmas.Bool.{leb-true, cond_both}
+use Rattle.ice_base.specs.declared.number.TileAt.{TileAt}
+use Rattle.ice_chip.specs.Database.{Parts}
+use Rattle.ice_chip.specs.Lookups.{kind_at, names_of}
+use Rattle.ice_chip.specs.PinNames.{cell_pin, is_global_name}
+use Rattle.ice_chip.specs.declared.rows.TileKind.{TileKind}
+use Rattle.ice_chip.specs.declared.rows.TileKind.TheVariants.{Io, Logic, RamBottom, RamTop}
+use Rattle.ice_chip.specs.declared.whole.PlacedName.{PlacedName}
+use Rattle.ice_decode.specs.declared.role.Role.{Role}
+use Rattle.ice_decode.specs.declared.role.Role.TheVariants.{Plain, Output, LookUp, CarryOut, PadInput, Global, CarryIn, ClockEnable}
+use Rattle.ice_decode.specs.Roles.{number_at, global_role, output_role, or_global, logic_role, io_role, role_in, role_or, first_role, role_of}
+use Rattle.ice_decode.proofs.RolePlaces.{IsCell}
+
+module _ (parts : Parts) where
+  -- the cell that a role names is one of the chip
+  abbrev pub IsOfCell : Role → Type 0
+  IsOfCell Plain = Unit {0}
+  IsOfCell (Output t i) = IsCell parts t i
+  IsOfCell (LookUp t i) = IsCell parts t i
+  IsOfCell (CarryOut t i) = IsCell parts t i
+  IsOfCell (PadInput pad) = Unit {0}
+  IsOfCell (Global n) = Unit {0}
+  IsOfCell (CarryIn t) = Unit {0}
+  IsOfCell ClockEnable = Unit {0}
+
+  abbrev IsOfCellIf : Option Role → Type 0
+  IsOfCellIf None = Unit {0}
+  IsOfCellIf (Some role) = IsOfCell role
+
+-- a name of a cell's pin has a digit below eight
+digit_small : (name : List ℕ) → (number_at name 6 < 8) ⊎ (cell_pin name ≡ [])
+digit_small [] = inr refl
+digit_small (a ∷ []) = inr refl
+digit_small (a ∷ b ∷ []) = inr refl
+digit_small (a ∷ b ∷ c ∷ []) = inr refl
+digit_small (a ∷ b ∷ c ∷ d ∷ []) = inr refl
+digit_small (a ∷ b ∷ c ∷ d ∷ e ∷ []) = inr refl
+digit_small (a ∷ b ∷ c ∷ d ∷ e ∷ f ∷ []) = inr refl
+digit_small (a ∷ b ∷ c ∷ d ∷ e ∷ f ∷ i ∷ []) = inr refl
+digit_small (a ∷ b ∷ c ∷ d ∷ e ∷ f ∷ i ∷ g ∷ pin) =
+    by (eqb a 108 && eqb b 117 && eqb c 116 && eqb d 102 && eqb e 102 && eqb f 95 && leb 48 i) (leb i 55) (eqb g 47) refl
+  where
+    by : (x y z : Bool) → leb i 55 ≡ y → (i - 48 < 8) ⊎ (cond ((x && y) && z) pin [] ≡ [])
+    by x true z e = let le : i ≤ 55 = leb-true i 55 e in inl (omega arith)
+    by true false z e = inr refl
+    by false false z e = inr refl
+
+global_of_cell : (parts : Parts) (name : List ℕ) → IsOfCellIf parts (global_role name)
+global_of_cell parts name = cond_both (is_global_name name) (Some (Global (number_at name 10))) None (IsOfCellIf parts) (λ e. tt) (λ e. tt)
+
+output_of_cell : (parts : Parts) (t : TileAt) (i : ℕ) (pin : List ℕ) → kind_at parts t ≡ Some Logic → (i < 8) ⊎ (pin ≡ []) → IsOfCellIf parts (output_role t i pin)
+output_of_cell parts t i pin logic (inr e) = subst (λ (p : List ℕ). IsOfCellIf parts (output_role t i p)) (sym e) tt
+output_of_cell parts t i pin logic (inl lt) =
+    cond_both (bytes_eq pin (codes "out")) (Some (Output t i)) _ (IsOfCellIf parts) (λ e. record { logic = logic; below = lt })
+    (λ e. cond_both (bytes_eq pin (codes "lout")) (Some (LookUp t i)) _ (IsOfCellIf parts) (λ f. record { logic = logic; below = lt })
+    (λ f. cond_both (bytes_eq pin (codes "cout")) (Some (CarryOut t i)) None (IsOfCellIf parts) (λ g. record { logic = logic; below = lt }) (λ g. tt)))
+
+or_of_cell : (parts : Parts) (role : Option Role) (name : List ℕ) → IsOfCellIf parts role → IsOfCellIf parts (or_global role name)
+or_of_cell parts None name fits = global_of_cell parts name
+or_of_cell parts (Some role) name fits = fits
+
+logic_of_cell : (parts : Parts) (t : TileAt) (name : List ℕ) → kind_at parts t ≡ Some Logic → IsOfCellIf parts (logic_role t name)
+logic_of_cell parts t name logic =
+    cond_both (bytes_eq name (codes "carry_in_mux")) (Some (CarryIn t)) _ (IsOfCellIf parts) (λ e. tt)
+    (λ e. cond_both (bytes_eq name (codes "lutff_global/cen")) (Some ClockEnable) _ (IsOfCellIf parts) (λ f. tt)
+    (λ f. or_of_cell parts (output_role t (number_at name 6) (cell_pin name)) name (output_of_cell parts t (number_at name 6) (cell_pin name) logic (digit_small name))))
+
+io_of_cell : (parts : Parts) (t : TileAt) (name : List ℕ) → IsOfCellIf parts (io_role t name)
+io_of_cell parts t name =
+    cond_both (bytes_eq name (codes "io_0/D_IN_0")) (Some (PadInput (record { tile = t; pio = 0 }))) _ (IsOfCellIf parts) (λ e. tt)
+    (λ e. cond_both (bytes_eq name (codes "io_1/D_IN_0")) (Some (PadInput (record { tile = t; pio = 1 }))) _ (IsOfCellIf parts) (λ f. tt) (λ f. global_of_cell parts name))
+
+in_of_cell : (parts : Parts) (t : TileAt) (kind : Option TileKind) (name : List ℕ) → kind_at parts t ≡ kind → IsOfCellIf parts (role_in t kind name)
+in_of_cell parts t None name e = tt
+in_of_cell parts t (Some Io) name e = io_of_cell parts t name
+in_of_cell parts t (Some Logic) name e = logic_of_cell parts t name e
+in_of_cell parts t (Some RamBottom) name e = global_of_cell parts name
+in_of_cell parts t (Some RamTop) name e = global_of_cell parts name
+
+either_of_cell : (parts : Parts) (role : Option Role) (other : Role) → IsOfCellIf parts role → IsOfCell parts other → IsOfCell parts (role_or role other)
+either_of_cell parts None other fits rest = rest
+either_of_cell parts (Some role) other fits rest = fits
+
+first_of_cell : (parts : Parts) (names : List PlacedName) → IsOfCell parts (first_role parts names)
+first_of_cell parts [] = tt
+first_of_cell parts (n ∷ names) =
+    either_of_cell parts (role_in n.tile (kind_at parts n.tile) n.name) (first_role parts names) (in_of_cell parts n.tile (kind_at parts n.tile) n.name refl) (first_of_cell parts names)
+
+pub role_of_cell : (parts : Parts) (w : ℕ) → IsOfCell parts (role_of parts w)
+role_of_cell parts w = first_of_cell parts (names_of parts w)

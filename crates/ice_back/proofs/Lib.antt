@@ -1,0 +1,6 @@
+mod RootLevels
+mod CellRoles
+mod Ranks
+mod Standing
+mod Levels
+mod Steps

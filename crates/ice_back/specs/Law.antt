@@ -1,0 +1,35 @@
+-- What bits show, their netlist shows.
+use Rattle.std.specs.Prelude.{◌≡◌, ℕ, Bool, false, List, slice_index_or}
+use Rattle.ice_chip.specs.Database.{Parts, PackageRows}
+use Rattle.ice_chip.specs.IsRead.{IsRead}
+use Rattle.ice_bits.specs.Configuration.{Bits}
+use Rattle.ice_net.specs.Meaning as net
+use Rattle.ice_decode.specs.Meaning as chip
+use Rattle.ice_decode.specs.Refusals.{IsFaultless}
+use Rattle.ice_value.specs.Order.{Has}
+use Rattle.ice_chip.specs.declared.rows.Pad.{Pad}
+use Rattle.ice_decode.specs.declared.point.Point.{Point}
+use Rattle.ice_decode.specs.declared.point.Point.TheVariants.{Carry}
+use Rattle.ice_decode.specs.Faults.{IsOrderOf}
+use Rattle.ice_decode.specs.Reads.{points}
+use Rattle.ice_back.specs.Back.{back_netlist}
+use Rattle.ice_back.specs.Roots.{Root, Fixed, Input, Table, Register, Sum, root_of}
+
+-- For every list of levels the netlist drives at its ports, which are the pads of the package in order, what the chip drives there, where
+-- the bits have no fault and the package is one of the chip's.
+abbrev pub NetlistShowsWhatBitsShow : Type 0
+NetlistShowsWhatBitsShow = (parts : Parts) (bits : Bits) (extras : List (ℕ × ℕ × ℕ)) (package_rows : PackageRows) → IsRead parts → IsFaultless parts bits extras → Has parts.packages package_rows
+    → (levels : List (List Bool)) → net.shows (back_netlist parts bits package_rows) levels ≡ chip.shows parts bits package_rows.pads package_rows.pads levels
+
+-- the level of a root at a moment, by the levels of points
+abbrev pub root_level : Parts → Bits → (Point → Bool) → List Bool → List Bool → Root → Bool
+root_level parts bits v levels kept (Fixed level) = level
+root_level parts bits v levels kept (Input k) = slice_index_or levels k false
+root_level parts bits v levels kept (Table t i) = chip.table_level parts bits v t i
+root_level parts bits v levels kept (Register t i) = chip.kept_at parts kept t i
+root_level parts bits v levels kept (Sum t i) = v (Carry t i)
+
+-- at each moment the level of a point is that of its root
+abbrev pub PointsHaveTheirRootsLevels : Type 0
+PointsHaveTheirRootsLevels = (parts : Parts) (bits : Bits) (order : List Point) → IsOrderOf parts bits order → (bonded : List Pad) (levels kept : List Bool) (p : Point) → Has (points parts) p
+    → chip.point_level parts bits bonded levels kept p ≡ root_level parts bits (chip.point_level parts bits bonded levels kept) levels kept (root_of parts bits bonded p)
