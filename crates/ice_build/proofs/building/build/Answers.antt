@@ -6,17 +6,17 @@ use Rattle.ice_build.specs.Laid.{task_of}
 use Rattle.ice_build.proofs.building.build.Goals as goal
 
 pub finish-requires-clause-placed : goal.finish-requires-clause-placed
-finish-requires-clause-placed g c = let s = c.layouts_stand_on_their_chip.ensures c.args.name.now c.args.pcf.now c.in_ok-layout.layout c.in_ok-layout.ensures.laid in (s.0, s.2)
+finish-requires-clause-placed g c κs within = let s = c.layouts_stand_on_their_chip.ensures c.args.name.now c.args.pcf.now c.in_ok-layout.layout c.in_ok-layout.ensures.laid in (s.0, s.2)
 
 -- ---- the netlist is not placed
 pub returns-in_err-layout-clause-fault : goal.returns-in_err-layout-clause-fault
 returns-in_err-layout-clause-fault g c =
-    let p = err_from_is_err_and c.from_residual-in_err-layout.result c.from_residual-in_err-layout.ensures.1 in
+    let p = err_from_is_err_and c.from_residual.result c.from_residual.ensures.1 in
     rw (p.1, p.2) (lay_fault (task_of c.args.chip.now c.args.name.now c.args.pcf.now c.args.sound.now) c.args.effort.rounds c.in_err-layout.field-0.0 c.in_err-layout.ensures.fault)
 
 pub returns-in_err-layout-clause-complete : goal.returns-in_err-layout-clause-complete
 returns-in_err-layout-clause-complete g c =
-    let p = err_from_is_err_and c.from_residual-in_err-layout.result c.from_residual-in_err-layout.ensures.1 in
+    let p = err_from_is_err_and c.from_residual.result c.from_residual.ensures.1 in
     let task = task_of c.args.chip.now c.args.name.now c.args.pcf.now c.args.sound.now in
     rw (p.1, p.2) (complete task c.args.effort.rounds (Err c.in_err-layout.field-0.0) (lay_fault task c.args.effort.rounds c.in_err-layout.field-0.0 c.in_err-layout.ensures.fault))
 
