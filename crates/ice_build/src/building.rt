@@ -1,5 +1,5 @@
 //! From a netlist to the bits of a chip.
-ghost use Rattle.std.specs.Prelude.{◌≡◌, IfOk, IfErr};
+ghost use Rattle.std.specs.Prelude.{IfOk, IfErr};
 ghost use Rattle.ice_realised.specs.Feeds.{FeedsNoGlobal};
 ghost use Rattle.ice_build.specs.Answers.{IsBuilt, IsComplete, IsFault};
 ghost use Rattle.ice_build.specs.Laid.{task_of};

@@ -1,5 +1,5 @@
 //! The laws of placed designs and of their bits. The functions do nothing: their contracts are the laws.
-ghost use Rattle.std.specs.Prelude.{◌≡◌, ℕ, List};
+ghost use Rattle.std.specs.Prelude.{ℕ, List};
 ghost use Rattle.ice_bits.specs.Configuration.{Configuration, bits_of};
 ghost use Rattle.ice_chip.specs.Database.{Parts};
 ghost use Rattle.ice_negotiate.specs.Trees.{Route};

@@ -1,5 +1,5 @@
 //! The trees and the bits of a placed design.
-ghost use Rattle.std.specs.Prelude.{◌≡◌, map, IfOk, IfErr};
+ghost use Rattle.std.specs.Prelude.{◌≡◌, IfOk, IfErr};
 ghost use Rattle.ice_bits.specs.Configuration.{bits_of};
 ghost use Rattle.ice_emit.specs.Placed.{IsPlacedOn};
 ghost use Rattle.ice_realised.specs.Feeds.{FeedsNoGlobal};
