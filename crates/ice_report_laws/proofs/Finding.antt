@@ -1,15 +1,15 @@
 -- The pin of a pad of a package.
-use Rattle.std.proofs.Common.{◌≡◌, ℕ, Bool, true, false, ◌||◌, IsSome, Some, Ok, List, [], ◌∷◌, ◌++◌, map, bytes_eq, slice_get, if◌then◌else◌, refl, sym, ap, ◌∙◌, subst, true≢false}
+use Rattle.std.proofs.Common.{◌≡◌, ℕ, Bool, true, false, ◌||◌, IsSome, Some, List, [], ◌∷◌, ◌++◌, map, bytes_eq, if◌then◌else◌, refl, sym, ap, ◌∙◌, subst, true≢false}
 use Rattle.std.specs.List.{All, find, list_any}
 use Rattle.std.proofs.lemmas.List.Folds.{list_any-append}
 use Rattle.std.proofs.lemmas.List.Elements.{All-head, All-tail}
 use Rattle.indexmap.specs.IndexSet.{insert_key, insert_all}
-use Rattle.ice_chip.specs.Database.{Parts, PackageRows}
+use Rattle.ice_chip.specs.Database.{PackageRows}
 use Rattle.ice_chip.specs.Places.{same_pad}
-use Rattle.ice_chip.specs.Within.{IsPackage, different_pads}
+use Rattle.ice_chip.specs.Within.{IsPackage}
 use Rattle.ice_chip.specs.declared.rows.Pad.{Pad}
 use Rattle.ice_pads.specs.Facts.{AssignedPadsFit}
-use Rattle.ice_report_laws.specs.Pins.{HasPin, PinsAreFound}
+use Rattle.ice_report_laws.specs.Pins.{PinsAreFound}
 
 wider : (a c r : Bool) → (a || r) ≡ true → (a || (c || r)) ≡ true
 wider true c r e = refl

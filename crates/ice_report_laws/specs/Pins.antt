@@ -1,5 +1,5 @@
 -- What is known of the pins of ports.
-use Rattle.std.specs.Prelude.{◌≡◌, ℕ, IsSome, Some, Ok, List, find, length, slice_get}
+use Rattle.std.specs.Prelude.{◌≡◌, ℕ, IsSome, Some, Ok, List, find, slice_get}
 use Rattle.ice_net.specs.NetlistData.{NetlistData}
 use Rattle.ice_pcf.specs.declared.constraint.Constraint.{Constraint}
 use Rattle.ice_chip.specs.Database.{Parts, PackageRows}
