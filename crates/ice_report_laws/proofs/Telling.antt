@@ -1,15 +1,10 @@
 -- The histories that a log tells.
-use Rattle.std.proofs.Common.{◌≡◌, ℕ, zero, suc, ◌+◌, ◌-◌, ◌*◌, ◌<◌, ◌==◌, Bool, true, false, cond, List, [], ◌∷◌, Option, None, Some, length, nat_lt, slice_index, option_map, unwrap_or, refl, sym, ap, ◌∙◌, arith}
+use Rattle.std.proofs.Common.{◌≡◌, ℕ, zero, suc, ◌+◌, ◌-◌, ◌*◌, ◌<◌, ◌==◌, Bool, true, false, cond, List, [], ◌∷◌, Option, None, Some, nat_lt, slice_index, option_map, unwrap_or, refl, sym, ap, ◌∙◌, arith}
 use Rattle.std.specs.List.{find}
 use Rattle.std.proofs.lemmas.Bool.Decides.{nat_tests}
 use Rattle.ice_base.specs.declared.number.WireNo.{WireNo}
-use Rattle.ice_graph.specs.declared.tree.Tree.{Tree}
-use Rattle.ice_core.specs.declared.log.RoundLog.{RoundLog}
-use Rattle.ice_core.specs.declared.prices.Prices.{Prices}
-use Rattle.ice_core.specs.Congestion.{price}
-use Rattle.ice_core.specs.Moves.{IsOccupancy, occupancy, holds}
-use Rattle.ice_negotiate.specs.Rounds.{Past, ArePricesOf}
-use Rattle.ice_negotiate.specs.Logs.{IsLog, beyond}
+use Rattle.ice_core.specs.Moves.{holds}
+use Rattle.ice_negotiate.specs.Logs.{beyond}
 use Rattle.ice_report_laws.specs.Told.{told_of, PricesAreTold}
 
 -- what is told by what is found
