@@ -155,13 +155,15 @@ module _ (parts : Parts) (bits : Bits) (extras : List (ℕ × ℕ × ℕ)) (read
     | inr ge ↦ inr (ap (λ d. present (net.reads n d)) (undriven parts bits package_rows q ge))
   ]
 
+  pub signal_arrives : (m : ℕ) (r : Root) → IsGood parts bits extras read faultless pads m r → value (net.system_of n levels remembered) (suc m) (root_number parts pads r) ≡ Some (level r)
+  signal_arrives m r is = value_arrives inputs false local Holds signal_made (suc m) m (root_number parts pads r) (level r) (r, is, refl, refl) (omega arith)
+
   -- the signal of a root has the root's level
   pub signal_level : (m : ℕ) (r : Root) → IsGood parts bits extras read faultless pads m r → signal_value n levels remembered (root_number parts pads r) ≡ level r
   signal_level m r is =
       let s = root_number parts pads r in
       let system = net.system_of n levels remembered in
-      let arrives : value system (suc m) s ≡ Some (level r) = value_arrives inputs false local Holds signal_made (suc m) m s (level r) (r, is, refl, refl) (omega arith) in
-      let enough = value_enough system (range_with_len 0 (length n.names)) closed (suc m) s (level r) (named s (root_below parts bits package_rows r is.0)) arrives in
+      let enough = value_enough system (range_with_len 0 (length n.names)) closed (suc m) s (level r) (named s (root_below parts bits package_rows r is.0)) (signal_arrives m r is) in
       let long : length (range_with_len 0 (length n.names)) ≡ length n.names = length-range_with_len 0 (length n.names) in
       ap (λ o. unwrap_or o false) (subst (λ k. value system (k + 1) s ≡ Some (level r)) long enough)
 

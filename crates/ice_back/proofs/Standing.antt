@@ -29,7 +29,7 @@ use Rattle.ice_back.specs.Roots.{Root, Fixed, Input, Table, Register, Sum, cell_
 use Rattle.ice_back.proofs.Ranks.{IsThere, StandsAt, place_found}
 
 -- ---- lists
-is_same : (s : ℕ) (o : Option SignalNo) → is_signal s o ≡ true → o ≡ Some (signal s)
+pub is_same : (s : ℕ) (o : Option SignalNo) → is_signal s o ≡ true → o ≡ Some (signal s)
 is_same s None e = cc e
 is_same s (Some x) e = ap (λ k. Some (signal k)) (eqb-true x.0 s e)
 
@@ -48,7 +48,7 @@ place_one {X} f s x (y ∷ xs) has is only = by (is_signal s (f y)) refl has (λ
         cc (yes, e)
     by false e (suc i, at) later = let rest = later (i, at) in (suc rest.0, ap (option_map suc) rest.1, rest.2)
 
-place_none : {X : Type 0} (f : X → Option SignalNo) (s : ℕ) (xs : List X) → ((y : X) → Has xs y → f y ≡ Some (signal s) → ⊥) → place_of s (map f xs) ≡ None
+pub place_none : {X : Type 0} (f : X → Option SignalNo) (s : ℕ) (xs : List X) → ((y : X) → Has xs y → f y ≡ Some (signal s) → ⊥) → place_of s (map f xs) ≡ None
 place_none f s [] never = refl
 place_none f s (y ∷ xs) never = by (is_signal s (f y)) refl (place_none f s xs (λ z h. never z (suc h.0, h.1)))
   where
@@ -56,7 +56,7 @@ place_none f s (y ∷ xs) never = by (is_signal s (f y)) refl (place_none f s xs
     by true e rest = absurd (never y (0, refl) (is_same s (f y) e))
     by false e rest = ap (option_map suc) rest
 
-flat_back : {X Y : Type 0} (f : X → List Y) (xs : List X) (y : Y) → Has (flat_map f xs) y → (x : X) × Has xs x × Has (f x) y
+pub flat_back : {X Y : Type 0} (f : X → List Y) (xs : List X) (y : Y) → Has (flat_map f xs) y → (x : X) × Has xs x × Has (f x) y
 flat_back f [] y has = absurd (none-some y has.1)
 flat_back f (x ∷ xs) y has = elim (Has_append_cases (f x) (flat_map f xs) y has) [
   | inl here ↦ (x, (0, refl), here)
@@ -275,8 +275,8 @@ module _ (parts : Parts) (bits : Bits) (package_rows : PackageRows) where
   same_number a b e = ap (λ (s : SignalNo). s.0) (same_Some (signal a) (signal b) e)
 
   -- ---- ports
-  port_is : (p : Port) → Has netlist.ports p → (k : ℕ) × (k < length bonded) × (p ≡ pad_port k)
-  port_is p has =
+  pub port_made : (p : Port) → Has netlist.ports p → (k : ℕ) × (k < length bonded) × (p ≡ pad_port k)
+  port_made p has =
       let found = At_map_cases pad_port (range_with_len 0 (length bonded)) has.0 p has.1 in
       let inside = At_range_cases 0 (length bonded) has.0 found.0 found.1 in
       (found.0, (let e : found.0 ≡ 0 + has.0 = inside.1 in omega (arith, inside.0, e)), sym found.2)
@@ -295,7 +295,7 @@ module _ (parts : Parts) (bits : Bits) (package_rows : PackageRows) where
   unported : (s : ℕ) → ((k : ℕ) → k < length bonded → port_number k ≡ s → ⊥) → place_of s (pads netlist) ≡ None
   unported s never =
       place_none (pad_of netlist.cells) s netlist.ports
-      (λ p has e. let is = port_is p has in never is.0 is.1 (same_number (port_number is.0) s (ap (pad_of netlist.cells) (sym is.2) ∙ e)))
+      (λ p has e. let is = port_made p has in never is.0 is.1 (same_number (port_number is.0) s (ap (pad_of netlist.cells) (sym is.2) ∙ e)))
 
   -- ---- what drives the signal of a root
   pub root_driven : (r : Root) → Stands r → (i : ℕ) × (driver_of netlist (root_number parts bonded r) ≡ drivers.TheVariants.Output i) × At netlist.cells i (cell_of r)

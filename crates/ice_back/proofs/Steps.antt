@@ -6,16 +6,14 @@ use Rattle.std.specs.List.{range_with_len}
 use Rattle.std.proofs.lemmas.Option.{same_Some, none-some, get_or_from_slice_get}
 use Rattle.ice_base.specs.declared.number.TileAt.{TileAt}
 use Rattle.ice_base.specs.declared.number.SignalNo.{SignalNo}
-use Rattle.ice_value.specs.Inputs.{present, reading}
+use Rattle.ice_value.specs.Inputs.{reading}
 use Rattle.ice_value.specs.Machine.{Simulates}
-use Rattle.ice_value.specs.Order.{At, Has}
-use Rattle.ice_value.proofs.Gaps.{present_at}
+use Rattle.ice_value.specs.Order.{At}
 use Rattle.ice_value.proofs.Machines.{shows_always_alike}
 use Rattle.ice_value.proofs.Members.{At_map, At_within}
-use Rattle.ice_value.proofs.Enough.{first}
 use Rattle.ice_chip.specs.Database.{Parts, PackageRows}
 use Rattle.ice_chip.specs.IsRead.{IsRead}
-use Rattle.ice_chip.specs.WireNames.{input_name, pad_output_name, output_enable_name}
+use Rattle.ice_chip.specs.WireNames.{pad_output_name, output_enable_name}
 use Rattle.ice_chip.specs.declared.rows.Pad.{Pad}
 use Rattle.ice_bits.specs.Configuration.{Bits}
 use Rattle.ice_bits.specs.Settings.{set_at}
@@ -31,7 +29,7 @@ use Rattle.ice_decode.specs.Cells.{cells, logic_tiles, has_flop, reset_of}
 use Rattle.ice_decode.specs.Meaning as chip
 use Rattle.ice_decode.specs.Meaning.{tile_place, kept_at, point_level, table_level, flop_after, kept_after, clock_level}
 use Rattle.ice_decode.specs.Pads.{pin_type, pin_level, part_drive, drive_at}
-use Rattle.ice_decode.specs.Reads.{points, count_points, at_pin, cell_inputs}
+use Rattle.ice_decode.specs.Reads.{at_pin, cell_inputs}
 use Rattle.ice_decode.specs.Refusals.{IsFaultless}
 use Rattle.ice_decode.proofs.KeptLevels.{tile_at, clock_stepped}
 use Rattle.ice_decode.proofs.PointPlaces.{cell_at}
@@ -39,10 +37,11 @@ use Rattle.ice_back.specs.Back.{pin_reader, buffer_type, pad_port}
 use Rattle.ice_back.specs.Law.{NetlistShowsWhatBitsShow}
 use Rattle.ice_back.specs.Numbers.{reader_of}
 use Rattle.ice_back.specs.Roots.{Register, table_root}
-use Rattle.ice_back.proofs.Ranks.{IsThere, StandsAt, Ranks, ranked, AreBelow, table_good, pin_there}
+use Rattle.ice_back.proofs.Ranks.{IsThere, StandsAt, table_good, pin_there}
 use Rattle.ice_back.proofs.RootLevels.{table_level_is}
 use Rattle.ice_back.proofs.Standing.{netlist, cell_of, buffered, no_pad}
 use Rattle.ice_back.proofs.Levels.{root_reads, point_reads}
+use Rattle.ice_back.proofs.Inputs.{below_some, inputs_there}
 
 -- ---- lists
 zip_at : {A B : Type 0} (xs : List A) (ys : List B) (n : ℕ) (a : A) (b : B) → At xs n a → At ys n b → At (zip xs ys) n (a, b)
@@ -106,30 +105,6 @@ module _ (parts : Parts) (bits : Bits) (extras : List (ℕ × ℕ × ℕ)) (read
       ∙ sym (ap (λ (o : Option ℕ). option_map_or (λ m. slice_index_or t.kept (8 * m + i) false) o false) e
       ∙ get_or_from_slice_get t.kept (8 * k + i) both.0 false both.2)
 
-  -- ---- the inputs of a table
-  below_some : (ps : List (Option Point)) → ((q : Point) → Has (present ps) q → Has (points parts) q) → (m : ℕ) × AreBelow parts bits extras read faultless pads m ps
-  below_some [] there = (0, λ q has. absurd (none-some q has.1))
-  below_some (None ∷ ps) there = below_some ps there
-  below_some (Some p ∷ ps) there =
-      let rest = below_some ps (λ q has. there q (suc has.0, has.1)) in
-      let r = ranked parts bits extras read faultless p (there p (0, refl)) in
-      (suc (first (chip.system_of parts bits [] [] []) (count_points parts + 1) p + rest.0), by rest.0 rest.1 r)
-    where
-      by : (m : ℕ) → AreBelow parts bits extras read faultless pads m ps → Ranks parts bits extras read faultless (first (chip.system_of parts bits [] [] []) (count_points parts + 1) p) p
-          → (q : Point) → Has (p ∷ present ps) q → (j : ℕ) × (j < suc (first (chip.system_of parts bits [] [] []) (count_points parts + 1) p + m)) × Ranks parts bits extras read faultless j q
-      by m below r q (zero, at) = (first (chip.system_of parts bits [] [] []) (count_points parts + 1) p, omega arith, subst (Ranks parts bits extras read faultless (first (chip.system_of parts bits [] [] []) (count_points parts + 1) p)) (same_Some p q at) r)
-      by m below r q (suc i, at) = let one = below q (i, at) in (one.0, omega (arith, one.1), one.2)
-
-  inputs_there : (u : TileAt) (i : ℕ) (q : Point) → Has (present (cell_inputs parts u i)) q → Has (points parts) q
-  inputs_there u i q has = let found = present_at (cell_inputs parts u i) has.0 q has.1 in by found.0 found.1
-    where
-      by : (j : ℕ) → At (cell_inputs parts u i) j (Some q) → Has (points parts) q
-      by zero at = pin_there parts read u (input_name i 0) q (same_Some (at_pin parts u (input_name i 0)) (Some q) at)
-      by (suc zero) at = pin_there parts read u (input_name i 1) q (same_Some (at_pin parts u (input_name i 1)) (Some q) at)
-      by (suc (suc zero)) at = pin_there parts read u (input_name i 2) q (same_Some (at_pin parts u (input_name i 2)) (Some q) at)
-      by (suc (suc (suc zero))) at = pin_there parts read u (input_name i 3) q (same_Some (at_pin parts u (input_name i 3)) (Some q) at)
-      by (suc (suc (suc (suc j)))) at = absurd (none-some (Some q) at)
-
   -- ---- one step
   module _ (levels : List Bool) (s t : State) (alike : Alike s t) where
     abbrev own : Point → Bool
@@ -144,7 +119,7 @@ module _ (parts : Parts) (bits : Bits) (extras : List (ℕ × ℕ × ℕ)) (read
 
     table_now : (u : TileAt) (i : ℕ) → StandsAt parts u i → reading false (λ (x : SignalNo). now x.0) (reader_of parts pads false (table_root parts bits u i)) ≡ table_level parts bits own u i
     table_now u i place =
-        let below = below_some (cell_inputs parts u i) (inputs_there u i) in
+        let below = below_some parts read bits extras faultless pads (cell_inputs parts u i) (inputs_there parts read u i) in
         root_reads parts bits extras read faultless package_rows levels t.kept s.kept (same_kept s t alike) false below.0 (table_root parts bits u i)
         (table_good parts bits extras read faultless pads below.0 u i place below.1)
         ∙ sym (table_level_is parts bits own levels t.kept u i)

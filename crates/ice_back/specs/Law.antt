@@ -1,5 +1,5 @@
 -- What bits show, their netlist shows.
-use Rattle.std.specs.Prelude.{◌≡◌, ℕ, Bool, false, List, slice_index_or}
+use Rattle.std.specs.Prelude.{◌≡◌, ℕ, Bool, false, List, None, slice_index_or}
 use Rattle.ice_chip.specs.Database.{Parts, PackageRows}
 use Rattle.ice_chip.specs.IsRead.{IsRead}
 use Rattle.ice_bits.specs.Configuration.{Bits}
@@ -12,6 +12,9 @@ use Rattle.ice_decode.specs.declared.point.Point.{Point}
 use Rattle.ice_decode.specs.declared.point.Point.TheVariants.{Carry}
 use Rattle.ice_decode.specs.Faults.{IsOrderOf}
 use Rattle.ice_decode.specs.Reads.{points}
+use Rattle.ice_net.specs.NetlistData.{NetlistData}
+use Rattle.ice_check.specs.Faults.{undriven, pin_not_port, inout_bare}
+use Rattle.ice_check.specs.Loops.{HasNoLoop}
 use Rattle.ice_back.specs.Back.{back_netlist}
 use Rattle.ice_back.specs.Roots.{Root, Fixed, Input, Table, Register, Sum, root_of}
 
@@ -20,6 +23,22 @@ use Rattle.ice_back.specs.Roots.{Root, Fixed, Input, Table, Register, Sum, root_
 abbrev pub NetlistShowsWhatBitsShow : Type 0
 NetlistShowsWhatBitsShow = (parts : Parts) (bits : Bits) (extras : List (ℕ × ℕ × ℕ)) (package_rows : PackageRows) → IsRead parts → IsFaultless parts bits extras → Has parts.packages package_rows
     → (levels : List (List Bool)) → net.shows (back_netlist parts bits package_rows) levels ≡ chip.shows parts bits package_rows.pads package_rows.pads levels
+
+-- No signals of the netlist depend on one another in a circle, so each has a value and no default stands in for one.
+abbrev pub NetlistHasNoLoop : Type 0
+NetlistHasNoLoop = (parts : Parts) (bits : Bits) (extras : List (ℕ × ℕ × ℕ)) (package_rows : PackageRows) → IsRead parts → IsFaultless parts bits extras → Has parts.packages package_rows
+    → HasNoLoop (back_netlist parts bits package_rows)
+
+-- each input in use has a driver, each SB_IO is at a port, and each port has an SB_IO
+pub record IsConnected (n : NetlistData) : Type 0 where
+  pub driven : undriven n ≡ None
+  pub pins_at_ports : pin_not_port n ≡ None
+  pub inouts_buffered : inout_bare n ≡ None
+
+-- the netlist is connected
+abbrev pub NetlistIsConnected : Type 0
+NetlistIsConnected = (parts : Parts) (bits : Bits) (extras : List (ℕ × ℕ × ℕ)) (package_rows : PackageRows) → IsRead parts → IsFaultless parts bits extras → Has parts.packages package_rows
+    → IsConnected (back_netlist parts bits package_rows)
 
 -- the level of a root at a moment, by the levels of points
 abbrev pub root_level : Parts → Bits → (Point → Bool) → List Bool → List Bool → Root → Bool

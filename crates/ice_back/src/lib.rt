@@ -3,4 +3,7 @@
 
 mod laws;
 
-pub use laws::{netlist_shows_what_bits_show, points_have_their_roots_levels};
+pub use laws::{
+    netlist_has_no_loop, netlist_is_connected, netlist_shows_what_bits_show,
+    points_have_their_roots_levels,
+};
