@@ -148,9 +148,7 @@ pub fn work<G: Gate>(
     ensures kit { IsKitOf graph.now kit.new }
 {
     begin(&mut kit.prices, prices);
-    let done = do_all(
-        alloc, words, hand, graph, prices, tasks, worker, gate, kit,
-    );
+    let done = do_all(alloc, words, hand, graph, prices, tasks, worker, gate, kit);
     words.post(hand);
     done
 }
