@@ -1,0 +1,5 @@
+pub mod Wires
+pub mod Leaving
+pub mod Stepping
+pub mod Working
+pub mod Lawful

@@ -1,0 +1,4 @@
+pub mod Tasks
+pub mod Work
+pub mod Kits
+pub mod Lawfulness

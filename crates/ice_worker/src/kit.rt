@@ -1,0 +1,45 @@
+//! What one worker needs, and what it made.
+ghost use Rattle.std.specs.Prelude.{◌≡◌, [], IfOk};
+ghost use Rattle.ice_worker.specs.Kits.{IsKitOf, made_by};
+
+use ice_base::NoMemory;
+use ice_core::Prices;
+use ice_graph::{Graph, Tree};
+use ice_path::Scratch;
+use std::alloc::Global;
+
+/// What one worker needs: room for searches in one graph, and prices of its own. It keeps the trees that the worker made, each with the number of its
+/// task, by rising number. It serves in any number of rounds.
+#[derive(Drop)]
+pub struct Kit {
+    pub(crate) scratch: Scratch,
+    pub(crate) prices: Prices,
+    pub(crate) trees: Vec<(u32, Tree)>,
+}
+
+impl Kit {
+    /// A kit for this graph, without a tree. It answers `NoMemory` where it finds no memory for it.
+    pub fn new(alloc: Global, graph: &Graph) -> Result<Kit, NoMemory>
+        ensures kit { IfOk result (IsKitOf graph.now) }
+        ensures trees { IfOk result (λ kit. made_by kit ≡ []) }
+    {
+        let wires = graph.wires() as usize;
+        let scratch = Scratch::new(alloc, graph)?;
+        Ok(Kit {
+            scratch,
+            prices: Prices {
+                round: 1,
+                history: vec![in alloc; 0u64; wires]?,
+                others: vec![in alloc; 0u32; wires]?,
+            },
+            trees: Vec::new(alloc),
+        })
+    }
+
+    /// The trees that the worker made when it worked last, each with the number of its task.
+    pub fn trees(&self) -> &[(u32, Tree)]
+        ensures { result.now ≡ made_by self.now }
+    {
+        &self.trees
+    }
+}
