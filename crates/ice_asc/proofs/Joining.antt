@@ -6,6 +6,7 @@ use Rattle.std.proofs.lemmas.List.{take_more}
 use Rattle.std.proofs.lemmas.List.FromFn.{map-range_with_len_more}
 use Rattle.ice_base.specs.declared.number.BitAt.{BitAt}
 use Rattle.ice_base.specs.Text.{text_of_lines}
+use Rattle.ice_base.proofs.Pieces.{text_join}
 use Rattle.ice_chip.specs.declared.tile.Tile.{Tile}
 use Rattle.ice_chip.specs.Database.{Parts}
 use Rattle.ice_chip.specs.Lookups.{tile_of}
@@ -15,7 +16,7 @@ use Rattle.ice_asc.specs.Text.{digit_of_bit, bit_at_place, row_line, tile_headin
 
 -- lines behind other lines
 pub joined : (out : List ℕ) (ls ms : List (List ℕ)) → (out ++ text_of_lines ls) ++ text_of_lines ms ≡ out ++ text_of_lines (ls ++ ms)
-joined out ls ms = append_assoc out (text_of_lines ls) (text_of_lines ms) ∙ ap (λ text. out ++ text) (sym (flat_map-append (λ (line : List ℕ). line ++ 10 ∷ []) ls ms))
+joined out ls ms = append_assoc out (text_of_lines ls) (text_of_lines ms) ∙ ap (λ text. out ++ text) (text_join ls ms)
 
 -- the three lines in front, and two lists of lines behind them
 pub all_joined : (out comment remark device : List ℕ) (tiles extras : List (List ℕ))

@@ -4,7 +4,7 @@ use Rattle.std.specs.List.{flat_map}
 use Rattle.ice_base.specs.declared.number.TileAt.{TileAt}
 use Rattle.ice_base.specs.declared.number.SignalNo.{SignalNo}
 use Rattle.ice_chip.specs.Database.{Parts, PackageRows}
-use Rattle.ice_chip.specs.Places.{same_pad}
+use Rattle.ice_chip.specs.Lookups.{first_pin}
 use Rattle.ice_chip.specs.declared.rows.Pad.{Pad}
 use Rattle.ice_decode.specs.Cells.{logic_tiles, cells}
 use Rattle.ice_decode.specs.Meaning.{tile_place}
@@ -49,14 +49,9 @@ reader_of parts bonded bare (Register t i) = Some (signal (root_number parts bon
 reader_of parts bonded bare (Sum t i) = Some (signal (root_number parts bonded (Sum t i)))
 
 -- ---- names
--- the first pin of a pad
-abbrev pub first_pin : Pad → List (List ℕ × Pad) → List ℕ
-first_pin pad [] = []
-first_pin pad (pin ∷ pins) = if same_pad pin.1 pad then pin.0 else first_pin pad pins
-
 -- `p_PIN` is a pad's port, and `in_PIN` what it gives to the chip
 abbrev pub pad_names : PackageRows → Pad → List (List ℕ)
-pad_names package_rows pad = (codes "p_" ++ first_pin pad package_rows.pins) ∷ (codes "in_" ++ first_pin pad package_rows.pins) ∷ []
+pad_names package_rows pad = (codes "p_" ++ first_pin package_rows pad) ∷ (codes "in_" ++ first_pin package_rows pad) ∷ []
 
 -- what stands at a cell: `x5_y7_lut_3` is the table of cell 3 in column 5 and row 7
 abbrev pub cell_name : List ℕ → TileAt × ℕ → List ℕ

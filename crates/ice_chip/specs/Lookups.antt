@@ -1,5 +1,5 @@
 -- Where a database says a thing. Of several rows that say it the first counts.
-use Rattle.std.specs.Prelude.{ℕ, ◌==◌, ◌&&◌, Bool, true, false, Option, None, Some, List, [], ◌∷◌, ◌++◌, map, filter, find, is_some, option_map, bytes_eq, nat_eq}
+use Rattle.std.specs.Prelude.{ℕ, ◌==◌, ◌&&◌, Bool, true, false, Option, None, Some, List, [], ◌∷◌, ◌++◌, map, filter, find, is_some, option_map, unwrap_or, bytes_eq, nat_eq}
 use Rattle.std.specs.Map.{lookup}
 use Rattle.ice_base.specs.declared.number.TileAt.{TileAt}
 use Rattle.ice_chip.specs.Database.{Parts, WireName, SwitchGroup, SwitchRow, PackageRows, FunctionRow}
@@ -97,3 +97,8 @@ is_function kind name f = same_kind f.kind kind && bytes_eq f.name name
 
 abbrev pub function_of : Parts → TileKind → List ℕ → Option FunctionRow
 function_of parts kind name = find (is_function kind name) parts.functions
+
+-- ---- pins
+-- the first pin of the package that leads to the pad; empty where none does
+abbrev pub first_pin : PackageRows → Pad → List ℕ
+first_pin bonded pad = unwrap_or (option_map (λ (pin : List ℕ × Pad). pin.0) (find (λ (pin : List ℕ × Pad). same_pad pad pin.1) bonded.pins)) []

@@ -1,5 +1,5 @@
 -- The report on pins: a line for each port, with the pin and the pad that it has.
-use Rattle.std.specs.Prelude.{ℕ, List, [], ◌∷◌, ◌++◌, map, find, option_map, unwrap_or, slice_index_or, codes, decimal}
+use Rattle.std.specs.Prelude.{ℕ, List, [], ◌∷◌, ◌++◌, map, slice_index_or, codes, decimal}
 use Rattle.std.specs.List.{zip}
 use Rattle.ice_base.specs.Text.{text_of_lines}
 use Rattle.ice_net.specs.NetlistData.{NetlistData}
@@ -7,7 +7,7 @@ use Rattle.ice_net.specs.declared.port.Port.{Port}
 use Rattle.ice_net.specs.declared.port.Way.{Way}
 use Rattle.ice_net.specs.declared.port.Way.TheVariants.{Input, Output, Both}
 use Rattle.ice_chip.specs.Database.{PackageRows}
-use Rattle.ice_chip.specs.Places.{same_pad}
+use Rattle.ice_chip.specs.Lookups.{first_pin}
 use Rattle.ice_chip.specs.declared.rows.Pad.{Pad}
 use Rattle.ice_report.specs.Lines.{line_of}
 
@@ -15,10 +15,6 @@ abbrev pub way_word : Way → List ℕ
 way_word Input = codes "in"
 way_word Output = codes "out"
 way_word Both = codes "both"
-
--- the first pin of the package that leads to the pad; empty where none does
-abbrev pub first_pin : PackageRows → Pad → List ℕ
-first_pin bonded pad = unwrap_or (option_map (λ (pin : List ℕ × Pad). pin.0) (find (λ (pin : List ℕ × Pad). same_pad pad pin.1) bonded.pins)) []
 
 -- a pad: its first pin, the column and the row of its tile, and which of the tile's two pads it is
 abbrev pub pad_words : PackageRows → Pad → List (List ℕ)

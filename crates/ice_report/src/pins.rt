@@ -4,7 +4,8 @@ ghost use Rattle.std.specs.List.{flat_map, zip};
 ghost use Rattle.ice_base.specs.Text.{text_of_lines};
 ghost use Rattle.ice_chip.specs.Views.{package_view};
 ghost use Rattle.ice_net.specs.Formed.{IsPortBelow};
-ghost use Rattle.ice_report.specs.PinReport.{way_word, first_pin, pad_words, pin_line, pin_text};
+ghost use Rattle.ice_chip.specs.Lookups.{first_pin};
+ghost use Rattle.ice_report.specs.PinReport.{way_word, pad_words, pin_line, pin_text};
 
 use crate::text::{put_number, put_word};
 use ice_base::NoMemory;

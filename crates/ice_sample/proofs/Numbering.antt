@@ -2,15 +2,12 @@
 use Rattle.std.proofs.Common.{◌≡◌, ℕ, ◌+◌, ◌-◌, ◌*◌, ◌/◌, ◌%◌, ◌^◌, ◌<◌, ◌++◌, ◌∷◌, [], List, map, zero, suc, length, take, get_or, ap, sym, ◌∙◌, refl, arith, append_assoc, append-nil, add-one}
 use Rattle.std.specs.List.{flat_map, range_with_len, sum_by}
 use Rattle.std.proofs.lemmas.List.{take_more, map_more, flat_map_more, length-take-le, length-map}
-use Rattle.std.proofs.lemmas.List.Concat.{flat_map-append}
 use Rattle.std.proofs.lemmas.List.Sums.{sum_by-cons, sum_by-append}
 use Rattle.std.proofs.lemmas.List.FromFn.{sum_by-map-range_with_len_more}
 use Rattle.ice_base.specs.Text.{text_of_lines}
+use Rattle.ice_base.proofs.Pieces.{text_join}
 use Rattle.ice_sample.specs.Lines.{numbered, binary}
 use Rattle.ice_sample.proofs.Counting.{map_range_more, flat_map_range_more}
-
-pub text-append : (a b : List (List ℕ)) → text_of_lines (a ++ b) ≡ text_of_lines a ++ text_of_lines b
-text-append a b = flat_map-append (λ (line : List ℕ). line ++ 10 ∷ []) a b
 
 pub numbered-append : {A : Type 0} (size : A → ℕ) (lines : ℕ → A → List (List ℕ)) (n : ℕ) (xs ys : List A)
     → numbered size lines n (xs ++ ys) ≡ numbered size lines n xs ++ numbered size lines (n + sum_by size xs) ys
@@ -26,7 +23,7 @@ pub numbered_push : {A : Type 0} (size : A → ℕ) (lines : ℕ → A → List 
     → text_of_lines (numbered size lines n (xs ++ y ∷ [])) ≡ text_of_lines (numbered size lines n xs) ++ text_of_lines (lines m y)
 numbered_push size lines n xs y m e =
     ap text_of_lines (numbered-append size lines n xs (y ∷ []) ∙ ap (λ k. numbered size lines n xs ++ k) (append-nil (lines (n + sum_by size xs) y) ∙ ap (λ k. lines k y) e))
-    ∙ text-append (numbered size lines n xs) (lines m y)
+    ∙ sym (text_join (numbered size lines n xs) (lines m y))
 
 count_of : {A : Type 0} (xs : List A) → sum_by (λ (x : A). 1) xs ≡ length xs
 count_of [] = refl
@@ -44,16 +41,11 @@ counted_more {A = A} lines n xs i d below =
 pub row_more : {A : Type 0} (head : List ℕ) (lines : ℕ → A → List (List ℕ)) (n : ℕ) (xs : List A) (i : ℕ) (d : A) (m : ℕ) → i < length xs → m ≡ n + i
     → text_of_lines (head ∷ numbered (λ _. 1) lines n (take i xs)) ++ text_of_lines (lines m (get_or xs i d)) ≡ text_of_lines (head ∷ numbered (λ _. 1) lines n (take (i + 1) xs))
 row_more head lines n xs i d m below e =
-    ap (λ t. t ++ text_of_lines (lines m (get_or xs i d))) (text-append (head ∷ []) (numbered (λ _. 1) lines n (take i xs)))
+    ap (λ t. t ++ text_of_lines (lines m (get_or xs i d))) (sym (text_join (head ∷ []) (numbered (λ _. 1) lines n (take i xs))))
     ∙ append_assoc (text_of_lines (head ∷ [])) (text_of_lines (numbered (λ _. 1) lines n (take i xs))) (text_of_lines (lines m (get_or xs i d)))
     ∙ ap (λ k. text_of_lines (head ∷ []) ++ (text_of_lines (numbered (λ _. 1) lines n (take i xs)) ++ text_of_lines (lines k (get_or xs i d)))) e
     ∙ ap (λ t. text_of_lines (head ∷ []) ++ t) (sym (counted_more lines n xs i d below))
-    ∙ sym (text-append (head ∷ []) (numbered (λ _. 1) lines n (take (i + 1) xs)))
-
--- a text that was written further
-pub further : (start old new a b whole : List ℕ) → old ≡ start ++ a → new ≡ old ++ b → a ++ b ≡ whole → new ≡ start ++ whole
-further start old new a b whole before put e =
-    put ∙ ap (λ t. t ++ b) before ∙ append_assoc start a b ∙ ap (λ t. start ++ t) e
+    ∙ text_join (head ∷ []) (numbered (λ _. 1) lines n (take (i + 1) xs))
 
 -- the greatest of some digits
 pub binary_step : (left n : ℕ) → 0 < left → binary left n ≡ (48 + n / 2 ^ (left - 1) % 2) ∷ binary (left - 1) n
@@ -87,11 +79,11 @@ series_more size lines n f b k m same e =
 pub lists_join : {A : Type 0} (size : A → ℕ) (lines : ℕ → A → List (List ℕ)) (n : ℕ) (xs ys : List A) (m : ℕ) → n + sum_by size xs ≡ m
     → text_of_lines (numbered size lines n xs) ++ text_of_lines (numbered size lines m ys) ≡ text_of_lines (numbered size lines n (xs ++ ys))
 lists_join size lines n xs ys m e =
-    sym (ap text_of_lines (numbered-append size lines n xs ys ∙ ap (λ k. numbered size lines n xs ++ numbered size lines k ys) e) ∙ text-append (numbered size lines n xs) (numbered size lines m ys))
+    sym (ap text_of_lines (numbered-append size lines n xs ys ∙ ap (λ k. numbered size lines n xs ++ numbered size lines k ys) e) ∙ sym (text_join (numbered size lines n xs) (numbered size lines m ys)))
 
 -- a line, and lines behind it
 pub head_join : (head : List ℕ) (lines : List (List ℕ)) → text_of_lines (head ∷ []) ++ text_of_lines lines ≡ text_of_lines (head ∷ lines)
-head_join head lines = sym (text-append (head ∷ []) lines)
+head_join head lines = text_join (head ∷ []) lines
 
 -- the same below a line
 pub rows_join : {A : Type 0} (head : List ℕ) (size : A → ℕ) (lines : ℕ → A → List (List ℕ)) (n : ℕ) (xs ys : List A) (m : ℕ) → n + sum_by size xs ≡ m
@@ -137,17 +129,13 @@ lists_more size lines n f b k m same e =
 pub lines_more : {X : Type 0} (before : List (List ℕ)) (f : X → List (List ℕ)) (xs : List X) (i : ℕ) (d : X) → i < length xs
     → text_of_lines (before ++ flat_map f (take i xs)) ++ text_of_lines (f (get_or xs i d)) ≡ text_of_lines (before ++ flat_map f (take (i + 1) xs))
 lines_more before f xs i d below =
-    sym (text-append (before ++ flat_map f (take i xs)) (f (get_or xs i d)))
+    text_join (before ++ flat_map f (take i xs)) (f (get_or xs i d))
     ∙ ap text_of_lines (flat_map_more f before (take i xs) (get_or xs i d) ∙ ap (λ ys. before ++ flat_map f ys) (sym (take_more xs i d below)))
 
 -- the lines of one number further
 pub numbers_more : (f : ℕ → List (List ℕ)) (k : ℕ)
     → text_of_lines (flat_map f (range_with_len 0 k)) ++ text_of_lines (f k) ≡ text_of_lines (flat_map f (range_with_len 0 (k + 1)))
-numbers_more f k = sym (ap text_of_lines (flat_map_range_more f k) ∙ text-append (flat_map f (range_with_len 0 k)) (f k))
-
--- lines behind lines
-pub text_join : (a b : List (List ℕ)) → text_of_lines a ++ text_of_lines b ≡ text_of_lines (a ++ b)
-text_join a b = sym (text-append a b)
+numbers_more f k = sym (ap text_of_lines (flat_map_range_more f k) ∙ sym (text_join (flat_map f (range_with_len 0 k)) (f k)))
 
 -- one row further
 pub row_after : {A : Type 0} (lines : ℕ → A → List (List ℕ)) (n : ℕ) (xs : List A) (i : ℕ) (d : A) (m : ℕ) → i < length xs → m ≡ n + i

@@ -8,7 +8,7 @@ use Rattle.std.proofs.lemmas.Option.{unwrap_or-slice_get}
 use Rattle.ice_base.specs.Text.{text_of_lines}
 use Rattle.rand_pcg.specs.Lcg.{Lcg}
 use Rattle.ice_sample.specs.Netlist.{drawn, after, input_name, cell_name, names, name_at, found, picked}
-use Rattle.ice_sample.proofs.Numbering.{further, text_join}
+use Rattle.ice_base.proofs.Pieces.{further, text_join}
 
 -- how many names may be read
 pub length-names : (cells : ℕ) → length (names cells) ≡ 8 + cells

@@ -3,7 +3,8 @@ use Rattle.std.proofs.lemmas.List.{length_push}
 use Rattle.std.proofs.lemmas.Slice.Zip.{zip_turn, zip_end}
 use Rattle.ice_chip.specs.Views.{package_view}
 use Rattle.ice_report.specs.PinReport.{pin_line}
-use Rattle.ice_report.proofs.Writing.{further, pair_more, pairs_end}
+use Rattle.ice_base.proofs.Pieces.{further}
+use Rattle.ice_report.proofs.Writing.{pair_more, pairs_end}
 use Rattle.ice_report.proofs.pins.put_ports.Goals as goal
 
 pub loop-port-preserved : goal.loop-port-preserved

@@ -1,7 +1,7 @@
 use Rattle.std.proofs.Common.{◌++◌, ◌∷◌, [], ap, ◌∙◌}
 use Rattle.ice_base.specs.Text.{text_of_lines}
 use Rattle.ice_report.specs.RouteReport.{net_line}
-use Rattle.ice_report.proofs.Writing.{further, line_more}
+use Rattle.ice_base.proofs.Pieces.{further, line_more}
 use Rattle.ice_report.proofs.rounds.put_nets.Goals as goal
 
 pub loop-entry-preserved : goal.loop-entry-preserved

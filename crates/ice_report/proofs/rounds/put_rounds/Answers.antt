@@ -1,7 +1,7 @@
 use Rattle.std.proofs.Common.{◌++◌, ap, ◌∙◌}
 use Rattle.ice_base.specs.Text.{text_of_lines}
 use Rattle.ice_report.specs.RouteReport.{round_lines}
-use Rattle.ice_report.proofs.Writing.{further, lines_more}
+use Rattle.ice_base.proofs.Pieces.{further, lines_more}
 use Rattle.ice_report.proofs.rounds.put_rounds.Goals as goal
 
 pub loop-log-preserved : goal.loop-log-preserved

@@ -1,7 +1,7 @@
 use Rattle.std.proofs.Common.{◌+◌, sym}
 use Rattle.ice_sample.specs.Bits.{bit_word}
 use Rattle.ice_sample.proofs.Counting.{flat_map_range_more}
-use Rattle.ice_sample.proofs.Numbering.{further}
+use Rattle.ice_base.proofs.Pieces.{further}
 use Rattle.ice_sample.proofs.bits.put_bits.Goals as goal
 
 pub loop-bit-preserved : goal.loop-bit-preserved

@@ -1,6 +1,7 @@
 use Rattle.std.proofs.Common.{◌++◌, decimal, refl, arith}
 use Rattle.ice_sample.specs.Bits.{columns_of, TileFunction, function_row}
-use Rattle.ice_sample.proofs.Numbering.{series_more, further, nothing_more}
+use Rattle.ice_base.proofs.Pieces.{further}
+use Rattle.ice_sample.proofs.Numbering.{series_more, nothing_more}
 use Rattle.ice_sample.proofs.bits.put_functions.Goals as goal
 
 pub loop-number-preserved : goal.loop-number-preserved

@@ -1,6 +1,7 @@
 use Rattle.std.proofs.Common.{◌++◌, codes, refl}
 use Rattle.ice_sample.specs.Bits.{TileFunction, function_row, function_rows, function_series, lone_function, logic_functions}
-use Rattle.ice_sample.proofs.Numbering.{further, rows_join, head_join}
+use Rattle.ice_base.proofs.Pieces.{further}
+use Rattle.ice_sample.proofs.Numbering.{rows_join, head_join}
 use Rattle.ice_sample.proofs.bits.put_logic_functions.Goals as goal
 
 pub returns : goal.returns

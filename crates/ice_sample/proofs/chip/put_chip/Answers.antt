@@ -4,7 +4,7 @@ use Rattle.ice_sample.specs.Bits.{io_bit_lines, logic_bit_lines}
 use Rattle.ice_sample.specs.Wires.{all_wire_lines}
 use Rattle.ice_sample.specs.Groups.{all_group_lines}
 use Rattle.ice_sample.specs.Chip.{layout_lines, sample_chip_lines}
-use Rattle.ice_sample.proofs.Numbering.{text_join, further}
+use Rattle.ice_base.proofs.Pieces.{text_join, further}
 use Rattle.ice_sample.proofs.chip.put_chip.Goals as goal
 
 pub returns : goal.returns

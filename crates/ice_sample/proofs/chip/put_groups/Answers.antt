@@ -1,7 +1,8 @@
 use Rattle.std.proofs.Common.{[], List, ℕ, ◌∙◌, arith}
 use Rattle.ice_sample.specs.Groups.{tile_group_lines}
 use Rattle.ice_sample.proofs.Counting.{tile_within}
-use Rattle.ice_sample.proofs.Numbering.{lines_more, further, nothing_more}
+use Rattle.ice_base.proofs.Pieces.{further}
+use Rattle.ice_sample.proofs.Numbering.{lines_more, nothing_more}
 use Rattle.ice_sample.proofs.chip.put_groups.Goals as goal
 
 pub loop-tile-init : goal.loop-tile-init

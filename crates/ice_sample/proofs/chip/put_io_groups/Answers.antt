@@ -2,7 +2,8 @@ use Rattle.std.proofs.Common.{refl}
 use Rattle.ice_sample.specs.declared.grid.TileKind.TheVariants.{Io}
 use Rattle.ice_sample.specs.Bits.{io_functions}
 use Rattle.ice_sample.specs.Groups.{SampleGroup, group_lines, track_groups, io_pin_groups}
-use Rattle.ice_sample.proofs.Numbering.{lists_join, further}
+use Rattle.ice_base.proofs.Pieces.{further}
+use Rattle.ice_sample.proofs.Numbering.{lists_join}
 use Rattle.ice_sample.proofs.chip.put_io_groups.Goals as goal
 
 pub returns : goal.returns

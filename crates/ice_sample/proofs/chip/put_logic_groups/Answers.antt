@@ -2,7 +2,8 @@ use Rattle.std.proofs.Common.{◌++◌, refl}
 use Rattle.ice_sample.specs.declared.grid.TileKind.TheVariants.{Logic}
 use Rattle.ice_sample.specs.Bits.{logic_functions}
 use Rattle.ice_sample.specs.Groups.{SampleGroup, group_lines, track_groups, input_groups, control_groups, carry_groups, carry_in}
-use Rattle.ice_sample.proofs.Numbering.{lists_join, further}
+use Rattle.ice_base.proofs.Pieces.{further}
+use Rattle.ice_sample.proofs.Numbering.{lists_join}
 use Rattle.ice_sample.proofs.chip.put_logic_groups.Goals as goal
 
 pub returns : goal.returns

@@ -1,5 +1,6 @@
 use Rattle.ice_sample.specs.Groups.{SampleGroup, group_heading, source_rows}
-use Rattle.ice_sample.proofs.Numbering.{head_join, further}
+use Rattle.ice_base.proofs.Pieces.{further}
+use Rattle.ice_sample.proofs.Numbering.{head_join}
 use Rattle.ice_sample.proofs.groups.put_group.Goals as goal
 
 pub returns : goal.returns

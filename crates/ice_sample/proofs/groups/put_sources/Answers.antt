@@ -1,6 +1,7 @@
 use Rattle.std.proofs.Common.{◌++◌, ◌∷◌, [], codes, decimal, arith}
 use Rattle.ice_sample.specs.Lines.{binary}
-use Rattle.ice_sample.proofs.Numbering.{row_after, further, nothing_more}
+use Rattle.ice_base.proofs.Pieces.{further}
+use Rattle.ice_sample.proofs.Numbering.{row_after, nothing_more}
 use Rattle.ice_sample.proofs.groups.put_sources.Goals as goal
 
 pub loop-source-init : goal.loop-source-init

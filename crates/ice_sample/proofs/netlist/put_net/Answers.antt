@@ -1,6 +1,6 @@
 use Rattle.std.proofs.Common.{[], ◌∷◌, ◌++◌, codes}
 use Rattle.ice_sample.specs.Netlist.{started_at, names, head_lines, all_cell_lines, all_output_lines}
-use Rattle.ice_sample.proofs.Numbering.{further, text_join}
+use Rattle.ice_base.proofs.Pieces.{further, text_join}
 use Rattle.ice_sample.proofs.Picking.{lines_third}
 use Rattle.ice_sample.proofs.netlist.put_net.Goals as goal
 

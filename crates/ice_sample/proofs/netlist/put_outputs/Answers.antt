@@ -2,7 +2,8 @@ use Rattle.std.proofs.Common.{◌≡◌, ◌++◌, subst, arith}
 use Rattle.std.specs.List.{flat_map, range_with_len}
 use Rattle.ice_base.specs.Text.{text_of_lines}
 use Rattle.ice_sample.specs.Netlist.{names, output_lines, all_output_lines}
-use Rattle.ice_sample.proofs.Numbering.{further, numbers_more, nothing_more}
+use Rattle.ice_base.proofs.Pieces.{further}
+use Rattle.ice_sample.proofs.Numbering.{numbers_more, nothing_more}
 use Rattle.ice_sample.proofs.netlist.put_outputs.Goals as goal
 
 pub loop-output-init : goal.loop-output-init

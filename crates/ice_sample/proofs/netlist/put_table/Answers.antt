@@ -1,6 +1,6 @@
 use Rattle.std.proofs.Common.{◌++◌, codes, ap, ◌∙◌, refl}
 use Rattle.ice_sample.specs.Lines.{binary}
-use Rattle.ice_sample.proofs.Numbering.{further}
+use Rattle.ice_base.proofs.Pieces.{further}
 use Rattle.ice_sample.proofs.Picking.{ended}
 use Rattle.ice_sample.proofs.netlist.put_table.Goals as goal
 

@@ -2,7 +2,8 @@ use Rattle.std.proofs.Common.{◌≡◌, ◌+◌, ◌*◌, ◌++◌, map, refl, 
 use Rattle.std.specs.List.{range_with_len}
 use Rattle.ice_base.specs.Text.{text_of_lines}
 use Rattle.ice_sample.specs.Groups.{SampleGroup, group_lines, groups_from, input_group}
-use Rattle.ice_sample.proofs.Numbering.{series_more, further, nothing_more}
+use Rattle.ice_base.proofs.Pieces.{further}
+use Rattle.ice_sample.proofs.Numbering.{series_more, nothing_more}
 use Rattle.ice_sample.proofs.pins.put_cell.Goals as goal
 
 pub loop-input-init : goal.loop-input-init

@@ -2,7 +2,8 @@ use Rattle.std.proofs.Common.{◌≡◌, ◌+◌, ◌*◌, ◌++◌, refl, subst
 use Rattle.std.specs.List.{flat_map, range_with_len}
 use Rattle.ice_base.specs.Text.{text_of_lines}
 use Rattle.ice_sample.specs.Groups.{SampleGroup, group_lines, groups_from, cell_groups, input_groups}
-use Rattle.ice_sample.proofs.Numbering.{lists_more, further, nothing_more}
+use Rattle.ice_base.proofs.Pieces.{further}
+use Rattle.ice_sample.proofs.Numbering.{lists_more, nothing_more}
 use Rattle.ice_sample.proofs.pins.put_inputs.Goals as goal
 
 pub loop-cell-init : goal.loop-cell-init

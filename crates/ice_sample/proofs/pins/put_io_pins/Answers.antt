@@ -1,6 +1,7 @@
 use Rattle.std.proofs.Common.{◌+◌, ◌∷◌, [], List, refl, arith}
 use Rattle.ice_sample.specs.Groups.{SampleGroup, group_lines, io_pin_group}
-use Rattle.ice_sample.proofs.Numbering.{thing_join, further, nothing_more}
+use Rattle.ice_base.proofs.Pieces.{further}
+use Rattle.ice_sample.proofs.Numbering.{thing_join, nothing_more}
 use Rattle.ice_sample.proofs.pins.put_io_pins.Goals as goal
 
 pub returns : goal.returns

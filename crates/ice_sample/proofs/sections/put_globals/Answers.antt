@@ -1,6 +1,7 @@
 use Rattle.std.proofs.Common.{◌∷◌, [], codes, arith}
 use Rattle.ice_sample.specs.Lines.{placed_words}
-use Rattle.ice_sample.proofs.Numbering.{row_more, further}
+use Rattle.ice_base.proofs.Pieces.{further}
+use Rattle.ice_sample.proofs.Numbering.{row_more}
 use Rattle.ice_sample.proofs.sections.put_globals.Goals as goal
 
 pub loop-at-preserved : goal.loop-at-preserved

@@ -1,6 +1,7 @@
 use Rattle.std.proofs.Common.{◌++◌, ◌∷◌, [], codes, decimal, arith}
 use Rattle.ice_sample.specs.Sections.{pad_words}
-use Rattle.ice_sample.proofs.Numbering.{row_more, further}
+use Rattle.ice_base.proofs.Pieces.{further}
+use Rattle.ice_sample.proofs.Numbering.{row_more}
 use Rattle.ice_sample.proofs.sections.put_pins.Goals as goal
 
 pub loop-pad-preserved : goal.loop-pad-preserved

@@ -1,6 +1,6 @@
 use Rattle.std.proofs.Common.{◌+◌, ◌*◌, sym}
 use Rattle.ice_sample.proofs.Counting.{map_range_more}
-use Rattle.ice_sample.proofs.Numbering.{further}
+use Rattle.ice_base.proofs.Pieces.{further}
 use Rattle.ice_sample.proofs.sources.add_inputs_of_pads.Goals as goal
 
 pub loop-pad-preserved : goal.loop-pad-preserved

@@ -1,6 +1,6 @@
 use Rattle.std.proofs.Common.{◌+◌, ◌*◌, sym}
 use Rattle.ice_sample.proofs.Counting.{map_range_more}
-use Rattle.ice_sample.proofs.Numbering.{further}
+use Rattle.ice_base.proofs.Pieces.{further}
 use Rattle.ice_sample.proofs.sources.add_outputs_of_cells.Goals as goal
 
 pub loop-cell-preserved : goal.loop-cell-preserved

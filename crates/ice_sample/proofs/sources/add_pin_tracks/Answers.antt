@@ -2,7 +2,7 @@ use Rattle.std.proofs.Common.{◌≡◌, ◌+◌, ◌*◌, ◌%◌, ◌++◌, ma
 use Rattle.std.specs.List.{range_with_len}
 use Rattle.ice_sample.specs.Groups.{pin_tracks}
 use Rattle.ice_sample.proofs.Counting.{map_range_more}
-use Rattle.ice_sample.proofs.Numbering.{further}
+use Rattle.ice_base.proofs.Pieces.{further}
 use Rattle.ice_sample.proofs.sources.add_pin_tracks.Goals as goal
 
 pub loop-step-preserved : goal.loop-step-preserved

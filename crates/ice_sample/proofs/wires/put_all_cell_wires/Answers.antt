@@ -2,7 +2,8 @@ use Rattle.std.proofs.Common.{◌≡◌, ◌+◌, ◌*◌, ◌++◌, map, refl, 
 use Rattle.std.specs.List.{flat_map, range_with_len}
 use Rattle.ice_base.specs.Text.{text_of_lines}
 use Rattle.ice_sample.specs.Wires.{wire_lines, named_wires, cell_name, cell_pins, cell_names}
-use Rattle.ice_sample.proofs.Numbering.{lists_more, further, nothing_more}
+use Rattle.ice_base.proofs.Pieces.{further}
+use Rattle.ice_sample.proofs.Numbering.{lists_more, nothing_more}
 use Rattle.ice_sample.proofs.wires.put_all_cell_wires.Goals as goal
 
 pub loop-cell-init : goal.loop-cell-init

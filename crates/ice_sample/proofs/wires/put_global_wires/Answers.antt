@@ -2,7 +2,8 @@ use Rattle.std.proofs.Common.{◌≡◌, ◌++◌, subst, arith}
 use Rattle.std.specs.List.{flat_map, range_with_len}
 use Rattle.ice_base.specs.Text.{text_of_lines}
 use Rattle.ice_sample.specs.Wires.{global_wire_lines, all_global_lines}
-use Rattle.ice_sample.proofs.Numbering.{numbers_more, further, nothing_more}
+use Rattle.ice_base.proofs.Pieces.{further}
+use Rattle.ice_sample.proofs.Numbering.{numbers_more, nothing_more}
 use Rattle.ice_sample.proofs.wires.put_global_wires.Goals as goal
 
 pub loop-global-init : goal.loop-global-init

@@ -1,6 +1,6 @@
 use Rattle.std.proofs.Common.{◌+◌}
 use Rattle.ice_sample.specs.Wires.{named_wires, io_names, track_names}
-use Rattle.ice_sample.proofs.Numbering.{text_join, further}
+use Rattle.ice_base.proofs.Pieces.{text_join, further}
 use Rattle.ice_sample.proofs.wires.put_io_wires.Goals as goal
 
 pub returns : goal.returns

@@ -1,6 +1,7 @@
 use Rattle.std.proofs.Common.{arith}
 use Rattle.ice_sample.specs.Wires.{wire_lines}
-use Rattle.ice_sample.proofs.Numbering.{mapped_more, further, nothing_more}
+use Rattle.ice_base.proofs.Pieces.{further}
+use Rattle.ice_sample.proofs.Numbering.{mapped_more, nothing_more}
 use Rattle.ice_sample.proofs.wires.put_named_wires.Goals as goal
 
 pub loop-name-init : goal.loop-name-init

@@ -2,7 +2,8 @@ use Rattle.std.proofs.Common.{◌≡◌, ◌+◌, ◌++◌, map, codes, decimal,
 use Rattle.std.specs.List.{range_with_len}
 use Rattle.ice_base.specs.Text.{text_of_lines}
 use Rattle.ice_sample.specs.Wires.{wire_lines, named_wires, track_names}
-use Rattle.ice_sample.proofs.Numbering.{series_more, further, nothing_more}
+use Rattle.ice_base.proofs.Pieces.{further}
+use Rattle.ice_sample.proofs.Numbering.{series_more, nothing_more}
 use Rattle.ice_sample.proofs.wires.put_track_wires.Goals as goal
 
 pub loop-track-init : goal.loop-track-init

@@ -2,7 +2,8 @@ use Rattle.std.proofs.Common.{◌++◌, sym, arith, append-nil, ap, ◌∙◌}
 use Rattle.ice_base.specs.Text.{text_of_lines}
 use Rattle.ice_sample.specs.Wires.{all_global_lines, tile_wire_lines}
 use Rattle.ice_sample.proofs.Counting.{tile_within}
-use Rattle.ice_sample.proofs.Numbering.{lines_more, further}
+use Rattle.ice_base.proofs.Pieces.{further}
+use Rattle.ice_sample.proofs.Numbering.{lines_more}
 use Rattle.ice_sample.proofs.wires.put_wires.Goals as goal
 
 pub loop-tile-init : goal.loop-tile-init
