@@ -8,4 +8,3 @@ pub mod Kept
 pub mod Limits
 pub mod Growing
 pub mod FaultLaws
-pub mod PortNames

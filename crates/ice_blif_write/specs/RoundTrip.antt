@@ -1,6 +1,5 @@
 -- Netlists that are read from the text that is written for them.
-use Rattle.std.specs.Prelude.{◌≡◌, ◌≢◌, ℕ, ◌<◌, ◌^◌, false, ◌==◌, List, map, Option, Some, None, codes, bytes_eq, All}
-use Rattle.std.specs.List.{IsDistinct}
+use Rattle.std.specs.Prelude.{◌≡◌, ◌≢◌, ℕ, ◌<◌, ◌^◌, false, List, map, Option, Some, None, codes, All}
 use Rattle.ice_base.specs.Comments.{begins_with}
 use Rattle.ice_base.specs.Text.{IsWord}
 use Rattle.ice_base.specs.declared.number.SignalNo.{SignalNo}
@@ -9,7 +8,7 @@ use Rattle.ice_net.specs.declared.kind.CellKind.{CellKind}
 use Rattle.ice_net.specs.declared.kind.CellKind.TheVariants.{Lut, Cover, Carry, Flop, PadCell, Global}
 use Rattle.ice_net.specs.declared.port.Port.{Port}
 use Rattle.ice_net.specs.declared.port.Way.{Way}
-use Rattle.ice_net.specs.Formed.{IsFormed}
+use Rattle.ice_net.specs.Formed.{IsFormed, IsSingle}
 use Rattle.ice_net.specs.NetlistData.{NetlistData}
 use Rattle.ice_blif.specs.Grammar.{HasNetlist}
 use Rattle.ice_blif_write.specs.Text.{name_of, blif_text}
@@ -53,11 +52,6 @@ IsSmallCell cell = IsSmallKind cell.kind
 pub record IsWritable (n : NetlistData) : Type 0 where
   pub names : All IsName n.names
   pub outputs : All (IsDefinedCell n.names) n.cells
-
--- no name stands twice, and no signal is a port twice
-pub record IsSingle (n : NetlistData) : Type 0 where
-  pub names : IsDistinct bytes_eq n.names
-  pub ports : IsDistinct ◌==◌ (map (λ (port : Port). port.signal.0) n.ports)
 
 -- ---- what is read
 -- the name of a signal that may be missing

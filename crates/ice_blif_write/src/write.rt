@@ -1,6 +1,6 @@
 //! Writing the text of a netlist.
 ghost use Rattle.std.specs.Prelude.{◌≡◌, ◌++◌, All, OnOk, OnErr};
-ghost use Rattle.ice_blif_write.specs.RoundTrip.{IsSmallCell, IsSingle, IsWritable, HasSameNetlist};
+ghost use Rattle.ice_blif_write.specs.RoundTrip.{IsSmallCell, IsWritable, HasSameNetlist};
 ghost use Rattle.ice_blif_write.specs.Text.{blif_text};
 
 use crate::cells::put_cells;
@@ -30,7 +30,7 @@ fn put_text(out: &mut Vec<u8>, netlist: &Netlist) -> Result<(), NoMemory>
 /// Want of memory alone.
 pub fn write_blif(netlist: &Netlist, out: &mut Vec<u8>) -> Result<(), NoMemory>
     ensures written { OnOk result (out.new.items ≡ out.old.items ++ blif_text netlist.now) }
-    ensures read_back { OnOk result (IsSingle netlist.now → IsWritable netlist.now → HasSameNetlist (blif_text netlist.now) netlist.now) }
+    ensures read_back { OnOk result (IsWritable netlist.now → HasSameNetlist (blif_text netlist.now) netlist.now) }
     ensures refused { OnErr result (out.new.items ≡ out.old.items) }
 {
     netlist.ports();

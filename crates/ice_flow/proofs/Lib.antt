@@ -10,6 +10,7 @@ pub mod BitSteps
 pub mod FormBits
 pub mod FormFunctions
 pub mod FunctionNames
+pub mod PortNames
 pub mod PortPadFacts
 pub mod SameExamples
 pub mod PadSteps

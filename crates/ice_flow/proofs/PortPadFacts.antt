@@ -11,7 +11,8 @@ use Rattle.ice_net.specs.declared.port.Way.TheVariants.{Input, Output}
 use Rattle.ice_net.specs.NetlistData.{NetlistData}
 use Rattle.ice_net.specs.Formed.{IsFormed, IsPortBelow}
 use Rattle.ice_blif.specs.Grammar.{netlist_of}
-use Rattle.ice_blif.proofs.PortNames.{IsSingle, text_single, ports_apart}
+use Rattle.ice_net.specs.Formed.{IsSingle}
+use Rattle.ice_flow.proofs.PortNames.{text_single, ports_apart}
 use Rattle.ice_pcf.specs.Grammar.{text_says}
 use Rattle.ice_pcf.specs.declared.constraint.Constraint.{Constraint}
 use Rattle.ice_chip.specs.Database as chip

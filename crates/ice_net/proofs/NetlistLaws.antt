@@ -1,15 +1,18 @@
 -- A netlist stays well formed as it grows.
-use Rattle.std.proofs.Common.{◌≡◌, ℕ, ◌+◌, ◌<◌, ◌≤◌, Bool, true, false, List, [], ◌∷◌, ◌++◌, length, length-append, arith, if◌then◌else◌, Option, Some, None, bytes_eq}
-use Rattle.std.specs.List.{list_any}
-use Rattle.std.proofs.lemmas.List.Elements.{All-weaker, All-push}
+use Rattle.std.proofs.Common.{◌≡◌, ℕ, ◌+◌, ◌<◌, ◌≤◌, Bool, true, false, List, [], ◌∷◌, ◌++◌, length, length-append, arith, if◌then◌else◌, Option, Some, None, Result, Ok, Err, OnOk, OnErr, slice_get, slice_index_or, All, bytes_eq, ◌==◌, refl, sym, subst}
+use Rattle.std.specs.List.{list_any, IsDistinct}
+use Rattle.std.proofs.lemmas.Option.{slice_get_within, get_or_from_slice_get}
+use Rattle.std.proofs.lemmas.List.Elements.{All-weaker, All-push, All-set}
 use Rattle.ice_base.specs.declared.number.SignalNo.{SignalNo}
 use Rattle.ice_net.specs.declared.cell.Cell.{Cell}
 use Rattle.ice_net.specs.declared.port.Port.{Port}
 use Rattle.ice_net.specs.declared.kind.CellKind.{CellKind}
 use Rattle.ice_net.specs.declared.kind.CellKind.TheVariants.{Lut, Cover, Carry, Flop, PadCell, Global}
 use Rattle.ice_base.specs.Names.{with_name}
-use Rattle.ice_net.specs.NetlistData.{NetlistData}
-use Rattle.ice_net.specs.Formed.{IsFormed, IsIndexed, IsFormedCell, IsPortBelow, IsBelow, IsPresent, IsFormedKind}
+use Rattle.ice_net.specs.declared.port.Way.{Way}
+use Rattle.ice_net.specs.NetlistData.{NetlistData, PlacesAre, with_port, port_by, port_again, port_at, merged}
+use Rattle.ice_net.proofs.Single.{names_once, ports_still_once}
+use Rattle.ice_net.specs.Formed.{IsFormed, IsIndexed, port_numbers, IsFormedCell, IsPortBelow, IsBelow, IsPresent, IsFormedKind}
 
 -- ---- more signals
 pub below_more : (m n : ℕ) → m ≤ n → (s : Option SignalNo) → IsBelow m s → IsBelow n s
@@ -71,6 +74,7 @@ named_still_indexed names now ports cells places name h room is =
     let n : NetlistData = record { names = names; ports = ports; cells = cells } in
     record {
       formed = rw is (grown n (with_name names name) grow.0 (omega (arith, grow.1)) h.formed);
+      single = record { names = rw is (names_once names name h.single.names); ports = h.single.ports };
       places_are = h.places_are;
     }
 
@@ -84,5 +88,37 @@ celled_still_indexed names ports cells places cell h room formed = record {
     ports = h.formed.ports;
     cells = All-push (IsFormedCell (length names)) cells cell h.formed.cells formed;
   };
+  single = record { names = h.single.names; ports = h.single.ports };
   places_are = h.places_are;
 }
+
+-- ---- more ports
+port_again_below : (m : ℕ) (ports : List Port) (k : ℕ) (signal : SignalNo) (way : Way) (o : Option Port) → slice_get ports k ≡ o → All (IsPortBelow m) ports → All (IsPortBelow m) (port_again ports k signal way o)
+port_again_below m ports k signal way None at below = below
+port_again_below m ports k signal way (Some port) at below =
+    let here : IsPortBelow m (slice_index_or ports k port) = below k port (slice_get_within ports k port at) in
+    All-set (IsPortBelow m) ports k (record { signal = port.signal; way = merged port.way way })
+    (subst (IsPortBelow m) (get_or_from_slice_get ports k port port at) here) below
+
+with_port_below : (m : ℕ) (ports : List Port) (signal : SignalNo) (way : Way) (o : Option ℕ) → signal.0 < m → All (IsPortBelow m) ports → All (IsPortBelow m) (port_by ports signal way o)
+with_port_below m ports signal way None lt below = All-push (IsPortBelow m) ports (record { signal = signal; way = way }) below lt
+with_port_below m ports signal way (Some k) lt below = port_again_below m ports k signal way (slice_get ports k) refl below
+
+pub ported_still_indexed : {E : Type 0} (names : List (List ℕ)) (ports now : List Port) (cells : List Cell) (places found : List (Option ℕ)) (signal : SignalNo) (way : Way) (r : Result (Unit {0}) E)
+    → IsIndexed (record { names = names; ports = ports; cells = cells }) places → signal.0 < length names → PlacesAre now found
+    → OnOk r (now ≡ with_port ports signal way) → OnErr r (now ≡ ports) → IsIndexed (record { names = names; ports = now; cells = cells }) found
+ported_still_indexed {E = E} names ports now cells places found signal way r h lt are done refused = by r done refused
+  where
+    made : (now : List Port) → All (IsPortBelow (length names)) now → IsDistinct ◌==◌ (port_numbers now) → PlacesAre now found → IsIndexed (record { names = names; ports = now; cells = cells }) found
+    made now below once are = record {
+      formed = record { few = h.formed.few; few_cells = h.formed.few_cells; ports = below; cells = h.formed.cells };
+      single = record { names = h.single.names; ports = once };
+      places_are = are;
+    }
+
+    by : (r : Result (Unit {0}) E) → OnOk r (now ≡ with_port ports signal way) → OnErr r (now ≡ ports) → IsIndexed (record { names = names; ports = now; cells = cells }) found
+    by (Ok u) is none =
+        made now (subst (λ ps. All (IsPortBelow (length names)) ps) (sym is) (with_port_below (length names) ports signal way (port_at signal.0 ports) lt h.formed.ports))
+        (ports_still_once ports now signal way is h.single.ports) are
+    by (Err e) none is =
+        made now (subst (λ ps. All (IsPortBelow (length names)) ps) (sym is) h.formed.ports) (subst (λ ps. IsDistinct ◌==◌ (port_numbers ps)) (sym is) h.single.ports) are

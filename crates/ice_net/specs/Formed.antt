@@ -1,5 +1,6 @@
 -- Well-formed cells and netlists.
-use Rattle.std.specs.Prelude.{◌≡◌, ℕ, ◌<◌, ◌≤◌, ◌^◌, List, length, Option, Some, None, All}
+use Rattle.std.specs.Prelude.{◌≡◌, ℕ, ◌<◌, ◌≤◌, ◌==◌, ◌^◌, List, length, map, Option, Some, None, All, bytes_eq}
+use Rattle.std.specs.List.{IsDistinct}
 use Rattle.ice_base.specs.declared.number.SignalNo.{SignalNo}
 use Rattle.ice_net.specs.declared.cell.Cell.{Cell}
 use Rattle.ice_net.specs.declared.kind.CellKind.{CellKind}
@@ -53,7 +54,17 @@ pub record IsFormed (n : NetlistData) : Type 0 where
   pub ports : All (IsPortBelow (length n.names)) n.ports
   pub cells : All (IsFormedCell (length n.names)) n.cells
 
+-- the numbers of the ports' signals
+abbrev pub port_numbers : List Port → List ℕ
+port_numbers ports = map (λ (port : Port). port.signal.0) ports
+
+-- no name stands twice, and no signal is a port twice
+pub record IsSingle (n : NetlistData) : Type 0 where
+  pub names : IsDistinct bytes_eq n.names
+  pub ports : IsDistinct ◌==◌ (port_numbers n.ports)
+
 -- what goes with a netlist in memory: the place of each signal's port
 pub record IsIndexed (n : NetlistData) (places : List (Option ℕ)) : Type 0 where
   pub formed : IsFormed n
+  pub single : IsSingle n
   pub places_are : PlacesAre n.ports places

@@ -2,7 +2,7 @@
 ghost use Rattle.std.specs.Prelude.{◌≡◌, ◌↔◌, ◌++◌, ◌∷◌, [], ◌<◌, ◌≤◌, length, slice_index_or, Some, None, option_map, position, bytes_eq, IfOk, IfSome, OnOk, OnErr, IsTrue};
 ghost use Rattle.ice_base.specs.Names.{with_name, number_of_name};
 ghost use Rattle.ice_net.specs.NetlistData.{empty_netlist, with_port, port_at, way_of};
-ghost use Rattle.ice_net.specs.Formed.{IsFormed, IsFormedCell};
+ghost use Rattle.ice_net.specs.Formed.{IsFormed, IsFormedCell, IsSingle};
 
 use crate::names::{find, number_of};
 use crate::ports::{add_port, way_at};
@@ -43,6 +43,7 @@ impl Model for Netlist {
 
 impl Netlist {
     /// The netlist without signals, ports and cells. It takes no memory.
+    #[tactic(auto, using(crate::proofs::Single::empty_single))]
     pub fn new(alloc: Global) -> Netlist
         ensures { result ≡ empty_netlist }
     {
@@ -77,7 +78,6 @@ impl Netlist {
     }
 
     /// The number of a name; a new name goes last. After want of memory the netlist is as before.
-    #[tactic(auto, using(crate::proofs::NetlistLaws::named_still_indexed))]
     pub fn signal(&mut self, name: &[u8]) -> Result<SignalNo, NoMemory>
         requires { length self.old.names < MOST_NAMES }
         ensures number { IfOk result (λ signal. signal.0 ≡ number_of_name self.old.names name.now) }
@@ -140,6 +140,7 @@ impl Netlist {
     pub fn ports(&self) -> &[Port]
         ensures ports { result.now ≡ self.now.ports }
         ensures formed { IsFormed self.now }
+        ensures single { IsSingle self.now }
     {
         self.ports.as_slice()
     }

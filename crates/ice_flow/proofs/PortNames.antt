@@ -20,70 +20,12 @@ use Rattle.ice_blif.specs.State.{LastCell, State, Connections, Nothing, Gate, Ro
 use Rattle.ice_blif.specs.JoinedLines.{FilledLine, joined, filled, last_number}
 use Rattle.ice_blif.specs.Cells.{◌>>=◌, row_says, param_says, finished, count_of}
 use Rattle.ice_blif.specs.Grammar.{named, signal_of, was_named, with_named_port, port_says, ports_say, no_wiring, is_missing, after_actual, connect_at, connect_by, equals_at, connection_says, connections_say, cell_of, with_last, without_rows, gate_of_kind, gate_says, cover_signals, cover_of, names_say, row_line, row_or_fault, port_directive_says, param_directive_says, directive_says, within_limits, line_says, after_end, ended, model_says, empty_reader, lines_say, netlist_of}
+use Rattle.ice_net.specs.Formed.{IsSingle, port_numbers}
+use Rattle.ice_net.proofs.Single.{empty_single, names_once, ports_once}
 use Rattle.ice_blif.proofs.Kept.{bind_keeps, either, any_ok}
-
--- the numbers of the ports' signals
-abbrev port_numbers : List Port → List ℕ
-port_numbers ports = map (λ (port : Port). port.signal.0) ports
-
--- no name stands twice, and no signal is a port twice
-pub record IsSingle (n : NetlistData) : Type 0 where
-  pub names : IsDistinct bytes_eq n.names
-  pub ports : IsDistinct ◌==◌ (port_numbers n.ports)
-
--- ---- one more name, and one more port
-names_once : (names : List (List ℕ)) (name : List ℕ) → IsDistinct bytes_eq names → IsDistinct bytes_eq (with_name names name)
-names_once names name once = by (list_any (bytes_eq name) names) refl
-  where
-    by : (b : Bool) → list_any (bytes_eq name) names ≡ b → IsDistinct bytes_eq (if b then names else names ++ name ∷ [])
-    by true e = once
-    by false e = IsDistinct-push nat_list_eq_equiv names name once e
 
 named_single : (n : NetlistData) (name : List ℕ) → IsSingle n → IsSingle (named n name)
 named_single n name single = record { names = names_once n.names name single.names; ports = single.ports }
-
--- an item that passes a test stands somewhere
-any_before : {X : Type 0} (p : X → Bool) (xs : List X) → list_any p xs ≡ true → position_or_len p xs < length xs
-any_before p [] e = cc e
-any_before p (x ∷ xs) e = by (p x) e (any_before p xs)
-  where
-    by : (b : Bool) → (b || list_any p xs) ≡ true → (list_any p xs ≡ true → position_or_len p xs < length xs) → (if not b then 1 + position_or_len p xs else 0) < length (x ∷ xs)
-    by true h rest = omega arith
-    by false h rest = omega (arith, rest h)
-
-numbers_any : (s : ℕ) (ports : List Port) → list_any (λ k. s == k) (port_numbers ports) ≡ list_any (is_at s) ports
-numbers_any s [] = refl
-numbers_any s (p ∷ ports) = ap (λ b. b || list_any (λ k. s == k) (port_numbers ports)) (nat_eq_equiv.symm s p.signal.0) ∙ ap (λ b. is_at s p || b) (numbers_any s ports)
-
--- no port is at a signal of which no port is found
-none_has : (signal : SignalNo) (ports : List Port) → port_at signal.0 ports ≡ None → list_any (λ k. signal.0 == k) (port_numbers ports) ≡ false
-none_has signal ports e = by (list_any (is_at signal.0) ports) refl
-  where
-    by : (b : Bool) → list_any (is_at signal.0) ports ≡ b → list_any (λ k. signal.0 == k) (port_numbers ports) ≡ false
-    by true h =
-        let lt : position_or_len (is_at signal.0) ports < length ports = any_before (is_at signal.0) ports h in
-        let test : nat_lt (position_or_len (is_at signal.0) ports) (length ports) ≡ true = search (rules, tests) in
-        let found : Some (position_or_len (is_at signal.0) ports) ≡ None = sym (ap (λ c. if c then Some (position_or_len (is_at signal.0) ports) else None) test) ∙ e in
-        cc found
-    by false h = numbers_any signal.0 ports ∙ h
-
-numbers_set : (ports : List Port) (k : ℕ) (port : Port) (way : Way) → slice_get ports k ≡ Some port → port_numbers (slice_set ports k (record { signal = port.signal; way = way })) ≡ port_numbers ports
-numbers_set [] k port way e = refl
-numbers_set (p ∷ ports) zero port way e = let same : p ≡ port = cc in ap (λ (x : Port). x.signal.0 ∷ port_numbers ports) (sym same)
-numbers_set (p ∷ ports) (suc k) port way e = ap (λ ks. p.signal.0 ∷ ks) (numbers_set ports k port way e)
-
-numbers_push : (ports : List Port) (port : Port) → port_numbers (ports ++ port ∷ []) ≡ port_numbers ports ++ port.signal.0 ∷ []
-numbers_push [] port = refl
-numbers_push (p ∷ ports) port = ap (λ ks. p.signal.0 ∷ ks) (numbers_push ports port)
-
-again_once : (ports : List Port) (k : ℕ) (signal : SignalNo) (way : Way) (o : Option Port) → slice_get ports k ≡ o → IsDistinct ◌==◌ (port_numbers ports) → IsDistinct ◌==◌ (port_numbers (port_again ports k signal way o))
-again_once ports k signal way None e once = once
-again_once ports k signal way (Some port) e once = subst (λ ks. IsDistinct ◌==◌ ks) (sym (numbers_set ports k port (merged port.way way) e)) once
-
-ports_once : (ports : List Port) (signal : SignalNo) (way : Way) (o : Option ℕ) → port_at signal.0 ports ≡ o → IsDistinct ◌==◌ (port_numbers ports) → IsDistinct ◌==◌ (port_numbers (port_by ports signal way o))
-ports_once ports signal way None e once =
-    subst (λ ks. IsDistinct ◌==◌ ks) (sym (numbers_push ports (record { signal = signal; way = way }))) (IsDistinct-push nat_eq_equiv (port_numbers ports) signal.0 once (none_has signal ports e))
-ports_once ports signal way (Some k) e once = again_once ports k signal way (slice_get ports k) refl once
 
 with_port_single : (n : NetlistData) (way : Way) (name : List ℕ) → IsSingle n → IsSingle (with_named_port n way name)
 with_port_single n way name single = record {
@@ -207,10 +149,6 @@ model_keeps last r [] single = tt
 model_keeps last r (l ∷ ls) single =
     either IsSingle (bytes_eq l.first (codes ".end")) (ended r ls) (line_says within_limits l r >>= (λ s. model_says within_limits last s ls)) (ended_keeps r ls single)
     (bind_keeps InReader IsSingle (line_says within_limits l r) (λ s. model_says within_limits last s ls) (line_keeps l r single) (λ s kept. model_keeps last s ls kept))
-
-empty_single : IsSingle empty_netlist
-unfolding IsDistinct
-empty_single = record { names = tt; ports = tt }
 
 lines_keep : (last : ℕ) (ls : List FilledLine) → IfOk (lines_say within_limits last ls) IsSingle
 lines_keep last [] = tt
