@@ -11,7 +11,8 @@ use Rattle.ice_answer.specs.Refusals.{IsKnown}
 use Rattle.ice_answer.proofs.CommandRows as answers
 use Rattle.ice_answer.proofs.CommandRows.{known, asked}
 use Rattle.ice_build_files.proofs.BuildLaws as built
-use Rattle.ice_build_files.specs.Made.{Build, build}
+use Rattle.ice_build_files.specs.Asked.{Build}
+use Rattle.ice_build_files.specs.Command.{build_files}
 use Rattle.ice_play.proofs.PlayLaws as play
 use Rattle.ice_play.specs.Played.{PlayNet, play_net}
 use Rattle.ice_play_bits.proofs.BitsLaws as bits
@@ -23,7 +24,7 @@ use Rattle.ice_flow.specs.Run.{IsAnswer}
 -- ---- the program
 
 usage_of : (request : Request) (old new : Meaning) (cause : Cause) → IsTrueOf (asked_for request) old new cause → cause ≡ Usage → ⊥
-usage_of (ForBuild b) old new cause is e = asked (build b) old new cause (built.lawful b) is e
+usage_of (ForBuild b) old new cause is e = asked (build_files b) old new cause (built.lawful b) is e
 usage_of (ForPlayNet p) old new cause is e = asked (play_net p) old new cause (play.lawful p) is e
 usage_of (ForPlayBits p) old new cause is e = asked (play_bits p) old new cause (bits.lawful p) is e
 
@@ -54,26 +55,15 @@ pub answers_so : (request : Option Request) (old new : Meaning) (end : Done) →
 answers_so request old new end status caused said kept made silent given =
     let cause = end.cause in
     let built_at = λ (b : Build) (e : request ≡ Some (ForBuild b)). caused_at request (ForBuild b) old new cause caused e in
+    let build_answer = λ (b : Build) (e : request ≡ Some (ForBuild b)). built.answers b old new end (built_at b e) status (given_at request (ForBuild b) new cause given e) in
     let played_at = λ (p : PlayNet) (e : request ≡ Some (ForPlayNet p)). caused_at request (ForPlayNet p) old new cause caused e in
     let bits_at = λ (p : PlayBits) (e : request ≡ Some (ForPlayBits p)). caused_at request (ForPlayBits p) old new cause caused e in
     record {
       status = status;
       usage = usage_row request old new cause caused;
       no_memory = no_memory_row request old new cause caused;
-      headline = λ b e. answers.good_row (build b) old new cause (built_at b e);
-      done = λ b e. answers.done_row (build b) old new cause (built.lawful b) (built_at b e);
-      bad_chip = λ b e. built.chip_row b old new cause (built_at b e);
-      bad_pcf = λ b e. built.pcf_row b old new cause (built_at b e);
-      bad_blif = λ b e. built.blif_row b old new cause (built_at b e);
-      bad_net = λ b e. built.net_row b old new cause (built_at b e);
-      bad_pin = λ b e. built.pin_row b old new cause (built_at b e);
-      overfull = λ b e. built.full_row b old new cause (built_at b e);
-      unreachable = λ b e. built.unreachable_row b old new cause (built_at b e);
-      gave_up = λ b e. built.gave_up_row b old new cause (built_at b e);
-      bad_bits = λ b e. built.bits_row b old new cause (built_at b e);
-      read_fault = λ b e. answers.read_fault_row (build b) old new cause (built_at b e);
-      write_fault = λ b e. answers.write_fault_row (build b) old new cause (built_at b e);
-      too_long = λ b e. answers.too_long_row (build b) old new cause (built_at b e) (given_at request (ForBuild b) new cause given e);
+      headline = λ b e. (build_answer b e).headline;
+      built = build_answer;
       played = λ p e. answers.good_row (play_net p) old new cause end.status (played_at p e) status;
       played_done = λ p e. answers.done_row (play_net p) old new cause (play.lawful p) (played_at p e);
       played_bad_blif = λ p e. play.blif_row p old new cause (played_at p e);

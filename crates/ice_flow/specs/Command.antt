@@ -3,7 +3,7 @@ use Rattle.std.specs.Prelude.{ℕ, Bool, ◌&&◌, not, Option, Some, None, List
 use Rattle.std.specs.Str.{bytes_eq}
 use Rattle.ice_base.specs.Comments.{begins_with}
 use Rattle.ice_build.specs.declared.answer.Effort.{Effort}
-use Rattle.ice_build_files.specs.Made.{Build}
+use Rattle.ice_build_files.specs.Asked.{Build}
 use Rattle.ice_play.specs.Played.{PlayNet}
 use Rattle.ice_play_bits.specs.Played.{PlayBits}
 

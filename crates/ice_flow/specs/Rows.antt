@@ -10,14 +10,15 @@ use Rattle.ice_answer.specs.Reading.{TellsLong}
 use Rattle.ice_answer.specs.Refusals.{IsKnown}
 use Rattle.ice_answer.specs.Rows as answers
 use Rattle.ice_answer.specs.Rows.{SaidBy}
-use Rattle.ice_build_files.specs.Made.{Build, build}
+use Rattle.ice_build_files.specs.Asked.{Build}
+use Rattle.ice_build_files.specs.Command.{build_files}
 use Rattle.ice_play.specs.Played.{PlayNet, play_net}
 use Rattle.ice_play_bits.specs.Played.{PlayBits, play_bits}
 use Rattle.ice_flow.specs.Command.{Request, ForBuild, ForPlayNet, ForPlayBits}
 
 -- the command that the words ask for
 abbrev pub asked_for : Request → Command
-asked_for (ForBuild b) = build b
+asked_for (ForBuild b) = build_files b
 asked_for (ForPlayNet p) = play_net p
 asked_for (ForPlayBits p) = play_bits p
 

@@ -4,8 +4,7 @@ use Rattle.ice_desk.specs.Desk.{Meaning}
 use Rattle.ice_answer.specs.declared.cause.Done.{Done}
 use Rattle.ice_answer.specs.Causes.{status_of}
 use Rattle.ice_answer.specs.Rows.{DoneRow as done_of, GoodRow, ReadFaultRow, WriteFaultRow, TooLongRow}
-use Rattle.ice_build_files.specs.Made.{build}
-use Rattle.ice_build_files.specs.BuildRows as built
+use Rattle.ice_build_files.specs.BuildRows.{HeadlineRow, IsBuildAnswer}
 use Rattle.ice_play.specs.Played.{play_net}
 use Rattle.ice_play.specs.PlayRows as play
 use Rattle.ice_play_bits.specs.Played.{play_bits}
@@ -18,23 +17,11 @@ pub record IsAnswer (request : Option Request) (old new : Meaning) (end : Done) 
   pub status : end.status ≡ status_of end.cause
   pub usage : UsageRow request end.cause
   pub no_memory : NoMemoryRow old new end.cause
-  -- a build
-  pub headline : Builds request (λ b. GoodRow (build b) old new end.cause)
-  pub done : Builds request (λ b. done_of (build b) old end.cause)
-  pub bad_chip : Builds request (λ b. built.ChipRow b old end.cause)
-  pub bad_pcf : Builds request (λ b. built.PcfRow b old end.cause)
-  pub bad_blif : Builds request (λ b. built.BlifRow b old end.cause)
-  pub bad_net : Builds request (λ b. built.NetRow b old end.cause)
-  pub bad_pin : Builds request (λ b. built.PinRow b old end.cause)
-  pub overfull : Builds request (λ b. built.FullRow b old end.cause)
-  pub unreachable : Builds request (λ b. built.UnreachableRow b old end.cause)
-  pub gave_up : Builds request (λ b. built.GaveUpRow b old end.cause)
-  pub bad_bits : Builds request (λ b. built.BitsRow b old end.cause)
-  pub read_fault : Builds request (λ b. ReadFaultRow (build b) old new end.cause)
-  pub write_fault : Builds request (λ b. WriteFaultRow (build b) old new end.cause)
-  pub too_long : Builds request (λ b. TooLongRow (build b) old new end.cause)
+  -- a build: the headline, and the row of each answer
+  pub headline : Builds request (λ b. HeadlineRow b old new end.status)
+  pub built : Builds request (λ b. IsBuildAnswer b old new end)
   -- a netlist that is played
-  pub played : Plays request (λ p. GoodRow (play_net p) old new end.status)
+  pub played : Plays request (λ p. GoodRow (play_net p) old new end.cause end.status)
   pub played_done : Plays request (λ p. done_of (play_net p) old end.cause)
   pub played_bad_blif : Plays request (λ p. play.BlifRow p old end.cause)
   pub played_bad_net : Plays request (λ p. play.NetRow p old end.cause)
@@ -43,7 +30,7 @@ pub record IsAnswer (request : Option Request) (old new : Meaning) (end : Done) 
   pub played_write_fault : Plays request (λ p. WriteFaultRow (play_net p) old new end.cause)
   pub played_too_long : Plays request (λ p. TooLongRow (play_net p) old new end.cause)
   -- bits that are played
-  pub bits_played : PlaysBits request (λ p. GoodRow (play_bits p) old new end.status)
+  pub bits_played : PlaysBits request (λ p. GoodRow (play_bits p) old new end.cause end.status)
   pub bits_done : PlaysBits request (λ p. done_of (play_bits p) old end.cause)
   pub bits_bad_chip : PlaysBits request (λ p. bits.ChipRow p old end.cause)
   pub bits_bad_asc : PlaysBits request (λ p. bits.AscRow p old end.cause)
