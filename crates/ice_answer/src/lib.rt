@@ -11,11 +11,12 @@ mod reading;
 mod refusal;
 mod say;
 
-pub use cause::{Cause, Done, FileRole, PinFault, Placement, Places, no_placement};
+pub use cause::{Cause, Done, FileRole, no_placement};
 pub use end::{done, finish};
 pub use files::{InputFile, Texts};
-pub use making::{Making, say_made, write_made};
+pub use making::{Made, Making, say_made, write_made};
 pub use refusal::{
-    asc_refusal, bits_refusal, blif_refusal, chip_refusal, net_refusal, pcf_refusal,
+    asc_refusal, bits_refusal, blif_refusal, chip_refusal, net_refusal, pcf_refusal, pin_refusal,
+    place_refusal,
 };
 pub use say::say_line;
