@@ -99,7 +99,7 @@ netlist_weaker : (P Q : NetlistData → Type 0) (t : List (List ℕ)) → ((circ
 netlist_weaker P Q t weaker h = record { parts = h.parts; constraints = h.constraints; circuit = h.circuit; is_read = h.is_read; is_circuit = h.is_circuit; is_so = weaker h.circuit h.is_so }
 
 net_row : (b : Build) (old new : Meaning) (cause : Cause) → IsTrueOf (build_files b) old new cause → NetRow b old cause
-unfolding Told, IsFaulty
+unfolding Told IsFaulty
 net_row b old new cause is = record {
   comes = comes (build_files b) old new cause IsNetFault (SaysNetlist (λ circuit. IsSound circuit → ⊥)) (lawful b) is
       (λ f. told_of b old new cause (BadNet f.0) (SaysNetlist (λ circuit. IsSound circuit → ⊥)) is f.1 (λ i. i.0)
@@ -194,6 +194,7 @@ built_row b old new cause is = record {
   where
     about_good : (placement told : List TileAt) → cause ≡ Good told → IsAbout placement cause → told ≡ placement
     about_good placement told e about = subst (IsAbout placement) e about
+
     only : (placement told : List TileAt) → cause ≡ Good told → told ≡ placement → OfTexts (files_of b) old (Asks b.package_name (λ task. IsBuiltOn task b.effort.rounds placement))
     only placement told e same =
         let i = subst (λ (x : Cause). IsTrueOf (build_files b) old new x) (e ∙ ap Good same) is in
@@ -214,8 +215,10 @@ unreachable_row b old new cause is net sink = record {
   where
     about_stuck : (placement told : List TileAt) → cause ≡ Unreachable told net sink → IsAbout placement cause → told ≡ placement
     about_stuck placement told e about = subst (IsAbout placement) e about
+
     told_same : (placement : List TileAt) (other : NetNo) (last : WireNo) → other ≡ net → last ≡ sink → Unreachable placement other last ≡ Unreachable placement net sink
     told_same placement other last e f = ap (λ (n : NetNo). Unreachable placement n last) e ∙ ap (λ (w : WireNo). Unreachable placement net w) f
+
     only : (placement told : List TileAt) → cause ≡ Unreachable told net sink → told ≡ placement → OfTexts (files_of b) old (Asks b.package_name (λ task. IsStuckOn task placement net sink))
     only placement told e same =
         told_of b old new cause (Unreachable placement net sink) (Asks b.package_name (λ task. IsStuckOn task placement net sink)) is
@@ -242,6 +245,7 @@ gave_up_row b old new cause is = record {
   where
     about_gave : (placement told : List TileAt) (logs : Vec RoundLog) → cause ≡ GaveUp told logs → IsAbout placement cause → told ≡ placement
     about_gave placement told logs e about = subst (IsAbout placement) e about
+
     only : (placement told : List TileAt) (logs : Vec RoundLog) → cause ≡ GaveUp told logs → told ≡ placement
         → OfTexts (files_of b) old (Asks b.package_name (λ task. (all : List RoundLog) × IsGivenUpOn task b.effort.rounds placement all))
     only placement told logs e same =
