@@ -23,7 +23,7 @@ use Rattle.ice_build.specs.Stages.{IsPlaceFault, IsLayFault, IsRouteFault, IsFin
 use Rattle.ice_build.specs.declared.answer.Built.{Built}
 use Rattle.ice_build.specs.declared.answer.Layout.{Layout}
 use Rattle.ice_build.specs.declared.answer.BuildFault.{BuildFault}
-use Rattle.ice_build.specs.declared.answer.BuildFault.TheVariants.{Pins, Places, Unreachable, GaveUp, NoMemory}
+use Rattle.ice_build.specs.declared.answer.BuildFault.TheVariants.{Pins, Places, Unreachable, GaveUp, Bits, NoMemory}
 
 -- ---- faults of stages
 -- the places have a fault, where the pins have none
@@ -40,6 +40,7 @@ lay_stops task n d clusters found fault same_net same_design same_clusters said 
     by (Places fault) good e = (found, good, e)
     by (Unreachable layout net sink) good never = absurd never
     by (GaveUp layout logs) good never = absurd never
+    by (Bits fault) good never = absurd never
     by NoMemory good e = tt
 
 pub lay_fault : (task : Task) (rounds : ℕ) (fault : BuildFault) → IsLayFault task fault → IsFault task rounds fault
@@ -47,6 +48,7 @@ lay_fault task rounds (Pins fault) e = e
 lay_fault task rounds (Places fault) e = e
 lay_fault task rounds (Unreachable layout net sink) never = absurd never
 lay_fault task rounds (GaveUp layout logs) never = absurd never
+lay_fault task rounds (Bits fault) never = absurd never
 lay_fault task rounds NoMemory e = tt
 
 pub end_fault : (task : Task) (rounds : ℕ) (layout : Layout) (fault : BuildFault) → IsLaidOut task layout → IsEndFault task.parts rounds layout fault → IsFault task rounds fault
@@ -128,6 +130,11 @@ complete task rounds (Err (Unreachable layout net sink)) is = record {
 complete task rounds (Err (GaveUp layout logs)) is = record {
   pins = λ fault e. absurd (not_both (pins_said task) layout.pads fault (pins_good task layout is.0) e);
   places = λ found fault said e. absurd (not_both (places_said task) is.0.placed.first fault (places_good task layout is.0) e);
+  tried = λ found first said e. tt;
+}
+complete task rounds (Err (Bits fault)) is = record {
+  pins = λ other e. absurd (not_both (pins_said task) is.built.layout.pads other (pins_good task is.built.layout is.is_built.laid) e);
+  places = λ found other said e. absurd (not_both (places_said task) is.is_built.laid.placed.first other (places_good task is.built.layout is.is_built.laid) e);
   tried = λ found first said e. tt;
 }
 complete task rounds (Err NoMemory) is = record {

@@ -17,7 +17,7 @@ use Rattle.ice_build.specs.declared.answer.Built.{Built}
 use Rattle.ice_build.specs.declared.answer.Effort.{Effort}
 use Rattle.ice_build.specs.declared.answer.Layout.{Layout}
 use Rattle.ice_build.specs.declared.answer.BuildFault.{BuildFault}
-use Rattle.ice_build.specs.declared.answer.BuildFault.TheVariants.{Pins, Places, Unreachable, GaveUp, NoMemory}
+use Rattle.ice_build.specs.declared.answer.BuildFault.TheVariants.{Pins, Places, Unreachable, GaveUp, Bits, NoMemory}
 
 -- from 1 to 64 rounds and from 1 to 8 workers
 pub record IsPermitted (effort : Effort) : Type 0 where
@@ -32,6 +32,7 @@ IsPlaceFault parts clusters d (Pins fault) = ⊥
 IsPlaceFault parts clusters d (Places fault) = place_of (stretches_of parts) clusters d ≡ Err fault
 IsPlaceFault parts clusters d (Unreachable layout net sink) = ⊥
 IsPlaceFault parts clusters d (GaveUp layout logs) = ⊥
+IsPlaceFault parts clusters d (Bits fault) = ⊥
 IsPlaceFault parts clusters d NoMemory = Unit {0}
 
 -- why a netlist is not placed
@@ -40,6 +41,7 @@ IsLayFault task (Pins fault) = pins_said task ≡ Err fault
 IsLayFault task (Places fault) = (pads : PadsData) × (pins_said task ≡ Ok pads) × (places_said task ≡ Err fault)
 IsLayFault task (Unreachable layout net sink) = ⊥
 IsLayFault task (GaveUp layout logs) = ⊥
+IsLayFault task (Bits fault) = ⊥
 IsLayFault task NoMemory = Unit {0}
 
 -- why the nets of a placed design are not routed
