@@ -3,7 +3,7 @@ use Rattle.std.specs.Prelude.{◌≡◌, ◌⊎◌, ℕ, Result, Ok, Err, List, 
 use Rattle.ice_base.specs.declared.number.NetNo.{NetNo}
 use Rattle.ice_base.specs.declared.number.TileAt.{TileAt}
 use Rattle.ice_base.specs.declared.number.WireNo.{WireNo}
-use Rattle.ice_bits.specs.Configuration.{bits_of}
+use Rattle.ice_bits.specs.Configuration.{Configuration, bits_of}
 use Rattle.ice_chip.specs.Database.{Parts}
 use Rattle.ice_cells.specs.Clusters.{clusters_of}
 use Rattle.ice_cells.specs.Runs.{design_of}
@@ -71,12 +71,10 @@ pins_said task = assign_of task.parts task.name task.constraints task.circuit (d
 abbrev pub places_said : Task → Result (List TileAt) PlaceFault
 places_said task = place_of (stretches_of task.parts) (clusters_of (design_of task.circuit)) (design_of task.circuit)
 
--- the bits of what would be built have no circuit, for this fault of theirs; so some global of the chip is fed by a global
-pub record IsBitsFault (task : Task) (rounds : ℕ) (fault : DecodeFault) : Type 0 where
-  pub built : Built
-  pub is_built : IsBuilt task rounds built
-  pub fed : FeedsNoGlobal task.parts → ⊥
-  pub is_fault : IsFaultOf task.parts (bits_of built.bits) built.bits.extras fault
+-- the bits have no circuit, for this fault of theirs, and some global of the chip is fed by a global
+pub record IsUndecoded (parts : Parts) (k : Configuration) (fault : DecodeFault) : Type 0 where
+  pub fed : FeedsNoGlobal parts → ⊥
+  pub is_fault : IsFaultOf parts (bits_of k) k.extras fault
   pub told : fault ≡ decode.NoMemory → ⊥
 
 abbrev pub IsFault : Task → ℕ → BuildFault → Type 0
@@ -84,7 +82,7 @@ IsFault task rounds (Pins fault) = pins_said task ≡ Err fault
 IsFault task rounds (Places fault) = (pads : PadsData) × (pins_said task ≡ Ok pads) × (places_said task ≡ Err fault)
 IsFault task rounds (Unreachable layout net sink) = IsLaidOut task layout × IsStuck task.parts (plan_in layout) net sink
 IsFault task rounds (GaveUp layout logs) = IsLaidOut task layout × IsGivenUp task.parts (plan_in layout) rounds logs.items
-IsFault task rounds (Bits fault) = IsBitsFault task rounds fault
+IsFault task rounds (Bits fault) = (built : Built) × IsBuilt task rounds built × IsUndecoded task.parts built.bits fault
 IsFault task rounds NoMemory = Unit {0}
 
 -- ---- which answers there are
