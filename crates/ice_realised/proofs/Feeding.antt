@@ -1,11 +1,12 @@
 -- Whether a global feeds one, looked up for each of the eight.
-use Rattle.std.proofs.Common.{◌≡◌, ◌≢◌, ℕ, zero, suc, ◌<◌, ◌==◌, Bool, true, false, Option, None, Some, refl, sym, ap, ◌∙◌, arith, true≢false}
-use Rattle.std.specs.Prelude.{◌||◌, ◌↔◌, not, option_map, codes}
+use Rattle.std.proofs.Common.{◌≡◌, ◌≢◌, ℕ, zero, suc, ◌<◌, ◌==◌, Bool, true, false, Option, None, Some, List, refl, sym, ap, ◌∙◌, arith, true≢false}
+use Rattle.std.specs.Prelude.{◌||◌, ◌↔◌, not, option_map, codes, IfSome, IsTrue}
 use Rattle.std.specs.Option.{option_map_or, option_and_then}
 use Rattle.std.proofs.lemmas.Bool.{eqb-true, eq-eqb}
 use Rattle.ice_base.proofs.Booleans.{or_true}
 use Rattle.ice_base.proofs.Options.{option_map_some}
 use Rattle.ice_base.specs.declared.number.TileAt.{TileAt}
+use Rattle.ice_base.specs.declared.number.WireNo.{WireNo}
 use Rattle.ice_value.proofs.Members.{Has_all}
 use Rattle.ice_chip.specs.Database.{Parts}
 use Rattle.ice_chip.specs.IsRead.{IsRead}
@@ -20,13 +21,10 @@ use Rattle.ice_decode.specs.Roles.{role_of}
 use Rattle.ice_realised.specs.Feeds.{FeedsNoGlobal, feed_of, is_fed_by_global, is_global, some_fed_below}
 use Rattle.ice_realised.proofs.IoFeeds.{number}
 
--- a found feed is a wire of the chip
-pub feed_within : (parts : Parts) → IsLawful parts → (n w : ℕ) → feed_of parts n ≡ Some w → w < parts.wires
-feed_within parts lawful n w e = by (global_of parts n) e
-  where
-    by : (o : Option TileAt) → option_and_then (λ t. wire_named parts t fabout_name) o ≡ Some w → w < parts.wires
-    by None f = cc f
-    by (Some t) f = lawful.names.below w (record { tile = t; name = fabout_name }) (lawful.names.found t fabout_name w f)
+-- a wire that is found by a name is one of the chip
+pub found_within : (parts : Parts) → IsLawful parts → (t : TileAt) (name : List ℕ) (found : Option WireNo) → option_map (λ (w : WireNo). w.0) found ≡ wire_named parts t name → IfSome found (λ w. w.0 < parts.wires)
+found_within parts lawful t name None e = tt
+found_within parts lawful t name (Some w) e = lawful.names.below w.0 (record { tile = t; name = name }) (lawful.names.found t name w.0 (sym e))
 
 pub fed_below : (parts : Parts) (n limit : ℕ) → n < limit → is_fed_by_global parts n ≡ true → some_fed_below parts limit ≡ true
 fed_below parts n zero lt e = absurd (omega arith)
@@ -62,9 +60,9 @@ fed_number parts read lawful n w e = by (global_of parts n) refl e
 none_fed : (parts : Parts) → IsRead parts → IsLawful parts → some_fed_below parts 8 ≡ false → FeedsNoGlobal parts
 none_fed parts read lawful none = record {
   none = λ n m w feed is.
-        let found = found_feed parts n w feed in
-        let fed : is_fed_by_global parts n ≡ true = ap (λ o. option_map_or (λ w. is_global (role_of parts w)) o false) found ∙ ap is_global is in
-        true≢false (sym (fed_below parts n 8 (fed_number parts read lawful n w found) fed) ∙ none);
+      let found = found_feed parts n w feed in
+      let fed : is_fed_by_global parts n ≡ true = ap (λ o. option_map_or (λ w. is_global (role_of parts w)) o false) found ∙ ap is_global is in
+      true≢false (sym (fed_below parts n 8 (fed_number parts read lawful n w found) fed) ∙ none);
 }
 
 -- the other way
@@ -93,8 +91,5 @@ flipped : (b : Bool) → not b ≡ true → b ≡ false
 flipped true e = sym e
 flipped false e = refl
 
-pub told : (parts : Parts) → IsRead parts → IsLawful parts → (answer some : Bool) → answer ≡ not some → some ≡ some_fed_below parts 8 → (answer ≡ true) ↔ FeedsNoGlobal parts
-told parts read lawful answer some is looked = (
-    λ e. none_fed parts read lawful (sym looked ∙ flipped some (sym is ∙ e)),
-    λ feeds. is ∙ ap not (looked ∙ unfed_below parts feeds 8),
-)
+pub told : (parts : Parts) → IsRead parts → IsLawful parts → (some : Bool) → some ≡ some_fed_below parts 8 → IsTrue (not some) ↔ FeedsNoGlobal parts
+told parts read lawful some looked = (λ e. none_fed parts read lawful (sym looked ∙ flipped some e), λ feeds. ap not (looked ∙ unfed_below parts feeds 8))
