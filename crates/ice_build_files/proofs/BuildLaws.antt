@@ -1,5 +1,9 @@
 -- When each answer of `build` comes, from how its texts stand.
+<<<<<<< HEAD
 use Rattle.std.proofs.Common.{◌≡◌, ◌≢◌, ◌∙◌, ℕ, true, Some, List, Ok, Err, inl, inr, refl, sym, ap, subst}
+=======
+use Rattle.std.proofs.Common.{◌≡◌, ◌≢◌, ◌∙◌, ℕ, List, Err, inl, inr, refl, sym, ap, subst}
+>>>>>>> 888289710b19e5decfdf9bd0d7eecefa60da853a
 use Rattle.std.specs.Global.{Vec}
 use Rattle.ice_base.specs.declared.number.NetNo.{NetNo}
 use Rattle.ice_base.specs.declared.number.TileAt.{TileAt}
@@ -15,8 +19,11 @@ use Rattle.ice_check.specs.declared.fault.NetFault.TheVariants as net_fault
 use Rattle.ice_chip.specs.Database.{Parts}
 use Rattle.ice_chip_read.specs.Whole.{chip_says}
 use Rattle.ice_core.specs.declared.log.RoundLog.{RoundLog}
+<<<<<<< HEAD
 use Rattle.ice_decode.specs.declared.fault.DecodeFault.{DecodeFault}
 use Rattle.ice_pads.specs.Assign.{PadsData}
+=======
+>>>>>>> 888289710b19e5decfdf9bd0d7eecefa60da853a
 use Rattle.ice_pcf.specs.Grammar.{text_says}
 use Rattle.ice_pcf.specs.declared.constraint.Constraint.{Constraint}
 use Rattle.ice_build.specs.Answers.{IsBitsFault, pins_said, places_said}
@@ -24,9 +31,14 @@ use Rattle.ice_build.specs.Laid.{Task, IsLaidOut}
 use Rattle.ice_build.specs.declared.answer.Layout.{Layout}
 use Rattle.ice_build.proofs.Answering.{pins_good, places_good}
 use Rattle.ice_answer.specs.declared.cause.Cause.{Cause}
+<<<<<<< HEAD
 use Rattle.ice_answer.specs.declared.cause.Cause.TheVariants.{Good, Usage, BadBlif, BadPcf, BadChip, BadNet, BadPin, Overfull, Unreachable, GaveUp, WriteFault, BadBits}
 use Rattle.ice_answer.specs.declared.cause.Done.{Done}
 use Rattle.ice_answer.specs.declared.cause.FileRole.{FileRole}
+=======
+use Rattle.ice_answer.specs.declared.cause.Cause.TheVariants.{Good, Usage, BadBlif, BadPcf, BadChip, BadNet, BadPin, Overfull, Unreachable, GaveUp, BadBits}
+use Rattle.ice_answer.specs.declared.cause.Done.{Done}
+>>>>>>> 888289710b19e5decfdf9bd0d7eecefa60da853a
 use Rattle.ice_answer.specs.Causes.{status_of}
 use Rattle.ice_answer.specs.Commands.{IsDone, IsTrueOf}
 use Rattle.ice_answer.specs.Reading.{TellsLong}
@@ -36,10 +48,17 @@ use Rattle.ice_answer.proofs.CommandRows.{Lawful, comes, good_row, read_fault_ro
 use Rattle.ice_answer.proofs.Standings.{fault_alone, of_done}
 use Rattle.ice_answer.proofs.TextFacts.{at_files, of_weaker}
 use Rattle.ice_build_files.specs.Asked.{Build, files_of, IsAsked, Asks}
+<<<<<<< HEAD
 use Rattle.ice_build_files.specs.BuildRows.{ChipRow, HasChipFault, PcfRow, HasPcfFault, IsRead, BlifRow, HasBlifFault, SaysNetlist, IsNetFault, NetRow, PinRow, PlaceRow, HasPlaceFault, IsPlaceable, IsTried, TriedRow, IsAbout, IsGood, BuiltRow, IsUnreachable, UnreachableRow, HasGivenUp, GaveUpRow, BitsRow, HeadlineRow, IsBuildAnswer}
 use Rattle.ice_build_files.specs.Command.{build_files}
 use Rattle.ice_build_files.specs.Made.{IsMade, IsShown, IsBuiltOn, IsStuckOn, IsGivenUpOn}
 use Rattle.ice_build_files.specs.Standing.{IsEnd, PlacesStand, TaskStands, NetStands, BlifStands, PcfStands, Stands}
+=======
+use Rattle.ice_build_files.specs.BuildRows.{ChipRow, HasChipFault, PcfRow, HasPcfFault, BlifRow, HasBlifFault, SaysNetlist, IsNetFault, NetRow, PinRow, PlaceRow, HasPlaceFault, IsPlaceable, IsTried, TriedRow, IsAbout, IsGood, BuiltRow, IsUnreachable, UnreachableRow, HasGivenUp, GaveUpRow, BitsRow, HeadlineRow, IsBuildAnswer}
+use Rattle.ice_build_files.specs.Command.{build_files}
+use Rattle.ice_build_files.specs.Made.{IsMade, IsShown, IsBuiltOn, IsStuckOn, IsGivenUpOn}
+use Rattle.ice_build_files.specs.Standing.{IsEnd, PlacesStand, NetStands, BlifStands, PcfStands, Stands}
+>>>>>>> 888289710b19e5decfdf9bd0d7eecefa60da853a
 use Rattle.ice_build_files.proofs.Excluding.{built_not_stuck, built_not_given_up, given_up_not_stuck_on, stuck_on_one}
 use Rattle.ice_build_files.proofs.Standing.{pcf_stands, blif_stands, net_stands, task_stands, places_stand, end_stands, end_so, one_task}
 use Rattle.ice_build_files.proofs.Telling.{of_end, of_tried, of_about, Told, told}
@@ -102,7 +121,11 @@ netlist_weaker : (P Q : NetlistData → Type 0) (t : List (List ℕ)) → ((circ
 netlist_weaker P Q t weaker h = record { parts = h.parts; constraints = h.constraints; circuit = h.circuit; is_read = h.is_read; is_circuit = h.is_circuit; is_so = weaker h.circuit h.is_so }
 
 net_row : (b : Build) (old new : Meaning) (cause : Cause) → IsTrueOf (build_files b) old new cause → NetRow b old cause
+<<<<<<< HEAD
 unfolding Told, IsFaulty
+=======
+unfolding Told IsFaulty
+>>>>>>> 888289710b19e5decfdf9bd0d7eecefa60da853a
 net_row b old new cause is = record {
   comes = comes (build_files b) old new cause IsNetFault (SaysNetlist (λ circuit. IsSound circuit → ⊥)) (lawful b) is
       (λ f. told_of b old new cause (BadNet f.0) (SaysNetlist (λ circuit. IsSound circuit → ⊥)) is f.1 (λ i. i.0)
@@ -197,6 +220,10 @@ built_row b old new cause is = record {
   where
     about_good : (placement told : List TileAt) → cause ≡ Good told → IsAbout placement cause → told ≡ placement
     about_good placement told e about = subst (IsAbout placement) e about
+<<<<<<< HEAD
+=======
+
+>>>>>>> 888289710b19e5decfdf9bd0d7eecefa60da853a
     only : (placement told : List TileAt) → cause ≡ Good told → told ≡ placement → OfTexts (files_of b) old (Asks b.package_name (λ task. IsBuiltOn task b.effort.rounds placement))
     only placement told e same =
         let i = subst (λ (x : Cause). IsTrueOf (build_files b) old new x) (e ∙ ap Good same) is in
@@ -217,8 +244,15 @@ unreachable_row b old new cause is net sink = record {
   where
     about_stuck : (placement told : List TileAt) → cause ≡ Unreachable told net sink → IsAbout placement cause → told ≡ placement
     about_stuck placement told e about = subst (IsAbout placement) e about
+<<<<<<< HEAD
     told_same : (placement : List TileAt) (other : NetNo) (last : WireNo) → other ≡ net → last ≡ sink → Unreachable placement other last ≡ Unreachable placement net sink
     told_same placement other last e f = ap (λ (n : NetNo). Unreachable placement n last) e ∙ ap (λ (w : WireNo). Unreachable placement net w) f
+=======
+
+    told_same : (placement : List TileAt) (other : NetNo) (last : WireNo) → other ≡ net → last ≡ sink → Unreachable placement other last ≡ Unreachable placement net sink
+    told_same placement other last e f = ap (λ (n : NetNo). Unreachable placement n last) e ∙ ap (λ (w : WireNo). Unreachable placement net w) f
+
+>>>>>>> 888289710b19e5decfdf9bd0d7eecefa60da853a
     only : (placement told : List TileAt) → cause ≡ Unreachable told net sink → told ≡ placement → OfTexts (files_of b) old (Asks b.package_name (λ task. IsStuckOn task placement net sink))
     only placement told e same =
         told_of b old new cause (Unreachable placement net sink) (Asks b.package_name (λ task. IsStuckOn task placement net sink)) is
@@ -245,6 +279,10 @@ gave_up_row b old new cause is = record {
   where
     about_gave : (placement told : List TileAt) (logs : Vec RoundLog) → cause ≡ GaveUp told logs → IsAbout placement cause → told ≡ placement
     about_gave placement told logs e about = subst (IsAbout placement) e about
+<<<<<<< HEAD
+=======
+
+>>>>>>> 888289710b19e5decfdf9bd0d7eecefa60da853a
     only : (placement told : List TileAt) (logs : Vec RoundLog) → cause ≡ GaveUp told logs → told ≡ placement
         → OfTexts (files_of b) old (Asks b.package_name (λ task. (all : List RoundLog) × IsGivenUpOn task b.effort.rounds placement all))
     only placement told logs e same =

@@ -1,5 +1,9 @@
 -- From what building answers to what the texts give, or why they are refused.
+<<<<<<< HEAD
 use Rattle.std.proofs.Common.{◌≡◌, ℕ, List, Ok, Err, refl, sym, subst}
+=======
+use Rattle.std.proofs.Common.{◌≡◌, ℕ, List, Ok, refl, sym, subst}
+>>>>>>> 888289710b19e5decfdf9bd0d7eecefa60da853a
 use Rattle.ice_base.specs.declared.number.TileAt.{TileAt}
 use Rattle.ice_asc.specs.Grammar.{asc_in}
 use Rattle.ice_asc.specs.Text.{asc_text}

@@ -8,7 +8,10 @@ use Rattle.ice_net.specs.NetlistData.{NetlistData}
 use Rattle.ice_blif.specs.Grammar.{netlist_of}
 use Rattle.ice_blif.specs.declared.fault.BlifFault.{BlifFault}
 use Rattle.ice_check.specs.Refusals.{IsFaultOf}
+<<<<<<< HEAD
 use Rattle.ice_check.specs.Sound.{IsSound}
+=======
+>>>>>>> 888289710b19e5decfdf9bd0d7eecefa60da853a
 use Rattle.ice_check.specs.declared.fault.NetFault.TheVariants as net_fault
 use Rattle.ice_chip.specs.Database.{Parts}
 use Rattle.ice_chip.specs.declared.fault.ChipFault.{ChipFault}

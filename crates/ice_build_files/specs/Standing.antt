@@ -1,5 +1,9 @@
 -- How the three texts of `build` stand, one look at them after another.
+<<<<<<< HEAD
 use Rattle.std.specs.Prelude.{◌≡◌, ℕ, List}
+=======
+use Rattle.std.specs.Prelude.{ℕ, List}
+>>>>>>> 888289710b19e5decfdf9bd0d7eecefa60da853a
 use Rattle.ice_net.specs.NetlistData.{NetlistData}
 use Rattle.ice_blif.specs.Grammar.{netlist_of}
 use Rattle.ice_check.specs.Sound.{IsSound}

@@ -23,7 +23,7 @@ use Rattle.ice_answer.specs.declared.cause.Cause.TheVariants.{BadChip, BadPin, B
 use Rattle.ice_answer.specs.Commands.{IsRefusal}
 use Rattle.ice_answer.specs.Refusals.{IsChipRefusal, IsAscRefusal}
 use Rattle.ice_answer.specs.Texts.{text_at}
-use Rattle.ice_answer.proofs.Standings.{at_fault, behind, then_stands, at_none, behind_some, some_stands}
+use Rattle.ice_answer.proofs.Standings.{at_fault, behind, then_stands, behind_some, some_stands}
 use Rattle.ice_answer.proofs.Standings as standings
 use Rattle.ice_play_bits.specs.Played.{LevelsStand, BitsStand, PackageStands, AscStands, Stands, IsRead, IsPacked, IsPlayed}
 
