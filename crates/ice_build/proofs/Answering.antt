@@ -2,16 +2,13 @@
 use Rattle.std.proofs.Common.{◌≡◌, ◌⊎◌, ℕ, inl, inr, refl, sym, ap, ◌∙◌, subst}
 use Rattle.std.specs.Prelude.{Result, Ok, Err}
 use Rattle.ice_net.specs.NetlistData.{NetlistData}
-use Rattle.ice_bits.specs.Configuration.{Bits as BitsAt, Configuration, bits_of}
+use Rattle.ice_bits.specs.Configuration.{Bits as BitsAt}
 use Rattle.ice_chip.specs.Database.{Parts}
 use Rattle.ice_cells.specs.Clusters.{clusters_of}
 use Rattle.ice_cells.specs.Runs.{design_of}
 use Rattle.ice_cells.specs.declared.cluster.Clusters.{Clusters}
 use Rattle.ice_cells.specs.declared.design.Design.{Design}
 use Rattle.ice_decode.specs.Faults.{HasNoLoop}
-use Rattle.ice_decode.specs.Refusals.{IsFaultOf}
-use Rattle.ice_decode.specs.declared.fault.DecodeFault.{DecodeFault}
-use Rattle.ice_decode.specs.declared.fault.DecodeFault.TheVariants as decode
 use Rattle.ice_negotiate.specs.declared.fault.RouteFault.{RouteFault}
 use Rattle.ice_negotiate.specs.declared.fault.RouteFault.TheVariants as route
 use Rattle.ice_pads.specs.Assign.{PadsData, assign_of}
@@ -26,7 +23,6 @@ use Rattle.ice_build.specs.Answers.{IsBuilt, IsFault, IsComplete, IsRouted, pins
 use Rattle.ice_build.specs.Laid.{Task, IsLaidOut, IsSettled, StandsOn, plan_in}
 use Rattle.ice_build.specs.Shown.{IsCircuitOf}
 use Rattle.ice_build.specs.Stages.{IsPlaceFault, IsLayFault, IsRouteFault, IsFinished, IsEndFault, IsBitsFault, unrouted}
-use Rattle.ice_build.specs.Faults.{bits_fault}
 use Rattle.ice_build.specs.declared.answer.Built.{Built}
 use Rattle.ice_build.specs.declared.answer.Layout.{Layout}
 use Rattle.ice_build.specs.declared.answer.BuildFault.{BuildFault}
@@ -66,16 +62,7 @@ end_fault task rounds layout fault laid (stop, is, same) = subst (IsFault task r
     by (route.GaveUp logs) is = (laid, is)
     by route.NoMemory is = tt
 
--- the decoder has a fault
-pub undecoded : (parts : Parts) (k : Configuration) (fault : DecodeFault) → (FeedsNoGlobal parts → ⊥) → IsFaultOf parts (bits_of k) k.extras fault → IsBitsFault parts k (bits_fault fault)
-undecoded parts k (decode.Contention wire rows) fed is = record { fed = fed; is_fault = is; told = λ e. cc e }
-undecoded parts k (decode.ForeignSource wire) fed is = record { fed = fed; is_fault = is; told = λ e. cc e }
-undecoded parts k (decode.ForeignFunction tile line) fed is = record { fed = fed; is_fault = is; told = λ e. cc e }
-undecoded parts k (decode.ForeignExtra extra) fed is = record { fed = fed; is_fault = is; told = λ e. cc e }
-undecoded parts k (decode.ChipLoop wires) fed is = record { fed = fed; is_fault = is; told = λ e. cc e }
-undecoded parts k (decode.PinType pad value) fed is = record { fed = fed; is_fault = is; told = λ e. cc e }
-undecoded parts k decode.NoMemory fed is = tt
-
+-- the bits have no circuit
 pub bits_stop : (task : Task) (rounds : ℕ) (made : Built) (fault : BuildFault) → IsBuilt task rounds made → IsBitsFault task.parts made.bits fault → IsFault task rounds fault
 bits_stop task rounds made (Pins fault) is never = absurd never
 bits_stop task rounds made (Places fault) is never = absurd never
@@ -123,10 +110,10 @@ not_both said value fault ok err = cc
 one_fault : {A E : Type 0} (said : Result A E) (fault other : E) → said ≡ Err fault → said ≡ Err other → fault ≡ other
 one_fault said fault other a b = cc
 
-pins_good : (task : Task) (layout : Layout) → IsLaidOut task layout → pins_said task ≡ Ok layout.pads
+pub pins_good : (task : Task) (layout : Layout) → IsLaidOut task layout → pins_said task ≡ Ok layout.pads
 pins_good task layout laid = subst (λ (d : Design). assign_of task.parts task.name task.constraints task.circuit d ≡ Ok layout.pads) laid.design laid.pads
 
-places_good : (task : Task) (layout : Layout) (laid : IsLaidOut task layout) → places_said task ≡ Ok laid.placed.first
+pub places_good : (task : Task) (layout : Layout) (laid : IsLaidOut task layout) → places_said task ≡ Ok laid.placed.first
 places_good task layout laid =
     let of_clusters = subst (λ (c : Clusters). place_of (stretches_of task.parts) c layout.design ≡ Ok laid.placed.first) laid.clusters laid.placed.is_first in
     subst (λ (d : Design). place_of (stretches_of task.parts) (clusters_of d) d ≡ Ok laid.placed.first) laid.design of_clusters
