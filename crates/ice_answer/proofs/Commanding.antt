@@ -211,25 +211,26 @@ put_done output text on old new (BadBits fault) put = absurd put
 put_done output text on old new (TooLong role limit) put = absurd put
 put_done output text on old new (BadLevels line) put = absurd put
 
--- a file was made, where one is put
-pub put_made : (role : FileRole) (name text : List ℕ) (on : List TileAt) (old new : Meaning) (cause : Cause) → IsPut (InFile role name) text on old new cause → MadeRow (InFile role name) old new cause
-put_made of_role name text on old new (Good placement) put = put.1.made
-put_made of_role name text on old new Usage put = absurd put
-put_made of_role name text on old new (BadBlif fault) put = absurd put
-put_made of_role name text on old new (BadPcf fault) put = absurd put
-put_made of_role name text on old new (BadChip fault) put = absurd put
-put_made of_role name text on old new (BadNet fault) put = absurd put
-put_made of_role name text on old new (BadPin fault) put = absurd put
-put_made of_role name text on old new (Overfull fault) put = absurd put
-put_made of_role name text on old new (Unreachable placement net sink) put = absurd put
-put_made of_role name text on old new (GaveUp placement logs) put = absurd put
-put_made of_role name text on old new (ReadFault role) put = absurd put
-put_made of_role name text on old new (WriteFault role number) put = put.made
-put_made of_role name text on old new NoMemory put = absurd put
-put_made of_role name text on old new (BadAsc fault) put = absurd put
-put_made of_role name text on old new (BadBits fault) put = absurd put
-put_made of_role name text on old new (TooLong role limit) put = absurd put
-put_made of_role name text on old new (BadLevels line) put = absurd put
+-- a file was made, where one is put behind the reading
+pub put_made : (role : FileRole) (name text : List ℕ) (on : List TileAt) (old mid new : Meaning) (cause : Cause) → SameButReading old mid → IsPut (InFile role name) text on mid new cause
+    → MadeRow (InFile role name) old new cause
+put_made of_role name text on old mid new (Good placement) read put = put.1.made ∙ ap after_one read.makes
+put_made of_role name text on old mid new Usage read put = absurd put
+put_made of_role name text on old mid new (BadBlif fault) read put = absurd put
+put_made of_role name text on old mid new (BadPcf fault) read put = absurd put
+put_made of_role name text on old mid new (BadChip fault) read put = absurd put
+put_made of_role name text on old mid new (BadNet fault) read put = absurd put
+put_made of_role name text on old mid new (BadPin fault) read put = absurd put
+put_made of_role name text on old mid new (Overfull fault) read put = absurd put
+put_made of_role name text on old mid new (Unreachable placement net sink) read put = absurd put
+put_made of_role name text on old mid new (GaveUp placement logs) read put = absurd put
+put_made of_role name text on old mid new (ReadFault role) read put = absurd put
+put_made of_role name text on old mid new (WriteFault role number) read put = put.made ∙ ap after_one read.makes
+put_made of_role name text on old mid new NoMemory read put = absurd put
+put_made of_role name text on old mid new (BadAsc fault) read put = absurd put
+put_made of_role name text on old mid new (BadBits fault) read put = absurd put
+put_made of_role name text on old mid new (TooLong role limit) read put = absurd put
+put_made of_role name text on old mid new (BadLevels line) read put = absurd put
 
 -- what was put to a file stands while a line is said
 whole_said : (name text : List ℕ) (old mid new : Meaning) → SameButSaying mid new → IsWrittenWhole name text old mid → IsWrittenWhole name text old new

@@ -137,8 +137,3 @@ IsTrueOf k old new (WriteFault role put) = IsWriteFault k old new role put
 IsTrueOf k old new NoMemory = new.makes ≡ old.makes
 IsTrueOf k old new (TooLong role limit) = IsTooLong k.files old new role limit
 IsTrueOf k old new cause = OfTexts k.files old (λ texts. k.Stands texts cause) × IsKnown cause
-
--- nothing was made, by this cause: it is a refusal, and true of the command, wherever its work was to be given
-pub record IsUnmade (files : Files) (Stands : List (List ℕ) → Cause → Type 0) (Gives : List (List ℕ) → List ℕ → List TileAt → Type 0) (old new : Meaning) (cause : Cause) : Type 0 where
-  pub refused : IsRefused cause
-  pub is_true : (output : Output) → IsTrueOf (command_of files Stands Gives output) old new cause

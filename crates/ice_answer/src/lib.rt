@@ -6,6 +6,7 @@ mod bits_say;
 mod cause;
 mod end;
 mod files;
+mod giving;
 mod making;
 mod reading;
 mod refusal;
@@ -13,8 +14,9 @@ mod say;
 
 pub use cause::{Cause, Done, FileRole, no_placement};
 pub use end::{done, finish};
-pub use files::{InputFile, Texts};
-pub use making::{Made, Making, say_made, write_made};
+pub use files::{InputFile, Texts, read_texts};
+pub use giving::{Made, end_aloud, end_in_file};
+pub use making::{Making, say_made, write_made};
 pub use refusal::{
     asc_refusal, bits_refusal, blif_refusal, chip_refusal, net_refusal, pcf_refusal, pin_refusal,
     place_refusal,

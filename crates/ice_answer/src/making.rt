@@ -1,29 +1,20 @@
 //! Commands: files are read, something is made of their texts, and only then it is said or written.
-ghost use Rattle.std.specs.Prelude.{◌≡◌, ◌<◌, ◌≤◌, ℕ, List, length, true, OnOk, IfOk, IfErr};
+ghost use Rattle.std.specs.Prelude.{◌≡◌, ◌<◌, ℕ, List, length, true, IfOk, IfErr};
 ghost use Rattle.ice_base.specs.declared.number.TileAt.{TileAt};
-ghost use Rattle.ice_desk.specs.Desk.{SameButReading, SameButSaying, SameButWriting, SameTest};
+ghost use Rattle.ice_desk.specs.Desk.{SameButReading, SameTest};
 ghost use Rattle.ice_answer.specs.declared.cause.Cause.{Cause};
 ghost use Rattle.ice_answer.specs.Causes.{status_of};
-ghost use Rattle.ice_answer.specs.Reading.{most_bytes, TellsLong};
-ghost use Rattle.ice_answer.specs.Texts.{files_view, AreReadable, OfTexts};
-ghost use Rattle.ice_answer.specs.Commands.{command_of, Aloud, InFile, IsRefusal, IsPut, IsTrueOf, IsUnmade};
+ghost use Rattle.ice_answer.specs.Reading.{TellsLong};
+ghost use Rattle.ice_answer.specs.Texts.{files_view, AreReadable};
+ghost use Rattle.ice_answer.specs.Commands.{Output, command_of, Aloud, InFile, IsRefusal, IsTrueOf};
+ghost use Rattle.ice_answer.specs.Ends.{IsMadeOf, IsToldLong};
 ghost use Rattle.ice_answer.specs.Rows.{SaidBy, KeptRow, MadeRow, SilentRow};
 
 use crate::cause::{Cause, Done, FileRole};
-use crate::end::{done, finish};
 use crate::files::{InputFile, Texts, read_texts};
-use ice_desk::{Desk, WriteStop, say_text, write_whole};
-use ice_place::Placement;
+use crate::giving::{Made, end_aloud, end_in_file};
+use ice_desk::Desk;
 use std::alloc::Global;
-
-/// What a command made of its texts.
-#[derive(Drop)]
-pub struct Made {
-    /// The text that is to be said or written.
-    pub text: Vec<u8>,
-    /// The placement of what was built; it has no cluster where nothing is placed.
-    pub placement: Placement,
-}
 
 /// What a command makes of its texts.
 pub trait Making {
@@ -50,32 +41,12 @@ fn make_of<D: Desk, M: Making>(
     ensures same { SameButReading (D.seen desk.old) (D.seen desk.new) }
     ensures names_read { SameTest (D.may_read desk.old) (D.may_read desk.new) }
     ensures names_written { SameTest (D.may_write desk.old) (D.may_write desk.new) }
-    ensures made { IfOk result (λ made. OfTexts (files_view files.now) (D.seen desk.old) (λ texts. M.gives making.now texts made.text.items made.placement)) }
-    ensures stop { IfErr result (λ cause. IsUnmade (files_view files.now) (M.stands making.now) (M.gives making.now) (D.seen desk.old) (D.seen desk.new) cause) }
-    ensures given { OnOk result (0 < length files.now → (D.seen desk.new).given ≤ most_bytes) }
-    ensures given_stop { IfErr result (λ cause. 0 < length files.now → TellsLong (D.seen desk.new) cause) }
+    ensures made { (output : Output) → IsMadeOf (command_of (files_view files.now) (M.stands making.now) (M.gives making.now) output) (D.seen desk.old) (D.seen desk.new) result }
+    ensures given { 0 < length files.now → IsToldLong (D.seen desk.new) result }
 {
     match read_texts(alloc, desk, files) {
         Ok(texts) => making.make(alloc, &texts),
         Err(cause) => Err(cause),
-    }
-}
-
-// Says what was made, whole or up to a say that failed. Each memory was taken before.
-fn put_aloud<D: Desk>(desk: &mut D, made: Made) -> Cause
-    ensures same { SameButSaying (D.seen desk.old) (D.seen desk.new) }
-    ensures names_read { SameTest (D.may_read desk.old) (D.may_read desk.new) }
-    ensures names_written { SameTest (D.may_write desk.old) (D.may_write desk.new) }
-    ensures put { IsPut Aloud made.text.items made.placement (D.seen desk.old) (D.seen desk.new) result }
-{
-    match say_text(desk, &made.text) {
-        Ok(()) => Cause::Good {
-            placement: made.placement,
-        },
-        Err(put) => Cause::WriteFault {
-            role: FileRole::Standard,
-            put,
-        },
     }
 }
 
@@ -95,26 +66,8 @@ pub fn say_made<D: Desk, M: Making>(
     ensures made { (D.seen desk.new).makes ≡ (D.seen desk.old).makes }
     ensures given { 0 < length files.now → TellsLong (D.seen desk.new) result.cause }
 {
-    match make_of(alloc, desk, files, making) {
-        Ok(made) => done(put_aloud(desk, made)),
-        Err(cause) => finish(desk, cause),
-    }
-}
-
-// Writes what was made to a file. Each memory was taken before.
-fn put_in_file<D: Desk>(desk: &mut D, role: FileRole, name: &str, made: Made) -> Cause
-    requires { D.may_write desk.old name.now }
-    ensures same { SameButWriting name.now (D.seen desk.old) (D.seen desk.new) }
-    ensures names_read { SameTest (D.may_read desk.old) (D.may_read desk.new) }
-    ensures names_written { SameTest (D.may_write desk.old) (D.may_write desk.new) }
-    ensures put { IsPut (InFile role name.now) made.text.items made.placement (D.seen desk.old) (D.seen desk.new) result }
-{
-    match write_whole(desk, name, &made.text) {
-        Ok(()) => Cause::Good {
-            placement: made.placement,
-        },
-        Err(WriteStop::Failed { put }) => Cause::WriteFault { role, put },
-    }
+    let made = make_of(alloc, desk, files, making);
+    end_aloud(desk, made)
 }
 
 /// Reads files, and writes what is made of their texts to the file of this role and name, or says the line of a refusal.
@@ -136,11 +89,6 @@ pub fn write_made<D: Desk, M: Making>(
     ensures silent { SilentRow (InFile role name.now) (D.seen desk.old) (D.seen desk.new) result.cause }
     ensures given { 0 < length files.now → TellsLong (D.seen desk.new) result.cause }
 {
-    match make_of(alloc, desk, files, making) {
-        Ok(made) => {
-            let cause = put_in_file(desk, role, name, made);
-            finish(desk, cause)
-        }
-        Err(cause) => finish(desk, cause),
-    }
+    let made = make_of(alloc, desk, files, making);
+    end_in_file(desk, made, role, name)
 }

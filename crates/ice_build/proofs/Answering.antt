@@ -110,10 +110,10 @@ not_both said value fault ok err = cc
 one_fault : {A E : Type 0} (said : Result A E) (fault other : E) → said ≡ Err fault → said ≡ Err other → fault ≡ other
 one_fault said fault other a b = cc
 
-pins_good : (task : Task) (layout : Layout) → IsLaidOut task layout → pins_said task ≡ Ok layout.pads
+pub pins_good : (task : Task) (layout : Layout) → IsLaidOut task layout → pins_said task ≡ Ok layout.pads
 pins_good task layout laid = subst (λ (d : Design). assign_of task.parts task.name task.constraints task.circuit d ≡ Ok layout.pads) laid.design laid.pads
 
-places_good : (task : Task) (layout : Layout) (laid : IsLaidOut task layout) → places_said task ≡ Ok laid.placed.first
+pub places_good : (task : Task) (layout : Layout) (laid : IsLaidOut task layout) → places_said task ≡ Ok laid.placed.first
 places_good task layout laid =
     let of_clusters = subst (λ (c : Clusters). place_of (stretches_of task.parts) c layout.design ≡ Ok laid.placed.first) laid.clusters laid.placed.is_first in
     subst (λ (d : Design). place_of (stretches_of task.parts) (clusters_of d) d ≡ Ok laid.placed.first) laid.design of_clusters

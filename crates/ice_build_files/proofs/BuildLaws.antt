@@ -1,14 +1,10 @@
 -- When each answer of `build` comes, from how its texts stand.
-<<<<<<< HEAD
-use Rattle.std.proofs.Common.{◌≡◌, ◌≢◌, ◌∙◌, ℕ, true, Some, List, Ok, Err, inl, inr, refl, sym, ap, subst}
-=======
-use Rattle.std.proofs.Common.{◌≡◌, ◌≢◌, ◌∙◌, ℕ, List, Err, inl, inr, refl, sym, ap, subst}
->>>>>>> 888289710b19e5decfdf9bd0d7eecefa60da853a
+use Rattle.std.proofs.Common.{◌≡◌, ◌≢◌, ◌∙◌, ℕ, List, Result, Err, inl, inr, refl, sym, ap, subst}
 use Rattle.std.specs.Global.{Vec}
 use Rattle.ice_base.specs.declared.number.NetNo.{NetNo}
 use Rattle.ice_base.specs.declared.number.TileAt.{TileAt}
 use Rattle.ice_base.specs.declared.number.WireNo.{WireNo}
-use Rattle.ice_desk.specs.Desk.{Meaning}
+use Rattle.ice_desk.specs.Desk.{Meaning, SameButReading}
 use Rattle.ice_net.specs.NetlistData.{NetlistData}
 use Rattle.ice_blif.specs.Grammar.{netlist_of}
 use Rattle.ice_check.proofs.Faulty.{faulty}
@@ -19,46 +15,32 @@ use Rattle.ice_check.specs.declared.fault.NetFault.TheVariants as net_fault
 use Rattle.ice_chip.specs.Database.{Parts}
 use Rattle.ice_chip_read.specs.Whole.{chip_says}
 use Rattle.ice_core.specs.declared.log.RoundLog.{RoundLog}
-<<<<<<< HEAD
-use Rattle.ice_decode.specs.declared.fault.DecodeFault.{DecodeFault}
-use Rattle.ice_pads.specs.Assign.{PadsData}
-=======
->>>>>>> 888289710b19e5decfdf9bd0d7eecefa60da853a
 use Rattle.ice_pcf.specs.Grammar.{text_says}
 use Rattle.ice_pcf.specs.declared.constraint.Constraint.{Constraint}
-use Rattle.ice_build.specs.Answers.{IsBitsFault, pins_said, places_said}
+use Rattle.ice_build.specs.Answers.{pins_said, places_said}
 use Rattle.ice_build.specs.Laid.{Task, IsLaidOut}
 use Rattle.ice_build.specs.declared.answer.Layout.{Layout}
 use Rattle.ice_build.proofs.Answering.{pins_good, places_good}
 use Rattle.ice_answer.specs.declared.cause.Cause.{Cause}
-<<<<<<< HEAD
-use Rattle.ice_answer.specs.declared.cause.Cause.TheVariants.{Good, Usage, BadBlif, BadPcf, BadChip, BadNet, BadPin, Overfull, Unreachable, GaveUp, WriteFault, BadBits}
-use Rattle.ice_answer.specs.declared.cause.Done.{Done}
-use Rattle.ice_answer.specs.declared.cause.FileRole.{FileRole}
-=======
 use Rattle.ice_answer.specs.declared.cause.Cause.TheVariants.{Good, Usage, BadBlif, BadPcf, BadChip, BadNet, BadPin, Overfull, Unreachable, GaveUp, BadBits}
 use Rattle.ice_answer.specs.declared.cause.Done.{Done}
->>>>>>> 888289710b19e5decfdf9bd0d7eecefa60da853a
+use Rattle.ice_answer.specs.declared.cause.FileRole.TheVariants.{Asc}
+use Rattle.ice_answer.specs.declared.giving.Made.{Made}
 use Rattle.ice_answer.specs.Causes.{status_of}
 use Rattle.ice_answer.specs.Commands.{IsDone, IsTrueOf}
+use Rattle.ice_answer.specs.Ends.{IsEndInFile, IsMadeOf, IsEndOf}
 use Rattle.ice_answer.specs.Reading.{TellsLong}
 use Rattle.ice_answer.specs.Rows.{IsHeld, GoodRow}
 use Rattle.ice_answer.specs.Texts.{OfTexts, HoldsTexts, text_at}
 use Rattle.ice_answer.proofs.CommandRows.{Lawful, comes, good_row, read_fault_row, write_fault_row, too_long_row}
+use Rattle.ice_answer.proofs.Ended.{end_is_in_file}
 use Rattle.ice_answer.proofs.Standings.{fault_alone, of_done}
 use Rattle.ice_answer.proofs.TextFacts.{at_files, of_weaker}
 use Rattle.ice_build_files.specs.Asked.{Build, files_of, IsAsked, Asks}
-<<<<<<< HEAD
-use Rattle.ice_build_files.specs.BuildRows.{ChipRow, HasChipFault, PcfRow, HasPcfFault, IsRead, BlifRow, HasBlifFault, SaysNetlist, IsNetFault, NetRow, PinRow, PlaceRow, HasPlaceFault, IsPlaceable, IsTried, TriedRow, IsAbout, IsGood, BuiltRow, IsUnreachable, UnreachableRow, HasGivenUp, GaveUpRow, BitsRow, HeadlineRow, IsBuildAnswer}
-use Rattle.ice_build_files.specs.Command.{build_files}
-use Rattle.ice_build_files.specs.Made.{IsMade, IsShown, IsBuiltOn, IsStuckOn, IsGivenUpOn}
-use Rattle.ice_build_files.specs.Standing.{IsEnd, PlacesStand, TaskStands, NetStands, BlifStands, PcfStands, Stands}
-=======
 use Rattle.ice_build_files.specs.BuildRows.{ChipRow, HasChipFault, PcfRow, HasPcfFault, BlifRow, HasBlifFault, SaysNetlist, IsNetFault, NetRow, PinRow, PlaceRow, HasPlaceFault, IsPlaceable, IsTried, TriedRow, IsAbout, IsGood, BuiltRow, IsUnreachable, UnreachableRow, HasGivenUp, GaveUpRow, BitsRow, HeadlineRow, IsBuildAnswer}
 use Rattle.ice_build_files.specs.Command.{build_files}
-use Rattle.ice_build_files.specs.Made.{IsMade, IsShown, IsBuiltOn, IsStuckOn, IsGivenUpOn}
+use Rattle.ice_build_files.specs.Made.{IsMade, IsShown, IsBuiltOn, IsStuckOn, IsGivenUpOn, HasBadBits}
 use Rattle.ice_build_files.specs.Standing.{IsEnd, PlacesStand, NetStands, BlifStands, PcfStands, Stands}
->>>>>>> 888289710b19e5decfdf9bd0d7eecefa60da853a
 use Rattle.ice_build_files.proofs.Excluding.{built_not_stuck, built_not_given_up, given_up_not_stuck_on, stuck_on_one}
 use Rattle.ice_build_files.proofs.Standing.{pcf_stands, blif_stands, net_stands, task_stands, places_stand, end_stands, end_so, one_task}
 use Rattle.ice_build_files.proofs.Telling.{of_end, of_tried, of_about, Told, told}
@@ -67,7 +49,6 @@ done_end : (task : Task) (rounds : ℕ) (cause : Cause) → IsDone cause → IsE
 done_end task rounds cause done = of_done (IsEnd task rounds) (λ placement. tt) (λ role put. tt) cause done
 
 pub lawful : (b : Build) → Lawful (build_files b)
-unfolding Told
 lawful b = record {
   done = λ t text on cause g done.
       let layout = g.built.layout in
@@ -86,14 +67,12 @@ told_of b old new cause fault AreSo is e stands so =
 
 -- ---- the texts
 chip_row : (b : Build) (old new : Meaning) (cause : Cause) → IsTrueOf (build_files b) old new cause → ChipRow b old cause
-unfolding Told
 chip_row b old new cause is fault =
     comes (build_files b) old new cause (λ c. c ≡ BadChip fault) (HasChipFault fault) (lawful b) is
     (λ e. told_of b old new cause (BadChip fault) (HasChipFault fault) is e (λ i. i.0) (λ t h. h))
     (λ t h m. fault_alone (chip_says (text_at t 1)) BadChip (PcfStands b.package_name b.effort.rounds (text_at t 2) (text_at t 3)) fault cause h m)
 
 pcf_row : (b : Build) (old new : Meaning) (cause : Cause) → IsTrueOf (build_files b) old new cause → PcfRow b old cause
-unfolding Told
 pcf_row b old new cause is fault =
     comes (build_files b) old new cause (λ c. c ≡ BadPcf fault) (HasPcfFault fault) (lawful b) is
     (λ e. told_of b old new cause (BadPcf fault) (HasPcfFault fault) is e (λ i. i.0) (λ t h. h))
@@ -101,7 +80,6 @@ pcf_row b old new cause is fault =
     (pcf_stands b.package_name b.effort.rounds t h.0 cause h.1 m))
 
 blif_row : (b : Build) (old new : Meaning) (cause : Cause) → IsTrueOf (build_files b) old new cause → BlifRow b old cause
-unfolding Told
 blif_row b old new cause is fault =
     comes (build_files b) old new cause (λ c. c ≡ BadBlif fault) (HasBlifFault fault) (lawful b) is
     (λ e. told_of b old new cause (BadBlif fault) (HasBlifFault fault) is e (λ i. i.0) (λ t h. h))
@@ -114,18 +92,13 @@ unsound_alone : (name : List ℕ) (rounds : ℕ) (parts : Parts) (constraints : 
 unsound_alone name rounds parts constraints circuit cause unsound (inl bad) = (bad.0, bad.1)
 unsound_alone name rounds parts constraints circuit cause unsound (inr good) = absurd (unsound good.0)
 
-IsFaulty : NetFault → NetlistData → Type 0
+abbrev IsFaulty : NetFault → NetlistData → Type 0
 IsFaulty fault circuit = IsFaultOf circuit fault × (fault ≢ net_fault.NoMemory)
 
 netlist_weaker : (P Q : NetlistData → Type 0) (t : List (List ℕ)) → ((circuit : NetlistData) → P circuit → Q circuit) → SaysNetlist P t → SaysNetlist Q t
 netlist_weaker P Q t weaker h = record { parts = h.parts; constraints = h.constraints; circuit = h.circuit; is_read = h.is_read; is_circuit = h.is_circuit; is_so = weaker h.circuit h.is_so }
 
 net_row : (b : Build) (old new : Meaning) (cause : Cause) → IsTrueOf (build_files b) old new cause → NetRow b old cause
-<<<<<<< HEAD
-unfolding Told, IsFaulty
-=======
-unfolding Told IsFaulty
->>>>>>> 888289710b19e5decfdf9bd0d7eecefa60da853a
 net_row b old new cause is = record {
   comes = comes (build_files b) old new cause IsNetFault (SaysNetlist (λ circuit. IsSound circuit → ⊥)) (lawful b) is
       (λ f. told_of b old new cause (BadNet f.0) (SaysNetlist (λ circuit. IsSound circuit → ⊥)) is f.1 (λ i. i.0)
@@ -139,7 +112,6 @@ net_row b old new cause is = record {
 
 -- ---- pins and places
 pin_row : (b : Build) (old new : Meaning) (cause : Cause) → IsTrueOf (build_files b) old new cause → PinRow b old cause
-unfolding Told
 pin_row b old new cause is fault =
     comes (build_files b) old new cause (λ c. c ≡ BadPin fault) (Asks b.package_name (λ task. pins_said task ≡ Err fault)) (lawful b) is
     (λ e. told_of b old new cause (BadPin fault) (Asks b.package_name (λ task. pins_said task ≡ Err fault)) is e (λ i. i.0) (λ t h. h))
@@ -147,7 +119,6 @@ pin_row b old new cause is fault =
     (task_stands b.package_name b.effort.rounds t h.task cause h.is_asked m))
 
 place_row : (b : Build) (old new : Meaning) (cause : Cause) → IsTrueOf (build_files b) old new cause → PlaceRow b old cause
-unfolding Told
 place_row b old new cause is fault =
     comes (build_files b) old new cause (λ c. c ≡ Overfull fault) (Asks b.package_name (HasPlaceFault fault)) (lawful b) is
     (λ e. told_of b old new cause (Overfull fault) (Asks b.package_name (HasPlaceFault fault)) is e (λ i. i.0) (λ t h. h))
@@ -168,7 +139,6 @@ end_tried : (task : Task) (rounds : ℕ) (cause : Cause) → IsEnd task rounds c
 end_tried task rounds cause is = of_end IsTried task rounds (λ placement. tt) (λ role put. tt) (λ placement net sink stuck. tt) (λ placement logs given. tt) (λ fault bits. tt) cause is
 
 tried_only : (b : Build) (old new : Meaning) (cause : Cause) → IsTrueOf (build_files b) old new cause → IsTried cause → OfTexts (files_of b) old (Asks b.package_name IsPlaceable)
-unfolding Told
 tried_only b old new cause is tried =
     of_tried (λ c. IsTrueOf (build_files b) old new c → OfTexts (files_of b) old (Asks b.package_name IsPlaceable))
     (λ placement i. of_weaker (files_of b) old (λ t. IsMade b t i.text placement) (Asks b.package_name IsPlaceable) (λ t g. made_placeable b t i.text placement g) i.texts)
@@ -178,7 +148,7 @@ tried_only b old new cause is tried =
     (λ placement logs i. told_of b old new (GaveUp placement logs) (GaveUp placement logs) (Asks b.package_name IsPlaceable) i refl (λ j. j.0)
     (λ t h. asks_weaker b.package_name (λ task. IsGivenUpOn task b.effort.rounds placement logs.items) IsPlaceable t (λ task given. laid_placeable task given.0 given.1) h))
     (λ fault i. told_of b old new (BadBits fault) (BadBits fault) (Asks b.package_name IsPlaceable) i refl (λ j. j.0)
-    (λ t h. asks_weaker b.package_name (λ task. IsBitsFault task b.effort.rounds fault) IsPlaceable t (λ task bits. laid_placeable task bits.built.layout bits.is_built.laid) h))
+    (λ t h. asks_weaker b.package_name (λ task. HasBadBits task b.effort.rounds fault) IsPlaceable t (λ task bits. laid_placeable task bits.0.layout bits.1.laid) h))
     cause tried is
 
 tried_row : (b : Build) (old new : Meaning) (cause : Cause) → IsTrueOf (build_files b) old new cause → TriedRow b old cause
@@ -196,14 +166,12 @@ held_built b old new placement t task holds asked is =
 
 held_stuck : (b : Build) (old new : Meaning) (placement : List TileAt) (net : NetNo) (sink : WireNo) (t : List (List ℕ)) (task : Task) → HoldsTexts (files_of b) old t
     → IsAsked b.package_name t task → IsTrueOf (build_files b) old new (Unreachable placement net sink) → IsStuckOn task placement net sink
-unfolding Told
 held_stuck b old new placement net sink t task holds asked is =
     let h = told b.package_name b.effort.rounds t (Unreachable placement net sink) (at_files (files_of b) old (λ texts. Stands b.package_name b.effort.rounds texts (Unreachable placement net sink)) t holds is.0) in
     subst (λ (x : Task). IsStuckOn x placement net sink) (one_task b.package_name t h.task task h.is_asked asked) h.is_so
 
 held_given_up : (b : Build) (old new : Meaning) (placement : List TileAt) (logs : Vec RoundLog) (t : List (List ℕ)) (task : Task) → HoldsTexts (files_of b) old t
     → IsAsked b.package_name t task → IsTrueOf (build_files b) old new (GaveUp placement logs) → IsGivenUpOn task b.effort.rounds placement logs.items
-unfolding Told
 held_given_up b old new placement logs t task holds asked is =
     let h = told b.package_name b.effort.rounds t (GaveUp placement logs) (at_files (files_of b) old (λ texts. Stands b.package_name b.effort.rounds texts (GaveUp placement logs)) t holds is.0) in
     subst (λ (x : Task). IsGivenUpOn x b.effort.rounds placement logs.items) (one_task b.package_name t h.task task h.is_asked asked) h.is_so
@@ -218,20 +186,16 @@ built_row b old new cause is = record {
       cause about is;
 }
   where
-    about_good : (placement told : List TileAt) → cause ≡ Good told → IsAbout placement cause → told ≡ placement
-    about_good placement told e about = subst (IsAbout placement) e about
-<<<<<<< HEAD
-=======
+    about_good : (placement on : List TileAt) → cause ≡ Good on → IsAbout placement cause → on ≡ placement
+    about_good placement on e about = subst (IsAbout placement) e about
 
->>>>>>> 888289710b19e5decfdf9bd0d7eecefa60da853a
-    only : (placement told : List TileAt) → cause ≡ Good told → told ≡ placement → OfTexts (files_of b) old (Asks b.package_name (λ task. IsBuiltOn task b.effort.rounds placement))
-    only placement told e same =
+    only : (placement on : List TileAt) → cause ≡ Good on → on ≡ placement → OfTexts (files_of b) old (Asks b.package_name (λ task. IsBuiltOn task b.effort.rounds placement))
+    only placement on e same =
         let i = subst (λ (x : Cause). IsTrueOf (build_files b) old new x) (e ∙ ap Good same) is in
         of_weaker (files_of b) old (λ t. IsMade b t i.text placement) (Asks b.package_name (λ task. IsBuiltOn task b.effort.rounds placement))
         (λ t g. record { task = g.task; is_asked = g.is_asked; is_so = (g.built, g.is_built, sym g.is_placement) }) i.texts
 
 unreachable_row : (b : Build) (old new : Meaning) (cause : Cause) → IsTrueOf (build_files b) old new cause → UnreachableRow b old cause
-unfolding Told
 unreachable_row b old new cause is net sink = record {
   only = λ placement about stuck. only placement stuck.0 stuck.1 (about_stuck placement stuck.0 stuck.1 about);
   always = λ placement t about holds h.
@@ -242,25 +206,19 @@ unreachable_row b old new cause is net sink = record {
       cause about is;
 }
   where
-    about_stuck : (placement told : List TileAt) → cause ≡ Unreachable told net sink → IsAbout placement cause → told ≡ placement
-    about_stuck placement told e about = subst (IsAbout placement) e about
-<<<<<<< HEAD
-    told_same : (placement : List TileAt) (other : NetNo) (last : WireNo) → other ≡ net → last ≡ sink → Unreachable placement other last ≡ Unreachable placement net sink
-    told_same placement other last e f = ap (λ (n : NetNo). Unreachable placement n last) e ∙ ap (λ (w : WireNo). Unreachable placement net w) f
-=======
+    about_stuck : (placement on : List TileAt) → cause ≡ Unreachable on net sink → IsAbout placement cause → on ≡ placement
+    about_stuck placement on e about = subst (IsAbout placement) e about
 
     told_same : (placement : List TileAt) (other : NetNo) (last : WireNo) → other ≡ net → last ≡ sink → Unreachable placement other last ≡ Unreachable placement net sink
     told_same placement other last e f = ap (λ (n : NetNo). Unreachable placement n last) e ∙ ap (λ (w : WireNo). Unreachable placement net w) f
 
->>>>>>> 888289710b19e5decfdf9bd0d7eecefa60da853a
-    only : (placement told : List TileAt) → cause ≡ Unreachable told net sink → told ≡ placement → OfTexts (files_of b) old (Asks b.package_name (λ task. IsStuckOn task placement net sink))
-    only placement told e same =
+    only : (placement on : List TileAt) → cause ≡ Unreachable on net sink → on ≡ placement → OfTexts (files_of b) old (Asks b.package_name (λ task. IsStuckOn task placement net sink))
+    only placement on e same =
         told_of b old new cause (Unreachable placement net sink) (Asks b.package_name (λ task. IsStuckOn task placement net sink)) is
         (e ∙ ap (λ (x : List TileAt). Unreachable x net sink) same) (λ i. i.0) (λ t h. h)
 
 given_up_at : (b : Build) (old new : Meaning) (cause : Cause) (placement : List TileAt) (logs : Vec RoundLog) → IsTrueOf (build_files b) old new cause → cause ≡ GaveUp placement logs
     → OfTexts (files_of b) old (Asks b.package_name (λ task. IsGivenUpOn task b.effort.rounds placement logs.items))
-unfolding Told
 given_up_at b old new cause placement logs is e =
     told_of b old new cause (GaveUp placement logs) (Asks b.package_name (λ task. IsGivenUpOn task b.effort.rounds placement logs.items)) is e (λ i. i.0) (λ t h. h)
 
@@ -277,24 +235,20 @@ gave_up_row b old new cause is = record {
   logs_are = λ placement logs e. given_up_at b old new cause placement logs is e;
 }
   where
-    about_gave : (placement told : List TileAt) (logs : Vec RoundLog) → cause ≡ GaveUp told logs → IsAbout placement cause → told ≡ placement
-    about_gave placement told logs e about = subst (IsAbout placement) e about
-<<<<<<< HEAD
-=======
+    about_gave : (placement on : List TileAt) (logs : Vec RoundLog) → cause ≡ GaveUp on logs → IsAbout placement cause → on ≡ placement
+    about_gave placement on logs e about = subst (IsAbout placement) e about
 
->>>>>>> 888289710b19e5decfdf9bd0d7eecefa60da853a
-    only : (placement told : List TileAt) (logs : Vec RoundLog) → cause ≡ GaveUp told logs → told ≡ placement
+    only : (placement on : List TileAt) (logs : Vec RoundLog) → cause ≡ GaveUp on logs → on ≡ placement
         → OfTexts (files_of b) old (Asks b.package_name (λ task. (all : List RoundLog) × IsGivenUpOn task b.effort.rounds placement all))
-    only placement told logs e same =
+    only placement on logs e same =
         of_weaker (files_of b) old (Asks b.package_name (λ task. IsGivenUpOn task b.effort.rounds placement logs.items))
         (Asks b.package_name (λ task. (all : List RoundLog) × IsGivenUpOn task b.effort.rounds placement all))
         (λ t h. record { task = h.task; is_asked = h.is_asked; is_so = (logs.items, h.is_so) })
         (given_up_at b old new cause placement logs is (e ∙ ap (λ (x : List TileAt). GaveUp x logs) same))
 
 bits_row : (b : Build) (old new : Meaning) (cause : Cause) → IsTrueOf (build_files b) old new cause → BitsRow b old cause
-unfolding Told
 bits_row b old new cause is fault e =
-    told_of b old new cause (BadBits fault) (Asks b.package_name (λ task. IsBitsFault task b.effort.rounds fault)) is e (λ i. i.0) (λ t h. h)
+    told_of b old new cause (BadBits fault) (Asks b.package_name (λ task. HasBadBits task b.effort.rounds fault)) is e (λ i. i.0) (λ t h. h)
 
 -- ---- the headline
 made_shown : (b : Build) (t : List (List ℕ)) (text : List ℕ) (on : List TileAt) → IsMade b t text on → IsShown b.package_name t text
@@ -336,3 +290,8 @@ answers b old new end is status told_long =
       write_fault = write_fault_row (build_files b) old new end.cause is;
       too_long = too_long_row (build_files b) old new end.cause is told_long;
     }
+
+-- how the command ended
+pub ends : (b : Build) (old mid new : Meaning) (result : Result Made Cause) (cause : Cause) → SameButReading old mid → IsMadeOf (build_files b) old mid result
+    → IsEndInFile Asc b.asc result mid new cause → IsEndOf (build_files b) old new cause
+ends b old mid new result cause read made end = end_is_in_file (build_files b) Asc b.asc old mid new result cause read made end

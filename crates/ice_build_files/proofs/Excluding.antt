@@ -1,10 +1,6 @@
 -- Of one placement: routes without a shared wire, a sink that can't be reached, and permitted rounds that all end with an overused wire
 -- leave each other out, whatever graph and nets they are stated of.
-<<<<<<< HEAD
-use Rattle.std.proofs.Common.{◌≡◌, ◌∙◌, ℕ, List, [], ◌∷◌, zero, suc, Some, length, map, slice_get, replicate, Result, Ok, inl, inr, refl, sym, ap, subst}
-=======
 use Rattle.std.proofs.Common.{◌≡◌, ◌∙◌, ℕ, List, [], ◌∷◌, suc, Some, length, map, slice_get, replicate, Result, Ok, inl, inr, refl, sym, ap, subst}
->>>>>>> 888289710b19e5decfdf9bd0d7eecefa60da853a
 use Rattle.std.proofs.lemmas.Bool.{cases_order}
 use Rattle.ice_base.specs.declared.number.NetNo.{NetNo}
 use Rattle.ice_base.specs.declared.number.TileAt.{TileAt}
@@ -20,11 +16,7 @@ use Rattle.ice_graph.specs.declared.edge.Edge.{Edge}
 use Rattle.ice_graph.specs.declared.tree.Tree.{Tree}
 use Rattle.ice_graph.specs.Network.{Network}
 use Rattle.ice_nets.specs.Nets.{Bare, bare_net}
-<<<<<<< HEAD
-use Rattle.ice_negotiate.specs.Logs.{AreRouted, AllEndOverused}
-=======
 use Rattle.ice_negotiate.specs.Logs.{AllEndOverused}
->>>>>>> 888289710b19e5decfdf9bd0d7eecefa60da853a
 use Rattle.ice_negotiate.specs.Rounds.{Past, IsRound, IsMoved, IsFirst, AreAll, AreRounds, AreReachedBefore, IsUnreachable}
 use Rattle.ice_negotiate.specs.Trees.{IsTree, AreReached, IsCause, route_of}
 use Rattle.ice_negotiate.specs.declared.stop.TreeStop.TheVariants.{Unreachable}
@@ -100,13 +92,6 @@ tree_as edges edges' cost net other tree e r s is =
 
 moved_as : (graph other : Network) (round : ℕ) (history counts : List ℕ) (moved : List NetNo) (n : ℕ) (net same : Net) (old new : Tree) → graph.edges ≡ other.edges → net.root ≡ same.root
     → net.sinks.items ≡ same.sinks.items → IsMoved graph round history counts moved n net old new → IsMoved other round history counts moved n same old new
-<<<<<<< HEAD
-moved_as graph other round history counts moved n net same old new e r s (inl (one, moves)) = inl (one, record {
-  prices = moves.prices;
-  are_of = moves.are_of;
-  joined = tree_as graph.edges other.edges (price moves.prices) net same new e r s moves.joined;
-})
-=======
 moved_as graph other round history counts moved n net same old new e r s (inl (one, moves)) = inl (
   one,
   record {
@@ -115,7 +100,6 @@ moved_as graph other round history counts moved n net same old new e r s (inl (o
     joined = tree_as graph.edges other.edges (price moves.prices) net same new e r s moves.joined;
   },
 )
->>>>>>> 888289710b19e5decfdf9bd0d7eecefa60da853a
 moved_as graph other round history counts moved n net same old new e r s (inr stays) = inr stays
 
 round_as : (graph other : Network) (nets others : List Net) (round : ℕ) (history counts : List ℕ) (moved : List NetNo) (old new : List Tree) → AreSameRouting graph other nets others
@@ -177,10 +161,7 @@ sink_same edges root sinks one other a b = elim (cases_order a.0 b.0) [
   where
     targets_same : (all : List (List WireNo)) (j k : ℕ) (x y : List WireNo) → j ≡ k → slice_get all j ≡ Some x → slice_get all k ≡ Some y → x ≡ y
     targets_same all j k x y e at to = let both : slice_get all k ≡ Some x = subst (λ (i : ℕ). slice_get all i ≡ Some x) e at in cc
-<<<<<<< HEAD
-=======
 
->>>>>>> 888289710b19e5decfdf9bd0d7eecefa60da853a
     first_of : (x y : List WireNo) (v w : WireNo) → x ≡ y → slice_get x 0 ≡ Some v → slice_get y 0 ≡ Some w → v ≡ w
     first_of x y v w e at to = let both : slice_get y 0 ≡ Some v = subst (λ (ts : List WireNo). slice_get ts 0 ≡ Some v) e at in cc
 
@@ -196,15 +177,10 @@ stuck_same graph nets net other sink last one two = elim (cases_order net.0 othe
   where
     unreached : (the_net : Net) (wire : WireNo) → IsCause graph.edges the_net.root the_net.sinks.items (Unreachable wire) → AreReached graph.edges the_net.root the_net.sinks.items → ⊥
     unreached the_net wire cause reached = cause.4 (reached cause.0 cause.1 cause.2)
-<<<<<<< HEAD
-    net_same : (all : List Net) (j k : ℕ) (x y : Net) → j ≡ k → slice_get all j ≡ Some x → slice_get all k ≡ Some y → x ≡ y
-    net_same all j k x y e at to = let both : slice_get all k ≡ Some x = subst (λ (i : ℕ). slice_get all i ≡ Some x) e at in cc
-=======
 
     net_same : (all : List Net) (j k : ℕ) (x y : Net) → j ≡ k → slice_get all j ≡ Some x → slice_get all k ≡ Some y → x ≡ y
     net_same all j k x y e at to = let both : slice_get all k ≡ Some x = subst (λ (i : ℕ). slice_get all i ≡ Some x) e at in cc
 
->>>>>>> 888289710b19e5decfdf9bd0d7eecefa60da853a
     at_one : net.0 ≡ other.0 → one.the_net ≡ two.the_net → sink ≡ last
     at_one same e = sink_same graph.edges two.the_net.root two.the_net.sinks.items sink last
         (subst (λ (x : Net). IsCause graph.edges x.root x.sinks.items (Unreachable sink)) e one.cause) two.cause

@@ -1,9 +1,5 @@
 -- From what building answers to what the texts give, or why they are refused.
-<<<<<<< HEAD
-use Rattle.std.proofs.Common.{◌≡◌, ℕ, List, Ok, Err, refl, sym, subst}
-=======
-use Rattle.std.proofs.Common.{◌≡◌, ℕ, List, Ok, refl, sym, subst}
->>>>>>> 888289710b19e5decfdf9bd0d7eecefa60da853a
+use Rattle.std.proofs.Common.{◌≡◌, ℕ, List, Result, Ok, Err, IfOk, refl, sym, subst}
 use Rattle.ice_base.specs.declared.number.TileAt.{TileAt}
 use Rattle.ice_asc.specs.Grammar.{asc_in}
 use Rattle.ice_asc.specs.Text.{asc_text}
@@ -16,6 +12,7 @@ use Rattle.ice_build.specs.declared.answer.BuildFault.{BuildFault}
 use Rattle.ice_build.specs.declared.answer.BuildFault.TheVariants as build
 use Rattle.ice_build.proofs.Answering.{pins_good, places_good}
 use Rattle.ice_answer.specs.declared.cause.Cause.{Cause}
+use Rattle.ice_answer.specs.declared.giving.Made.{Made}
 use Rattle.ice_answer.specs.declared.cause.Cause.TheVariants.{BadPin, Overfull, Unreachable, GaveUp, BadBits}
 use Rattle.ice_answer.specs.Commands.{IsRefusal}
 use Rattle.ice_answer.proofs.Standings.{at_fault, pin_refused, place_refused, bits_refused}
@@ -40,13 +37,13 @@ refused name rounds t task (build.GaveUp layout logs) cause asked (laid, given) 
     subst (IsRefusal (Stands name rounds t)) (sym is)
     (end_so name rounds t task layout.pads laid.placed.first (GaveUp layout.placement logs) asked (pins_good task layout laid) (places_good task layout laid) (layout, laid, refl, given), tt)
 refused name rounds t task (build.Bits fault) cause asked bits is =
-    let layout = bits.built.layout in
-    let laid = bits.is_built.laid in
+    let layout = bits.0.layout in
+    let laid = bits.1.laid in
     bits_refused (Stands name rounds t) fault cause
     (λ known. end_so name rounds t task layout.pads laid.placed.first (BadBits fault) asked (pins_good task layout laid) (places_good task layout laid) bits) is
 refused name rounds t task build.NoMemory cause asked free is = subst (IsRefusal (Stands name rounds t)) (sym is) tt
 
-pub made_is : (b : Build) (t : List (List ℕ)) (task : Task) (built : Built) (text : List ℕ) (on : List TileAt) → IsAsked b.package_name t task → IsBuilt task b.effort.rounds built
+made_is : (b : Build) (t : List (List ℕ)) (task : Task) (built : Built) (text : List ℕ) (on : List TileAt) → IsAsked b.package_name t task → IsBuilt task b.effort.rounds built
     → IsCircuitOf task.circuit built.layout.pads.ports task.parts built.bits → text ≡ asc_text task.parts built.bits → on ≡ built.layout.placement
     → (IsOf task.parts built.bits → asc_in task.parts text ≡ Ok built.bits) → IsMade b t text on
 made_is b t task built text on asked is shown is_text here read_back = record {
@@ -59,3 +56,10 @@ made_is b t task built text on asked is shown is_text here read_back = record {
   is_read_back = read_back shown.form;
   is_shown = shown;
 }
+
+pub made_of_built : (b : Build) (t : List (List ℕ)) (task : Task) (built : Built) (result : Result Made Cause) → IsAsked b.package_name t task → IsBuilt task b.effort.rounds built
+    → IsCircuitOf task.circuit built.layout.pads.ports task.parts built.bits → IfOk result (λ made. made.text.items ≡ asc_text task.parts built.bits)
+    → IfOk result (λ made. made.placement ≡ built.layout.placement) → IfOk result (λ made. IsOf task.parts built.bits → asc_in task.parts made.text.items ≡ Ok built.bits)
+    → IfOk result (λ made. IsMade b t made.text.items made.placement)
+made_of_built b t task built (Ok made) asked is shown text here read_back = made_is b t task built made.text.items made.placement asked is shown text here read_back
+made_of_built b t task built (Err cause) asked is shown text here read_back = tt

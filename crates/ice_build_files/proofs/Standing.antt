@@ -1,9 +1,5 @@
 -- How the texts of `build` stand, by what was read of them.
-<<<<<<< HEAD
-use Rattle.std.proofs.Common.{◌≡◌, ◌≢◌, ℕ, List, Result, Ok, Err, inl, inr, refl, sym, ap, subst}
-=======
 use Rattle.std.proofs.Common.{◌≡◌, ℕ, List, Result, Ok, inl, inr, sym, ap, subst}
->>>>>>> 888289710b19e5decfdf9bd0d7eecefa60da853a
 use Rattle.ice_base.specs.declared.number.TileAt.{TileAt}
 use Rattle.ice_net.specs.NetlistData.{NetlistData}
 use Rattle.ice_blif.specs.Grammar.{netlist_of}

@@ -23,7 +23,7 @@ use Rattle.ice_pcf.specs.Grammar.{text_says}
 use Rattle.ice_pcf.specs.declared.constraint.Constraint.{Constraint}
 use Rattle.ice_pcf.specs.declared.fault.PcfFault.{PcfFault}
 use Rattle.ice_place.specs.declared.fault.PlaceFault.{PlaceFault}
-use Rattle.ice_build.specs.Answers.{IsBitsFault, pins_said, places_said}
+use Rattle.ice_build.specs.Answers.{pins_said, places_said}
 use Rattle.ice_build.specs.Laid.{Task}
 use Rattle.ice_answer.specs.declared.cause.Cause.{Cause}
 use Rattle.ice_answer.specs.declared.cause.Cause.TheVariants.{Good, BadBlif, BadPcf, BadChip, BadNet, BadPin, Overfull, Unreachable, GaveUp, WriteFault, BadBits}
@@ -32,7 +32,7 @@ use Rattle.ice_answer.specs.Rows.{ComesExactly, GoodRow, ReadFaultRow, WriteFaul
 use Rattle.ice_answer.specs.Texts.{OfTexts, HoldsTexts, text_at}
 use Rattle.ice_build_files.specs.Asked.{Build, files_of, Asks}
 use Rattle.ice_build_files.specs.Command.{build_files}
-use Rattle.ice_build_files.specs.Made.{IsShown, IsBuiltOn, IsStuckOn, IsGivenUpOn}
+use Rattle.ice_build_files.specs.Made.{IsShown, IsBuiltOn, IsStuckOn, IsGivenUpOn, HasBadBits}
 
 -- ---- the texts
 -- the chip text has this first fault
@@ -152,7 +152,7 @@ pub record GaveUpRow (b : Build) (old : Meaning) (cause : Cause) : Type 0 where
 
 -- status 15: only where the bits that would be written have this fault, and never where no global of the chip is fed by a global
 abbrev pub BitsRow : Build → Meaning → Cause → Type 0
-BitsRow b old cause = (fault : DecodeFault) → cause ≡ BadBits fault → OfTexts (files_of b) old (Asks b.package_name (λ task. IsBitsFault task b.effort.rounds fault))
+BitsRow b old cause = (fault : DecodeFault) → cause ≡ BadBits fault → OfTexts (files_of b) old (Asks b.package_name (λ task. HasBadBits task b.effort.rounds fault))
 
 -- ---- the headline
 -- status 0: where the desk tells its contents, the file of the bits holds the circuit of the netlist

@@ -1,9 +1,5 @@
 -- How the three texts of `build` stand, one look at them after another.
-<<<<<<< HEAD
-use Rattle.std.specs.Prelude.{◌≡◌, ℕ, List}
-=======
 use Rattle.std.specs.Prelude.{ℕ, List}
->>>>>>> 888289710b19e5decfdf9bd0d7eecefa60da853a
 use Rattle.ice_net.specs.NetlistData.{NetlistData}
 use Rattle.ice_blif.specs.Grammar.{netlist_of}
 use Rattle.ice_check.specs.Sound.{IsSound}
@@ -11,14 +7,14 @@ use Rattle.ice_chip.specs.Database.{Parts}
 use Rattle.ice_chip_read.specs.Whole.{chip_says}
 use Rattle.ice_pcf.specs.Grammar.{text_says}
 use Rattle.ice_pcf.specs.declared.constraint.Constraint.{Constraint}
-use Rattle.ice_build.specs.Answers.{IsBitsFault, pins_said, places_said}
+use Rattle.ice_build.specs.Answers.{pins_said, places_said}
 use Rattle.ice_build.specs.Laid.{Task, task_of}
 use Rattle.ice_answer.specs.declared.cause.Cause.{Cause}
 use Rattle.ice_answer.specs.declared.cause.Cause.TheVariants.{Good, BadBlif, BadPcf, BadChip, BadPin, Overfull, Unreachable, GaveUp, WriteFault, BadBits}
 use Rattle.ice_answer.specs.Commands.{stands_by, stands_if}
 use Rattle.ice_answer.specs.Refusals.{IsNetCause}
 use Rattle.ice_answer.specs.Texts.{text_at}
-use Rattle.ice_build_files.specs.Made.{IsStuckOn, IsGivenUpOn}
+use Rattle.ice_build_files.specs.Made.{IsStuckOn, IsGivenUpOn, HasBadBits}
 
 -- The pins and the places of the task have no fault: the work is done, or with the placement that is told a sink can't be reached, or each
 -- permitted round ends with an overused wire, or the bits have no circuit.
@@ -27,7 +23,7 @@ IsEnd task rounds (Good placement) = Unit {0}
 IsEnd task rounds (WriteFault role put) = Unit {0}
 IsEnd task rounds (Unreachable placement net sink) = IsStuckOn task placement net sink
 IsEnd task rounds (GaveUp placement logs) = IsGivenUpOn task rounds placement logs.items
-IsEnd task rounds (BadBits fault) = IsBitsFault task rounds fault
+IsEnd task rounds (BadBits fault) = HasBadBits task rounds fault
 IsEnd task rounds cause = ⊥
 
 -- the places, where the pins have no fault

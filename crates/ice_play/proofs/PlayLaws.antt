@@ -15,11 +15,7 @@ use Rattle.ice_answer.specs.Commands.{IsDone, IsTrueOf}
 use Rattle.ice_answer.proofs.Standings.{behind, fault_alone, then_stands, of_done}
 use Rattle.ice_answer.proofs.TextFacts.{of_weaker}
 use Rattle.ice_answer.proofs.CommandRows.{Lawful, StandsAlone, comes}
-<<<<<<< HEAD
-use Rattle.ice_play.specs.Played.{PlayNet, files_of, LevelsStand, NetStands, Stands, IsFaulty, HasBadLine, IsPlayed, play_net}
-=======
 use Rattle.ice_play.specs.Played.{PlayNet, files_of, LevelsStand, NetStands, Stands, IsFaulty, HasBadLine, play_net}
->>>>>>> 888289710b19e5decfdf9bd0d7eecefa60da853a
 use Rattle.ice_play.specs.PlayRows.{BlifRow, IsMalformed, IsNetFault, IsUnsound, NetRow, LevelsRow}
 
 -- what a refusal tells of the texts

@@ -1,6 +1,5 @@
 //! Playing a netlist: two texts are read, and the text of drives is said.
-ghost use Rattle.std.specs.Prelude.{◌≡◌, true, List, ℕ};
-ghost use Rattle.ice_answer.specs.declared.cause.Cause.{Cause};
+ghost use Rattle.std.specs.Prelude.{◌≡◌, true};
 ghost use Rattle.ice_answer.specs.Causes.{status_of};
 ghost use Rattle.ice_answer.specs.Commands.{Aloud, IsTrueOf};
 ghost use Rattle.ice_answer.specs.Reading.{TellsLong};
