@@ -1,7 +1,8 @@
 //! The words of the program, read by hand: a command and its names.
-ghost use Rattle.std.specs.Prelude.{◌≡◌, map, string_bytes, not, option_map};
+ghost use Rattle.std.specs.Prelude.{◌≡◌, map, string_bytes, not, option_map, IfSome};
 ghost use Rattle.ice_flow.specs.Command.{is_plain, are_plain, are_plain_words, build_with, play_with, play_bits_with, request_of};
-ghost use Rattle.ice_flow.specs.Requests.{request_view};
+ghost use Rattle.ice_build.specs.Stages.{IsPermitted};
+ghost use Rattle.ice_flow.specs.Requests.{request_view, MayTry};
 ghost use Rattle.ice_build_files.specs.Requests as build;
 ghost use Rattle.ice_play.specs.Requests as play;
 ghost use Rattle.ice_play_bits.specs.Requests as play_bits;
@@ -39,7 +40,9 @@ fn is_plain(word: &str) -> bool
 
 // The request of `build` and its names.
 fn build_request<'a>(command: &str, request: BuildRequest<'a>) -> Option<Request<'a>>
-    ensures { option_map request_view result ≡ build_with command.now (build.request_view request.entry) }
+    requires { IsPermitted request.effort }
+    ensures request { option_map request_view result ≡ build_with command.now (build.request_view request.entry) }
+    ensures permitted { IfSome result MayTry }
 {
     if command == "build" && are_plain(&request) {
         Some(Request::Build(request))
@@ -50,7 +53,8 @@ fn build_request<'a>(command: &str, request: BuildRequest<'a>) -> Option<Request
 
 // The request of `play-net` and its names.
 fn play_net_request<'a>(command: &str, request: NetRequest<'a>) -> Option<Request<'a>>
-    ensures { option_map request_view result ≡ play_with command.now (play.request_view request.entry) }
+    ensures request { option_map request_view result ≡ play_with command.now (play.request_view request.entry) }
+    ensures permitted { IfSome result MayTry }
 {
     if command == "play-net" && is_plain(request.blif) && is_plain(request.levels) {
         Some(Request::PlayNet(request))
@@ -61,7 +65,8 @@ fn play_net_request<'a>(command: &str, request: NetRequest<'a>) -> Option<Reques
 
 // The request of `play-bits` and its names.
 fn play_bits_request<'a>(command: &str, request: BitsRequest<'a>) -> Option<Request<'a>>
-    ensures { option_map request_view result ≡ play_bits_with command.now (play_bits.request_view request.entry) }
+    ensures request { option_map request_view result ≡ play_bits_with command.now (play_bits.request_view request.entry) }
+    ensures permitted { IfSome result MayTry }
 {
     if command == "play-bits" && are_plain_words(&request) {
         Some(Request::PlayBits(request))
@@ -72,7 +77,8 @@ fn play_bits_request<'a>(command: &str, request: BitsRequest<'a>) -> Option<Requ
 
 /// The request of the words after the program's name, where they are one.
 pub fn read_request(words: &[String]) -> Option<Request<'_>>
-    ensures { option_map request_view result ≡ request_of (map string_bytes words.now) }
+    ensures request { option_map request_view result ≡ request_of (map string_bytes words.now) }
+    ensures permitted { IfSome result MayTry }
 {
     match words {
         [command, blif, levels] => {
