@@ -1,5 +1,5 @@
 -- When each answer of `build` comes, from how its texts stand.
-use Rattle.std.proofs.Common.{◌≡◌, ◌≢◌, ◌∙◌, ℕ, List, Result, Err, inl, inr, refl, sym, ap, subst}
+use Rattle.std.proofs.Common.{◌≡◌, ◌≢◌, ◌∙◌, ℕ, List, Result, Ok, Err, inl, inr, refl, sym, ap, subst}
 use Rattle.std.specs.Global.{Vec}
 use Rattle.ice_base.specs.declared.number.NetNo.{NetNo}
 use Rattle.ice_base.specs.declared.number.TileAt.{TileAt}
@@ -38,8 +38,11 @@ use Rattle.ice_answer.proofs.Standings.{fault_alone, of_done}
 use Rattle.ice_answer.proofs.TextFacts.{at_files, of_weaker}
 use Rattle.ice_build_files.specs.Asked.{Build, files_of, IsAsked, Asks}
 use Rattle.ice_build_files.specs.BuildRows.{ChipRow, HasChipFault, PcfRow, HasPcfFault, BlifRow, HasBlifFault, SaysNetlist, IsNetFault, NetRow, PinRow, PlaceRow, HasPlaceFault, IsPlaceable, IsTried, TriedRow, IsAbout, IsGood, BuiltRow, IsUnreachable, UnreachableRow, HasGivenUp, GaveUpRow, BitsRow, HeadlineRow, IsBuildAnswer}
+use Rattle.ice_cells.specs.Runs.{design_of}
+use Rattle.ice_pads.specs.Assign.{assign_of}
 use Rattle.ice_build_files.specs.Command.{build_files}
-use Rattle.ice_build_files.specs.Made.{IsMade, IsShown, IsBuiltOn, IsStuckOn, IsGivenUpOn, HasBadBits}
+use Rattle.ice_build_files.specs.Headline.{IsShown}
+use Rattle.ice_build_files.specs.Made.{IsMade, IsBuiltOn, IsStuckOn, IsGivenUpOn, HasBadBits}
 use Rattle.ice_build_files.specs.Standing.{IsEnd, PlacesStand, NetStands, BlifStands, PcfStands, Stands}
 use Rattle.ice_build_files.proofs.Excluding.{built_not_stuck, built_not_given_up, given_up_not_stuck_on, stuck_on_one}
 use Rattle.ice_build_files.proofs.Standing.{pcf_stands, blif_stands, net_stands, task_stands, places_stand, end_stands, end_so, one_task}
@@ -253,13 +256,18 @@ bits_row b old new cause is fault e =
 -- ---- the headline
 made_shown : (b : Build) (t : List (List ℕ)) (text : List ℕ) (on : List TileAt) → IsMade b t text on → IsShown b.package_name t text
 made_shown b t text on g = record {
-  task = g.task;
+  parts = g.task.parts;
+  constraints = g.task.constraints;
+  circuit = g.task.circuit;
   pads = g.built.layout.pads;
   configuration = g.built.bits;
-  is_asked = g.is_asked;
-  are_pads = pins_good g.task g.built.layout g.is_built.laid;
+  is_chip = g.is_asked.is_chip;
+  are_constraints = g.is_asked.are_constraints;
+  is_circuit = g.is_asked.is_circuit;
+  is_sound = g.is_asked.is_sound;
+  are_pads = subst (λ name. assign_of g.task.parts name g.task.constraints g.task.circuit (design_of g.task.circuit) ≡ Ok g.built.layout.pads) g.is_asked.is_name (pins_good g.task g.built.layout g.is_built.laid);
   decodes = g.is_read_back;
-  is_circuit = g.is_shown;
+  shows = g.is_shown;
 }
 
 headline_row : (b : Build) (old new : Meaning) (cause : Cause) (status : ℕ) → GoodRow (build_files b) old new cause status → HeadlineRow b old new status

@@ -32,7 +32,8 @@ use Rattle.ice_answer.specs.Rows.{ComesExactly, GoodRow, ReadFaultRow, WriteFaul
 use Rattle.ice_answer.specs.Texts.{OfTexts, HoldsTexts, text_at}
 use Rattle.ice_build_files.specs.Asked.{Build, files_of, Asks}
 use Rattle.ice_build_files.specs.Command.{build_files}
-use Rattle.ice_build_files.specs.Made.{IsShown, IsBuiltOn, IsStuckOn, IsGivenUpOn, HasBadBits}
+use Rattle.ice_build_files.specs.Headline.{IsShown}
+use Rattle.ice_build_files.specs.Made.{IsBuiltOn, IsStuckOn, IsGivenUpOn, HasBadBits}
 
 -- ---- the texts
 -- the chip text has this first fault

@@ -1,5 +1,6 @@
 pub mod Asked
 pub mod Made
+pub mod Headline
 pub mod Ending
 pub mod Standing
 pub mod Command

@@ -3,13 +3,11 @@ use Rattle.std.specs.Prelude.{◌≡◌, ℕ, List, Ok}
 use Rattle.ice_base.specs.declared.number.NetNo.{NetNo}
 use Rattle.ice_base.specs.declared.number.TileAt.{TileAt}
 use Rattle.ice_base.specs.declared.number.WireNo.{WireNo}
-use Rattle.ice_bits.specs.Configuration.{Configuration}
 use Rattle.ice_asc.specs.Grammar.{asc_in}
 use Rattle.ice_asc.specs.Text.{asc_text}
 use Rattle.ice_core.specs.declared.log.RoundLog.{RoundLog}
 use Rattle.ice_decode.specs.declared.fault.DecodeFault.{DecodeFault}
-use Rattle.ice_pads.specs.Assign.{PadsData}
-use Rattle.ice_build.specs.Answers.{IsBuilt, IsStuck, IsGivenUp, IsUndecoded, pins_said}
+use Rattle.ice_build.specs.Answers.{IsBuilt, IsStuck, IsGivenUp, IsUndecoded}
 use Rattle.ice_build.specs.Laid.{Task, IsLaidOut, plan_in}
 use Rattle.ice_build.specs.Shown.{IsCircuitOf}
 use Rattle.ice_build.specs.declared.answer.Built.{Built}
@@ -27,18 +25,6 @@ pub record IsMade (b : Build) (texts : List (List ℕ)) (text : List ℕ) (place
   pub is_text : text ≡ asc_text task.parts built.bits
   pub is_read_back : asc_in task.parts text ≡ Ok built.bits
   pub is_shown : IsCircuitOf task.circuit built.layout.pads.ports task.parts built.bits
-
--- The text of bits, read by the database of the chip text, is a circuit without a fault. For every list of levels of the package's pads
--- it shows, step by step, exactly what the netlist of the netlist's text shows, at the pads that the constraints give its ports, and it
--- drives no other pad.
-pub record IsShown (name : List ℕ) (texts : List (List ℕ)) (text : List ℕ) : Type 0 where
-  pub task : Task
-  pub pads : PadsData
-  pub configuration : Configuration
-  pub is_asked : IsAsked name texts task
-  pub are_pads : pins_said task ≡ Ok pads
-  pub decodes : asc_in task.parts text ≡ Ok configuration
-  pub is_circuit : IsCircuitOf task.circuit pads.ports task.parts configuration
 
 -- ---- of a placement
 -- the task is laid out with this placement, and this is true of the layout
