@@ -27,7 +27,6 @@ LINE = {
     15: r"error 15 bits (contention wire \d+ rows \d+ \d+|source wire \d+|function \d+ \d+ line \d+|extra \d+ \d+ \d+|loop( \d+)+|pintype \d+ \d+ \d+ value \d+)",
     16: r"error 16 long (chip|pcf|blif|asc|levels) limit \d+",
     17: r"error 17 levels line \d+",
-    18: r"error 18 notbuilt (chip|blif|pcf)",
 }
 ODD_WORDS = [b"0", b"1", b"-1", b"255", b"256", b"65535", b"65536", b"1048576", b"1048577", b"4294967295", b"4294967296", b"99999999999999999999",
              b".device", b".io_tile", b".logic_tile", b".ramb_tile", b".net", b".buffer", b".routing", b".pins", b".ieren", b".colbuf", b".gbufin",
