@@ -1,9 +1,0 @@
-mod RootLevels
-mod CellRoles
-mod Ranks
-mod Inputs
-mod Standing
-mod Levels
-mod Steps
-mod Loopless
-mod Driving

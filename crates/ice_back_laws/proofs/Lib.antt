@@ -1,0 +1,17 @@
+mod RootLevels
+mod CellRoles
+mod Ranks
+mod Inputs
+mod Standing
+mod Levels
+mod Steps
+mod Loopless
+mod Driving
+mod Counting
+mod TilesOnce
+mod Twice
+mod PinTypes
+mod Bounds
+mod Sound
+mod Once
+mod Names
