@@ -11,7 +11,9 @@ use Rattle.ice_decode.specs.declared.point.Point.TheVariants.{Wire, Carry}
 use Rattle.ice_decode.specs.Drivers.{driver}
 use Rattle.ice_decode.specs.Reads.{wire_point}
 use Rattle.ice_decode.specs.Roles.{role_of}
-use Rattle.ice_back_laws.specs.Roots.{Root, Fixed, carry_root, driven_passes, driven_root, root_of}
+use Rattle.ice_back_laws.specs.declared.root.Root.{Root}
+use Rattle.ice_back_laws.specs.declared.root.Root.TheVariants.{Fixed}
+use Rattle.ice_back_laws.specs.Roots.{carry_root, driven_passes, driven_root, root_of}
 
 -- a row that drives a wire leads from one of so many wires
 abbrev pub ComesFrom : ℕ → Driver → Type 0

@@ -1,3 +1,4 @@
 pub mod Filling
 pub mod Sites
 pub mod Adding
+pub mod Naming

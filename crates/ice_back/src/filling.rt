@@ -47,13 +47,7 @@ fn wire_root(
 }
 
 // Gives these points their roots, one after another. Carries need no place, since their roots are those of the bits.
-fn fill(
-    chip: &Chip,
-    circuit: &Circuit,
-    pads: &IndexSet<Pad>,
-    order: &[Point],
-    roots: &mut [Root],
-)
+fn fill(chip: &Chip, circuit: &Circuit, pads: &IndexSet<Pad>, order: &[Point], roots: &mut [Root])
     requires drivers { AreDrivers chip.now (bits_of circuit.now.configuration) circuit.now.drivers }
     requires order { All (HasWire chip.now) order.now }
     requires long { length roots.old ≡ chip.now.wires }

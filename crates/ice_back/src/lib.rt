@@ -2,13 +2,12 @@
 //! the bits make.
 #![tactic(auto)]
 
-mod back;
 mod cells;
 mod filling;
 mod logic;
+mod making;
 mod names;
-mod naming;
 mod roots;
 mod site;
 
-pub use back::back;
+pub use making::back;

@@ -1,5 +1,5 @@
 //! The root of a point, by the roots of the wires that pass their levels on to it.
-ghost use Rattle.std.specs.Prelude.{◌≡◌, ◌<◌, ◌∷◌, [], Some, map, if◌then◌else◌};
+ghost use Rattle.std.specs.Prelude.{◌≡◌, ◌<◌, ◌∷◌, [], false, Some, map, slice_index_or, if◌then◌else◌};
 ghost use Rattle.ice_value.specs.Inputs.{reading};
 ghost use Rattle.ice_bits.specs.Configuration.{bits_of};
 ghost use Rattle.ice_net.specs.Meaning.{number_of};
@@ -8,11 +8,12 @@ ghost use Rattle.ice_decode.specs.Meaning.{passes};
 ghost use Rattle.ice_decode.specs.Reads.{global_feed};
 ghost use Rattle.ice_decode.specs.declared.point.Point.TheVariants.{Wire};
 ghost use Rattle.ice_decode.specs.declared.role.Role.TheVariants.{Output};
-ghost use Rattle.ice_back_laws.specs.Roots.{Fixed, cell_table, table_root, carry_root, bonded_root, pad_root, role_passes, role_root, first_root};
+ghost use Rattle.ice_back_laws.specs.declared.root.Root.TheVariants.{Fixed};
+ghost use Rattle.ice_back_laws.specs.Roots.{cell_table, table_root, carry_root, bonded_root, pad_root, role_passes, role_root, first_root};
 ghost use Rattle.ice_back.specs.Filling.{root_in};
 
 use ice_back_laws::Root;
-use ice_base::TileAt;
+use ice_base::{TileAt, WireNo};
 use ice_bits::Bits;
 use ice_chip::{Chip, Pad};
 use ice_decode::{
@@ -22,18 +23,26 @@ use indexmap::IndexSet;
 
 // A bit of a cell, as a number.
 fn digit(chip: &Chip, bits: &Bits, tile: TileAt, cell: u8, place: usize) -> u16
-    ensures { result ≡ (if cell_bit chip.now (bits_of bits.now) tile cell place then 1 else 0) }
+    ensures value { result ≡ (if cell_bit chip.now (bits_of bits.now) tile cell place then 1 else 0) }
+    ensures small { result < 2 }
 {
     u16::from(cell_bit(chip, bits, tile, cell, place))
 }
 
 // The number of four bits of a cell, the first the lowest.
-fn digits(chip: &Chip, bits: &Bits, tile: TileAt, cell: u8, places: [usize; 4]) -> u16
-    ensures value { result ≡ number_of (map (cell_bit chip.now (bits_of bits.now) tile cell) places) }
+fn digits(
+    chip: &Chip,
+    bits: &Bits,
+    tile: TileAt,
+    cell: u8,
+    low: (usize, usize),
+    high: (usize, usize),
+) -> u16
+    ensures value { result ≡ number_of (map (cell_bit chip.now (bits_of bits.now) tile cell) (low.0 ∷ low.1 ∷ high.0 ∷ high.1 ∷ [])) }
     ensures small { result < 16 }
 {
-    let lower = digit(chip, bits, tile, cell, places[0]) + 2 * digit(chip, bits, tile, cell, places[1]);
-    let upper = digit(chip, bits, tile, cell, places[2]) + 2 * digit(chip, bits, tile, cell, places[3]);
+    let lower = digit(chip, bits, tile, cell, low.0) + 2 * digit(chip, bits, tile, cell, low.1);
+    let upper = digit(chip, bits, tile, cell, high.0) + 2 * digit(chip, bits, tile, cell, high.1);
     lower + 4 * upper
 }
 
@@ -41,10 +50,10 @@ fn digits(chip: &Chip, bits: &Bits, tile: TileAt, cell: u8, places: [usize; 4]) 
 pub(crate) fn cell_table(chip: &Chip, bits: &Bits, tile: TileAt, cell: u8) -> u16
     ensures { result ≡ cell_table chip.now (bits_of bits.now) tile cell }
 {
-    let first = digits(chip, bits, tile, cell, [4, 14, 15, 5]);
-    let second = digits(chip, bits, tile, cell, [6, 16, 17, 7]);
-    let third = digits(chip, bits, tile, cell, [3, 13, 12, 2]);
-    let fourth = digits(chip, bits, tile, cell, [1, 11, 10, 0]);
+    let first = digits(chip, bits, tile, cell, (4, 14), (15, 5));
+    let second = digits(chip, bits, tile, cell, (6, 16), (17, 7));
+    let third = digits(chip, bits, tile, cell, (3, 13), (12, 2));
+    let fourth = digits(chip, bits, tile, cell, (1, 11), (10, 0));
     first + 16 * (second + 16 * (third + 16 * fourth))
 }
 
@@ -99,15 +108,22 @@ fn pad_root(chip: &Chip, bits: &Bits, pads: &IndexSet<Pad>, pad: Pad) -> Root
     bonded_root(pads.get_index_of(&pad))
 }
 
-// The root of a point, where `roots` has those of the wires that it may be asked for.
+/// The root of a wire, where `roots` has those of wires by their numbers.
+pub(crate) fn root_at(roots: &[Root], wire: WireNo) -> Root
+    ensures { result ≡ slice_index_or roots.now wire.0 (Fixed false) }
+{
+    match roots.get(wire.0 as usize) {
+        Some(root) => *root,
+        None => Root::Fixed(false),
+    }
+}
+
+// The root of a point, where `roots` has those of wires by their numbers.
 fn root_in(chip: &Chip, bits: &Bits, roots: &[Root], point: Point) -> Root
     ensures { result ≡ root_in chip.now (bits_of bits.now) roots.now point }
 {
     match point {
-        Point::Wire(wire) => match roots.get(wire.0 as usize) {
-            Some(root) => *root,
-            None => Root::Fixed(false),
-        },
+        Point::Wire(wire) => root_at(roots, wire),
         Point::Carry { tile, cell } => carry_root(chip, bits, tile, cell),
     }
 }

@@ -1,18 +1,19 @@
 //! Configured chips in a package, as their netlists are made.
-ghost use Rattle.std.specs.Prelude.{◌≡◌, ◌<◌, ◌^◌, false, Some, IfOk};
+ghost use Rattle.std.specs.Prelude.{◌≡◌, ◌<◌, ◌≤◌, ◌^◌, ◌+◌, ◌*◌, length, false, Some, IsSome, IfOk};
 ghost use Rattle.ice_value.specs.Order.{Has};
 ghost use Rattle.ice_chip.specs.Views.{package_view};
 ghost use Rattle.ice_bits.specs.Configuration.{bits_of};
 ghost use Rattle.ice_decode.specs.Cells.{logic_tiles};
+ghost use Rattle.ice_decode.specs.Meaning.{tile_place};
 ghost use Rattle.ice_decode.specs.Refusals.{IsCircuitOf};
 ghost use Rattle.ice_decode.specs.declared.point.Point.TheVariants.{Wire, Carry};
 ghost use Rattle.ice_back_laws.specs.Back.{reader, pin_reader};
-ghost use Rattle.ice_back_laws.specs.Numbers.{signal, cell_number, root_number, reader_of};
+ghost use Rattle.ice_back_laws.specs.Numbers.{signal, input_number, cell_number, root_number, reader_of};
 ghost use Rattle.ice_back_laws.specs.Roots.{StandsAt, IsThere, root_of};
 ghost use Rattle.ice_back.specs.Sites.{IsConfigured};
 
 use crate::filling::all_roots;
-use crate::roots::carry_root;
+use crate::roots::{carry_root, root_at};
 use ice_back_laws::Root;
 use ice_base::{NoMemory, SignalNo, TileAt, WireNo};
 use ice_bits::Bits;
@@ -57,6 +58,16 @@ fn tile_set(alloc: Global, chip: &Chip, tiles: &[TileAt]) -> Result<IndexSet<Til
     Ok(set)
 }
 
+// The signal of the table of the cell of a tile at a place, behind those of so many pads.
+fn cell_signal(pads: usize, place: usize, cell: u8) -> u32
+    requires pads { pads ≤ 131072 }
+    requires place { place < 65536 }
+    ensures number { result ≡ 2 + 2 * pads + 3 * (8 * place + cell) }
+    ensures small { result < 2 ^ 30 }
+{
+    2 + 2 * pads as u32 + 3 * (8 * place as u32 + u32::from(cell))
+}
+
 impl<'a> Site<'a> {
     /// The configured chip in a package of it. The root of each wire is found here.
     ///
@@ -72,6 +83,7 @@ impl<'a> Site<'a> {
         requires listed { Has chip.now.packages (package_view «package».now) }
         ensures { IfOk result (λ site. site ≡ record { parts = chip.now; configuration = circuit.now.configuration; bonded = package_view «package».now }) }
     {
+        let _wires = chip.wires();
         let logic = logic_tiles(alloc, chip)?;
         let tiles = tile_set(alloc, chip, &logic)?;
         let roots = all_roots(alloc, chip, circuit, &package.pads)?;
@@ -86,8 +98,7 @@ impl<'a> Site<'a> {
 
     /// The chip.
     pub(crate) fn chip(&self) -> &Chip
-        ensures chip { result.now ≡ self.now.parts }
-        ensures configured { IsConfigured self.now }
+        ensures { result.now ≡ self.now.parts }
     {
         self.chip
     }
@@ -108,16 +119,35 @@ impl<'a> Site<'a> {
 
     /// The pads of the package.
     pub(crate) fn pads(&self) -> &[Pad]
-        ensures { result.now ≡ self.now.bonded.pads }
+        ensures pads { result.now ≡ self.now.bonded.pads }
+        ensures configured { IsConfigured self.now }
     {
         self.package.pads.as_slice()
     }
 
     /// The logic tiles.
     pub(crate) fn tiles(&self) -> &[TileAt]
-        ensures { result.now ≡ logic_tiles self.now.parts }
+        ensures tiles { result.now ≡ logic_tiles self.now.parts }
+        ensures configured { IsConfigured self.now }
     {
         self.tiles.as_slice()
+    }
+
+    // The place of a logic tile among them.
+    fn tile_place(&self, tile: TileAt) -> usize
+        requires { IsSome (tile_place tile (logic_tiles self.now.parts)) }
+        ensures place { tile_place tile (logic_tiles self.now.parts) ≡ Some result }
+        ensures small { result < 65536 }
+    {
+        self.tiles.get_index_of(&tile).unwrap()
+    }
+
+    // The number of the pads.
+    fn pad_count(&self) -> usize
+        ensures count { result ≡ length self.now.bonded.pads }
+        ensures few { result ≤ 131072 }
+    {
+        self.package.pads.len()
     }
 
     /// The signal of the table of a cell of the chip; those of its flip-flop and of its carry have the next two numbers.
@@ -126,11 +156,16 @@ impl<'a> Site<'a> {
         ensures number { result ≡ cell_number self.now.parts self.now.bonded.pads tile cell }
         ensures small { result < 2 ^ 30 }
     {
-        let place = match self.tiles.get_index_of(&tile) {
-            Some(place) => place,
-            None => 0,
-        };
-        (2 + 2 * self.package.pads.len() + 3 * (8 * place + cell as usize)) as u32
+        cell_signal(self.pad_count(), self.tile_place(tile), cell)
+    }
+
+    // The signal of the input of the pad of a number.
+    fn input_signal(&self, pad: usize) -> SignalNo
+        requires { pad < length self.now.bonded.pads }
+        ensures { result ≡ signal (input_number pad) }
+    {
+        let _count = self.pad_count();
+        SignalNo((3 + 2 * pad) as u32)
     }
 
     // The signal of a root that is there.
@@ -140,7 +175,7 @@ impl<'a> Site<'a> {
     {
         match root {
             Root::Fixed(level) => SignalNo(u32::from(level)),
-            Root::Input(pad) => SignalNo((3 + 2 * pad) as u32),
+            Root::Input(pad) => self.input_signal(pad),
             Root::Table { tile, cell } => SignalNo(self.cell_number(tile, cell)),
             Root::Register { tile, cell } => SignalNo(self.cell_number(tile, cell) + 1),
             Root::Sum { tile, cell } => SignalNo(self.cell_number(tile, cell) + 2),
@@ -164,10 +199,7 @@ impl<'a> Site<'a> {
         ensures root { result ≡ root_of self.now.parts (bits_of self.now.configuration) self.now.bonded.pads (Wire wire) }
         ensures there { IsThere self.now.parts (bits_of self.now.configuration) self.now.bonded.pads result }
     {
-        match self.roots.get(wire.0 as usize) {
-            Some(root) => *root,
-            None => Root::Fixed(false),
-        }
+        root_at(&self.roots, wire)
     }
 
     /// What reads the wire of a name in a tile; missing, where none has it.

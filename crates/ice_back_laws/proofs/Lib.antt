@@ -1,17 +1,17 @@
-mod RootLevels
-mod CellRoles
-mod Ranks
-mod Inputs
-mod Standing
-mod Levels
-mod Steps
-mod Loopless
-mod Driving
-mod Counting
-mod TilesOnce
-mod Twice
-mod PinTypes
-mod Bounds
-mod Sound
-mod Once
-mod Names
+pub mod RootLevels
+pub mod CellRoles
+pub mod Ranks
+pub mod Inputs
+pub mod Standing
+pub mod Levels
+pub mod Steps
+pub mod Loopless
+pub mod Driving
+pub mod Counting
+pub mod TilesOnce
+pub mod Twice
+pub mod PinTypes
+pub mod Bounds
+pub mod Sound
+pub mod Once
+pub mod Names

@@ -42,7 +42,8 @@ use Rattle.ice_back_laws.proofs.CellRoles.{IsOfCell, role_of_cell}
 use Rattle.ice_back_laws.proofs.RootLevels.{passed_read, root_made}
 
 -- ---- what is read is there
-named_below : (parts : Parts) → IsRead parts → (t : TileAt) (name : List ℕ) (w : ℕ) → wire_named parts t name ≡ Some w → w < parts.wires
+-- the wire of a name is one of the chip
+pub named_below : (parts : Parts) → IsRead parts → (t : TileAt) (name : List ℕ) (w : ℕ) → wire_named parts t name ≡ Some w → w < parts.wires
 named_below parts read t name w e =
     lookup_all (λ (k : ℕ). k < parts.wires) (same_placed (placed_at t name)) (map placed_wire (placed_names parts))
     (All-map (λ (e : PlacedName × ℕ). e.1 < parts.wires) placed_wire (placed_names parts) (All-filter (is_placed parts.tiles) (λ (n : WireName). n.wire < parts.wires) parts.names read.named_wires)) w e

@@ -211,6 +211,14 @@ place_below parts bits order o i p at =
     let count = counted parts in
     omega arith
 
+-- the root of a point is made of those of the points that pass their levels on to it
+pub ordered_made : (parts : Parts) (bits : Bits) (order : List Point) → IsOrderOf parts bits order → (bonded : List Pad) (i : ℕ) (p : Point) → At order i p
+    → root_of parts bits bonded p ≡ point_root parts bits bonded p (map (reading (Fixed false) (root_of parts bits bonded)) (point_passes parts bits p))
+ordered_made parts bits order o bonded i p at =
+    root_made parts bits (At order) o.after bonded
+    (λ j q place. there (roots_of parts bits bonded) (At order) (Fixed false) (count_points parts + 1) (λ k r s here has. o.after k r s here (passed_read parts bits r s has)) j q place (place_below parts bits order o j q place))
+    i p at
+
 pub points_rooted : PointsHaveTheirRootsLevels
 points_rooted parts bits order o bonded levels kept p has =
     let place = o.each p has in
