@@ -54,6 +54,22 @@ pub(crate) fn add_fixed(alloc: Global, netlist: &mut Netlist) -> Result<(), NoMe
     add_cell(netlist, high)
 }
 
+// Adds the SB_IO of the pad of a number.
+fn add_pad(
+    alloc: Global,
+    site: &Site<'_>,
+    netlist: &mut Netlist,
+    number: u32,
+    pad: Pad,
+) -> Result<(), NoMemory>
+    requires room { HasRoomForCells netlist.old (pad_cell site.now.parts (bits_of site.now.configuration) site.now.bonded.pads (number, pad) ∷ []) }
+    requires few { number < 2 ^ 30 }
+    ensures { OnOk result (netlist.new ≡ with_cells netlist.old (pad_cell site.now.parts (bits_of site.now.configuration) site.now.bonded.pads (number, pad) ∷ [])) }
+{
+    let cell = pad_cell(alloc, site, number, pad)?;
+    add_cell(netlist, cell)
+}
+
 /// Adds the SB_IO of each of these pads, which are those of the package.
 ///
 /// # Errors
@@ -69,8 +85,7 @@ pub(crate) fn add_pads(
     ensures { OnOk result (netlist.new ≡ with_cells netlist.old (map (pad_cell site.now.parts (bits_of site.now.configuration) site.now.bonded.pads) (numbered_pads pads.now))) }
 {
     for (number, pad) in pads.iter().enumerate() {
-        let cell = pad_cell(alloc, site, number as u32, *pad)?;
-        add_cell(netlist, cell)?;
+        add_pad(alloc, site, netlist, number as u32, *pad)?;
     }
     Ok(())
 }
