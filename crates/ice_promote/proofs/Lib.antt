@@ -7,3 +7,7 @@ mod Clocks
 mod NewFormed
 mod NewSound
 mod PromotionExamples
+mod Counted
+mod Chosen
+mod Redirected
+mod Filled

@@ -1,2 +1,4 @@
 pub mod Promoted
 pub mod PromotionLaws
+pub mod Promotable
+pub mod Filling

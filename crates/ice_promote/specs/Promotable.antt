@@ -1,0 +1,14 @@
+-- What is asked of a netlist whose clocks are promoted.
+use Rattle.std.specs.Prelude.{◌≡◌, ℕ, ◌<◌, List, length, All}
+use Rattle.ice_net.specs.NetlistData.{NetlistData}
+use Rattle.ice_promote.specs.Promoted.{buffered_name}
+use Rattle.ice_promote.specs.PromotionLaws.{most_cells_before}
+
+-- the name does not end with a blank and `gb`, so no buffer's signal has it
+abbrev pub IsPlainName : List ℕ → Type 0
+IsPlainName name = (front : List ℕ) → name ≡ buffered_name front → ⊥
+
+-- no signal has a buffer's name, and there is room for the buffers
+pub record CanBePromoted (n : NetlistData) : Type 0 where
+  pub plain : All IsPlainName n.names
+  pub room : length n.cells < most_cells_before

@@ -1,0 +1,51 @@
+//! Clocks of many flip-flops are promoted.
+ghost use Rattle.std.specs.Prelude.{◌≡◌, Bool, List, IfOk, OnOk};
+ghost use Rattle.ice_net.specs.Meaning.{shows};
+ghost use Rattle.ice_check.specs.Sound.{IsSound};
+ghost use Rattle.ice_promote.specs.Promotable.{CanBePromoted};
+ghost use Rattle.ice_promote.specs.Promoted.{promoted};
+
+use crate::choosing::promoted_clocks;
+use crate::filling::with_buffers;
+use ice_base::NoMemory;
+use ice_check::laws::faults_are_not_sound;
+use ice_check::{NetFault, Sound, check};
+use ice_net::Netlist;
+use std::alloc::Global;
+
+// What is known of a netlist that is sound.
+fn checked(alloc: Global, netlist: Netlist) -> Result<Sound, NoMemory>
+    requires { IsSound netlist }
+    ensures { IfOk result (λ sound. sound ≡ netlist) }
+{
+    faults_are_not_sound();
+    match check(alloc, netlist) {
+        Ok(sound) => Ok(sound),
+        Err(NetFault::NoMemory) => Err(NoMemory),
+        Err(_) => unreachable!(),
+    }
+}
+
+/// The netlist in which clocks of sixteen flip-flops or more take the global networks that are free, at most so many: the first such
+/// clocks, by their numbers, that are no global network already and not constant. Behind each stands a global buffer, whose signal has
+/// the clock's name with a blank and `gb` behind it, and the flip-flops' clock inputs read that signal; nothing else changes. It is
+/// sound, has the same ports, and shows for every list of levels what the netlist shows.
+///
+/// No name of the netlist may end with a blank and `gb`, and it has fewer than 1,073,000,000 cells.
+///
+/// # Errors
+/// Want of memory alone.
+pub fn promote(alloc: Global, sound: Sound, free: u32) -> Result<Sound, NoMemory>
+    requires { CanBePromoted sound }
+    ensures netlist { IfOk result (λ made. made ≡ promoted sound free) }
+    ensures sound { OnOk result (IsSound (promoted sound free)) }
+    ensures ports { IfOk result (λ made. made.ports ≡ sound.ports) }
+    ensures shows { IfOk result (λ made. (levels : List (List Bool)) → shows made levels ≡ shows sound levels) }
+{
+    let clocks = promoted_clocks(alloc, sound.netlist(), free)?;
+    if clocks.is_empty() {
+        return Ok(sound);
+    }
+    let netlist = with_buffers(alloc, sound.netlist(), clocks)?;
+    checked(alloc, netlist)
+}
