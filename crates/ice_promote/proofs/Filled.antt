@@ -5,7 +5,7 @@ use Rattle.std.specs.Cmp.{IsEquivalence}
 use Rattle.std.specs.List.{IsDistinct, list_any}
 use Rattle.std.proofs.Math.Seq.{take-append-add}
 use Rattle.std.proofs.lemmas.Cmp.{nat_eq_equiv, nat_list_eq_equiv}
-use Rattle.std.proofs.lemmas.List.{get_or-take, get_or-append-add, get_or_default, get_or-map, length-map, take_more, take_all}
+use Rattle.std.proofs.lemmas.List.{get_or-take, get_or_append_left, get_or-append-add, get_or_default, get_or-map, length-map, take_more, take_all}
 use Rattle.std.proofs.lemmas.List.Folds.{list_any_none}
 use Rattle.std.proofs.lemmas.List.Quantifiers.{position-Some}
 use Rattle.std.proofs.lemmas.Map.Keys.{apart_from_distinct}
@@ -14,10 +14,10 @@ use Rattle.ice_base.specs.declared.number.SignalNo.{SignalNo}
 use Rattle.ice_net.specs.declared.cell.Cell.{Cell}
 use Rattle.ice_net.specs.declared.port.Port.{Port}
 use Rattle.ice_net.specs.declared.port.Way.{Way}
-use Rattle.ice_net.specs.Formed.{IsFormedCell, port_numbers}
+use Rattle.ice_net.specs.Formed.{IsFormed, IsFormedCell, port_numbers}
 use Rattle.ice_net.specs.NetlistData.{NetlistData, is_at, port_at, port_by, with_port}
-use Rattle.ice_promote.specs.Promoted.{buffered_cell, buffer, buffers}
-use Rattle.ice_promote.specs.Filling.{with_names, HasRoomForNames, with_cells, HasRoomForCells}
+use Rattle.ice_promote.specs.Promoted.{buffered_name, buffered_cell, buffer, buffers, with_buffers}
+use Rattle.ice_promote.specs.Filling.{buffer_names, with_names, HasRoomForNames, with_cells, HasRoomForCells}
 use Rattle.ice_promote.proofs.Buffers.{length_buffers}
 
 -- ---- what stands before
@@ -107,14 +107,15 @@ ports_none n ports e = ap (λ (ps : List Port). record n { ports = ps }) e
 pub ports_all : (n m : NetlistData) (ports : List Port) (i : ℕ) → length ports ≤ i → m ≡ record n { ports = take i ports } → m ≡ record n { ports = ports }
 ports_all n m ports i le e = e ∙ ap (λ (ps : List Port). record n { ports = ps }) (take_all i ports le)
 
-pub ports_more : (n m now : NetlistData) (ports : List Port) (i : ℕ) (port : Port) → IsDistinct ◌==◌ (port_numbers ports) → i < length ports → port ≡ get_or ports i port
-    → m ≡ record n { ports = take i ports } → now ≡ record m { ports = with_port m.ports port.signal port.way } → now ≡ record n { ports = take (i + 1) ports }
-ports_more n m now ports i port once lt is e next =
+pub ports_more : (n m now : NetlistData) (ports : List Port) (i : ℕ) (d : Port) → IsDistinct ◌==◌ (port_numbers ports) → i < length ports
+    → m ≡ record n { ports = take i ports } → now ≡ record m { ports = with_port m.ports (get_or ports i d).signal (get_or ports i d).way } → now ≡ record n { ports = take (i + 1) ports }
+ports_more n m now ports i d once lt e next =
+    let port = get_or ports i d in
+    let is : port ≡ get_or ports i port = get_or_default ports i d port lt in
     next
     ∙ ap (λ (k : NetlistData). record k { ports = with_port k.ports port.signal port.way }) e
     ∙ ap (λ o. record n { ports = port_by (take i ports) port.signal port.way o }) (no_port ports i port once lt is)
-    ∙ ap (λ (p : Port). record n { ports = take i ports ++ p ∷ [] }) is
-    ∙ ap (λ (ps : List Port). record n { ports = ps }) (sym (take_more ports i port lt))
+    ∙ ap (λ (ps : List Port). record n { ports = ps }) (sym (take_more ports i d lt))
 
 -- ---- cells
 pub cells_none : (n : NetlistData) (news : List Cell) → n ≡ with_cells n (take 0 news)
@@ -156,11 +157,66 @@ buffer_there next (c ∷ clocks) zero d other lt = ap (buffer c) (let e : next �
 buffer_there next (c ∷ clocks) (suc i) d other lt = buffer_there (next + 1) clocks i d other (omega (arith, lt)) ∙ ap (buffer (get_or clocks i d)) (let e : next + 1 + i ≡ next + suc i = omega arith in e)
 
 -- the buffer of the clock at this place
-pub buffer_made : (next : ℕ) (clocks : List ℕ) (i clock : ℕ) (made : Cell) → i < length clocks → clock ≡ get_or clocks i clock → made ≡ buffer clock (next + i) → made ≡ get_or (buffers next clocks) i made
-buffer_made next clocks i clock made lt is e = e ∙ ap (λ c. buffer c (next + i)) is ∙ sym (buffer_there next clocks i clock made lt)
+pub buffer_made : (next : ℕ) (clocks : List ℕ) (i d : ℕ) (made : Cell) → i < length clocks → made ≡ buffer (get_or clocks i d) (next + i) → made ≡ get_or (buffers next clocks) i made
+buffer_made next clocks i d made lt e = e ∙ sym (buffer_there next clocks i d made lt)
 
 pub buffers_long : (next : ℕ) (clocks : List ℕ) (i : ℕ) → i < length clocks → i < length (buffers next clocks)
 buffers_long next clocks i lt = let long = length_buffers next clocks in omega (arith, long, lt)
 
 pub cells_long : (count : ℕ) (clocks : List ℕ) (cells : List Cell) (i : ℕ) → i < length cells → i < length (map (buffered_cell count clocks) cells)
 cells_long count clocks cells i lt = let long = length-map cells (buffered_cell count clocks) in omega (arith, long, lt)
+
+-- the name that is made for the clock at this place
+pub names_long : (n : NetlistData) (clocks : List ℕ) (i : ℕ) → i < length clocks → i < length (buffer_names n clocks)
+names_long n clocks i lt = let long = length-map clocks (λ clock. buffered_name (get_or n.names clock [])) in omega (arith, long, lt)
+
+pub name_made : (n : NetlistData) (clocks : List ℕ) (i d : ℕ) (name made : List ℕ) → i < length clocks → All (λ clock. clock < length n.names) clocks
+    → name ≡ get_or n.names (get_or clocks i d) name → made ≡ buffered_name name → made ≡ get_or (buffer_names n clocks) i made
+name_made n clocks i d name made lt below is e =
+    e
+    ∙ ap buffered_name (is ∙ get_or_default n.names (get_or clocks i d) name [] (below i d lt))
+    ∙ sym (get_or-map (λ clock. buffered_name (get_or n.names clock [])) clocks i d made lt)
+
+-- ---- room for all cells
+all_left : {X : Type 0} (P : X → Type 0) (xs ys : List X) → All P (xs ++ ys) → All P xs
+all_left P xs ys all k d lt = subst P (get_or_append_left xs ys d k lt) (all k d (let long = length-append xs ys in omega (arith, long, lt)))
+
+all_right : {X : Type 0} (P : X → Type 0) (xs ys : List X) → All P (xs ++ ys) → All P ys
+all_right P xs ys all k d lt = subst P (get_or-append-add xs ys k d) (all (length xs + k) d (let long = length-append xs ys in omega (arith, long, lt)))
+
+-- the netlist with all names and ports has room for the cells
+pub old_cells_room : (n made : NetlistData) (clocks taken : List ℕ) (cells : List Cell) (count : ℕ) → IsFormed (with_buffers n clocks) → made ≡ record (with_buffers n clocks) { cells = [] }
+    → count ≡ length n.names → taken ≡ clocks → cells ≡ n.cells → HasRoomForCells made (map (buffered_cell count taken) cells)
+old_cells_room n made clocks taken cells count formed e counted took copied =
+    rw (e, counted, took, copied) (record {
+      few =
+          (let few = formed.few_cells in
+          let long = length-append (map (buffered_cell (length n.names) clocks) n.cells) (buffers (length n.names) clocks) in
+          omega (arith, few, long));
+      formed = all_left (IsFormedCell (length (with_buffers n clocks).names)) (map (buffered_cell (length n.names) clocks) n.cells) (buffers (length n.names) clocks) formed.cells;
+    })
+
+-- and then for the buffers
+pub buffers_room : (n made : NetlistData) (clocks taken : List ℕ) (count : ℕ) → IsFormed (with_buffers n clocks)
+    → made ≡ record (with_buffers n clocks) { cells = map (buffered_cell (length n.names) clocks) n.cells }
+    → count ≡ length n.names → taken ≡ clocks → HasRoomForCells made (buffers count taken)
+buffers_room n made clocks taken count formed e counted took =
+    rw (e, counted, took) (record {
+      few =
+          (let few = formed.few_cells in
+          let long = length-append (map (buffered_cell (length n.names) clocks) n.cells) (buffers (length n.names) clocks) in
+          omega (arith, few, long));
+      formed = all_right (IsFormedCell (length (with_buffers n clocks).names)) (map (buffered_cell (length n.names) clocks) n.cells) (buffers (length n.names) clocks) formed.cells;
+    })
+
+-- the old cells are there
+pub with_old_cells : (n made now : NetlistData) (clocks taken : List ℕ) (cells : List Cell) (count : ℕ) → made ≡ record (with_buffers n clocks) { cells = [] }
+    → count ≡ length n.names → taken ≡ clocks → cells ≡ n.cells → now ≡ with_cells made (map (buffered_cell count taken) cells)
+    → now ≡ record (with_buffers n clocks) { cells = map (buffered_cell (length n.names) clocks) n.cells }
+with_old_cells n made now clocks taken cells count e counted took copied is =
+    is ∙ rw (e, counted, took, copied) refl
+
+-- the buffers are there, too
+pub with_all_cells : (n made now : NetlistData) (clocks taken : List ℕ) (count : ℕ) → made ≡ record (with_buffers n clocks) { cells = map (buffered_cell (length n.names) clocks) n.cells }
+    → count ≡ length n.names → taken ≡ clocks → now ≡ with_cells made (buffers count taken) → now ≡ with_buffers n clocks
+with_all_cells n made now clocks taken count e counted took is = is ∙ rw (e, counted, took) refl
