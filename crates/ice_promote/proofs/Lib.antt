@@ -11,3 +11,5 @@ mod Counted
 mod Chosen
 mod Redirected
 mod Filled
+mod NewNames
+mod Unpromoted

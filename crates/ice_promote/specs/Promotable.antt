@@ -1,7 +1,7 @@
 -- What is asked of a netlist whose clocks are promoted.
-use Rattle.std.specs.Prelude.{◌≡◌, ℕ, ◌<◌, List, length, All}
+use Rattle.std.specs.Prelude.{◌≡◌, ℕ, ◌<◌, List, length, All, Option, None, Some}
 use Rattle.ice_net.specs.NetlistData.{NetlistData}
-use Rattle.ice_promote.specs.Promoted.{buffered_name}
+use Rattle.ice_promote.specs.Promoted.{buffered_name, promoted}
 use Rattle.ice_promote.specs.PromotionLaws.{most_cells_before}
 
 -- the name does not end with a blank and `gb`, so no buffer's signal has it
@@ -12,3 +12,8 @@ IsPlainName name = (front : List ℕ) → name ≡ buffered_name front → ⊥
 pub record CanBePromoted (n : NetlistData) : Type 0 where
   pub plain : All IsPlainName n.names
   pub room : length n.cells < most_cells_before
+
+-- what is made: the netlist with promoted clocks, or nothing where it is the netlist itself
+abbrev pub IsPromotion : NetlistData → ℕ → Option NetlistData → Type 0
+IsPromotion n free None = promoted n free ≡ n
+IsPromotion n free (Some made) = made ≡ promoted n free
