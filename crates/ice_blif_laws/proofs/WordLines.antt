@@ -1,9 +1,9 @@
 -- The joined lines of a text have words alone.
-use Rattle.std.proofs.Common.{◌≡◌, ℕ, zero, suc, ◌<◌, Bool, true, false, Option, None, Some, List, [], ◌∷◌, ◌++◌, length, drop, filter, nat_lt, refl, if◌then◌else◌, arith, rules, tests}
+use Rattle.std.proofs.Common.{◌≡◌, ℕ, zero, suc, ◌<◌, Bool, true, false, Option, None, Some, List, [], ◌∷◌, ◌++◌, length, drop, filter, nat_lt, refl, if◌then◌else◌, rules, tests}
 use Rattle.std.specs.List.{AllByRecursion}
 use Rattle.ice_base.specs.Text.{onto_first, pieces, words, ends_word, IsWord, lines, numbered}
 use Rattle.ice_base.specs.Comments.{begins_with, uncommented}
-use Rattle.ice_blif.specs.JoinedLines.{FilledLine, continued, goes_on, plain_by, plain, first_words, with_next, rest_of, behind, joined, fill, filled}
+use Rattle.ice_blif.specs.JoinedLines.{FilledLine, continued, goes_on, plain_by, plain, first_words, with_next, behind, joined, fill, filled}
 
 -- ---- lists
 pub rec_both : {X : Type 0} (P : X → Type 0) (xs ys : List X) → AllByRecursion P xs → AllByRecursion P ys → AllByRecursion P (xs ++ ys)

@@ -1,10 +1,10 @@
 -- The names of a netlist that is read are words of its text, or what stands behind the `=` of one.
-use Rattle.std.proofs.Common.{◌≡◌, ℕ, ◌+◌, ◌<◌, Bool, true, false, ◌||◌, List, [], ◌∷◌, ◌++◌, length, drop, take, nat_lt, nat_le, All, Option, Some, None, Result, Ok, Err, IfOk, if◌then◌else◌, codes, bytes_eq, refl, sym, ap, subst, ◌∙◌, arith}
+use Rattle.std.proofs.Common.{◌≡◌, ℕ, ◌+◌, Bool, true, false, ◌||◌, List, [], ◌∷◌, ◌++◌, length, drop, take, nat_lt, nat_le, All, Option, Some, None, Result, Ok, Err, IfOk, if◌then◌else◌, codes, bytes_eq, refl, sym, subst, arith}
 use Rattle.std.specs.List.{AllByRecursion, list_any}
 use Rattle.std.proofs.lemmas.List.Elements.{All-from_recursion}
 use Rattle.ice_base.specs.Text.{lines, numbered, IsWord}
 use Rattle.ice_base.specs.Comments.{begins_with}
-use Rattle.ice_base.specs.Names.{with_name, number_of_name}
+use Rattle.ice_base.specs.Names.{number_of_name}
 use Rattle.ice_base.specs.declared.number.SignalNo.{SignalNo}
 use Rattle.ice_net.specs.declared.kind.CellKind.{CellKind}
 use Rattle.ice_net.specs.declared.port.Way.{Way}
@@ -17,7 +17,7 @@ use Rattle.ice_blif.specs.JoinedLines.{FilledLine, joined, filled, last_number}
 use Rattle.ice_blif.specs.State.{LastCell, State, Connections, Nothing, Gate, Rows}
 use Rattle.ice_blif.specs.Cells.{◌>>=◌, row_says, param_says, finished, count_of}
 use Rattle.ice_blif.specs.Grammar.{named, signal_of, was_named, with_named_port, port_says, ports_say, no_wiring, is_missing, after_actual, connect_at, connect_by, equals_at, connection_says, connections_say, cell_of, with_last, without_rows, gate_of_kind, gate_says, cover_signals, new_cover, cover_of, names_say, row_line, row_or_fault, port_directive_says, param_directive_says, directive_says, within_limits, line_says, after_end, ended, model_says, empty_reader, lines_say, netlist_of}
-use Rattle.ice_blif.proofs.Kept.{bind_keeps, either, any_ok, weaker}
+use Rattle.ice_blif.proofs.Kept.{bind_keeps, either, any_ok}
 use Rattle.ice_blif.proofs.OpenCells.{finished_names}
 use Rattle.ice_blif_laws.proofs.WordLines.{rec_both, rec_drop, IsWhole, AreWords, IsWordLine, text_lines}
 

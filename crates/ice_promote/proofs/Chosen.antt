@@ -1,5 +1,5 @@
 -- The first numbers that pass a test, at most so many, one after another.
-use Rattle.std.proofs.Common.{◌≡◌, ◌≢◌, ℕ, zero, suc, ◌+◌, ◌-◌, ◌<◌, ◌≤◌, Bool, true, false, List, [], ◌∷◌, ◌++◌, length, take, filter, refl, sym, ap, ◌∙◌, subst, arith, append-nil, append_assoc, length-append, if◌then◌else◌}
+use Rattle.std.proofs.Common.{◌≡◌, ◌≢◌, ℕ, zero, suc, ◌+◌, ◌-◌, ◌<◌, ◌≤◌, Bool, true, false, List, [], ◌∷◌, ◌++◌, length, take, filter, refl, sym, ap, ◌∙◌, arith, append-nil, append_assoc, length-append, if◌then◌else◌}
 use Rattle.std.specs.List.{range_with_len}
 
 -- what there is so far, and then those of the next `more` numbers from k on, until there are enough
@@ -46,8 +46,7 @@ pub then_chosen : (test : ℕ → Bool) (most k count : ℕ) (so_far now whole :
 then_chosen test most k count so_far now whole lt le ne passes e h =
     let room : length so_far < most = omega (arith, le, ne) in
     let left : count - k ≡ suc (count - (k + 1)) = omega (arith, lt) in
-    let long : length now ≡ length so_far + 1 = ap (λ ys. length ys) e ∙ length-append so_far (k ∷ []) in
-    (
+    let long : length now ≡ length so_far + 1 = ap (λ ys. length ys) e ∙ length-append so_far (k ∷ []) in (
       ap (λ ys. chosen test most ys (k + 1) (count - (k + 1))) e ∙ sym (one_chosen test most k (count - (k + 1)) so_far (sym passes) room) ∙ ap (chosen test most so_far k) (sym left) ∙ h,
       omega (arith, long, room),
     )

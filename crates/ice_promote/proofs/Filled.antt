@@ -1,19 +1,16 @@
 -- What is added to a netlist: names, ports and cells, one after another.
-use Rattle.std.proofs.Common.{◌≡◌, ℕ, zero, suc, ◌+◌, ◌<◌, ◌≤◌, ◌==◌, Bool, true, false, Option, None, Some, List, [], ◌∷◌, ◌++◌, length, map, take, get_or, All, refl, sym, ap, ◌∙◌, subst, arith, append-nil, append_assoc, length-append, length-take-le, if◌then◌else◌, bytes_eq, true≢false}
-use Rattle.std.specs.Prelude.{position}
+use Rattle.std.proofs.Common.{◌≡◌, ℕ, zero, suc, ◌+◌, ◌<◌, ◌≤◌, ◌==◌, Bool, false, Option, None, Some, List, [], ◌∷◌, ◌++◌, length, map, take, get_or, All, refl, sym, ap, ◌∙◌, subst, arith, append-nil, append_assoc, length-append, length-take-le, if◌then◌else◌, bytes_eq, true≢false}
 use Rattle.std.specs.Cmp.{IsEquivalence}
 use Rattle.std.specs.List.{IsDistinct, list_any}
 use Rattle.std.proofs.Math.Seq.{take-append-add}
-use Rattle.std.proofs.lemmas.Cmp.{nat_eq_equiv, nat_list_eq_equiv}
+use Rattle.std.proofs.lemmas.Cmp.{nat_list_eq_equiv}
 use Rattle.std.proofs.lemmas.List.{get_or-take, get_or_append_left, get_or-append-add, get_or_default, get_or-map, length-map, take_more, take_all}
 use Rattle.std.proofs.lemmas.List.Folds.{list_any_none}
 use Rattle.std.proofs.lemmas.List.Quantifiers.{position-Some}
 use Rattle.std.proofs.lemmas.Map.Keys.{apart_from_distinct}
 use Rattle.ice_base.specs.Names.{with_name}
-use Rattle.ice_base.specs.declared.number.SignalNo.{SignalNo}
 use Rattle.ice_net.specs.declared.cell.Cell.{Cell}
 use Rattle.ice_net.specs.declared.port.Port.{Port}
-use Rattle.ice_net.specs.declared.port.Way.{Way}
 use Rattle.ice_net.specs.Formed.{IsFormed, IsFormedCell, port_numbers}
 use Rattle.ice_net.specs.NetlistData.{NetlistData, is_at, port_at, port_by, with_port}
 use Rattle.ice_promote.specs.Promoted.{buffered_name, buffered_cell, buffer, buffers, with_buffers}

@@ -13,3 +13,4 @@ mod Redirected
 mod Filled
 mod NewNames
 mod Unpromoted
+mod PlainNames

@@ -1,9 +1,9 @@
 -- The names of the buffers' signals differ from all others, and from each other.
-use Rattle.std.proofs.Common.{◌≡◌, ℕ, zero, suc, ◌+◌, ◌-◌, ◌<◌, ◌≤◌, Bool, true, false, List, [], ◌∷◌, ◌++◌, length, map, take, filter, get_or, All, refl, sym, ap, ◌∙◌, subst, arith, if◌then◌else◌, bytes_eq, codes, true≢false}
+use Rattle.std.proofs.Common.{◌≡◌, ℕ, zero, suc, ◌+◌, ◌-◌, ◌<◌, ◌≤◌, Bool, true, false, List, [], ◌∷◌, ◌++◌, length, take, filter, get_or, All, sym, ap, ◌∙◌, arith, if◌then◌else◌, bytes_eq, codes, true≢false}
 use Rattle.std.specs.Prelude.{min}
 use Rattle.std.specs.List.{IsDistinct, AllByRecursion, range_with_len}
 use Rattle.std.proofs.lemmas.Bool.{false_from_ne_true}
-use Rattle.std.proofs.lemmas.List.{append_cancel_right, get_or-map, get_or_default, length-map}
+use Rattle.std.proofs.lemmas.List.{append_cancel_right, get_or-map, length-map}
 use Rattle.std.proofs.lemmas.List.Elements.{All-head, All-tail}
 use Rattle.std.proofs.lemmas.Map.Keys.{IsDistinct-head, IsDistinct-tail, IsDistinct-cons, IsDistinct-from_apart, apart_from_distinct}
 use Rattle.std.proofs.lemmas.Option.{slice_get-get_or}
@@ -82,7 +82,7 @@ news_apart n free once i j d less below =
     ap (λ x. bytes_eq x (get_or (buffer_names n clocks) j d)) (get_or-map (λ clock. buffered_name (get_or n.names clock [])) clocks i 0 d lt')
     ∙ ap (bytes_eq (buffered_name (get_or n.names (get_or clocks i 0) []))) (get_or-map (λ clock. buffered_name (get_or n.names clock [])) clocks j 0 d lt)
     ∙ ends_differ (get_or n.names (get_or clocks i 0) []) (get_or n.names (get_or clocks j 0) [])
-      (apart_from_distinct bytes_eq n.names (get_or clocks i 0) (get_or clocks j 0) [] once (clocks_rise n free i j less lt) (clocks_below n free j 0 lt))
+    (apart_from_distinct bytes_eq n.names (get_or clocks i 0) (get_or clocks j 0) [] once (clocks_rise n free i j less lt) (clocks_below n free j 0 lt))
 
 -- ---- lists without doubles, one behind the other
 rec_both : {X : Type 0} (P : X → Type 0) (xs ys : List X) → AllByRecursion P xs → AllByRecursion P ys → AllByRecursion P (xs ++ ys)

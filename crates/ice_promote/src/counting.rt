@@ -109,11 +109,7 @@ fn tally(table: &mut Vec<usize>, signal: Option<SignalNo>, most: usize)
 
 // How often each signal stands in a list.
 #[tactic(auto, using(ice_check::proofs::TableSteps::times_none, ice_check::proofs::TableSteps::times_more, ice_check::proofs::TableSteps::times_all, ice_check::proofs::TableSteps::below_here_too, ice_check::proofs::TableSteps::times_room))]
-fn times_of(
-    alloc: Global,
-    count: usize,
-    list: &[Option<SignalNo>],
-) -> Result<Vec<usize>, NoMemory>
+fn times_of(alloc: Global, count: usize, list: &[Option<SignalNo>]) -> Result<Vec<usize>, NoMemory>
     requires { All (IsBelow count) list.now }
     ensures { IfOk result (λ table. AreTimes count list.now table.items) }
 {

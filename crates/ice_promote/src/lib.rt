@@ -4,8 +4,10 @@
 mod choosing;
 mod counting;
 mod filling;
+mod free;
 pub mod laws;
 mod promoting;
 mod targets;
 
+pub use free::free_beside;
 pub use promoting::promote;

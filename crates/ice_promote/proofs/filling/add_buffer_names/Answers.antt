@@ -1,5 +1,4 @@
-use Rattle.std.proofs.Common.{◌≡◌, ◌∙◌, ◌<◌, List, [], ℕ, length, map, get_or, ap, sym, arith, rules}
-use Rattle.ice_promote.specs.Promoted.{buffered_name}
+use Rattle.std.proofs.Common.{◌≡◌, ◌∙◌, ◌<◌, length, rules}
 use Rattle.ice_promote.specs.Filling.{buffer_names}
 use Rattle.ice_promote.proofs.Filled.{names_more, name_made, names_long}
 use Rattle.ice_promote.proofs.filling.add_buffer_names.Goals as goal

@@ -1,5 +1,4 @@
-use Rattle.std.proofs.Common.{◌≡◌, ◌+◌, ◌<◌, ◌≤◌, List, length, get_or, sym, arith, rules}
-use Rattle.ice_net.specs.declared.cell.Cell.{Cell}
+use Rattle.std.proofs.Common.{◌<◌, ◌≤◌, length, arith, rules}
 use Rattle.ice_promote.specs.Promoted.{buffers}
 use Rattle.ice_promote.proofs.Buffers.{length_buffers}
 use Rattle.ice_promote.proofs.Filled.{cells_all, cells_more, cells_room, cells_formed, buffer_made, buffers_long}

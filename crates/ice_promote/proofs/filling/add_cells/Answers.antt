@@ -1,5 +1,4 @@
-use Rattle.std.proofs.Common.{◌≡◌, ◌<◌, List, length, map, get_or, sym, arith, rules}
-use Rattle.ice_net.specs.declared.cell.Cell.{Cell}
+use Rattle.std.proofs.Common.{◌<◌, length, map, rules}
 use Rattle.ice_promote.specs.Promoted.{buffered_cell}
 use Rattle.ice_promote.proofs.Filled.{cells_more, cells_formed, cell_made, cells_long}
 use Rattle.ice_promote.proofs.filling.add_cells.Goals as goal

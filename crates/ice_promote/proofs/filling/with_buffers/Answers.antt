@@ -1,4 +1,4 @@
-use Rattle.std.proofs.Common.{◌≡◌, ◌∙◌, List, [], ℕ, length, ap}
+use Rattle.std.proofs.Common.{◌≡◌, ◌∙◌, [], ℕ, length, ap}
 use Rattle.std.specs.Global.{Vec}
 use Rattle.ice_promote.specs.Promoted.{with_buffers}
 use Rattle.ice_promote.proofs.Filled.{old_cells_room, buffers_room, with_old_cells}

@@ -1,4 +1,4 @@
-use Rattle.std.proofs.Common.{◌≡◌, ◌≤◌, ◌<◌, ◌+◌, List, ℕ, length, get_or, sym, arith, rules}
+use Rattle.std.proofs.Common.{◌≤◌, ◌<◌, ◌+◌, length, arith, rules}
 use Rattle.ice_net.specs.NetlistData.{empty_netlist}
 use Rattle.ice_promote.proofs.Filled.{names_more}
 use Rattle.ice_promote.proofs.filling.with_its_names.Goals as goal

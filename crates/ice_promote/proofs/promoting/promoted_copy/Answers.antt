@@ -1,7 +1,6 @@
-use Rattle.std.proofs.Common.{rules, ◌≡◌, ◌∙◌, [], length, ap, sym, subst, arith}
+use Rattle.std.proofs.Common.{rules, ◌≡◌, ◌∙◌, length, ap, subst}
 use Rattle.std.proofs.lemmas.List.{nil_from_length}
 use Rattle.ice_net.specs.Formed.{IsFormed, IsSingle}
-use Rattle.ice_promote.specs.Filling.{CanTakeBuffers}
 use Rattle.ice_promote.specs.Promoted.{promoted_clocks}
 use Rattle.ice_promote.proofs.NewNames.{can_take}
 use Rattle.ice_promote.proofs.Unpromoted.{unpromoted}
