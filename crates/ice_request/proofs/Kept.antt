@@ -14,7 +14,7 @@ use Rattle.clap.specs.Kinds.{Kinds, or_else, range_kinds, request_kinds, value_k
 use Rattle.clap.specs.Walk as step
 use Rattle.clap.specs.Walk.{walk, nothing_held, rows_after, walk_from, Held, Names, Outcome, Row, Rule, Step, Text, Waiting, Walk, action_of, after_flag, after_step, arg_by_id, arg_by_index, arg_by_long, arg_by_short, at_row, attached_value, bundle, bundle_met, bundle_step, default_rows, finished, flag_met, has_row, idle, is_empty, is_pending, long_met, long_or_other, more_values, most_values, option, option_met, option_word, plain_word, positional, positional_held, reacted, reading_by, settled, settled_rows, short_met, short_or_plain, subcommand_met, subcommand_or_other, takes_several, takes_values, to_positional, used, used_as, used_by_id, values_or_missing, walked, walked_from, with_default, with_values, without, word_met}
 use Rattle.clap.specs.Simple.{Shape}
-use Rattle.clap.specs.Faults.{action_fault, bundle_step_fault, bundle_fault, default_fault, defaults_fault, flag_word_fault, flags_fault, given_default_fault, level_fault, long_fault, option_fault, other_fault, positional_fault, react_fault, set_fault, repeat_fault, settle_fault, short_fault, step_fault, stray_fault, turn_fault, use_fault, values_fault, walk_fault, word_fault}
+use Rattle.clap.specs.Faults.{action_fault, bundle_step_fault, bundle_fault, check_fault, default_fault, defaults_fault, flag_word_fault, flags_fault, given_default_fault, level_fault, long_fault, option_fault, other_fault, positional_fault, react_fault, set_fault, repeat_fault, settle_fault, short_fault, step_fault, stray_fault, turn_fault, use_fault, values_fault, walk_fault, word_fault}
 use Rattle.clap.specs.declared.builder.action.ArgAction.{ArgAction}
 use Rattle.clap.specs.declared.builder.action.ArgAction.TheVariants as action
 use Rattle.clap.specs.declared.builder.range.ValueRange.{ValueRange}
@@ -53,7 +53,7 @@ found_where P test (y ∷ ys) h = go (test y) (found_where P test ys h.1)
 
 -- ---- kinds of faults
 
-no_kind : {A : Type 0} {X : Type 0} (x : X) (xs : List X) → x ∷ xs ≡ [] → A
+pub no_kind : {A : Type 0} {X : Type 0} (x : X) (xs : List X) → x ∷ xs ≡ [] → A
 no_kind x xs e = let bad : length (x ∷ xs) ≡ 0 = ap length e in absurd (omega arith)
 
 pub no_fault : (a b : Kinds) → or_else a b ≡ [] → (a ≡ []) × (b ≡ [])
@@ -327,7 +327,7 @@ module _ (s : Shape) (known : Each (IsKnown s.rules) s.rules) where
 
 -- ---- defaults
 
-not_empty : {X : Type 0} (x : X) (xs : List X) → is_empty (x ∷ xs) ≡ false
+pub not_empty : {X : Type 0} (x : X) (xs : List X) → is_empty (x ∷ xs) ≡ false
 not_empty x xs = ne_eqb _ _ (λ e. omega arith)
 
 module _ (c : List Rule) where
@@ -349,14 +349,28 @@ module _ (c : List Rule) where
       let parts = no_fault _ _ e in
       defaults_keep xs (with_default rows a) k.1 parts.1 (default_keeps rows a k.0 parts.0 h)
 
--- what is found in words that a command takes
-pub all_good : (s : Shape) (names : Names) (words : List Text) (has : Bool) (below : Kinds) → Each (IsKnown s.rules) s.rules
-    → level_fault s names nothing_held words has below ≡ [] → Each (Good s.rules) (rows_after s.rules names words)
-all_good s names words has below known e =
-    let end = (walk s.rules names nothing_held words).held in
+-- ---- a level of the command
+
+-- no step of a level fails
+pub record Passes (s : Shape) (names : Names) (words : List Text) (has : Bool) (below : Kinds) : Type 0 where
+  pub walks : walk_fault s names (walk_from nothing_held) words ≡ []
+  pub enters : below ≡ []
+  pub settles : settle_fault s.rules s.args_override_self (walk s.rules names nothing_held words).held ≡ []
+  pub fills : defaults_fault (settled s.rules (walk s.rules names nothing_held words).held).rows s.rules ≡ []
+  pub checks : check_fault s (rows_after s.rules names words) has ≡ []
+
+pub passes : (s : Shape) (names : Names) (words : List Text) (has : Bool) (below : Kinds) → level_fault s names nothing_held words has below ≡ [] → Passes s names words has below
+passes s names words has below e =
     let first = no_fault _ _ e in
     let second = no_fault below _ first.1 in
     let third = no_fault _ _ second.1 in
     let fourth = no_fault _ _ third.1 in
-    let walked = walk_keeps s known names words (walk_from nothing_held) first.0 tt in
-    defaults_keep s.rules s.rules (settled s.rules end).rows known fourth.0 (settled_keeps s.rules known s.args_override_self end third.0 walked)
+    record { walks = first.0; enters = second.0; settles = third.0; fills = fourth.0; checks = fourth.1 }
+
+-- what is found in words that a command takes
+pub all_good : (s : Shape) (names : Names) (words : List Text) (has : Bool) (below : Kinds) → Each (IsKnown s.rules) s.rules → Passes s names words has below
+    → Each (Good s.rules) (rows_after s.rules names words)
+all_good s names words has below known p =
+    let walked = walk_keeps s known names words (walk_from nothing_held) p.walks tt in
+    defaults_keep s.rules s.rules (settled s.rules (walk s.rules names nothing_held words).held).rows known p.fills
+    (settled_keeps s.rules known s.args_override_self (walk s.rules names nothing_held words).held p.settles walked)
