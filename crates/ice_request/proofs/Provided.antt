@@ -21,8 +21,9 @@ use Rattle.clap.specs.declared.builder.value_parser.Reading.{Reading}
 use Rattle.clap.specs.declared.parser.matches.ValueSource.{ValueSource}
 use Rattle.clap.specs.declared.parser.matches.ValueSource.TheVariants.{DefaultValue}
 use Rattle.clap.proofs.WalkLemmas.{both}
+use Rattle.clap.proofs.SimpleLemmas.{is_nil}
 use Rattle.ice_request.specs.Command.{command, most_number, most_rounds, most_workers, build_command, back_command, play_net_command, play_bits_command, sample_command}
-use Rattle.ice_request.specs.Requests.{◌>>=◌, Asked, asked_in, asked_of, build_of, back_of, play_net_of, play_bits_of, sample_of, workers_of, number_in, number_of, request_of}
+use Rattle.ice_request.specs.Requests.{◌>>=◌, Asked, asked_in, asked_of, build_of, back_of, play_net_of, play_bits_of, sample_of, workers_of, number_in, number_of, is_taken, request_of}
 use Rattle.ice_request.proofs.Kept.{Each, Good, IsFilled, IsKnown, is_once, Passes, all_good, passes, found_in, no_fault, no_kind, not_empty}
 use Rattle.ice_request.proofs.Numbers.{Reads}
 
@@ -385,6 +386,19 @@ module _ (a : App) (helps : a.top.disable_help_subcommand ≡ false) (wants : a.
       entered_asks stop (walk_no_help a.top helps (names_of a) words (walk_from nothing_held) p.walks tt) p.enters
       (was_met (is_some (entered a stop)) a.top.subcommand_required wants (no_check _ _ _ p.checks).0)
 
--- words that the command takes ask for something
-pub something_asked : (words : List Text) → fault_of command words ≡ [] → IsSome (asked_in (subcommand_of command words))
-something_asked words e = words_ask (built command) refl refl all_provided words e
+-- words ask for something exactly where the command takes them
+pub something_asked : (words : List Text) → is_taken words ≡ true → IsSome (asked_in (subcommand_of command words))
+something_asked words e = words_ask (built command) refl refl all_provided words (is_nil (fault_of command words) e)
+
+pub asked_if_taken : (words : List Text) → is_some (request_of words) ≡ is_taken words
+asked_if_taken words = go (is_taken words) refl
+  where
+    go : (b : Bool) → is_taken words ≡ b → is_some (cond b (asked_in (subcommand_of command words)) None) ≡ b
+    go true e = something_asked words e
+    go false e = refl
+
+-- what was found in words that the command takes is a request
+pub none_lost : (words : List Text) (found : Option (Text × List Row)) → (is_taken words ≡ true) × (found ≡ subcommand_of command words) → None ≡ asked_in found → ⊥
+none_lost words found taken lost =
+    let some : IsSome (asked_in found) = subst (λ o. IsSome (asked_in o)) (sym taken.1) (something_asked words taken.0) in
+    true≢false (sym some ∙ ap is_some (sym lost))

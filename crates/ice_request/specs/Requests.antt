@@ -1,5 +1,5 @@
 -- What words ask for.
-use Rattle.std.specs.Prelude.{ℕ, Option, Some, None, List, if◌then◌else◌, codes}
+use Rattle.std.specs.Prelude.{ℕ, Bool, Option, Some, None, List, if◌then◌else◌, codes}
 use Rattle.std.specs.Str.{bytes_eq}
 use Rattle.std.specs.Str.Parse.{digits_value, without_leading_plus}
 use Rattle.clap.specs.Words.{Row, Text, fault_of, first_of, subcommand_of}
@@ -102,6 +102,10 @@ asked_of name rows = if bytes_eq name (codes "build") then build_of rows >>= (λ
 abbrev pub asked_in : Option (Text × List Row) → Option Asked
 asked_in found = found >>= (λ p. asked_of p.0 p.1)
 
--- what the words after the program's name ask for, where the command takes them
+-- the command takes the words after the program's name: no step of reading them fails. A call for help fails
+abbrev pub is_taken : List Text → Bool
+is_taken words = is_empty (fault_of command words)
+
+-- what words ask for, where the command takes them
 abbrev pub request_of : List Text → Option Asked
-request_of words = if is_empty (fault_of command words) then asked_in (subcommand_of command words) else None
+request_of words = if is_taken words then asked_in (subcommand_of command words) else None

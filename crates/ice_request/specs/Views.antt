@@ -1,5 +1,6 @@
 -- Requests of the program as the definitions see them.
-use Rattle.std.specs.Prelude.{option_map}
+use Rattle.std.specs.Prelude.{◌≤◌, ⊤, option_map}
+use Rattle.ice_request.specs.Command.{most_rounds, most_workers}
 use Rattle.ice_request.specs.Requests.{Asked, ForBuild, ForBack, ForPlayNet, ForPlayBits, ForSample}
 use Rattle.ice_request.specs.Requests as asked
 use Rattle.ice_request.specs.declared.request.BuildWords.{BuildWords}
@@ -38,3 +39,9 @@ request_view (request.Back w) = ForBack (back_view w)
 request_view (request.PlayNet w) = ForPlayNet (net_view w)
 request_view (request.PlayBits w) = ForPlayBits (bits_view w)
 request_view (request.Sample number workers) = ForSample (record { number = number; workers = workers })
+
+-- the numbers of rounds and of workers are in their limits
+abbrev pub IsInLimits : Request → Type 0
+IsInLimits (request.Build w) = (1 ≤ w.rounds) × (w.rounds ≤ most_rounds) × (1 ≤ w.workers) × (w.workers ≤ most_workers)
+IsInLimits (request.Sample number workers) = (1 ≤ workers) × (workers ≤ most_workers)
+IsInLimits _ = ⊤

@@ -1,8 +1,9 @@
 //! What `clap` found for a subcommand, read as its request.
-ghost use Rattle.std.specs.Prelude.{◌≡◌, ◌≤◌, IfSome, Some, codes, option_map};
+ghost use Rattle.std.specs.Prelude.{◌≡◌, ◌≤◌, IfSome, option_map};
 ghost use Rattle.clap.specs.Words.{first_of, found_of, rows_of, subcommand_rows_of};
 ghost use Rattle.ice_request.specs.Requests.{number_in, number_of, workers_of, build_of, back_of, play_net_of, play_bits_of, sample_of, asked_of, asked_in};
-ghost use Rattle.ice_request.specs.Views.{build_view, back_view, net_view, bits_view, request_view};
+ghost use Rattle.ice_request.specs.Views.{build_view, back_view, net_view, bits_view, request_view, IsInLimits};
+ghost use Rattle.ice_request.specs.Command.{most_workers};
 
 use crate::request::{BackWords, BitsWords, BuildWords, NetWords, Request};
 use clap::ArgMatches;
@@ -18,7 +19,7 @@ fn word_of<'a>(found: &ArgMatches<'a>, id: &str) -> Option<&'a str>
 #[tactic(auto, using(crate::proofs::Numbers::out_of_range))]
 fn number_in(text: &str, least: u64, most: u64) -> Option<u64>
     ensures value { result ≡ number_in least most text.now }
-    ensures range { IfSome result (λ n. n ≤ most) }
+    ensures range { IfSome result (λ n. (least ≤ n) × (n ≤ most)) }
 {
     match text.parse::<u64>() {
         Ok(number) => {
@@ -35,7 +36,7 @@ fn number_in(text: &str, least: u64, most: u64) -> Option<u64>
 // The number that was found for an argument.
 fn number_of(found: &ArgMatches<'_>, id: &str, least: u64, most: u64) -> Option<u64>
     ensures value { result ≡ number_of id.now least most (rows_of (found_of found.now)) }
-    ensures range { IfSome result (λ n. n ≤ most) }
+    ensures range { IfSome result (λ n. (least ≤ n) × (n ≤ most)) }
 {
     match word_of(found, id) {
         Some(text) => number_in(text, least, most),
@@ -46,6 +47,7 @@ fn number_of(found: &ArgMatches<'_>, id: &str, least: u64, most: u64) -> Option<
 // The number from one to the most that was found for an argument.
 fn count_of(found: &ArgMatches<'_>, id: &str, most: u32) -> Option<u32>
     ensures value { result ≡ number_of id.now 1 most (rows_of (found_of found.now)) }
+    ensures range { IfSome result (λ n. (1 ≤ n) × (n ≤ most)) }
 {
     match number_of(found, id, 1, u64::from(most)) {
         Some(number) => Some(number as u32),
@@ -54,13 +56,15 @@ fn count_of(found: &ArgMatches<'_>, id: &str, most: u32) -> Option<u32>
 }
 
 fn workers_of(found: &ArgMatches<'_>) -> Option<u32>
-    ensures { result ≡ workers_of (rows_of (found_of found.now)) }
+    ensures value { result ≡ workers_of (rows_of (found_of found.now)) }
+    ensures range { IfSome result (λ n. (1 ≤ n) × (n ≤ most_workers)) }
 {
     count_of(found, "workers", 8)
 }
 
 fn build_of<'a>(found: &ArgMatches<'a>) -> Option<BuildWords<'a>>
-    ensures { option_map build_view result ≡ build_of (rows_of (found_of found.now)) }
+    ensures value { option_map build_view result ≡ build_of (rows_of (found_of found.now)) }
+    ensures range { IfSome result (λ w. IsInLimits (Request.Build w)) }
 {
     let chip = word_of(found, "CHIP")?;
     let package_name = word_of(found, "PACKAGE")?;
@@ -123,7 +127,8 @@ fn play_bits_of<'a>(found: &ArgMatches<'a>) -> Option<BitsWords<'a>>
 }
 
 fn sample_of<'a>(found: &ArgMatches<'a>) -> Option<Request<'a>>
-    ensures { option_map request_view result ≡ sample_of (rows_of (found_of found.now)) }
+    ensures value { option_map request_view result ≡ sample_of (rows_of (found_of found.now)) }
+    ensures range { IfSome result IsInLimits }
 {
     let number = number_of(found, "NUMBER", 0, u64::MAX)?;
     let workers = workers_of(found)?;
@@ -132,7 +137,8 @@ fn sample_of<'a>(found: &ArgMatches<'a>) -> Option<Request<'a>>
 
 // The request of a subcommand.
 fn asked_of<'a>(name: &str, found: &ArgMatches<'a>) -> Option<Request<'a>>
-    ensures { option_map request_view result ≡ asked_of name.now (rows_of (found_of found.now)) }
+    ensures value { option_map request_view result ≡ asked_of name.now (rows_of (found_of found.now)) }
+    ensures range { IfSome result IsInLimits }
 {
     if name == "build" {
         return build_of(found).map(Request::Build);
@@ -154,7 +160,8 @@ fn asked_of<'a>(name: &str, found: &ArgMatches<'a>) -> Option<Request<'a>>
 
 /// The request of what was found in words.
 pub fn request_in<'a>(found: &ArgMatches<'a>) -> Option<Request<'a>>
-    ensures { option_map request_view result ≡ asked_in (subcommand_rows_of found.now) }
+    ensures value { option_map request_view result ≡ asked_in (subcommand_rows_of found.now) }
+    ensures range { IfSome result IsInLimits }
 {
     match found.subcommand() {
         Some((name, inner)) => asked_of(name, inner),

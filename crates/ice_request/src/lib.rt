@@ -4,9 +4,11 @@
 mod command;
 mod fault;
 mod found;
+mod laws;
 mod matching;
 mod request;
 
 pub use fault::WordsFault;
-// X
+pub use laws::{asks_where_taken, worked_examples};
+pub use matching::read_request;
 pub use request::{BackWords, BitsWords, BuildWords, NetWords, Request};
