@@ -1,7 +1,6 @@
 -- What is found in words that a command takes: each argument that is found has a value, and its values pass.
-use Rattle.std.proofs.Common.{◌≡◌, ◌∙◌, ◌+◌, ◌&&◌, ◌||◌, ◌==◌, ℕ, Bool, cond, true, false, not, zero, suc, refl, sym, ap, subst, arith, Decides, eqb-true, ne_eqb, List, [], ◌∷◌, ◌++◌, length, drop, Option, Some, None, true≢false}
-use Rattle.std.specs.Prelude.{⊤, IfSome, MatchOption, is_some, encode_utf8, find, fold, slice_get, nat_lt}
-use Rattle.std.specs.List.{list_all, list_any}
+use Rattle.std.proofs.Common.{◌≡◌, ◌∙◌, ◌&&◌, ◌||◌, ◌==◌, ℕ, Bool, cond, true, false, zero, suc, refl, sym, ap, subst, arith, Decides, eqb-true, ne_eqb, List, [], ◌∷◌, ◌++◌, length, drop, Option, Some, None, true≢false}
+use Rattle.std.specs.Prelude.{⊤, IfSome, is_some, encode_utf8, find, fold, slice_get}
 use Rattle.std.specs.Option.{option_map_or}
 use Rattle.std.specs.Str.{bytes_eq, chars}
 use Rattle.std.proofs.lemmas.Slice.Eq.{bytes_eq-Decides}
@@ -10,11 +9,11 @@ use Rattle.clap.specs.Values.{is_request, refused_kind}
 use Rattle.clap.specs.ValueTests.{accepts}
 use Rattle.clap.specs.Facts.{parser_of_value, unwrap_or_range}
 use Rattle.clap.specs.Takes.{value_passes, values_pass}
-use Rattle.clap.specs.Kinds.{Kinds, or_else, range_kinds, request_kinds, value_kinds, values_kinds}
+use Rattle.clap.specs.Kinds.{Kinds, or_else, range_kinds, request_kinds, value_kinds}
 use Rattle.clap.specs.Walk as step
 use Rattle.clap.specs.Walk.{walk, nothing_held, rows_after, walk_from, Held, Names, Outcome, Row, Rule, Step, Text, Waiting, Walk, action_of, after_flag, after_step, arg_by_id, arg_by_index, arg_by_long, arg_by_short, at_row, attached_value, bundle, bundle_met, bundle_step, default_rows, finished, flag_met, has_row, idle, is_empty, is_pending, long_met, long_or_other, more_values, most_values, option, option_met, option_word, plain_word, positional, positional_held, reacted, reading_by, settled, settled_rows, short_met, short_or_plain, subcommand_met, subcommand_or_other, takes_several, takes_values, to_positional, used, used_as, used_by_id, values_or_missing, walked, walked_from, with_default, with_values, without, word_met}
 use Rattle.clap.specs.Simple.{Shape}
-use Rattle.clap.specs.Faults.{action_fault, bundle_step_fault, bundle_fault, check_fault, default_fault, defaults_fault, flag_word_fault, flags_fault, given_default_fault, level_fault, long_fault, option_fault, other_fault, positional_fault, react_fault, set_fault, repeat_fault, settle_fault, short_fault, step_fault, stray_fault, turn_fault, use_fault, values_fault, walk_fault, word_fault}
+use Rattle.clap.specs.Faults.{action_fault, bundle_step_fault, bundle_fault, check_fault, default_fault, defaults_fault, flag_word_fault, flags_fault, given_default_fault, level_fault, long_fault, option_fault, other_fault, positional_fault, react_fault, settle_fault, short_fault, step_fault, stray_fault, turn_fault, use_fault, values_fault, walk_fault, word_fault}
 use Rattle.clap.specs.declared.builder.action.ArgAction.{ArgAction}
 use Rattle.clap.specs.declared.builder.action.ArgAction.TheVariants as action
 use Rattle.clap.specs.declared.builder.range.ValueRange.{ValueRange}
@@ -163,6 +162,7 @@ module _ (c : List Rule) where
     where
       parts : (range_kinds (unwrap_or_range a.range).start_inclusive (most_values a) (length values) ≡ []) × (action_fault (action_of a) again a (values_or_missing a values) rows ≡ [])
       parts = no_fault _ _ e
+
       taken : (range : ValueRange) → (range.start_inclusive == 1 && range.end_inclusive == 1) ≡ true → range_kinds range.start_inclusive range.end_inclusive (length values) ≡ []
           → values_fault a (values_or_missing a values) ≡ [] → IsFilled a (values_or_missing a values)
       taken range once within passes =
@@ -170,6 +170,7 @@ module _ (c : List Rule) where
           let some = one_value values (subst (λ n. range_kinds n 1 (length values) ≡ []) (is_one range.start_inclusive ends.0)
           (subst (λ n. range_kinds range.start_inclusive n (length values) ≡ []) (is_one range.end_inclusive ends.1) within)) in
           record { some = ap (λ (vs : List Text). is_some (slice_get vs 0)) (given_values a values some) ∙ some; pass = values_taken a _ passes }
+
       go : (x : ArgAction) (range : ValueRange) → is_once_as x range ≡ true → range_kinds range.start_inclusive range.end_inclusive (length values) ≡ []
           → action_fault x again a (values_or_missing a values) rows ≡ [] → Rows (used_as x a.id (reading_by a) (values_or_missing a values) rows)
       go action.Set range once within passes =
@@ -194,6 +195,7 @@ module _ (c : List Rule) where
             → Rows (used_by_id o values h.rows)
         inner values None k e = rows
         inner values (Some a) k e = used_keeps again a values h.rows k e rows
+
         go : (p : Option (Text × List Text)) → option_map_or (λ p. option_map_or (λ a. use_fault again a p.1 h.rows) (arg_by_id c p.0) []) p [] ≡ []
             → Rows (settled_rows c p h.rows)
         go None e = rows
@@ -267,6 +269,7 @@ module _ (c : List Rule) where
         short : (s : Option Text) → option_map_or (λ flags. bundle_fault c again flags h) s [] ≡ [] → Rows (short_or_plain c waiting word s h).0.rows
         short (Some flags) e = flag_keeps waiting word _ _ (bundle_keeps (length flags) flags h.skip step.plain (record h { skip = 0 }) e rows)
         short None e = plain_keeps waiting word h rows
+
         go : (o : Option (Text × Option Text)) → flag_word_fault c again o word h ≡ [] → Rows (long_or_other c waiting word o h).0.rows
         go (Some p) e = flag_keeps waiting word _ _ (long_keeps (arg_by_long c p.0) p.1 h (found_where (IsKnown c) _ c known) e rows)
         go None e = short (short_of word) e
@@ -281,6 +284,7 @@ module _ (s : Shape) (known : Each (IsKnown s.rules) s.rules) where
           → Rows s.rules (cond b (h, step.trailing position) (long_or_other s.rules waiting word (long_of word) h)).0.rows
       plain true e = rows
       plain false e = other_keeps s.rules known s.args_override_self waiting word h e rows
+
       go : (o : Option Text) → other_fault s o word h ≡ [] → Rows s.rules (subcommand_or_other s.rules o waiting position word h).0.rows
       go (Some name) e = rows
       go None e = plain (bytes_eq word (45 ∷ 45 ∷ [])) e
@@ -311,6 +315,7 @@ module _ (s : Shape) (known : Each (IsKnown s.rules) s.rules) where
     where
       met : Held × Step
       met = word_met s.rules names w.is_trailing w.waiting w.position word w.held
+
       go : (o : Option (Text × List Text)) → cond (is_some o) [] (or_else (word_fault s names w.is_trailing w.waiting word w.held) (step_fault s w.position met.0 met.1)) ≡ []
           → Rows s.rules (walked_from s.rules names o w word).held.rows
       go (Some p) e = rows

@@ -1,5 +1,5 @@
 -- The numbers that texts write.
-use Rattle.std.proofs.Common.{◌≡◌, ◌≤◌, ℕ, Bool, cond, true, false, refl, sym, ap, subst, List, Option, Some, None, ◌^◌, ◌<◌}
+use Rattle.std.proofs.Common.{◌≡◌, ◌≤◌, ℕ, Bool, cond, true, false, refl, sym, ap, subst, List, Some, None, ◌^◌, ◌<◌}
 use Rattle.std.specs.Str.Parse.{IsNumeral, digits_value, without_leading_plus}
 use Rattle.clap.specs.Values.{IsUnsignedIn}
 use Rattle.clap.specs.ValueTests.{is_unsigned_in}

@@ -1,31 +1,29 @@
 -- Words that the command takes ask for something.
-use Rattle.std.proofs.Common.{◌≡◌, ◌≢◌, ◌∙◌, ◌&&◌, ◌||◌, ◌==◌, ℕ, Bool, cond, true, false, not, refl, sym, ap, subst, List, [], ◌∷◌, ◌++◌, Option, Some, None, Decides, true≢false, codes, rules}
+use Rattle.std.proofs.Common.{◌≡◌, ◌∙◌, ◌&&◌, ◌||◌, ℕ, Bool, cond, true, false, not, refl, sym, ap, subst, List, [], ◌∷◌, ◌++◌, Option, Some, None, Decides, true≢false, codes}
 use Rattle.std.specs.Prelude.{⊤, IfSome, IsSome, is_some, find, fold, slice_get, option_and_then, option_map}
-use Rattle.std.specs.List.{list_all, list_any}
+use Rattle.std.specs.List.{list_any}
 use Rattle.std.specs.Option.{option_map_or}
 use Rattle.std.specs.Str.{bytes_eq}
-use Rattle.std.specs.Str.Parse.{digits_value, without_leading_plus}
 use Rattle.std.proofs.lemmas.Slice.Eq.{bytes_eq-Decides}
 use Rattle.clap.specs.Lexer.{long_of, short_of}
-use Rattle.clap.specs.Words.{App, Kinds, Row, Rule, Text, fault_of, first_of, subcommand_of, built}
+use Rattle.clap.specs.Words.{App, Row, Rule, Text, fault_of, first_of, subcommand_of, built}
 use Rattle.clap.specs.Facts.{explicit_source}
 use Rattle.clap.specs.ValueTests.{is_unsigned_in}
 use Rattle.clap.specs.Kinds.{check_kinds, or_else}
-use Rattle.clap.specs.Takes.{is_given, value_passes, values_pass}
+use Rattle.clap.specs.Takes.{is_given, value_passes}
 use Rattle.clap.specs.Walk as step
 use Rattle.clap.specs.Walk.{arg_by_index, Outcome, Step, Waiting, after_flag, after_step, idle, long_or_other, option, plain_word, positional, short_or_plain, subcommand_met, subcommand_or_other, to_positional, walk_from, walked_from, word_met, Held, Names, Walk, answers_to, arg_by_id, at_row, default_rows, finished, has_row, is_empty, more_values, nothing_held, reading_by, rows_after, settled, stop_after, walk, walked, with_default, with_values}
 use Rattle.clap.specs.Simple.{Shape, built_leaf, help_shape, entered, inherited, marked_built, with_leaf_noted, label_of, names_of, rows_at}
 use Rattle.clap.specs.declared.error.kind.ErrorKind.TheVariants.{DisplayHelp, InvalidSubcommand}
-use Rattle.clap.specs.Faults.{other_fault, step_fault, turn_fault, word_fault, built_fault, check_fault, entered_fault, level_fault, walk_fault}
+use Rattle.clap.specs.Faults.{other_fault, step_fault, turn_fault, word_fault, built_fault, entered_fault, level_fault, walk_fault}
 use Rattle.clap.specs.declared.builder.value_parser.Reading.{Reading}
 use Rattle.clap.specs.declared.parser.matches.ValueSource.{ValueSource}
 use Rattle.clap.specs.declared.parser.matches.ValueSource.TheVariants.{DefaultValue}
 use Rattle.clap.proofs.WalkLemmas.{both}
 use Rattle.clap.proofs.SimpleLemmas.{is_nil}
 use Rattle.ice_request.specs.Command.{command, most_number, most_rounds, most_workers, build_command, back_command, play_net_command, play_bits_command, sample_command}
-use Rattle.ice_request.specs.Requests.{◌>>=◌, Asked, asked_in, asked_of, build_of, back_of, play_net_of, play_bits_of, sample_of, workers_of, number_in, number_of, is_taken, request_of}
-use Rattle.ice_request.proofs.Kept.{Each, Good, IsFilled, IsKnown, is_once, Passes, all_good, passes, found_in, no_fault, no_kind, not_empty}
-use Rattle.ice_request.proofs.Numbers.{Reads}
+use Rattle.ice_request.specs.Requests.{◌>>=◌, asked_in, asked_of, build_of, back_of, play_net_of, play_bits_of, sample_of, workers_of, number_in, number_of, is_taken, request_of}
+use Rattle.ice_request.proofs.Kept.{Each, Good, IsFilled, IsKnown, is_once, Passes, all_good, passes, found_in, no_fault, no_kind}
 
 -- ---- the rows that are there
 
@@ -69,6 +67,7 @@ first_there c a id rows first good there = go (find (λ r. bytes_eq r.id id) row
     value : (values : List Text) → IsFilled a values → (v : Text) × (slice_get values 0 ≡ Some v) × (value_passes a v ≡ true)
     value [] filled = absurd (true≢false (sym filled.some))
     value (v ∷ vs) filled = (v, refl, (both _ _ filled.pass).0)
+
     go : (o : Option Row) → find (λ r. bytes_eq r.id id) rows ≡ o → IsSome o → (v : Text) × (option_and_then (λ r. slice_get r.values 0) o ≡ Some v) × (value_passes a v ≡ true)
     go None e none = absurd (true≢false (sym none))
     go (Some r) e some =
@@ -201,10 +200,12 @@ module _ (s : Shape) (known : Each (IsKnown s.rules) s.rules) (needs : s.subcomm
       read a reads h =
           let number : IsSome (number_in least most h.0) = rw (reads h.0 h.2) refl in
           subst (λ o. IsSome (o >>= number_in least most)) (sym h.1) number
+
       there : (a : Rule) → arg_by_id s.rules id ≡ Some a → (required usual : Bool) → a.required ≡ required → is_empty a.defaults ≡ usual → (required || not usual) ≡ true → IsThere a id found
       there a first true usual required none given = word_there id a first required
       there a first false true required none given = absurd (true≢false (sym given))
       there a first false false required none given = usual_there id a first none
+
       go : (o : Option Rule) → arg_by_id s.rules id ≡ o → option_map_or (λ a. a.required || not (is_empty a.defaults)) o false ≡ true
           → IfSome o (λ a. (v : Text) → value_passes a v ≡ true → is_unsigned_in least most v ≡ true) → IsSome (number_of id least most found)
       go None first given reads = absurd (true≢false (sym given))
@@ -251,7 +252,7 @@ module _ (rows : List Row) where
       (λ _. then_some (first_of (codes "ASC") rows) _ asc (λ _. then_some (first_of (codes "LEVELS") rows) _ levels (λ _. refl))))) (λ _. refl)
 
   sample_asked : IsSome (number_of (codes "NUMBER") 0 most_number rows) → IsSome (workers_of rows) → IsSome (asked_of (codes "sample") rows)
-  sample_asked number workers = then_some (number_of (codes "NUMBER") 0 most_number rows) _ number (λ _. then_some (workers_of rows) _ workers (λ _. refl))
+  sample_asked number workers = then_some (sample_of rows) _ (then_some (number_of (codes "NUMBER") 0 most_number rows) _ number (λ _. then_some (workers_of rows) _ workers (λ _. refl))) (λ _. refl)
 
 build_provided : IsProvided (leaf build_command)
 build_provided name words other is e =
@@ -330,10 +331,12 @@ module _ (s : Shape) (helps : s.disable_help_subcommand ≡ false) (names : Name
       plain : (b : Bool) → IsNoHelp (cond b (h, step.trailing position) (long_or_other s.rules waiting word (long_of word) h)).1
       plain true = tt
       plain false = other_no_help s.rules waiting word h (long_of word)
+
       named : (b off : Bool) → off ≡ false → cond (b && not off) (DisplayHelp ∷ InvalidSubcommand ∷ []) [] ≡ [] → b ≡ false
       named true true no_off e = absurd (true≢false no_off)
       named true false no_off e = no_kind _ _ e
       named false off no_off e = refl
+
       go : (o : Option Text) → other_fault s o word h ≡ [] → IsNoHelp (subcommand_or_other s.rules o waiting position word h).1
       go (Some name) e = named (bytes_eq name (codes "help")) s.disable_help_subcommand helps e
       go None e = plain (bytes_eq word (45 ∷ 45 ∷ []))
@@ -344,14 +347,17 @@ module _ (s : Shape) (helps : s.disable_help_subcommand ≡ false) (names : Name
     where
       met : Held × Step
       met = word_met s.rules names w.is_trailing w.waiting w.position word w.held
+
       to : (o : Option Rule) (h : Held) → NotHelp (to_positional s.rules o word w h).stopped
       to None h = so_far
       to (Some a) h = tt
+
       after : (h : Held) (next : Step) → IsNoHelp next → NotHelp (after_step s.rules word w h next).stopped
       after h (step.next waiting) no_help = so_far
       after h (step.trailing position) no_help = so_far
       after h (step.subcommand name) no_help = no_help
       after h step.value no_help = to (arg_by_index s.rules w.position) h
+
       go : (o : Option (Text × List Text)) → NotHelp o → cond (is_some o) [] (or_else (word_fault s names w.is_trailing w.waiting word w.held) (step_fault s w.position met.0 met.1)) ≡ []
           → NotHelp (walked_from s.rules names o w word).stopped
       go (Some p) here e = here

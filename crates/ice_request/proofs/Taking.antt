@@ -1,5 +1,5 @@
 -- The command as `clap` builds it, and what its promises say of it.
-use Rattle.std.proofs.Common.{◌≡◌, ◌≢◌, ◌⊎◌, Bool, true, false, refl, sym, ap, subst, inl, inr, List, [], ◌∷◌, ℕ}
+use Rattle.std.proofs.Common.{◌≡◌, ◌≢◌, ◌⊎◌, true, false, refl, sym, ap, subst, inl, inr, List, [], ◌∷◌, ℕ}
 use Rattle.clap.specs.Words.{App, HasMatchesOf, IsAmong, Kinds, fault_of, is_simple, is_simple_and_free, subcommand_of, subcommand_rows_of, takes}
 use Rattle.clap.specs.declared.error.kind.ErrorKind.{ErrorKind}
 use Rattle.clap.specs.declared.error.kind.ErrorKind.TheVariants.{OutOfMemory}

@@ -8,9 +8,15 @@ unfolding clap_on_literals
 worked = record {
   plain = refl;
   seed = refl;
+  most_seed = refl;
+  too_great = refl;
+  plus = refl;
+  behind = refl;
   files = refl;
   hyphen = refl;
   play_net = refl;
+  play_bits = refl;
+  back = refl;
   sample = refl;
   many_rounds = refl;
   no_rounds = refl;

@@ -39,7 +39,7 @@ pub record PlayBits : Type 0 where
   pub asc : Text
   pub levels : Text
 
--- to route a sample
+-- to route a sample netlist
 pub record Sample : Type 0 where
   pub number : ℕ
   pub workers : ℕ
@@ -52,7 +52,7 @@ pub data Asked : Type 0 where
   ForPlayBits : PlayBits → Asked
   ForSample : Sample → Asked
 
--- the second, of what the first gives
+-- what the second makes of what the first gives, where it gives anything
 infixl 10 ◌>>=◌
 abbrev pub ◌>>=◌ : {X Y : Type 0} → Option X → (X → Option Y) → Option Y
 (Some x) >>= f = f x
@@ -71,25 +71,55 @@ workers_of rows = number_of (codes "workers") 1 most_workers rows
 
 -- what was found for each subcommand
 abbrev pub build_of : List Row → Option Build
-build_of rows = first_of (codes "CHIP") rows >>= (λ chip. first_of (codes "PACKAGE") rows >>= (λ name. first_of (codes "PCF") rows >>= (λ pcf.
-    first_of (codes "BLIF") rows >>= (λ blif. first_of (codes "ASC") rows >>= (λ asc. number_of (codes "seed") 0 most_number rows >>= (λ seed.
-    number_of (codes "rounds") 1 most_rounds rows >>= (λ rounds. workers_of rows >>= (λ workers.
-    Some (record { chip = chip; package_name = name; pcf = pcf; blif = blif; asc = asc; pins = first_of (codes "pins") rows; report = first_of (codes "report") rows;
-        seed = seed; rounds = rounds; workers = workers })))))))))
+build_of rows =
+    first_of (codes "CHIP") rows >>= (λ chip.
+    first_of (codes "PACKAGE") rows >>= (λ name.
+    first_of (codes "PCF") rows >>= (λ pcf.
+    first_of (codes "BLIF") rows >>= (λ blif.
+    first_of (codes "ASC") rows >>= (λ asc.
+    number_of (codes "seed") 0 most_number rows >>= (λ seed.
+    number_of (codes "rounds") 1 most_rounds rows >>= (λ rounds.
+    workers_of rows >>= (λ workers.
+    Some (record {
+      chip = chip;
+      package_name = name;
+      pcf = pcf;
+      blif = blif;
+      asc = asc;
+      pins = first_of (codes "pins") rows;
+      report = first_of (codes "report") rows;
+      seed = seed;
+      rounds = rounds;
+      workers = workers;
+    })))))))))
 
 abbrev pub back_of : List Row → Option Back
-back_of rows = first_of (codes "CHIP") rows >>= (λ chip. first_of (codes "PACKAGE") rows >>= (λ name. first_of (codes "ASC") rows >>= (λ asc.
-    first_of (codes "BLIF") rows >>= (λ blif. Some (record { chip = chip; package_name = name; asc = asc; blif = blif })))))
+back_of rows =
+    first_of (codes "CHIP") rows >>= (λ chip.
+    first_of (codes "PACKAGE") rows >>= (λ name.
+    first_of (codes "ASC") rows >>= (λ asc.
+    first_of (codes "BLIF") rows >>= (λ blif.
+    Some (record { chip = chip; package_name = name; asc = asc; blif = blif })))))
 
 abbrev pub play_net_of : List Row → Option PlayNet
-play_net_of rows = first_of (codes "BLIF") rows >>= (λ blif. first_of (codes "LEVELS") rows >>= (λ levels. Some (record { blif = blif; levels = levels })))
+play_net_of rows =
+    first_of (codes "BLIF") rows >>= (λ blif.
+    first_of (codes "LEVELS") rows >>= (λ levels.
+    Some (record { blif = blif; levels = levels })))
 
 abbrev pub play_bits_of : List Row → Option PlayBits
-play_bits_of rows = first_of (codes "CHIP") rows >>= (λ chip. first_of (codes "PACKAGE") rows >>= (λ name. first_of (codes "ASC") rows >>= (λ asc.
-    first_of (codes "LEVELS") rows >>= (λ levels. Some (record { chip = chip; package_name = name; asc = asc; levels = levels })))))
+play_bits_of rows =
+    first_of (codes "CHIP") rows >>= (λ chip.
+    first_of (codes "PACKAGE") rows >>= (λ name.
+    first_of (codes "ASC") rows >>= (λ asc.
+    first_of (codes "LEVELS") rows >>= (λ levels.
+    Some (record { chip = chip; package_name = name; asc = asc; levels = levels })))))
 
-abbrev pub sample_of : List Row → Option Asked
-sample_of rows = number_of (codes "NUMBER") 0 most_number rows >>= (λ number. workers_of rows >>= (λ workers. Some (ForSample (record { number = number; workers = workers }))))
+abbrev pub sample_of : List Row → Option Sample
+sample_of rows =
+    number_of (codes "NUMBER") 0 most_number rows >>= (λ number.
+    workers_of rows >>= (λ workers.
+    Some (record { number = number; workers = workers })))
 
 -- what a subcommand asks for, with what was found for it
 abbrev pub asked_of : Text → List Row → Option Asked
@@ -97,12 +127,13 @@ asked_of name rows = if bytes_eq name (codes "build") then build_of rows >>= (λ
     else (if bytes_eq name (codes "back") then back_of rows >>= (λ b. Some (ForBack b))
     else (if bytes_eq name (codes "play-net") then play_net_of rows >>= (λ p. Some (ForPlayNet p))
     else (if bytes_eq name (codes "play-bits") then play_bits_of rows >>= (λ p. Some (ForPlayBits p))
-    else (if bytes_eq name (codes "sample") then sample_of rows else None))))
+    else (if bytes_eq name (codes "sample") then sample_of rows >>= (λ s. Some (ForSample s)) else None))))
 
+-- the same of the subcommand that was found
 abbrev pub asked_in : Option (Text × List Row) → Option Asked
 asked_in found = found >>= (λ p. asked_of p.0 p.1)
 
--- the command takes the words after the program's name: no step of reading them fails. A call for help fails
+-- the command takes the words after the program's name: no step of reading them fails, as a call for help does
 abbrev pub is_taken : List Text → Bool
 is_taken words = is_empty (fault_of command words)
 

@@ -1,5 +1,5 @@
 -- Requests of the program as the definitions see them.
-use Rattle.std.specs.Prelude.{◌≤◌, ⊤, option_map}
+use Rattle.std.specs.Prelude.{◌≤◌, ℕ, ⊤, option_map}
 use Rattle.ice_request.specs.Command.{most_rounds, most_workers}
 use Rattle.ice_request.specs.Requests.{Asked, ForBuild, ForBack, ForPlayNet, ForPlayBits, ForSample}
 use Rattle.ice_request.specs.Requests as asked
@@ -33,12 +33,15 @@ net_view w = record { blif = w.blif.now; levels = w.levels.now }
 abbrev pub bits_view : BitsWords → asked.PlayBits
 bits_view w = record { chip = w.chip.now; package_name = w.package_name.now; asc = w.asc.now; levels = w.levels.now }
 
+abbrev pub sample_view : ℕ → ℕ → asked.Sample
+sample_view number workers = record { number = number; workers = workers }
+
 abbrev pub request_view : Request → Asked
 request_view (request.Build w) = ForBuild (build_view w)
 request_view (request.Back w) = ForBack (back_view w)
 request_view (request.PlayNet w) = ForPlayNet (net_view w)
 request_view (request.PlayBits w) = ForPlayBits (bits_view w)
-request_view (request.Sample number workers) = ForSample (record { number = number; workers = workers })
+request_view (request.Sample number workers) = ForSample (sample_view number workers)
 
 -- the numbers of rounds and of workers are in their limits
 abbrev pub IsInLimits : Request → Type 0

@@ -10,7 +10,11 @@ use clap::{Arg, ArgAction, Command};
 use std::alloc::{AllocError, Global};
 
 // The command with one word more that has to be given.
-fn with_place<'a>(alloc: Global, command: Command<'a>, id: &'a str) -> Result<Command<'a>, AllocError>
+fn with_place<'a>(
+    alloc: Global,
+    command: Command<'a>,
+    id: &'a str,
+) -> Result<Command<'a>, AllocError>
     requires local { (fields_of command).has_globals ≡ false }
     ensures app { IfOk result (λ c. app_of c ≡ with_rule (app_of command.entry) (place id.entry.now)) }
     ensures local { IfOk result (λ c. (fields_of c).has_globals ≡ false) }
@@ -18,18 +22,33 @@ fn with_place<'a>(alloc: Global, command: Command<'a>, id: &'a str) -> Result<Co
     command.arg(Arg::new(alloc, id).required(true).action(ArgAction::Set))
 }
 
-// The same for a number of any size.
-fn with_number_place<'a>(alloc: Global, command: Command<'a>, id: &'a str, least: u64, most: u64) -> Result<Command<'a>, AllocError>
+// The same for a number.
+fn with_number_place<'a>(
+    alloc: Global,
+    command: Command<'a>,
+    id: &'a str,
+    least: u64,
+    most: u64,
+) -> Result<Command<'a>, AllocError>
     requires local { (fields_of command).has_globals ≡ false }
     ensures app { IfOk result (λ c. app_of c ≡ with_rule (app_of command.entry) (number_place id.entry.now least most)) }
     ensures local { IfOk result (λ c. (fields_of c).has_globals ≡ false) }
 {
     let parser = ValueParser::unsigned(least, most);
-    command.arg(Arg::new(alloc, id).required(true).action(ArgAction::Set).value_parser(parser))
+    command.arg(
+        Arg::new(alloc, id)
+            .required(true)
+            .action(ArgAction::Set)
+            .value_parser(parser),
+    )
 }
 
 // The command with one option more for the name of a file.
-fn with_file<'a>(alloc: Global, command: Command<'a>, id: &'a str) -> Result<Command<'a>, AllocError>
+fn with_file<'a>(
+    alloc: Global,
+    command: Command<'a>,
+    id: &'a str,
+) -> Result<Command<'a>, AllocError>
     requires local { (fields_of command).has_globals ≡ false }
     ensures app { IfOk result (λ c. app_of c ≡ with_rule (app_of command.entry) (file_option id.entry.now)) }
     ensures local { IfOk result (λ c. (fields_of c).has_globals ≡ false) }
@@ -38,13 +57,26 @@ fn with_file<'a>(alloc: Global, command: Command<'a>, id: &'a str) -> Result<Com
 }
 
 // The command with one option more for a number.
-fn with_number<'a>(alloc: Global, command: Command<'a>, id: &'a str, least: u64, most: u64, usual: &'a str) -> Result<Command<'a>, AllocError>
+fn with_number<'a>(
+    alloc: Global,
+    command: Command<'a>,
+    id: &'a str,
+    least: u64,
+    most: u64,
+    usual: &'a str,
+) -> Result<Command<'a>, AllocError>
     requires local { (fields_of command).has_globals ≡ false }
     ensures app { IfOk result (λ c. app_of c ≡ with_rule (app_of command.entry) (number_option id.entry.now least most usual.entry.now)) }
     ensures local { IfOk result (λ c. (fields_of c).has_globals ≡ false) }
 {
     let parser = ValueParser::unsigned(least, most);
-    command.arg(Arg::new(alloc, id).long(id).action(ArgAction::Set).value_parser(parser).default_value(usual))
+    command.arg(
+        Arg::new(alloc, id)
+            .long(id)
+            .action(ArgAction::Set)
+            .value_parser(parser)
+            .default_value(usual),
+    )
 }
 
 // The command with the option for the number of workers.
@@ -134,10 +166,12 @@ fn sample_command<'a>(alloc: Global) -> Result<Command<'a>, AllocError>
 fn bare_command<'a>(alloc: Global) -> Command<'a>
     ensures { app_of result ≡ alone bare_command }
 {
-    Command::new(alloc, "tefitsundra").no_binary_name(true).subcommand_required(true)
+    Command::new(alloc, "tefitsundra")
+        .no_binary_name(true)
+        .subcommand_required(true)
 }
 
-// The command with the two subcommands that use a placement.
+// The command with `build` and `back`.
 fn making_command<'a>(alloc: Global) -> Result<Command<'a>, AllocError>
     ensures { IfOk result (λ c. app_of c ≡ with_subcommand (with_subcommand (alone bare_command) build_command) back_command) }
 {
@@ -148,7 +182,7 @@ fn making_command<'a>(alloc: Global) -> Result<Command<'a>, AllocError>
     with_subcommand(command, back)
 }
 
-// The command with the two subcommands that play as well.
+// The command with all subcommands but `sample`.
 fn playing_command<'a>(alloc: Global) -> Result<Command<'a>, AllocError>
     ensures { IfOk result (λ c. app_of c ≡ with_subcommand (with_subcommand (with_subcommand (with_subcommand (alone bare_command) build_command) back_command) play_net_command) play_bits_command) }
 {

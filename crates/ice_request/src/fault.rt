@@ -2,9 +2,9 @@
 use thiserror::Error;
 
 /// Why words are no request.
-#[derive(Clone, Copy, Debug, PartialEq, Eq, Error)]
+#[derive(Debug, Drop, Error)]
 pub enum WordsFault {
-    /// The command line does not take the words, or they call for help.
+    /// The command does not take the words, or they call for help.
     #[error("usage")]
     Usage,
     /// Want of memory.

@@ -2,7 +2,7 @@
 ghost use Rattle.std.specs.Prelude.{◌≡◌, ◌≤◌, IfSome, option_map};
 ghost use Rattle.clap.specs.Words.{first_of, found_of, rows_of, subcommand_rows_of};
 ghost use Rattle.ice_request.specs.Requests.{number_in, number_of, workers_of, build_of, back_of, play_net_of, play_bits_of, sample_of, asked_of, asked_in};
-ghost use Rattle.ice_request.specs.Views.{build_view, back_view, net_view, bits_view, request_view, IsInLimits};
+ghost use Rattle.ice_request.specs.Views.{build_view, back_view, net_view, bits_view, sample_view, request_view, IsInLimits};
 ghost use Rattle.ice_request.specs.Command.{most_workers};
 
 use crate::request::{BackWords, BitsWords, BuildWords, NetWords, Request};
@@ -126,13 +126,13 @@ fn play_bits_of<'a>(found: &ArgMatches<'a>) -> Option<BitsWords<'a>>
     })
 }
 
-fn sample_of<'a>(found: &ArgMatches<'a>) -> Option<Request<'a>>
-    ensures value { option_map request_view result ≡ sample_of (rows_of (found_of found.now)) }
-    ensures range { IfSome result IsInLimits }
+fn sample_of(found: &ArgMatches<'_>) -> Option<(u64, u32)>
+    ensures value { option_map (λ s. sample_view s.0 s.1) result ≡ sample_of (rows_of (found_of found.now)) }
+    ensures range { IfSome result (λ s. IsInLimits (Request.Sample s.0 s.1)) }
 {
     let number = number_of(found, "NUMBER", 0, u64::MAX)?;
     let workers = workers_of(found)?;
-    Some(Request::Sample { number, workers })
+    Some((number, workers))
 }
 
 // The request of a subcommand.
@@ -153,12 +153,15 @@ fn asked_of<'a>(name: &str, found: &ArgMatches<'a>) -> Option<Request<'a>>
         return play_bits_of(found).map(Request::PlayBits);
     }
     if name == "sample" {
-        return sample_of(found);
+        return match sample_of(found) {
+            Some((number, workers)) => Some(Request::Sample { number, workers }),
+            None => None,
+        };
     }
     None
 }
 
-/// The request of what was found in words.
+/// The request of what was found in words, where a subcommand with all its values was found.
 pub fn request_in<'a>(found: &ArgMatches<'a>) -> Option<Request<'a>>
     ensures value { option_map request_view result ≡ asked_in (subcommand_rows_of found.now) }
     ensures range { IfSome result IsInLimits }

@@ -7,9 +7,7 @@ ghost use Rattle.ice_request.specs.Examples.{HasWorkedExamples};
 /// of them.
 pub fn asks_where_taken(words: &[String])
     ensures { is_some (request_of (map string_bytes words.now)) ≡ is_taken (map string_bytes words.now) }
-{
-    let _words = words;
-}
+{}
 
 /// What some words ask for, and some that are refused.
 pub fn worked_examples()
