@@ -4,7 +4,6 @@ use Rattle.std.proofs.lemmas.List.{length-map}
 use Rattle.std.proofs.lemmas.List.Elements.{All-nil, All-push}
 use Rattle.std.specs.Map.{lookup}
 use Rattle.ice_base.specs.Comments.{begins_with}
-use Rattle.ice_base.specs.Text.{lines, numbered}
 use Rattle.ice_base.specs.declared.number.TileAt.{TileAt}
 use Rattle.ice_chip.specs.Database.{Parts, WireName, SwitchGroup, SwitchRow}
 use Rattle.ice_chip.specs.Functions.{is_read, is_foreign, function_line}
@@ -20,7 +19,6 @@ use Rattle.ice_chip_read.specs.declared.section.Heading.{Heading}
 use Rattle.ice_chip_read.specs.declared.section.Heading.TheVariants as heading
 use Rattle.ice_chip_read.specs.Faults.{◌>>=◌}
 use Rattle.ice_chip_read.specs.Headings.{heading_of}
-use Rattle.ice_base.specs.PlainLines.{plain_lines}
 use Rattle.ice_chip_read.specs.Reading.{Reading, begun, closed}
 use Rattle.ice_base.specs.BitNames.{bits_named}
 use Rattle.ice_chip_read.specs.Words.{number, two, three, ended}
