@@ -1,25 +1,28 @@
 -- What lines say, line after line.
-use Rattle.std.proofs.Common.{◌≡◌, ℕ, Option, None, Some, List, [], ◌∷◌, ◌++◌, Result, Ok, Err, refl, sym, ap, subst, ◌∙◌, append-nil}
+use Rattle.std.proofs.Common.{rules, ◌≡◌, ℕ, Option, None, Some, List, [], ◌∷◌, ◌++◌, Result, Ok, Err, refl, sym, ap, subst, ◌∙◌, append-nil}
 use Rattle.ice_base.specs.Comments.{uncommented}
 use Rattle.ice_base.specs.PlainLines.{with_words}
 use Rattle.ice_base.specs.Text.{words}
-use Rattle.ice_chip.specs.Answers.{chip_of}
+use Rattle.ice_chip.specs.Answers.{chip_of, StopsBy}
 use Rattle.ice_chip.specs.Database.{Parts}
 use Rattle.ice_chip.specs.declared.fault.ChipFault.{ChipFault}
 use Rattle.ice_chip.specs.declared.fault.ChipFault.TheVariants.{NoDevice}
 use Rattle.ice_chip_read.specs.Faults.{◌>>=◌}
 use Rattle.ice_chip_read.specs.Lines.{line_says, lines_say, first_says, plain_says}
 use Rattle.ice_chip_read.specs.Reading.{Reading, closed}
-use Rattle.ice_chip_read.specs.Views.{Stops, reading_view}
+use Rattle.ice_chip_read.specs.Stops.{fault_of}
+use Rattle.ice_chip_read.specs.Views.{Stops}
 use Rattle.ice_chip_read.specs.Whole.{AreReadOfLines}
 use Rattle.ice_chip_read.specs.declared.fault.ReadStop.{ReadStop}
 use Rattle.ice_chip_read.specs.declared.fault.ReadStop.TheVariants.{NoMemory, Fault}
 use Rattle.ice_chip_pieces.specs.Held.{HasSaid}
 use Rattle.ice_chip_pieces.specs.SoFar.{so_far, with_line, words_at}
-use Rattle.ice_chip_pieces.specs.declared.said.Said.{Said}
-use Rattle.ice_chip_pieces.specs.declared.said.Said.TheVariants.{Nothing, Rows, Stopped}
 
-abbrev WordLine : Type 0
+-- what is held of lines
+abbrev pub Said : Type 0
+Said = Result (Option Reading) ReadStop
+
+abbrev pub WordLine : Type 0
 WordLine = ℕ × List (List ℕ)
 
 -- ---- one line more
@@ -84,9 +87,9 @@ plain_so_far (l ∷ ls) = all_rows (plain_says (l ∷ ls))
 
 -- the answer that is right for what is held behind all lines
 abbrev pub Means : Said → Result Parts ChipFault → Type 0
-Means Nothing said = said ≡ Err (NoDevice 0)
-Means (Rows r) said = said ≡ chip_of (closed (reading_view r))
-Means (Stopped stop) said = Stops stop said
+Means (Ok None) said = said ≡ Err (NoDevice 0)
+Means (Ok (Some r)) said = said ≡ chip_of (closed r)
+Means (Err stop) said = Stops stop said
 
 abbrev says : List WordLine → Result Parts ChipFault
 says ls = (plain_says ls >>= (λ r. Ok (closed r))) >>= chip_of
@@ -98,11 +101,19 @@ says_so_far : (ls : List WordLine) → says ls ≡ ends (so_far ls)
 says_so_far ls = ap (λ said. (said >>= (λ r. Ok (closed r))) >>= chip_of) (plain_so_far ls)
 
 pub means : (said : Said) (ls : List WordLine) → HasSaid said (so_far ls) → Means said (says ls)
-means Nothing ls h = says_so_far ls ∙ ap ends h
-means (Rows r) ls h = says_so_far ls ∙ ap ends h
-means (Stopped NoMemory) ls h = tt
-means (Stopped (Fault fault)) ls h = says_so_far ls ∙ ap ends h
+means (Ok None) ls h = says_so_far ls ∙ ap ends h
+means (Ok (Some r)) ls h = says_so_far ls ∙ ap ends h
+means (Err NoMemory) ls h = tt
+means (Err (Fault fault)) ls h = says_so_far ls ∙ ap ends h
 
 -- the rows that are held are those of lines
 pub rows_made : (r : Reading) (ls : List WordLine) → so_far ls ≡ Ok (Some r) → AreReadOfLines r
 rows_made r ls h = (ls, plain_so_far ls ∙ ap (λ said. said >>= rows_of) h)
+
+fault_answers : (fault : ChipFault) (said : Result Parts ChipFault) → said ≡ Err fault → StopsBy fault said
+fault_answers fault said h = search rules
+
+-- a stop is answered as a fault
+pub stop_answers : (stop : ReadStop) (said : Result Parts ChipFault) → Stops stop said → StopsBy (fault_of stop) said
+stop_answers NoMemory said h = tt
+stop_answers (Fault fault) said h = fault_answers fault said h

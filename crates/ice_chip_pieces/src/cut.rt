@@ -1,5 +1,5 @@
 //! Where a piece is cut into lines.
-ghost use Rattle.std.specs.Prelude.{◌≡◌, ◌×◌, ◌∷◌, ◌++◌, IfSome, IfNone};
+ghost use Rattle.std.specs.Prelude.{◌≡◌, ◌∷◌, ◌++◌, IfSome, IfNone};
 ghost use Rattle.ice_base.specs.Text.{IsLine};
 
 /// The bytes in front of the first line feed, and those behind it.

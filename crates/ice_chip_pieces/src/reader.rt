@@ -2,9 +2,8 @@
 ghost use Rattle.std.specs.Prelude.{◌≡◌, ℕ, List, [], ◌∷◌, ◌++◌, OnOk, OnErr, IfOk, IsErr, IsErrOf};
 ghost use Rattle.ice_base.specs.Text.{IsLine};
 ghost use Rattle.ice_chip.specs.Answers.{Answers};
-ghost use Rattle.ice_chip.specs.declared.fault.ChipFault.TheVariants.{NoMemory};
 ghost use Rattle.ice_chip_read.specs.Whole.{chip_says};
-ghost use Rattle.ice_chip_pieces.specs.Held.{IsMade, IsOut};
+ghost use Rattle.ice_chip_pieces.specs.Stands.{Follows, StandsFor, IsSpent, IsKept};
 ghost use Rattle.ice_pieces.specs.Taken.{TakesMore};
 
 use crate::cut::cut;
@@ -14,6 +13,7 @@ use ice_chip::{Chip, ChipFault};
 use ice_chip_read::{ReadStop, finish};
 use ice_pieces::Taker;
 use std::alloc::Global;
+use std::marker::Model;
 
 // Room for a line of usual length, in bytes.
 const LINE: usize = 256;
@@ -29,12 +29,19 @@ pub struct ChipReader {
     number: u32,
     // Its bytes so far; none behind a stop.
     rest: Vec<u8>,
-    ghost made: { IsMade said },
+}
+
+impl Model for ChipReader {
+    ghost use Rattle.ice_chip_pieces.specs.Held.{Held, said_view, IsMade};
+
+    ghost Value = { Held };
+
+    ghost view = { λ r. record { said = said_view r.said; number = r.number; rest = r.rest.items } };
+
+    ghost invariant = { λ r. IsMade (said_view r.said) };
 }
 
 impl ChipReader {
-    ghost use Rattle.ice_chip_pieces.specs.Stands.{follows, StandsFor, IsSpent, IsKept};
-
     /// A reader that was given nothing yet.
     ///
     /// # Errors
@@ -72,19 +79,20 @@ impl ChipReader {
     ///
     /// # Errors
     /// The fault, or want of memory.
-    pub fn finish(mut self) -> Result<Chip, ChipFault>
-        ensures chip { (text : List ℕ) → StandsFor self.entry text → Answers result (chip_says text) }
-        ensures spent { IsSpent self.entry → IsErrOf result NoMemory }
+    pub fn finish(self) -> Result<Chip, ChipFault>
+        ensures chip { (text : List ℕ) → StandsFor self text → Answers result (chip_says text) }
+        ensures spent { IsSpent self → IsErrOf result ChipFault.NoMemory }
     {
-        take(
-            self.alloc,
-            &mut self.said,
-            self.number,
-            self.rest.as_slice(),
-        );
-        match self.said {
+        let ChipReader {
+            alloc,
+            mut said,
+            number,
+            rest,
+        } = self;
+        take(alloc, &mut said, number, rest.as_slice());
+        match said {
             Said::Nothing => Err(ChipFault::NoDevice { line: 0 }),
-            Said::Rows(reading) => finish(self.alloc, reading),
+            Said::Rows(reading) => finish(alloc, reading),
             Said::Stopped(stop) => Err(ChipFault::from(stop)),
         }
     }
@@ -111,7 +119,7 @@ impl ChipReader {
     // Takes bytes of the line that isn't ended.
     fn keep(&mut self, bytes: &[u8])
         requires { IsLine bytes.now }
-        ensures taken { TakesMore (follows self.old) (follows self.new) bytes.now }
+        ensures taken { TakesMore (Follows self.old) (Follows self.new) bytes.now }
         ensures out { IsSpent self.old → IsSpent self.new }
     {
         if let Said::Stopped(_) = self.said {
@@ -125,7 +133,7 @@ impl ChipReader {
 
     // Ends the line.
     fn end(&mut self)
-        ensures taken { TakesMore (follows self.old) (follows self.new) (10 ∷ []) }
+        ensures taken { TakesMore (Follows self.old) (Follows self.new) (10 ∷ []) }
         ensures out { IsSpent self.old → IsSpent self.new }
     {
         take(
@@ -141,7 +149,7 @@ impl ChipReader {
     // Takes the last bytes of the line that isn't ended, and ends it.
     fn end_with(&mut self, line: &[u8])
         requires { IsLine line.now }
-        ensures taken { TakesMore (follows self.old) (follows self.new) (line.now ++ 10 ∷ []) }
+        ensures taken { TakesMore (Follows self.old) (Follows self.new) (line.now ++ 10 ∷ []) }
         ensures out { IsSpent self.old → IsSpent self.new }
     {
         if self.rest.is_empty() {
@@ -155,9 +163,6 @@ impl ChipReader {
 }
 
 impl Taker for ChipReader {
-    ghost use Rattle.std.specs.Prelude.{◌≡◌};
-    ghost use Rattle.ice_chip_pieces.specs.Stands.{StandsFor, IsSpent};
-
     ghost stands = { StandsFor };
 
     ghost spent = { IsSpent };
