@@ -1,12 +1,12 @@
 -- What is held of a text, line after line.
-use Rattle.std.proofs.Common.{◌≡◌, ℕ, List, [], ◌∷◌, ◌++◌, length, Option, None, Some, Result, Ok, Err, refl, sym, ap, subst, ◌∙◌, append_assoc, append-nil}
+use Rattle.std.proofs.Common.{◌≡◌, ℕ, List, [], ◌∷◌, ◌++◌, length, Option, None, Ok, Err, refl, sym, ap, subst, ◌∙◌, append_assoc, append-nil}
 use Rattle.ice_base.specs.PlainLines.{plain_lines, plain_lines_of}
 use Rattle.ice_base.specs.Text.{IsLine, numbered, next_number}
 use Rattle.ice_chip_read.specs.Reading.{Reading}
 use Rattle.ice_chip_read.specs.Whole.{chip_says}
 use Rattle.ice_chip_read.specs.declared.fault.ReadStop.{ReadStop}
 use Rattle.ice_chip_read.specs.declared.fault.ReadStop.TheVariants.{NoMemory, Fault}
-use Rattle.ice_chip_pieces.specs.Cut.{IsCut, number_behind}
+use Rattle.ice_chip_pieces.specs.Cut.{IsCut}
 use Rattle.ice_chip_pieces.specs.Held.{Held, HasSaid, IsMade, HoldsRest}
 use Rattle.ice_chip_pieces.specs.SoFar.{so_far, words_at, lines_so_far}
 use Rattle.ice_chip_pieces.specs.Stands.{Follows, StandsFor, kept_behind, IsKept}
@@ -44,7 +44,7 @@ pub follows_line : (old new : Said) (number next : ℕ) (held left text line tak
 follows_line old new number next held left text line taken f is_line is next_is none took stays =
     let more : IsCut (text ++ line) f.ended (f.rest ++ line) = cut_more text f.ended f.rest line f.cut is_line in
     let said : HasSaid new (so_far (plain_lines (numbered 1 f.ended) ++ words_at number (f.rest ++ line))) =
-        line_taken old new (plain_lines (numbered 1 f.ended)) number f.rest held line taken f.bytes f.lines is took stays in
+    line_taken old new (plain_lines (numbered 1 f.ended)) number f.rest held line taken f.bytes f.lines is took stays in
     record {
       ended = f.ended ++ (f.rest ++ line) ∷ [];
       rest = [];
@@ -92,10 +92,10 @@ follows_out said number held text more f is_line = record {
 follows_whole : (old new : Said) (number : ℕ) (held text : List ℕ) → Follows (held_by old number held) text → Took old new number held → Stays old new → HasSaid new (so_far (plain_lines_of text))
 follows_whole old new number held text f took stays =
     let said : HasSaid new (so_far (plain_lines (numbered 1 f.ended) ++ words_at number (f.rest ++ []))) =
-        line_taken old new (plain_lines (numbered 1 f.ended)) number f.rest held [] held f.bytes f.lines (sym (append-nil held)) took stays in
+    line_taken old new (plain_lines (numbered 1 f.ended)) number f.rest held [] held f.bytes f.lines (sym (append-nil held)) took stays in
     subst (λ ls. HasSaid new (so_far ls)) (sym (plain_whole text f.ended f.rest f.cut))
-        (subst (λ n. HasSaid new (so_far (plain_lines (numbered 1 f.ended) ++ words_at n f.rest))) f.next
-        (subst (λ t. HasSaid new (so_far (plain_lines (numbered 1 f.ended) ++ words_at number t))) (append-nil f.rest) said))
+    (subst (λ n. HasSaid new (so_far (plain_lines (numbered 1 f.ended) ++ words_at n f.rest))) f.next
+    (subst (λ t. HasSaid new (so_far (plain_lines (numbered 1 f.ended) ++ words_at number t))) (append-nil f.rest) said))
 
 -- so what is held then is what the text says
 pub follows_says : (held : Held) (old new : Said) (number : ℕ) (rest taken text : List ℕ) → held_by old number rest ≡ held → taken ≡ rest → Took old new number taken → Stays old new → StandsFor held text → Means new (chip_says text)

@@ -11,4 +11,4 @@ returns-clause-taken c = λ text f.
     let next : c.saturating_add-self-inside.result ≡ next_number r.number = search rules in
     let taken : c.as_slice.result.now ≡ r.rest.items ++ [] = c.as_slice.ensures.value ∙ sym (append-nil r.rest.items) in
     follows_line (said_view r.said) (said_view c.take.new.said) r.number c.saturating_add-self-inside.result r.rest.items c.clear.new.self.items text [] c.as_slice.result.now
-        (subst (λ held. Follows held text) (sym c.self.view_is) f) tt taken next c.clear.ensures.items c.take.ensures.said c.take.ensures.stopped
+    (subst (λ held. Follows held text) (sym c.self.view_is) f) tt taken next c.clear.ensures.items c.take.ensures.said c.take.ensures.stopped

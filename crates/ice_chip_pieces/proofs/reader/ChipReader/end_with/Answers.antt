@@ -12,4 +12,4 @@ returns-then-is_empty-clause-taken c = λ text f.
     let next : c.saturating_add-self-inside.result ≡ next_number r.number = search rules in
     let none : r.rest.items ≡ [] = nil_from_length r.rest.items (search (rules, tests)) in
     follows_line (said_view r.said) (said_view c.take.new.said) r.number c.saturating_add-self-inside.result r.rest.items r.rest.items text c.args.line.now c.args.line.now
-        (subst (λ held. Follows held text) (sym c.self.view_is) f) c.requires (sym (ap (λ t. t ++ c.args.line.now) none)) next none c.take.ensures.said c.take.ensures.stopped
+    (subst (λ held. Follows held text) (sym c.self.view_is) f) c.requires (sym (ap (λ t. t ++ c.args.line.now) none)) next none c.take.ensures.said c.take.ensures.stopped
