@@ -1,5 +1,5 @@
 //! A reader of the text of a chip database that is given the text piece by piece.
-ghost use Rattle.std.specs.Prelude.{◌≡◌, ℕ, List, [], ◌∷◌, ◌++◌, OnOk, OnErr, IfOk, IsErr, IsErrOf};
+ghost use Rattle.std.specs.Prelude.{◌≡◌, ℕ, List, [], ◌∷◌, ◌++◌, length, OnOk, OnErr, IfOk, IsErr, IsErrOf};
 ghost use Rattle.ice_base.specs.Text.{IsLine};
 ghost use Rattle.ice_chip.specs.Answers.{Answers};
 ghost use Rattle.ice_chip_read.specs.Whole.{chip_says};
@@ -100,7 +100,8 @@ impl ChipReader {
     /// How many bytes of the text are held: those behind the last line feed, or none after a fault of a line. Takes no
     /// memory.
     pub fn kept(&self) -> usize
-        ensures { (text : List ℕ) → StandsFor self.now text → IsKept text result }
+        ensures held { result ≡ length self.now.rest }
+        ensures kept { (text : List ℕ) → StandsFor self.now text → IsKept text result }
     {
         self.rest.len()
     }

@@ -38,6 +38,7 @@ pub fn read_pieces<D: Desk, T: Taker>(
     ensures that_limit { (n : ℕ) → IsErrOf result (TooLong n) → n ≡ limit }
     ensures longer { (n : ℕ) → IsErrOf result (TooLong n) → (bytes : List ℕ) → (D.seen desk.old).tells ≡ true → (D.seen desk.old).files name.now ≡ Some bytes → limit < length bytes }
     ensures no_memory { IsErrOf result NoMemory → T.spent taker.new }
+    ensures still { T.spent taker.old → T.spent taker.new }
     ensures front { OnErr result ((IsErrOf result NoMemory → ⊥) → (bytes : List ℕ) × IsFront (D.seen desk.old) (D.seen desk.new) name.now bytes × TakesMore (T.stands taker.old) (T.stands taker.new) bytes) }
 {
     if desk.begin(name).is_err() {

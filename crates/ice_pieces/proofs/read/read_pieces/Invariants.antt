@@ -17,6 +17,7 @@ invariant-loop-count g l =
       bytes : List ℕ;
       counted : length bytes ≡ l.given;
       file : (D.seen l.fn.desk).tells ≡ true → (D.seen l.fn.desk).files l.name ≡ Some (bytes ++ (D.seen l.desk).left);
+      still : g.T.Taker.spent l.fn.taker → g.T.Taker.spent l.taker;
       taken : TakesMore (g.T.Taker.stands l.fn.taker) (g.T.Taker.stands l.taker) bytes;
     }
 
