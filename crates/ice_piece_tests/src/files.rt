@@ -22,51 +22,58 @@ fn desk_of(alloc: Global, text: &[u8], fails: u64) -> Result<MemoryDesk, AllocEr
     Ok(MemoryDesk::new(alloc, files, MOST, failing))
 }
 
-// Fails unless the reading of a file ends so, and as much is kept then as of this front of its text.
+// How the reading of the file ends, and how many bytes of it are kept.
+fn read(alloc: Global, desk: &mut MemoryDesk, limit: usize) -> (Result<(), ReadStop>, usize) {
+    let Ok(mut reader) = ChipReader::new(alloc) else {
+        return (Err(ReadStop::NoMemory), 0);
+    };
+    let result = read_pieces(desk, "chip", limit, &mut reader);
+    (result, reader.kept())
+}
+
+// How many of the first bytes of a text are behind a line feed.
+fn rest_of(text: &[u8], count: usize) -> usize {
+    let mut rest: usize = 0;
+    for byte in text.iter().take(count) {
+        rest = if *byte == b'\n' {
+            0
+        } else {
+            rest.saturating_add(1)
+        };
+    }
+    rest
+}
+
+// Fails unless the reading of a file ends so, where this read fails, and as much is kept as of so many bytes.
 fn expect_end(
     rt: &impl Abort,
     alloc: Global,
-    desk: &mut MemoryDesk,
-    limit: usize,
+    text: &[u8],
+    (fails, limit): (u64, usize),
     expected: Result<(), ReadStop>,
-    front: &[u8],
-) -> Result<(), Fail> {
-    let mut reader = ChipReader::new(alloc)?;
-    assert!(rt; read_pieces(desk, "chip", limit, &mut reader) == expected);
-    let mut other = ChipReader::new(alloc)?;
-    other.feed(front)?;
-    assert_eq!(rt; reader.kept(), other.kept());
-    assert!(rt; counted(reader.finish()) == counted(other.finish()));
+    count: usize,
+) -> Result<(), AllocError> {
+    let mut desk = desk_of(alloc, text, fails)?;
+    let (result, kept) = read(alloc, &mut desk, limit);
+    assert!(rt; result == expected);
+    assert_eq!(rt; kept, rest_of(text, count));
     Ok(())
 }
 
-// Fails unless each read in turn fails, and what was read before is kept.
-fn expect_failing(rt: &impl Abort, alloc: Global, text: &[u8]) -> Result<(), Fail> {
-    let mut before: usize = 0;
-    let mut read: u64 = 0;
-    for piece in text.chunks(MOST) {
-        read += 1;
-        let mut desk = desk_of(alloc, text, read)?;
+// How many reads it takes to the end of the text of two tiles.
+const READS: usize = 12;
+
+#[test]
+fn files_are_read_up_to_a_fault_or_a_limit(rt: HostRuntime) -> Result<(), Fail> {
+    let alloc = rt.alloc();
+    let text = text_with(alloc, Sample::TwoTiles, &[])?;
+    for read in 0..READS {
         let failed = Err(ReadStop::Failed);
-        expect_end(rt, alloc, &mut desk, text.len(), failed, &text[..before])?;
-        before += piece.len();
+        let count = read * MOST;
+        expect_end(&rt, alloc, &text, (read as u64 + 1, 1000), failed, count)?;
     }
-    Ok(())
-}
-
-#[test]
-fn each_read_may_fail(rt: HostRuntime) -> Result<(), Fail> {
-    let alloc = rt.alloc();
-    let text = text_with(alloc, Sample::TwoTiles, &[])?;
-    expect_failing(&rt, alloc, &text)
-}
-
-#[test]
-fn a_file_is_read_up_to_a_limit(rt: HostRuntime) -> Result<(), Fail> {
-    let alloc = rt.alloc();
-    let text = text_with(alloc, Sample::TwoTiles, &[])?;
-    let mut desk = desk_of(alloc, &text, 0)?;
-    expect_end(&rt, alloc, &mut desk, text.len(), Ok(()), &text)?;
+    expect_end(&rt, alloc, &text, (0, text.len()), Ok(()), text.len())?;
     let long = Err(ReadStop::TooLong { limit: 100 });
-    expect_end(&rt, alloc, &mut desk, 100, long, &text[..MOST])
+    expect_end(&rt, alloc, &text, (0, 100), long, MOST)?;
+    Ok(())
 }

@@ -1,7 +1,9 @@
 //! How many bytes a reader keeps.
 use crate::answers::counted;
+use ice_base::NoMemory;
 use ice_chip::ChipFault;
 use ice_chip_pieces::ChipReader;
+use std::alloc::Global;
 use std::process::Abort;
 use std::test::Fail;
 
@@ -21,25 +23,30 @@ const GOOD: [Kept; 7] = [
 const FAULTY: [Kept; 4] = [(b"\nx", 1), (b"\nabc", 0), (b"de", 0), (b"\nfg", 0)];
 
 // Fails unless so much is kept behind each piece.
-fn expect_kept(rt: &impl Abort, reader: &mut ChipReader, pieces: &[Kept]) {
+fn expect_each(rt: &impl Abort, reader: &mut ChipReader, pieces: &[Kept]) {
     for (piece, kept) in pieces {
         assert!(rt; reader.feed(piece).is_ok());
         assert_eq!(rt; reader.kept(), *kept);
     }
 }
 
-#[test]
-fn the_unread_rest_of_a_line_is_kept(rt: HostRuntime) -> Result<(), Fail> {
-    let mut reader = ChipReader::new(rt.alloc())?;
-    expect_kept(&rt, &mut reader, &GOOD);
-    assert!(rt; counted(reader.finish()) == Err(ChipFault::BadNumber { line: 4 }));
+// Fails unless so much is kept behind each piece, and this is the fault of all.
+fn expect_kept(
+    rt: &impl Abort,
+    alloc: Global,
+    pieces: &[Kept],
+    fault: ChipFault,
+) -> Result<(), NoMemory> {
+    let mut reader = ChipReader::new(alloc)?;
+    expect_each(rt, &mut reader, pieces);
+    assert!(rt; counted(reader.finish()) == Err(fault));
     Ok(())
 }
 
 #[test]
-fn nothing_is_kept_after_a_fault_of_a_line(rt: HostRuntime) -> Result<(), Fail> {
-    let mut reader = ChipReader::new(rt.alloc())?;
-    expect_kept(&rt, &mut reader, &FAULTY);
-    assert!(rt; counted(reader.finish()) == Err(ChipFault::NoDevice { line: 2 }));
+fn the_unread_rest_of_a_line_is_kept(rt: HostRuntime) -> Result<(), Fail> {
+    let alloc = rt.alloc();
+    expect_kept(&rt, alloc, &GOOD, ChipFault::BadNumber { line: 4 })?;
+    expect_kept(&rt, alloc, &FAULTY, ChipFault::NoDevice { line: 2 })?;
     Ok(())
 }
