@@ -1,13 +1,10 @@
-// A library with one function.
+//! One round of routing: workers in threads do all tasks on the words that they share.
 #![tactic(auto)]
 
-ghost use Rattle.std.specs.Prelude.{◌≡◌};
-ghost use Rattle.ice_round.specs.Echo.{echo_of};
+mod jobs;
+mod moving;
+mod placing;
+mod playing;
+mod tasks;
 
-// The `ensures` clause is the contract: what `echo` returns is `echo_of` of its argument, a definition
-// in `specs/Echo.antt`, which a caller's clause can cite too.
-pub fn echo(x: usize) -> usize
-    ensures { result ≡ echo_of x }
-{
-    x
-}
+pub use moving::{Round, play};
