@@ -55,7 +55,7 @@ sums_same f g [] (y ∷ ys) long same = absurd (omega arith)
 sums_same f g (x ∷ xs) [] long same = absurd (omega arith)
 sums_same f g (x ∷ xs) (y ∷ ys) long same = omega (arith, sum_by-cons f x xs, sum_by-cons g y ys, same 0 x y refl refl, sums_same f g xs ys (omega arith) (λ k a b. same (suc k) a b))
 
-numbered : ℕ → NetNo
+abbrev numbered : ℕ → NetNo
 numbered n = record { 0 = n }
 
 module _ (graph : Network) (r : RoundPrices) (nets : List Net) (trees : List Tree) (moved : List NetNo) (tasks : List Task) (news : List Tree) (shut : Shut)
@@ -171,3 +171,8 @@ module _ (graph : Network) (nets : List Net) (trees : List Tree) (moved : List N
           subst (λ sinks. AreReached graph.edges net.root sinks) other.sinks (subst (λ root. AreReached graph.edges root earlier.0.sinks.items) other.root (is.1 j earlier.0 lt earlier.1)));
     })
   round_stop Memory fault is at = subst (IsStop graph nets moved) (sym at) (record {})
+
+  pub stop_within : (stop : WorkStop) → IsTaskStop graph tasks stop → (task : ℕ) (sink : WireNo) → stop ≡ Cut task sink → task < length moved
+  stop_within stop is task sink e =
+      let cut = subst (IsTaskStop graph tasks) e is in
+      omega (arith, slice_get_within tasks task cut.0.0 cut.0.1, are.long)

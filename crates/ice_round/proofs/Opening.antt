@@ -95,7 +95,7 @@ few_moved nets moved different =
     omega (arith, once_short (length nets) (net_numbers moved) (numbers_below (length nets) moved different.within) (net_times moved different.apart), length-map moved (λ (net : NetNo). net.0))
 
 -- ---- the wires of nets that move are counted
-no_wires : List NetNo → List (List ℕ)
+abbrev no_wires : List NetNo → List (List ℕ)
 no_wires moved = map (λ (net : NetNo). []) moved
 
 no_sum : (w : ℕ) (moved : List NetNo) → sum_by (times w) (no_wires moved) ≡ 0
@@ -129,9 +129,10 @@ module _ (nets : List Net) (trees : List Tree) (moved : List NetNo) (tasks : Lis
       record { number = number.0; at = number.1; net = net.0; net_at = net.1; tree = tree.0; tree_at = tree.1; is = are.each k number.0 net.0 tree.0 task number.1 net.1 tree.1 at }
 
   pub olds_are : old_wires tasks ≡ map (wires_in trees) moved
-  olds_are = lists_same moved tasks are.long (λ k number task number_at at. (let one = known k task at in
-  let same : one.number ≡ number = sym (get_or_from_slice_get moved k one.number one.number one.at) ∙ get_or_from_slice_get moved k number one.number number_at in
-  ap numbers one.is.old ∙ (sym (tree_at trees one.number.0 one.tree one.tree_at) ∙ ap (wires_in trees) same)))
+  olds_are = lists_same moved tasks are.long (λ k number task number_at at.
+      (let one = known k task at in
+      let same : one.number ≡ number = sym (get_or_from_slice_get moved k one.number one.number one.at) ∙ get_or_from_slice_get moved k number one.number number_at in
+      ap numbers one.is.old ∙ (sym (tree_at trees one.number.0 one.tree one.tree_at) ∙ ap (wires_in trees) same)))
     where
       lists_same : (moved : List NetNo) (tasks : List Task) → length tasks ≡ length moved → ((k : ℕ) (number : NetNo) (task : Task) → slice_get moved k ≡ Some number → slice_get tasks k ≡ Some task → numbers task.old.items ≡ wires_in trees number)
           → old_wires tasks ≡ map (wires_in trees) moved
@@ -158,8 +159,8 @@ module _ (nets : List Net) (trees : List Tree) (moved : List NetNo) (tasks : Lis
     opening = record {
       tasks = omega (arith, few, few_moved nets moved different, are.long, many_olds tasks);
       wires = omega (arith, bounded.wires, bounded.counted);
-      within = each_list (AllByRecursion (λ w. w < length r.counts.items)) tt (λ k task at. (let one = known k task at in
-      within_of (length r.counts.items) task.old.items (subst (AreWires (length r.counts.items)) (sym one.is.old) (occupied.within one.number.0 one.tree one.tree_at))));
+      within = each_list (AllByRecursion (λ w. w < length r.counts.items)) tt (λ k task at.
+          (let one = known k task at in within_of (length r.counts.items) task.old.items (subst (AreWires (length r.counts.items)) (sym one.is.old) (occupied.within one.number.0 one.tree one.tree_at))));
       once = λ t w. each_list (λ ws. times w ws ≤ 1) (omega arith) (λ k task at. (let one = known k task at in once_times task.old.items (subst AreOnce (sym one.is.old) (once one.number.0 one.tree one.tree_at)) w)) t;
       few = λ w lt. count_low r.counts.items trees occupied (omega (arith, few, many)) w;
       counted = λ w lt. omega (
@@ -191,12 +192,13 @@ module _ (nets : List Net) (trees : List Tree) (moved : List NetNo) (tasks : Lis
       histories = bounded.long;
       counts = bounded.counted;
       opening = opening;
-      wires = All-from_recursion (IsTaskOf graph) tasks (by_places (IsTaskOf graph) tasks (λ k task at. (let one = known k task at in
-      let net = are_nets one.number.0 one.net one.net_at in
-      record {
-        root = subst (λ (v : WireNo). v.0 < graph.wires) (sym one.is.root) net.0;
-        sinks = subst (AreSinks graph.wires) (sym one.is.sinks) net.1;
-      })));
-      bounded = All-from_recursion (KeepsBounds r) tasks (by_places (KeepsBounds r) tasks (λ k task at p a. (let one = known k task at in
-      left_prices graph r.round r.history.items r.counts.items one.tree p bounded (few_others r.counts.items trees one.number.0 one.tree occupied (omega (arith, few, many)) one.tree_at) (prices_of one.tree task p one.is.old a))));
+      wires = All-from_recursion (IsTaskOf graph) tasks (by_places (IsTaskOf graph) tasks (λ k task at.
+          (let one = known k task at in
+          let net = are_nets one.number.0 one.net one.net_at in
+          record {
+            root = subst (λ (v : WireNo). v.0 < graph.wires) (sym one.is.root) net.0;
+            sinks = subst (AreSinks graph.wires) (sym one.is.sinks) net.1;
+          })));
+      bounded = All-from_recursion (KeepsBounds r) tasks (by_places (KeepsBounds r) tasks (λ k task at p a.
+          (let one = known k task at in left_prices graph r.round r.history.items r.counts.items one.tree p bounded (few_others r.counts.items trees one.number.0 one.tree occupied (omega (arith, few, many)) one.tree_at) (prices_of one.tree task p one.is.old a))));
     }

@@ -2,6 +2,7 @@
 use Rattle.std.proofs.Common.{◌≡◌, ◌≢◌, ℕ, zero, suc, ◌+◌, ◌≤◌, ◌<◌, ◌⊎◌, List, [], ◌∷◌, ◌++◌, Some, length, take, get_or, set, slice_get, slice_set, length-set, refl, sym, ap, ◌∙◌, subst, arith, inl, inr}
 use Rattle.std.proofs.lemmas.Bool.{cases_eq}
 use Rattle.std.proofs.lemmas.Option.{slice_get_within, slice_get-get_or, get_or_from_slice_get}
+use Rattle.std.proofs.lemmas.List.{length-take-le, take_more}
 use Rattle.std.proofs.lemmas.List.Sums.{sum_by-cons}
 use Rattle.std.specs.List.{sum_by}
 use Rattle.ice_base.specs.declared.number.NetNo.{NetNo}
@@ -18,7 +19,7 @@ AreBelow n moved = (k : ℕ) (net : NetNo) → slice_get moved k ≡ Some net �
 abbrev pub IsNone : List NetNo → ℕ → Type 0
 IsNone moved n = (k : ℕ) (net : NetNo) → slice_get moved k ≡ Some net → net.0 ≢ n
 
-numbered : ℕ → NetNo
+abbrev numbered : ℕ → NetNo
 numbered n = record { 0 = n }
 
 same_net : (a b : NetNo) → a.0 ≡ b.0 → a ≡ b
@@ -100,3 +101,12 @@ module _ {A : Type 0} where
   placed_last xs [] (y ∷ news) x new long = absurd (omega arith)
   placed_last xs (m ∷ moved) [] x new long = absurd (omega arith)
   placed_last xs (m ∷ moved) (y ∷ news) x new long = ap (λ (ts : List A). slice_set ts m.0 y) (placed_last xs moved news x new (omega arith))
+
+  pub placed_step : (xs : List A) (moved : List NetNo) (news ys : List A) (new : A) (m k n : ℕ) (d : NetNo) → news ≡ ys ++ new ∷ [] → length ys ≡ m → k ≡ m → n ≡ m + 1 → m < length moved
+      → placed (slice_set xs (get_or moved k d).0 new) (take m moved) ys ≡ placed xs (take n moved) news
+  placed_step xs moved news ys new m k n d are long k_is n_is lt =
+      let fewer : length (take m moved) ≡ m = length-take-le m moved (omega arith) in
+      ap (λ i. placed (slice_set xs (get_or moved i d).0 new) (take m moved) ys) k_is
+      ∙ (sym (placed_last xs (take m moved) ys (get_or moved m d) new (omega (arith, long, fewer)))
+      ∙ (ap (λ ns. placed xs ns (ys ++ new ∷ [])) (sym (take_more moved m d lt))
+      ∙ (ap (λ i. placed xs (take i moved) (ys ++ new ∷ [])) (sym n_is) ∙ ap (placed xs (take n moved)) (sym are))))

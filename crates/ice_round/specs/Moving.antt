@@ -15,7 +15,7 @@ use Rattle.ice_worker.specs.declared.stop.WorkStop.TheVariants.{Unreachable as C
 
 -- the task of a net with this route
 pub record IsTaskFor (net : Net) (tree : Tree) (number : NetNo) (task : Task) : Type 0 where
-  pub number : task.net ≡ number
+  pub named : task.net ≡ number
   pub root : task.root ≡ net.root
   pub sinks : task.sinks.items ≡ net.sinks.items
   pub old : task.old.items ≡ tree.wires.items
