@@ -1,5 +1,5 @@
 -- What a round leaves, net by net.
-use Rattle.std.proofs.Common.{◌≡◌, ◌≢◌, ℕ, zero, suc, ◌+◌, ◌≤◌, ◌<◌, ◌⊎◌, List, [], ◌∷◌, Some, length, slice_get, slice_index, refl, sym, ap, ◌∙◌, subst, arith, inl, inr}
+use Rattle.std.proofs.Common.{◌≡◌, ◌≢◌, ℕ, zero, suc, ◌≤◌, ◌<◌, ◌⊎◌, List, [], ◌∷◌, Some, length, slice_get, refl, sym, ap, ◌∙◌, subst, arith, inl, inr}
 use Rattle.std.proofs.lemmas.Bool.{cases_eq}
 use Rattle.std.proofs.lemmas.List.Sums.{sum_by-cons}
 use Rattle.std.proofs.lemmas.Option.{slice_get_within, get_or_from_slice_get}
@@ -13,14 +13,13 @@ use Rattle.ice_core.specs.declared.round_prices.RoundPrices.{RoundPrices}
 use Rattle.ice_core.specs.declared.task.Task.{Task}
 use Rattle.ice_core.specs.Congestion.{price}
 use Rattle.ice_core.specs.Moves.{IsOccupancy}
-use Rattle.ice_core.specs.Routes.{numbers, old_wires, times, tree_wires, wires_of}
+use Rattle.ice_core.specs.Routes.{numbers, times, tree_wires}
 use Rattle.ice_path.specs.Room.{AreWires}
 use Rattle.ice_negotiate.specs.Trees.{AreOnce, AreReached, IsCause, IsTree, route_of}
-use Rattle.ice_negotiate.specs.Rounds.{AreBounded, AreDifferent, AreMoversReached, HoldOnce, IsMoved, IsOneOf, IsRound, Moves}
+use Rattle.ice_negotiate.specs.Rounds.{AreBounded, AreDifferent, AreMoversReached, HoldOnce, IsRound, Moves}
 use Rattle.ice_negotiate.specs.Logs.{IsStop}
 use Rattle.ice_negotiate.specs.declared.stop.TreeStop.TheVariants.{Unreachable as Bare}
 use Rattle.ice_negotiate.specs.declared.fault.RouteFault.{RouteFault}
-use Rattle.ice_negotiate.specs.declared.fault.RouteFault.TheVariants.{Unreachable, NoMemory}
 use Rattle.ice_words.specs.Grips.{Shut}
 use Rattle.ice_worker.specs.declared.stop.WorkStop.{WorkStop}
 use Rattle.ice_worker.specs.declared.stop.WorkStop.TheVariants.{Unreachable as Cut, NoMemory as Memory}
@@ -28,8 +27,8 @@ use Rattle.ice_worker.specs.Tasks.{IsMade}
 use Rattle.ice_round.specs.Moving.{AreTasksOf, IsFaultAt, IsTally, placed, wires_in}
 use Rattle.ice_round.specs.Played.{IsPlayed, IsTaskStop}
 use Rattle.ice_round.proofs.Finishing.{tree_at}
-use Rattle.ice_round.proofs.Opening.{IsKnown, held_by, known, map_sum, occupied_sum, olds_sum, prices_of, route_sum, some_there}
-use Rattle.ice_round.proofs.Replacing.{AreApart, AreBelow, IsNone, placed_here, placed_long, placed_other, placed_sum}
+use Rattle.ice_round.proofs.Opening.{held_by, known, map_sum, occupied_sum, olds_sum, prices_of, route_sum, some_there}
+use Rattle.ice_round.proofs.Replacing.{AreBelow, IsNone, placed_here, placed_long, placed_other, placed_sum}
 
 some_same : {A : Type 0} (xs : List A) (i : ℕ) (a b : A) → slice_get xs i ≡ Some a → slice_get xs i ≡ Some b → a ≡ b
 some_same xs i a b at there = sym (get_or_from_slice_get xs i a a at) ∙ get_or_from_slice_get xs i b a there
@@ -156,20 +155,20 @@ module _ (graph : Network) (r : RoundPrices) (nets : List Net) (trees : List Tre
 module _ (graph : Network) (nets : List Net) (trees : List Tree) (moved : List NetNo) (tasks : List Task) (are : AreTasksOf nets trees moved tasks) (different : AreDifferent nets moved) (many : length trees ≡ length nets) where
   pub round_stop : (stop : WorkStop) (fault : RouteFault) → IsTaskStop graph tasks stop → IsFaultAt moved stop fault → IsStop graph nets moved fault
   round_stop (Cut task sink) fault is at = subst (IsStop graph nets moved) (sym at.2) (
-    let one = known nets trees moved tasks are different many task is.0.0 is.0.1 in
-    let same : one.number ≡ at.0 = some_same moved task one.number at.0 one.at at.1 in
-    record {
-      place = task;
-      at = at.1;
-      net = one.net;
-      is = ap (λ (x : NetNo). slice_get nets x.0) (sym same) ∙ one.net_at;
-      cause = subst (λ sinks. IsCause graph.edges one.net.root sinks (Bare sink)) one.is.sinks (subst (λ root. IsCause graph.edges root is.0.0.sinks.items (Bare sink)) one.is.root is.0.2);
-      earlier = λ j number net lt number_at net_at.
-          (let earlier = some_there tasks j (omega (arith, lt, slice_get_within tasks task is.0.0 is.0.1)) in
-          let before = some_there trees number.0 (omega (arith, different.within j number number_at, many)) in
-          let other = are.each j number net before.0 earlier.0 number_at net_at before.1 earlier.1 in
-          subst (λ sinks. AreReached graph.edges net.root sinks) other.sinks (subst (λ root. AreReached graph.edges root earlier.0.sinks.items) other.root (is.1 j earlier.0 lt earlier.1)));
-    })
+      let one = known nets trees moved tasks are different many task is.0.0 is.0.1 in
+      let same : one.number ≡ at.0 = some_same moved task one.number at.0 one.at at.1 in
+      record {
+        place = task;
+        at = at.1;
+        net = one.net;
+        is = ap (λ (x : NetNo). slice_get nets x.0) (sym same) ∙ one.net_at;
+        cause = subst (λ sinks. IsCause graph.edges one.net.root sinks (Bare sink)) one.is.sinks (subst (λ root. IsCause graph.edges root is.0.0.sinks.items (Bare sink)) one.is.root is.0.2);
+        earlier = λ j number net lt number_at net_at.
+            (let earlier = some_there tasks j (omega (arith, lt, slice_get_within tasks task is.0.0 is.0.1)) in
+            let before = some_there trees number.0 (omega (arith, different.within j number number_at, many)) in
+            let other = are.each j number net before.0 earlier.0 number_at net_at before.1 earlier.1 in
+            subst (λ sinks. AreReached graph.edges net.root sinks) other.sinks (subst (λ root. AreReached graph.edges root earlier.0.sinks.items) other.root (is.1 j earlier.0 lt earlier.1)));
+      })
   round_stop Memory fault is at = subst (IsStop graph nets moved) (sym at) (record {})
 
   pub stop_within : (stop : WorkStop) → IsTaskStop graph tasks stop → (task : ℕ) (sink : WireNo) → stop ≡ Cut task sink → task < length moved

@@ -1,5 +1,5 @@
 -- The tasks of the nets that move can be done in the prices of the round.
-use Rattle.std.proofs.Common.{◌≡◌, ◌≢◌, ℕ, zero, suc, ◌+◌, ◌-◌, ◌≤◌, ◌<◌, ◌⊎◌, ◌||◌, Bool, true, false, cond, eqb, List, [], ◌∷◌, All, Some, length, map, min, slice_get, slice_index, refl, sym, ap, ◌∙◌, subst, arith, inl, inr}
+use Rattle.std.proofs.Common.{◌≡◌, ◌≢◌, ℕ, zero, suc, ◌-◌, ◌≤◌, ◌<◌, ◌||◌, cond, List, [], ◌∷◌, Some, length, map, min, slice_get, slice_index, refl, sym, ap, ◌∙◌, subst, arith, inl, inr}
 use Rattle.std.proofs.lemmas.Bool.{cases_eq, ne_eqb, eq-eqb}
 use Rattle.std.proofs.lemmas.List.{length-map}
 use Rattle.std.proofs.lemmas.List.Sums.{sum_by-cons}
@@ -15,7 +15,7 @@ use Rattle.ice_core.specs.declared.prices.Prices.{Prices}
 use Rattle.ice_core.specs.declared.round_prices.RoundPrices.{RoundPrices}
 use Rattle.ice_core.specs.declared.task.Task.{Task}
 use Rattle.ice_core.specs.Moves.{IsOccupancy, holds, occupancy, stands_in}
-use Rattle.ice_core.specs.Routes.{IsOpening, numbers, old_wires, sum_below, times, tree_wires, wires_of}
+use Rattle.ice_core.specs.Routes.{IsOpening, numbers, old_wires, times, tree_wires, wires_of}
 use Rattle.ice_core.proofs.Sums.{at_itself, at_other, below_lists, is_at, once_short, times_cons}
 use Rattle.ice_path.specs.Room.{AreWires}
 use Rattle.ice_negotiate.specs.Trees.{AreOnce, AreSinks}
@@ -26,7 +26,7 @@ use Rattle.ice_worker.specs.Tasks.{AreFor, IsTaskOf, KeepsBounds}
 use Rattle.ice_worker.proofs.Wires.{once_times}
 use Rattle.ice_worker.proofs.Working.{wires_at}
 use Rattle.ice_round.specs.Jobs.{ArePlayable}
-use Rattle.ice_round.specs.Moving.{AreTasksOf, IsTaskFor, placed, wires_in}
+use Rattle.ice_round.specs.Moving.{AreTasksOf, IsTaskFor, wires_in}
 use Rattle.ice_round.proofs.Finishing.{many_olds, tree_at}
 use Rattle.ice_round.proofs.Replacing.{AreApart, AreBelow, apart_rest, below_rest, first_apart, placed_sum}
 

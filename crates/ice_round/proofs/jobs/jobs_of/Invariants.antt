@@ -1,4 +1,4 @@
-use Rattle.std.proofs.Common.{◌≡◌, ◌+◌, ◌≤◌, [], All, vec_len, vec_capacity}
+use Rattle.std.proofs.Common.{◌≡◌, ◌+◌, [], All, vec_len}
 use Rattle.ice_words.specs.Grips.{IsHandOf}
 use Rattle.ice_worker.specs.Kits.{IsKitOf}
 use Rattle.ice_round.specs.Jobs.{IsWaiting, main_view}

@@ -1,4 +1,4 @@
-use Rattle.std.proofs.Common.{◌≡◌, take}
+use Rattle.std.proofs.Common.{take}
 use Rattle.ice_round.specs.Moving.{AreTasksOf}
 use Rattle.ice_round.proofs.tasks.tasks_of.Given as goal
 
