@@ -6,3 +6,4 @@ pub mod Listing
 pub mod Replacing
 pub mod Opening
 pub mod Ending
+pub mod RaisingAll

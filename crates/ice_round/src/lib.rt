@@ -5,6 +5,8 @@ mod jobs;
 mod moving;
 mod placing;
 mod playing;
+mod raising;
 mod tasks;
 
 pub use moving::{Round, play};
+pub use raising::raise;
