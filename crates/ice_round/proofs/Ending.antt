@@ -24,7 +24,8 @@ use Rattle.ice_words.specs.Grips.{Shut}
 use Rattle.ice_worker.specs.declared.stop.WorkStop.{WorkStop}
 use Rattle.ice_worker.specs.declared.stop.WorkStop.TheVariants.{Unreachable as Cut, NoMemory as Memory}
 use Rattle.ice_worker.specs.Tasks.{IsMade}
-use Rattle.ice_round.specs.Moving.{AreTasksOf, IsFaultAt, IsTally, placed, wires_in}
+use Rattle.ice_negotiate.specs.Tallies.{IsTally, wires_in}
+use Rattle.ice_round.specs.Moving.{AreTasksOf, IsFaultAt, placed}
 use Rattle.ice_round.specs.Played.{IsPlayed, IsTaskStop}
 use Rattle.ice_round.proofs.Finishing.{tree_at}
 use Rattle.ice_round.proofs.Opening.{held_by, known, map_sum, occupied_sum, olds_sum, prices_of, route_sum, some_there}

@@ -26,7 +26,8 @@ use Rattle.ice_worker.specs.Tasks.{AreFor, IsTaskOf, KeepsBounds}
 use Rattle.ice_worker.proofs.Wires.{once_times}
 use Rattle.ice_worker.proofs.Working.{wires_at}
 use Rattle.ice_round.specs.Jobs.{ArePlayable}
-use Rattle.ice_round.specs.Moving.{AreTasksOf, IsTaskFor, wires_in}
+use Rattle.ice_negotiate.specs.Tallies.{wires_in}
+use Rattle.ice_round.specs.Moving.{AreTasksOf, IsTaskFor}
 use Rattle.ice_round.proofs.Finishing.{many_olds, tree_at}
 use Rattle.ice_round.proofs.Replacing.{AreApart, AreBelow, apart_rest, below_rest, first_apart, placed_sum}
 

@@ -1,15 +1,11 @@
--- A round net by net: the tasks of the nets that move, their trees in the place of the old ones, and the tally.
+-- A round net by net: the tasks of the nets that move, and their trees in the place of the old ones.
 use Rattle.std.specs.Prelude.{◌≡◌, ℕ, List, [], ◌∷◌, Some, length, slice_get, slice_set}
-use Rattle.std.specs.List.{sum_by}
 use Rattle.ice_base.specs.declared.number.NetNo.{NetNo}
 use Rattle.ice_graph.specs.declared.tree.Tree.{Tree}
 use Rattle.ice_core.specs.declared.net.Net.{Net}
 use Rattle.ice_core.specs.declared.task.Task.{Task}
-use Rattle.ice_core.specs.Routes.{tree_wires, wires_of}
-use Rattle.ice_core.specs.Moves.{IsOccupancy}
 use Rattle.ice_negotiate.specs.declared.fault.RouteFault.{RouteFault}
 use Rattle.ice_negotiate.specs.declared.fault.RouteFault.TheVariants.{Unreachable, NoMemory}
-use Rattle.ice_words.specs.Grips.{Shut}
 use Rattle.ice_worker.specs.declared.stop.WorkStop.{WorkStop}
 use Rattle.ice_worker.specs.declared.stop.WorkStop.TheVariants.{Unreachable as Cut, NoMemory as Memory}
 
@@ -31,20 +27,6 @@ abbrev pub placed : {A : Type 0} → List A → List NetNo → List A → List A
 placed items [] news = items
 placed items (number ∷ moved) [] = items
 placed items (number ∷ moved) (new ∷ news) = slice_set (placed items moved news) number.0 new
-
--- the wires of a net's route
-abbrev pub wires_in : List Tree → NetNo → List ℕ
-wires_in trees number = wires_of (tree_wires trees) number.0
-
--- what was done on the words of a round that took the trees to new ones: each net that moved was claimed, the wires of its old route were released and those of its new one held;
--- the counts were those of the trees before, and are those of the trees after it
-pub record IsTally (moved : List NetNo) (before after : List Tree) (shut : Shut) : Type 0 where
-  pub long : length shut.opened ≡ length shut.closed
-  pub opened : IsOccupancy shut.opened before
-  pub closed : IsOccupancy shut.closed after
-  pub claims : shut.claims ≡ length moved
-  pub releases : shut.releases ≡ sum_by (λ (number : NetNo). length (wires_in before number)) moved
-  pub holds : shut.holds ≡ sum_by (λ (number : NetNo). length (wires_in after number)) moved
 
 -- the fault of the net that moves by this task
 abbrev pub IsFaultAt : List NetNo → WorkStop → RouteFault → Type 0

@@ -6,7 +6,8 @@ ghost use Rattle.ice_core.specs.Moves.{IsOccupancy};
 ghost use Rattle.ice_negotiate.specs.Rounds.{AreBounded, AreDifferent, AreMoversReached, AreNets, HoldOnce, IsRound};
 ghost use Rattle.ice_negotiate.specs.Logs.{IsStop};
 ghost use Rattle.ice_worker.specs.Kits.{IsKitOf};
-ghost use Rattle.ice_round.specs.Moving.{IsFaultAt, IsTally, placed};
+ghost use Rattle.ice_negotiate.specs.Tallies.{IsTally};
+ghost use Rattle.ice_round.specs.Moving.{IsFaultAt, placed};
 ghost use Rattle.ice_worker.specs.declared.stop.WorkStop.TheVariants.{Unreachable as Cut};
 
 use crate::playing::{Played, play_tasks};

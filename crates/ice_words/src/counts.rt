@@ -11,7 +11,7 @@ use std::marker::Model;
 
 /// The counts at the end of a round, beside those that it began with. Contracts see both lists, what was posted, and how many tasks, releases and holds
 /// there were.
-#[derive(Drop)]
+#[derive(Debug, Drop)]
 pub struct Counts {
     pub(crate) closed: Vec<u32>,
     pub(crate) opened: Vec<u32>,
@@ -86,7 +86,7 @@ impl Counts {
 }
 
 /// What is kept of a round: the counts that it began and ended with, and how many tasks, releases and holds there were.
-#[derive(Drop)]
+#[derive(Debug, Drop)]
 pub struct Tally {
     counts: Counts,
 }

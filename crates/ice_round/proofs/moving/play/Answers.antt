@@ -2,7 +2,8 @@ use Rattle.std.proofs.Common.{◌≡◌, List, sym, subst}
 use Rattle.ice_graph.specs.declared.tree.Tree.{Tree}
 use Rattle.ice_core.specs.declared.task.Task.{Task}
 use Rattle.ice_negotiate.specs.Rounds.{HoldOnce, IsRound}
-use Rattle.ice_round.specs.Moving.{AreTasksOf, IsTally, placed}
+use Rattle.ice_negotiate.specs.Tallies.{IsTally}
+use Rattle.ice_round.specs.Moving.{AreTasksOf, placed}
 use Rattle.ice_round.proofs.Opening.{are_playable}
 use Rattle.ice_round.proofs.Ending.{all_reached, hold_once, is_round, is_tally, round_stop, stop_within}
 use Rattle.ice_round.proofs.moving.play.Goals as goal
