@@ -51,7 +51,7 @@ before_first graph nets number history counts moved trees logs tallies h c all l
     low = λ w. (let e : slice_index history.items w ≡ 0 = ap (λ xs. slice_index xs w) h ∙ zeros_index graph.wires w in omega arith);
     counted = c_long;
     occupied = bare_occupied graph.wires counts.items trees.items c bare;
-    trees = long;
+    many = long;
     apart = λ n tree at. subst AreOnce (sym (bare n tree at)) (λ j k v a b. absurd (let none_there : slice_get [] j ≡ Some v = a in cc));
     different = all_different nets moved.items all;
   };
@@ -104,7 +104,7 @@ after_round graph nets round old trees logs log shut h done opened tally apart l
         low = h.sound.low;
         counted = counted;
         occupied = tally.closed;
-        trees = done.news;
+        many = done.news;
         apart = apart;
         different = h.sound.different;
       };
@@ -122,6 +122,27 @@ after_round graph nets round old trees logs log shut h done opened tally apart l
       ];
     }
 
+-- the same where the lists have other names
+pub after_played : (graph : Network) (nets : List Net) (round : ℕ) (old : State) (trees : Vec Tree Global) (logs : Vec RoundLog Global) (log : RoundLog) (shut : Shut) (moved log_moved : List NetNo) (before after log_trees : List Tree) (log_counts : List ℕ)
+    → moved ≡ old.moved.items → before ≡ old.trees.items → after ≡ trees.items → log_moved ≡ old.moved.items → log_trees ≡ trees.items → log_counts ≡ shut.closed
+    → IsBefore graph nets round old
+    → IsRound graph nets (round + 1) old.prices.history.items old.prices.counts.items moved before after
+    → shut.opened ≡ old.prices.counts.items → IsTally moved before after shut → HoldOnce after → logs.items ≡ old.logs.items ++ log ∷ []
+    → IsLog (past_of (round + 1) old.prices.history.items log_moved log_trees log_counts) log
+    → AreMoversReached graph nets moved (length moved)
+    → IsAfter graph nets round (record { prices = record { round = round + 1; history = old.prices.history; counts = old.prices.counts }; moved = old.moved; trees = trees; logs = logs; tallies = old.tallies }) shut
+after_played graph nets round old trees logs log shut moved log_moved before after log_trees log_counts m b a lm lt lc h done opened tally apart logs_are is_log reached =
+    let history = old.prices.history.items in
+    let counts = old.prices.counts.items in
+    after_round graph nets round old trees logs log shut h
+    (subst (λ x. IsRound graph nets (round + 1) history counts x old.trees.items trees.items) m (subst (λ x. IsRound graph nets (round + 1) history counts moved x trees.items) b (subst (λ x. IsRound graph nets (round + 1) history counts moved before x) a done)))
+    opened
+    (subst (λ x. IsTally x old.trees.items trees.items shut) m (subst (λ x. IsTally moved x trees.items shut) b (subst (λ x. IsTally moved before x shut) a tally)))
+    (subst HoldOnce a apart)
+    logs_are
+    (subst (λ x. IsLog (past_of (round + 1) history x trees.items shut.closed) log) lm (subst (λ x. IsLog (past_of (round + 1) history log_moved x shut.closed) log) lt (subst (λ x. IsLog (past_of (round + 1) history log_moved log_trees x) log) lc is_log)))
+    (subst (λ (x : List NetNo). AreMoversReached graph nets x (length x)) m reached)
+
 pub before_next : (graph : Network) (nets : List Net) (round number : ℕ) (old : State) (shut : Shut) (history counts : Vec ℕ Global) (moved : Vec NetNo Global) (tallies : Vec Shut Global) → length nets ≤ 65536 → IsAfter graph nets round old shut
     → ((w : ℕ) × (1 < slice_index shut.closed w)) → history.items ≡ next_history old.prices.history.items shut.closed → counts.items ≡ shut.closed → moved.items ≡ movers_of (round + 1) old.trees.items → tallies.items ≡ old.tallies.items ++ shut ∷ []
     → IsBefore graph nets (round + 1) (record { prices = record { round = number; history = history; counts = counts }; moved = moved; trees = old.trees; logs = old.logs; tallies = tallies })
@@ -135,14 +156,14 @@ before_next graph nets round number old shut history counts moved tallies few h 
             (let e : slice_index history.items w ≡ slice_index (next_history old.prices.history.items shut.closed) w = ap (λ xs. slice_index xs w) risen in
             let rise = next_low old.prices.history.items shut.closed w in
             let was = h.sound.low w in
-            let long = h.sound.trees in
+            let long = h.sound.many in
             let most = count_low shut.closed old.trees.items h.sound.occupied (omega arith) w in
             omega arith);
         counted = ap length counts_are ∙ h.sound.counted;
         occupied = subst (λ cs. IsOccupancy cs old.trees.items) (sym counts_are) h.sound.occupied;
-        trees = h.sound.trees;
+        many = h.sound.many;
         apart = h.sound.apart;
-        different = movers_different (round + 1) old.trees.items nets moved.items h.sound.trees movers;
+        different = movers_different (round + 1) old.trees.items nets moved.items h.sound.many movers;
       };
       earlier = h.earlier ++ last ∷ [];
       number = (let e = length_push h.earlier last in let n = h.number in omega arith);

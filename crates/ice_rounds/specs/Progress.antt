@@ -24,7 +24,7 @@ pub record IsSound (graph : Network) (nets : List Net) (round : ℕ) (history co
   pub low : (w : ℕ) → slice_index history w ≤ round * 65535
   pub counted : length counts ≡ graph.wires
   pub occupied : IsOccupancy counts trees
-  pub trees : length trees ≡ length nets
+  pub many : length trees ≡ length nets
   pub apart : HoldOnce trees
   pub different : AreDifferent nets moved
 
