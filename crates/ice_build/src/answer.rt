@@ -11,6 +11,7 @@ use ice_core::RoundLog;
 use ice_negotiate::Routed;
 use ice_pads::{Pads, PinFault};
 use ice_place::{PlaceFault, Placement};
+use ice_words::Tally;
 use std::fmt;
 use thiserror::Error;
 
@@ -81,6 +82,8 @@ pub enum BuildFault {
         layout: Layout,
         /// The logs of the rounds in order.
         logs: Vec<RoundLog>,
+        /// The tallies of the rounds in order.
+        tallies: Vec<Tally>,
     },
     /// Want of memory.
     #[error("want of memory")]

@@ -15,11 +15,12 @@ use ice_chip::Chip;
 use ice_desk::Gate;
 use ice_pcf::Pcf;
 use std::alloc::Global;
+use std::thread::Threads;
 
 /// Builds a netlist on a chip, in the package of that name: the bits, with the placed design and its trees. The netlist is packed, the
 /// runs of its carries are made, its cells are put into clusters, its ports get pads, its clusters get places, first by first fit and
 /// then improved from a seed; its nets are routed over the usable rows of the chip in at most so many rounds, from 1 to 64, by 1 to 8
-/// workers, on whom nothing depends; and the bits of all that are set, and no others.
+/// workers, each in a thread, on whom nothing depends; and the bits of all that are set, and no others.
 ///
 /// On every chip on which no global is fed by a global, as where each is fed in an IO tile, the bits are a circuit without a fault,
 /// which for every list of levels shows at the ports' pads, step by step, what the netlist shows, and drives no other pad.
@@ -28,7 +29,8 @@ use std::alloc::Global;
 /// In this order: the fault of the pins exactly where `assign` has one; that of the places exactly where the first placement has one;
 /// the first sink to which no walk leads, and permitted rounds that all end with an overused wire, each with the placed design of
 /// which it is true. Want of memory may come at any time; more than 65,536 nets count as such.
-pub fn build<G: Gate + Sync>(
+pub fn build<G: Gate + Sync, R: Threads + Sync>(
+    rt: &R,
     alloc: Global,
     chip: &Chip,
     name: &[u8],
@@ -46,6 +48,6 @@ pub fn build<G: Gate + Sync>(
     layouts_stand_on_their_chip(chip, sound);
     realised_layouts_show_their_netlist(sound);
     let layout = lay_out(alloc, chip, name, pcf, sound, effort.seed)?;
-    let built = finish(alloc, chip, layout, effort, gate)?;
+    let built = finish(rt, alloc, chip, layout, effort, gate)?;
     Ok(built)
 }

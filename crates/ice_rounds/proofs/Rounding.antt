@@ -1,7 +1,7 @@
 -- One round after another.
 use Rattle.std.proofs.Common.{◌≡◌, ℕ, zero, suc, ◌+◌, ◌-◌, ◌≤◌, ◌<◌, Bool, true, false, cond, List, [], ◌∷◌, ◌++◌, Some, length, replicate, slice_get, slice_index, refl, sym, ap, ◌∙◌, subst, arith, inl, inr}
 use Rattle.std.proofs.lemmas.Option.{slice_get_within}
-use Rattle.std.proofs.lemmas.List.Sums.{count_by-le-length, sum_by-cons}
+use Rattle.std.proofs.lemmas.List.Sums.{sum_by-cons}
 use Rattle.ice_base.specs.declared.number.WireNo.{WireNo}
 use Rattle.ice_base.specs.declared.number.NetNo.{NetNo}
 use Rattle.ice_graph.specs.declared.tree.Tree.{Tree}
@@ -12,7 +12,6 @@ use Rattle.ice_core.specs.Congestion.{next_history}
 use Rattle.ice_core.specs.Moves.{IsOccupancy, holds, stands_in, occupancy, moves, movers_from, movers_of}
 use Rattle.ice_negotiate.specs.Rounds.{Past, AreAll, AreBare, AreDifferent, AreMoversReached, AreOverused, AreReachedBefore, AreRounds, Follows, IsOverused}
 use Rattle.ice_negotiate.specs.Logs.{AreLogs, IsLog}
-use Rattle.ice_negotiate.proofs.Advancing.{beyond_end, within_or_not}
 use Rattle.ice_words.specs.Grips.{Shut}
 use Rattle.ice_negotiate.specs.Tallies.{AreTallies, IsTally}
 use Rattle.ice_negotiate.proofs.Listing.{pushed, length_push, last_get}

@@ -11,7 +11,7 @@ use Rattle.ice_core.specs.Congestion.{next_history}
 use Rattle.ice_core.specs.Moves.{IsOccupancy, movers_of}
 use Rattle.ice_words.specs.Grips.{Shut}
 use Rattle.ice_negotiate.specs.Trees.{AreOnce}
-use Rattle.ice_negotiate.specs.Rounds.{Past, past_of, AreAll, AreBare, AreBounded, AreMoversReached, AreReachedBefore, AreRounds, HoldOnce, IsFirst, IsFirstStop, IsRound}
+use Rattle.ice_negotiate.specs.Rounds.{Past, past_of, AreAll, AreBare, AreBounded, AreMoversReached, AreReachedBefore, HoldOnce, IsFirst, IsFirstStop, IsRound}
 use Rattle.ice_negotiate.specs.Logs.{AreLogs, AreRouted, IsLog, IsStop, IsFault}
 use Rattle.ice_negotiate.specs.Tallies.{AreTallies, IsTally}
 use Rattle.ice_negotiate.specs.declared.fault.Routed.{Routed}
@@ -170,7 +170,7 @@ before_next graph nets round number old shut history counts moved tallies few h 
       rounds = h.rounds;
       next = record {
         on = λ new news done long occupied. rounds_more graph nets h.earlier last (past_of (round + 1 + 1) history.items moved.items new news) h.rounds
-        (record { number = refl; risen = risen; movers = movers; done = subst (λ cs. IsRound graph nets (round + 1 + 1) history.items cs moved.items old.trees.items new) counts_are done }) long occupied;
+            (record { number = refl; risen = risen; movers = movers; done = subst (λ cs. IsRound graph nets (round + 1 + 1) history.items cs moved.items old.trees.items new) counts_are done }) long occupied;
         tallied = λ new after tally. tallies_more h.earlier last (past_of (round + 1 + 1) history.items moved.items new after.closed) tallies.items after all_tallies tally;
       };
       overused = overused_more h.earlier last h.overused over;

@@ -23,5 +23,5 @@ loop-hand-preserved c =
       hands = t.0;
       few = omega (arith, more, c.loop-hand.invariant.few);
       joined = subst (λ n. AreJoined board.histories counts all (vec_len c.pop.new.self) n c.join.new.hand.view) done
-      (one_joined board counts all (vec_len c.pop.new.self) (vec_len c.loop-hand.hands) (all - vec_len c.loop-hand.hands) c.in-Some.hand c.loop-hand.main.view c.join.new.hand.view t.1 c.join.ensures.view more c.loop-hand.invariant.joined);
+          (one_joined board counts all (vec_len c.pop.new.self) (vec_len c.loop-hand.hands) (all - vec_len c.loop-hand.hands) c.in-Some.hand c.loop-hand.main.view c.join.new.hand.view t.1 c.join.ensures.view more c.loop-hand.invariant.joined);
     }

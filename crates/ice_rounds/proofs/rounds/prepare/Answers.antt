@@ -11,9 +11,13 @@ pub returns : goal.returns
 returns g c =
     let old = c.args.state.now in
     let items : (with_items old.prices.history c.raise.new.history).items ≡ c.raise.new.history = with_items_is old.prices.history c.raise.new.history (c.raise.auto.history ∙ c.deref_mut.ensures.len) in
+    let risen : c.raise.new.history ≡ next_history c.deref_mut.result.now c.args.counts.closed = c.in_ok-raise.ensures in
+    let copied : c.copy_from_slice.new.self.items ≡ c.all.result.now = c.copy_from_slice.ensures.items in
+    let movers : c.in_ok-state.field-0.items ≡ movers_of (c.args.round + 1) c.deref-2.result.now = c.in_ok-state.ensures in
+    let pushed : c.push.new.self.items ≡ old.tallies.items ++ c.tally.result ∷ [] = c.in_ok-push.ensures.items in
     before_next c.args.graph.now c.args.nets.now c.args.round old.prices.round old c.args.counts (with_items old.prices.history c.raise.new.history) c.copy_from_slice.new.self c.in_ok-state.field-0 c.push.new.self
     c.requires.few c.requires.after c.requires.overused
-    (items ∙ (c.in_ok-raise.ensures ∙ ap (λ h. next_history h c.args.counts.closed) c.deref_mut.ensures.value))
-    (c.copy_from_slice.ensures.items ∙ c.all.ensures)
-    (c.in_ok-state.ensures ∙ ap (movers_of (c.args.round + 1)) c.deref-2.ensures.value)
-    (c.in_ok-push.ensures.items ∙ ap (λ (t : Shut). old.tallies.items ++ t ∷ []) c.tally.ensures)
+    (items ∙ (risen ∙ ap (λ h. next_history h c.args.counts.closed) c.deref_mut.ensures.value))
+    (copied ∙ c.all.ensures)
+    (movers ∙ ap (movers_of (c.args.round + 1)) c.deref-2.ensures.value)
+    (pushed ∙ ap (λ (t : Shut). old.tallies.items ++ t ∷ []) c.tally.ensures)
