@@ -28,7 +28,7 @@ fn task_of(alloc: Global, number: NetNo, net: &Net, tree: &Tree) -> Result<Task,
         net: number,
         root: net.root,
         sinks: copy_of(alloc, &net.sinks)?,
-        old: Vec::from_slice(alloc, &tree.wires[..0])?,
+        old: Vec::from_slice(alloc, &tree.wires)?,
     })
 }
 

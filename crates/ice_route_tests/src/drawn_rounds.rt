@@ -230,7 +230,13 @@ fn compare_nets(
 }
 
 // Draws three nets of a graph, and fails unless both programs answer the same.
-fn compare_in(rt: &(impl Abort + Threads + Sync), alloc: Global, seed: &mut u64, graph: &Graph, tally: Tally) -> Tally
+fn compare_in(
+    rt: &(impl Abort + Threads + Sync),
+    alloc: Global,
+    seed: &mut u64,
+    graph: &Graph,
+    tally: Tally,
+) -> Tally
     requires { graph.now.wires ≡ 12 }
 {
     let nets = drawn_nets(alloc, seed, graph).expect(rt, "memory");

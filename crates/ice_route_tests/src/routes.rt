@@ -130,15 +130,7 @@ fn expect_long_way(rt: &impl Abort, routed: &Routed) {
 fn expect_routed(rt: &(impl Abort + Threads + Sync), alloc: Global, graph: &Graph, workers: u32)
     requires { (1 ≤ workers) × (workers ≤ 8) }
 {
-    match route(
-        rt,
-        alloc,
-        graph,
-        &[b"5", b"6"],
-        64,
-        workers,
-        &OpenGate,
-    ) {
+    match route(rt, alloc, graph, &[b"5", b"6"], 64, workers, &OpenGate) {
         Ok(routed) => expect_long_way(rt, &routed),
         Err(fault) => panic!(rt; "{fault}"),
     }
@@ -218,7 +210,12 @@ pub enum Wanted {
 }
 
 /// Fails unless this is answered, by 1, 2 and 8 workers where nets are routed.
-pub fn expect_answer(rt: &(impl Abort + Threads + Sync), alloc: Global, graph: &Graph, wanted: Wanted) {
+pub fn expect_answer(
+    rt: &(impl Abort + Threads + Sync),
+    alloc: Global,
+    graph: &Graph,
+    wanted: Wanted,
+) {
     match wanted {
         Wanted::LongWay => {
             expect_routed(rt, alloc, graph, 1);
