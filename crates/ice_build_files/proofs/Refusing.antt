@@ -33,7 +33,7 @@ refused name rounds t task (build.Places fault) cause asked (pads, pins, said) i
 refused name rounds t task (build.Unreachable layout net sink) cause asked (laid, stuck) is =
     subst (IsRefusal (Stands name rounds t)) (sym is)
     (end_so name rounds t task layout.pads laid.placed.first (Unreachable layout.placement net sink) asked (pins_good task layout laid) (places_good task layout laid) (layout, laid, refl, stuck), tt)
-refused name rounds t task (build.GaveUp layout logs) cause asked (laid, given) is =
+refused name rounds t task (build.GaveUp layout logs tallies) cause asked (laid, given) is =
     subst (IsRefusal (Stands name rounds t)) (sym is)
     (end_so name rounds t task layout.pads laid.placed.first (GaveUp layout.placement logs) asked (pins_good task layout laid) (places_good task layout laid) (layout, laid, refl, given), tt)
 refused name rounds t task (build.Bits fault) cause asked bits is =

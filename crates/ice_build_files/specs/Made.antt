@@ -9,6 +9,7 @@ use Rattle.ice_asc.specs.Text.{asc_text}
 use Rattle.ice_core.specs.declared.log.RoundLog.{RoundLog}
 use Rattle.ice_decode.specs.declared.fault.DecodeFault.{DecodeFault}
 use Rattle.ice_pads.specs.Assign.{PadsData}
+use Rattle.ice_words.specs.Grips.{Shut}
 use Rattle.ice_build.specs.Answers.{IsBuilt, IsStuck, IsGivenUp, IsUndecoded, pins_said}
 use Rattle.ice_build.specs.Laid.{Task, IsLaidOut, plan_in}
 use Rattle.ice_build.specs.Shown.{IsCircuitOf}
@@ -55,7 +56,7 @@ IsStuckOn task placement net sink = IsLaidOn task placement (λ layout. IsStuck 
 
 -- with this placement each permitted round ends with an overused wire, and these are the logs of the rounds
 abbrev pub IsGivenUpOn : Task → ℕ → List TileAt → List RoundLog → Type 0
-IsGivenUpOn task rounds placement logs = IsLaidOn task placement (λ layout. IsGivenUp task.parts (plan_in layout) rounds logs)
+IsGivenUpOn task rounds placement logs = IsLaidOn task placement (λ layout. (tallies : List Shut) × IsGivenUp task.parts (plan_in layout) rounds logs tallies)
 
 -- ---- of bits
 -- the task is built, but for this fault the bits have no circuit; so some global of the chip is fed by a global

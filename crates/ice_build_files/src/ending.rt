@@ -45,7 +45,7 @@ pub fn build_refusal(fault: BuildFault) -> Cause
             net,
             sink,
         },
-        BuildFault::GaveUp { layout, logs } => Cause::GaveUp {
+        BuildFault::GaveUp { layout, logs, .. } => Cause::GaveUp {
             placement: layout.placement,
             logs,
         },

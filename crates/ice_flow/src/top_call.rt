@@ -12,9 +12,11 @@ use ice_desk::{Desk, Gate};
 use ice_play::play_net;
 use ice_play_bits::play_bits;
 use std::alloc::Global;
+use std::thread::Threads;
 
 // The answer to the words, with all that is known of it.
-fn answer<D: Desk, G: Gate + Sync>(
+fn answer<D: Desk, G: Gate + Sync, R: Threads + Sync>(
+    rt: &R,
     alloc: Global,
     words: &[String],
     desk: &mut D,
@@ -31,7 +33,7 @@ fn answer<D: Desk, G: Gate + Sync>(
 {
     match read_request(words) {
         None => finish(desk, Cause::Usage),
-        Some(Request::Build(request)) => build_files(alloc, desk, gate, &request),
+        Some(Request::Build(request)) => build_files(rt, alloc, desk, gate, &request),
         Some(Request::PlayNet(request)) => play_net(alloc, desk, &request),
         Some(Request::PlayBits(request)) => play_bits(alloc, desk, &request),
     }
@@ -44,7 +46,8 @@ fn answer<D: Desk, G: Gate + Sync>(
 /// ports drive, step by step. `play-bits CHIP PACKAGE ASC LEVELS` reads the texts of a chip database, of bits and of levels, and says
 /// what the configured chip drives at the pads of the package, step by step.
 #[tactic(auto, using(crate::proofs::RowLaws::answers_so))]
-pub fn run<D: Desk, G: Gate + Sync>(
+pub fn run<D: Desk, G: Gate + Sync, R: Threads + Sync>(
+    rt: &R,
     alloc: Global,
     words: &[String],
     desk: &mut D,
@@ -53,5 +56,5 @@ pub fn run<D: Desk, G: Gate + Sync>(
     requires { MayUse (D.may_read desk.old) (D.may_write desk.old) (request_of (map string_bytes words.now)) }
     ensures { IsAnswer (request_of (map string_bytes words.now)) (D.seen desk.old) (D.seen desk.new) result }
 {
-    answer(alloc, words, desk, gate)
+    answer(rt, alloc, words, desk, gate)
 }
