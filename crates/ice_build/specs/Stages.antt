@@ -1,5 +1,6 @@
 -- What the stages of building answer.
 use Rattle.std.specs.Prelude.{◌≡◌, ℕ, ◌≤◌, Ok, Err}
+use Rattle.ice_bits.specs.Configuration.{Configuration}
 use Rattle.ice_chip.specs.Database.{Parts}
 use Rattle.ice_cells.specs.declared.cluster.Clusters.{Clusters}
 use Rattle.ice_cells.specs.declared.design.Design.{Design}
@@ -11,13 +12,13 @@ use Rattle.ice_plan.specs.Plan.{Plan}
 use Rattle.ice_sites.specs.Stretches.{stretches_of}
 use Rattle.ice_written.specs.Routed.{AreTrees}
 use Rattle.ice_written.specs.Written.{IsWritten}
-use Rattle.ice_build.specs.Answers.{IsRouted, IsStuck, IsGivenUp, routes_in, pins_said, places_said}
+use Rattle.ice_build.specs.Answers.{IsRouted, IsStuck, IsGivenUp, IsUndecoded, routes_in, pins_said, places_said}
 use Rattle.ice_build.specs.Laid.{Task, plan_in}
 use Rattle.ice_build.specs.declared.answer.Built.{Built}
 use Rattle.ice_build.specs.declared.answer.Effort.{Effort}
 use Rattle.ice_build.specs.declared.answer.Layout.{Layout}
 use Rattle.ice_build.specs.declared.answer.BuildFault.{BuildFault}
-use Rattle.ice_build.specs.declared.answer.BuildFault.TheVariants.{Pins, Places, Unreachable, GaveUp, NoMemory}
+use Rattle.ice_build.specs.declared.answer.BuildFault.TheVariants.{Pins, Places, Unreachable, GaveUp, Bits, NoMemory}
 
 -- from 1 to 64 rounds and from 1 to 8 workers
 pub record IsPermitted (effort : Effort) : Type 0 where
@@ -31,7 +32,8 @@ abbrev pub IsPlaceFault : Parts → Clusters → Design → BuildFault → Type 
 IsPlaceFault parts clusters d (Pins fault) = ⊥
 IsPlaceFault parts clusters d (Places fault) = place_of (stretches_of parts) clusters d ≡ Err fault
 IsPlaceFault parts clusters d (Unreachable layout net sink) = ⊥
-IsPlaceFault parts clusters d (GaveUp layout logs tallies) = ⊥
+IsPlaceFault parts clusters d (GaveUp layout logs) = ⊥
+IsPlaceFault parts clusters d (Bits fault) = ⊥
 IsPlaceFault parts clusters d NoMemory = Unit {0}
 
 -- why a netlist is not placed
@@ -39,19 +41,20 @@ abbrev pub IsLayFault : Task → BuildFault → Type 0
 IsLayFault task (Pins fault) = pins_said task ≡ Err fault
 IsLayFault task (Places fault) = (pads : PadsData) × (pins_said task ≡ Ok pads) × (places_said task ≡ Err fault)
 IsLayFault task (Unreachable layout net sink) = ⊥
-IsLayFault task (GaveUp layout logs tallies) = ⊥
+IsLayFault task (GaveUp layout logs) = ⊥
+IsLayFault task (Bits fault) = ⊥
 IsLayFault task NoMemory = Unit {0}
 
 -- why the nets of a placed design are not routed
 abbrev pub IsRouteFault : Parts → Plan → ℕ → RouteFault → Type 0
 IsRouteFault parts plan rounds (route.Unreachable net sink) = IsStuck parts plan net sink
-IsRouteFault parts plan rounds (route.GaveUp logs tallies) = IsGivenUp parts plan rounds logs.items tallies.items
+IsRouteFault parts plan rounds (route.GaveUp logs tallies) = IsGivenUp parts plan rounds logs.items
 IsRouteFault parts plan rounds route.NoMemory = Unit {0}
 
 -- the same of building, with the placed design
 abbrev pub unrouted : Layout → RouteFault → BuildFault
 unrouted layout (route.Unreachable net sink) = Unreachable layout net sink
-unrouted layout (route.GaveUp logs tallies) = GaveUp layout logs tallies
+unrouted layout (route.GaveUp logs tallies) = GaveUp layout logs
 unrouted layout route.NoMemory = NoMemory
 
 -- a placed design is routed, and its bits are written
@@ -64,3 +67,12 @@ pub record IsFinished (parts : Parts) (rounds : ℕ) (layout : Layout) (built : 
 -- why it is not
 abbrev pub IsEndFault : Parts → ℕ → Layout → BuildFault → Type 0
 IsEndFault parts rounds layout fault = (stop : RouteFault) × IsRouteFault parts (plan_in layout) rounds stop × (fault ≡ unrouted layout stop)
+
+-- why bits have no circuit
+abbrev pub IsBitsFault : Parts → Configuration → BuildFault → Type 0
+IsBitsFault parts k (Pins fault) = ⊥
+IsBitsFault parts k (Places fault) = ⊥
+IsBitsFault parts k (Unreachable layout net sink) = ⊥
+IsBitsFault parts k (GaveUp layout logs) = ⊥
+IsBitsFault parts k (Bits fault) = IsUndecoded parts k fault
+IsBitsFault parts k NoMemory = Unit {0}

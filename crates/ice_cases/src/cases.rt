@@ -4,6 +4,7 @@ use crate::pieces::{Draft, word_at};
 use crate::texts::Text;
 use ice_base::NoMemory;
 use std::alloc::{AllocError, Global};
+use std::thread::Threads;
 
 /// How far the lines are read.
 #[derive(Clone, Copy, PartialEq, Eq)]
@@ -74,12 +75,16 @@ impl<'a> Cases<'a> {
     }
 
     /// Ends a case: the text of its answer, and nothing where no case is open.
-    pub fn close(&mut self, alloc: Global) -> Result<Vec<u8>, AllocError> {
+    pub fn close(
+        &mut self,
+        rt: &(impl Threads + Sync),
+        alloc: Global,
+    ) -> Result<Vec<u8>, AllocError> {
         self.end_text()?;
         if self.stage != Stage::Case {
             return Ok(Vec::new(alloc));
         }
-        let said = answer(alloc, &self.case, &self.texts)?;
+        let said = answer(rt, alloc, &self.case, &self.texts)?;
         self.texts.truncate(self.shared);
         Ok(said)
     }
@@ -119,6 +124,7 @@ impl<'a> Cases<'a> {
             b"until" => draft.until(&self.texts, line)?,
             b"copy" => draft.copy(&self.texts, line)?,
             b"sample" => draft.sample(alloc, line)?,
+            b"netlist" => draft.netlist(line)?,
             _ => return Ok(draft.add_marked(&self.texts, line)?),
         }
         Ok(true)
@@ -133,6 +139,7 @@ impl<'a> Cases<'a> {
             b"group" => self.begin_group(line),
             b"case" => self.begin_case(alloc)?,
             b"words" => self.case.words = line,
+            b"then" => self.case.then = line,
             b"moves" => self.case.moves = line,
             b"fails" => self.case.fails = line,
             b"shows" => self.case.shows = line,

@@ -40,6 +40,6 @@ fn main(rt: HostRuntime) -> ExitCode {
         return ExitCode::from(NO_MEMORY);
     };
     let mut desk = HostDesk::new(rt);
-    let done = run(alloc, &words, &mut desk, &OpenGate);
+    let done = run(&rt, alloc, &words, &mut desk, &OpenGate);
     ExitCode::from(done.status)
 }
