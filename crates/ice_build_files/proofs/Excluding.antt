@@ -250,14 +250,15 @@ built_not_stuck task rounds placement net sink (built, is, on) (layout, laid, he
     let same = same_layout task layout built.layout laid is.laid (here ∙ sym on) in
     routed_not_stuck task.parts (plan_in built.layout) rounds built.routed net sink is.routed (subst (λ (l : Layout). IsStuck task.parts (plan_in l) net sink) same stuck)
 
-pub built_not_given_up : (task : Task) (rounds : ℕ) (placement : List TileAt) (logs : List RoundLog) → IsBuiltOn task rounds placement → IsGivenUpOn task rounds placement logs → ⊥
-built_not_given_up task rounds placement logs (built, is, on) (layout, laid, here, tallies, all) =
+pub built_not_given_up : (task : Task) (rounds : ℕ) (placement : List TileAt) (logs : List RoundLog) (tallies : List Shut) → IsBuiltOn task rounds placement
+    → IsGivenUpOn task rounds placement logs tallies → ⊥
+built_not_given_up task rounds placement logs tallies (built, is, on) (layout, laid, here, all) =
     let same = same_layout task layout built.layout laid is.laid (here ∙ sym on) in
     routed_not_given_up task.parts (plan_in built.layout) rounds built.routed logs tallies is.routed (subst (λ (l : Layout). IsGivenUp task.parts (plan_in l) rounds logs tallies) same all)
 
-pub given_up_not_stuck_on : (task : Task) (rounds : ℕ) (placement : List TileAt) (logs : List RoundLog) (net : NetNo) (sink : WireNo) → IsGivenUpOn task rounds placement logs
+pub given_up_not_stuck_on : (task : Task) (rounds : ℕ) (placement : List TileAt) (logs : List RoundLog) (tallies : List Shut) (net : NetNo) (sink : WireNo) → IsGivenUpOn task rounds placement logs tallies
     → IsStuckOn task placement net sink → ⊥
-given_up_not_stuck_on task rounds placement logs net sink (layout, laid, here, tallies, all) (other, laid', there, stuck) =
+given_up_not_stuck_on task rounds placement logs tallies net sink (layout, laid, here, all) (other, laid', there, stuck) =
     let same = same_layout task other layout laid' laid (there ∙ sym here) in
     given_up_not_stuck task.parts (plan_in layout) rounds logs tallies net sink all (subst (λ (l : Layout). IsStuck task.parts (plan_in l) net sink) same stuck)
 

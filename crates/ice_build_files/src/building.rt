@@ -49,7 +49,7 @@ fn build_sound<G: Gate + Sync, R: Threads + Sync>(
 ) -> Result<Made, Cause>
     requires asked { IsAsked request.now.package_name.now texts.now (task_of chip.now request.now.package_name.now pcf.now sound.now) }
     requires effort { IsPermitted request.now.effort }
-    ensures made { IfOk result (λ made. IsMade (request_view request.now) texts.now made.text.items made.placement) }
+    ensures made { IfOk result (λ made. IsMade (request_view request.now) texts.now made.text.items made.placement made.tallies.items) }
     ensures refused { IfErr result (λ cause. IsRefusal (Stands request.now.package_name.now request.now.effort.rounds texts.now) cause) }
 {
     let name = request.package_name.as_bytes();
@@ -73,7 +73,7 @@ fn build_net<G: Gate + Sync, R: Threads + Sync>(
     requires read { IsRead texts.now chip.now pcf.now }
     requires netlist { netlist_of (text_at texts.now 3) ≡ Ok netlist }
     requires effort { IsPermitted request.now.effort }
-    ensures made { IfOk result (λ made. IsMade (request_view request.now) texts.now made.text.items made.placement) }
+    ensures made { IfOk result (λ made. IsMade (request_view request.now) texts.now made.text.items made.placement made.tallies.items) }
     ensures refused { IfErr result (λ cause. IsRefusal (Stands request.now.package_name.now request.now.effort.rounds texts.now) cause) }
 {
     match check(alloc, netlist) {
@@ -94,7 +94,7 @@ fn build_read<G: Gate + Sync, R: Threads + Sync>(
 ) -> Result<Made, Cause>
     requires read { IsRead texts.now chip.now pcf.now }
     requires effort { IsPermitted request.now.effort }
-    ensures made { IfOk result (λ made. IsMade (request_view request.now) texts.now made.text.items made.placement) }
+    ensures made { IfOk result (λ made. IsMade (request_view request.now) texts.now made.text.items made.placement made.tallies.items) }
     ensures refused { IfErr result (λ cause. IsRefusal (Stands request.now.package_name.now request.now.effort.rounds texts.now) cause) }
 {
     match read_blif(alloc, texts.at(3)) {
@@ -114,7 +114,7 @@ fn build_on<G: Gate + Sync, R: Threads + Sync>(
 ) -> Result<Made, Cause>
     requires chip { chip_says (text_at texts.now 1) ≡ Ok chip.now }
     requires effort { IsPermitted request.now.effort }
-    ensures made { IfOk result (λ made. IsMade (request_view request.now) texts.now made.text.items made.placement) }
+    ensures made { IfOk result (λ made. IsMade (request_view request.now) texts.now made.text.items made.placement made.tallies.items) }
     ensures refused { IfErr result (λ cause. IsRefusal (Stands request.now.package_name.now request.now.effort.rounds texts.now) cause) }
 {
     match read_pcf(alloc, texts.at(2)) {
@@ -132,7 +132,7 @@ fn build_texts<G: Gate + Sync, R: Threads + Sync>(
     texts: &Texts,
 ) -> Result<Made, Cause>
     requires { IsPermitted request.now.effort }
-    ensures made { IfOk result (λ made. IsMade (request_view request.now) texts.now made.text.items made.placement) }
+    ensures made { IfOk result (λ made. IsMade (request_view request.now) texts.now made.text.items made.placement made.tallies.items) }
     ensures refused { IfErr result (λ cause. IsRefusal (Stands request.now.package_name.now request.now.effort.rounds texts.now) cause) }
 {
     match read_chip(alloc, texts.at(1)) {
