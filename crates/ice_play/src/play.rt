@@ -8,8 +8,8 @@ ghost use Rattle.ice_play.specs.Played.{Stands, IsMade, play_net};
 ghost use Rattle.ice_play.specs.Requests.{request_view};
 
 use ice_answer::{
-    Cause, Done, FileRole, InputFile, Made, Making, Texts, blif_refusal, net_refusal, no_placement, no_tallies,
-    say_made,
+    Cause, Done, FileRole, InputFile, Made, Making, Texts, blif_refusal, net_refusal, no_placement,
+    no_tallies, say_made,
 };
 use ice_base::NoMemory;
 use ice_blif::read_blif;
