@@ -26,11 +26,15 @@ pub fn made_of(alloc: Global, chip: &Chip, built: Built) -> Result<Made, Cause>
 {
     let mut text = Vec::new(alloc);
     match write_asc(&built.bits, chip, &mut text) {
-        Ok(()) => Ok(Made {
-            text,
-            placement: built.layout.placement,
-            tallies: built.routed.tallies,
-        }),
+        Ok(()) => {
+            let layout = built.layout;
+            let routed = built.routed;
+            Ok(Made {
+                text,
+                placement: layout.placement,
+                tallies: routed.tallies,
+            })
+        }
         Err(NoMemory) => Err(Cause::NoMemory),
     }
 }
