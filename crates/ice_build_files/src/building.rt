@@ -34,9 +34,11 @@ use ice_desk::{Desk, Gate};
 use ice_net::Netlist;
 use ice_pcf::{Pcf, read_pcf};
 use std::alloc::Global;
+use std::thread::Threads;
 
 // What is made of a task that the texts say.
-fn build_sound<G: Gate + Sync>(
+fn build_sound<G: Gate + Sync, R: Threads + Sync>(
+    rt: &R,
     alloc: Global,
     gate: &G,
     request: &BuildRequest<'_>,
@@ -47,18 +49,19 @@ fn build_sound<G: Gate + Sync>(
 ) -> Result<Made, Cause>
     requires asked { IsAsked request.now.package_name.now texts.now (task_of chip.now request.now.package_name.now pcf.now sound.now) }
     requires effort { IsPermitted request.now.effort }
-    ensures made { IfOk result (λ made. IsMade (request_view request.now) texts.now made.text.items made.placement) }
+    ensures made { IfOk result (λ made. IsMade (request_view request.now) texts.now made.text.items made.placement made.tallies.items) }
     ensures refused { IfErr result (λ cause. IsRefusal (Stands request.now.package_name.now request.now.effort.rounds texts.now) cause) }
 {
     let name = request.package_name.as_bytes();
-    match build(alloc, chip, name, pcf, sound, request.effort, gate) {
+    match build(rt, alloc, chip, name, pcf, sound, request.effort, gate) {
         Ok(built) => made_of(alloc, chip, built),
         Err(fault) => Err(build_refusal(fault)),
     }
 }
 
 // What is made of a netlist that the third text says.
-fn build_net<G: Gate + Sync>(
+fn build_net<G: Gate + Sync, R: Threads + Sync>(
+    rt: &R,
     alloc: Global,
     gate: &G,
     request: &BuildRequest<'_>,
@@ -70,17 +73,18 @@ fn build_net<G: Gate + Sync>(
     requires read { IsRead texts.now chip.now pcf.now }
     requires netlist { netlist_of (text_at texts.now 3) ≡ Ok netlist }
     requires effort { IsPermitted request.now.effort }
-    ensures made { IfOk result (λ made. IsMade (request_view request.now) texts.now made.text.items made.placement) }
+    ensures made { IfOk result (λ made. IsMade (request_view request.now) texts.now made.text.items made.placement made.tallies.items) }
     ensures refused { IfErr result (λ cause. IsRefusal (Stands request.now.package_name.now request.now.effort.rounds texts.now) cause) }
 {
     match check(alloc, netlist) {
-        Ok(sound) => build_sound(alloc, gate, request, texts, chip, pcf, &sound),
+        Ok(sound) => build_sound(rt, alloc, gate, request, texts, chip, pcf, &sound),
         Err(fault) => Err(net_refusal(fault)),
     }
 }
 
 // What is made of a chip and constraints that the first two texts say.
-fn build_read<G: Gate + Sync>(
+fn build_read<G: Gate + Sync, R: Threads + Sync>(
+    rt: &R,
     alloc: Global,
     gate: &G,
     request: &BuildRequest<'_>,
@@ -90,17 +94,18 @@ fn build_read<G: Gate + Sync>(
 ) -> Result<Made, Cause>
     requires read { IsRead texts.now chip.now pcf.now }
     requires effort { IsPermitted request.now.effort }
-    ensures made { IfOk result (λ made. IsMade (request_view request.now) texts.now made.text.items made.placement) }
+    ensures made { IfOk result (λ made. IsMade (request_view request.now) texts.now made.text.items made.placement made.tallies.items) }
     ensures refused { IfErr result (λ cause. IsRefusal (Stands request.now.package_name.now request.now.effort.rounds texts.now) cause) }
 {
     match read_blif(alloc, texts.at(3)) {
-        Ok(netlist) => build_net(alloc, gate, request, texts, chip, pcf, netlist),
+        Ok(netlist) => build_net(rt, alloc, gate, request, texts, chip, pcf, netlist),
         Err(fault) => Err(blif_refusal(fault)),
     }
 }
 
 // What is made of a chip that the first text says.
-fn build_on<G: Gate + Sync>(
+fn build_on<G: Gate + Sync, R: Threads + Sync>(
+    rt: &R,
     alloc: Global,
     gate: &G,
     request: &BuildRequest<'_>,
@@ -109,34 +114,36 @@ fn build_on<G: Gate + Sync>(
 ) -> Result<Made, Cause>
     requires chip { chip_says (text_at texts.now 1) ≡ Ok chip.now }
     requires effort { IsPermitted request.now.effort }
-    ensures made { IfOk result (λ made. IsMade (request_view request.now) texts.now made.text.items made.placement) }
+    ensures made { IfOk result (λ made. IsMade (request_view request.now) texts.now made.text.items made.placement made.tallies.items) }
     ensures refused { IfErr result (λ cause. IsRefusal (Stands request.now.package_name.now request.now.effort.rounds texts.now) cause) }
 {
     match read_pcf(alloc, texts.at(2)) {
-        Ok(pcf) => build_read(alloc, gate, request, texts, chip, &pcf),
+        Ok(pcf) => build_read(rt, alloc, gate, request, texts, chip, &pcf),
         Err(fault) => Err(pcf_refusal(fault)),
     }
 }
 
 // What is made of the texts.
-fn build_texts<G: Gate + Sync>(
+fn build_texts<G: Gate + Sync, R: Threads + Sync>(
+    rt: &R,
     alloc: Global,
     gate: &G,
     request: &BuildRequest<'_>,
     texts: &Texts,
 ) -> Result<Made, Cause>
     requires { IsPermitted request.now.effort }
-    ensures made { IfOk result (λ made. IsMade (request_view request.now) texts.now made.text.items made.placement) }
+    ensures made { IfOk result (λ made. IsMade (request_view request.now) texts.now made.text.items made.placement made.tallies.items) }
     ensures refused { IfErr result (λ cause. IsRefusal (Stands request.now.package_name.now request.now.effort.rounds texts.now) cause) }
 {
     match read_chip(alloc, texts.at(1)) {
-        Ok(chip) => build_on(alloc, gate, request, texts, &chip),
+        Ok(chip) => build_on(rt, alloc, gate, request, texts, &chip),
         Err(fault) => Err(chip_refusal(fault)),
     }
 }
 
 // Reads the files, and builds what their texts say.
-fn make<D: Desk, G: Gate + Sync>(
+fn make<D: Desk, G: Gate + Sync, R: Threads + Sync>(
+    rt: &R,
     alloc: Global,
     desk: &mut D,
     gate: &G,
@@ -166,18 +173,19 @@ fn make<D: Desk, G: Gate + Sync>(
         },
     ];
     match read_texts(alloc, desk, &files) {
-        Ok(texts) => build_texts(alloc, gate, request, &texts),
+        Ok(texts) => build_texts(rt, alloc, gate, request, &texts),
         Err(cause) => Err(cause),
     }
 }
 
 /// Builds the netlist of one file on the chip of another, with the constraints of a third: reads the texts, makes the text of the bits,
 /// and only then writes it to the file of bits. A refusal says its line, and writes nothing. It may try for 1 to 64 rounds of routing,
-/// with 1 to 8 workers, which pass the gate.
+/// with 1 to 8 workers, each in a thread, which pass the gate.
 ///
 /// Where it is done and the desk tells its contents, the text that was written, read by the database of the chip's file, is a circuit
 /// that for every list of levels shows step by step at the ports' pads what the netlist shows, and drives no other pad.
-pub fn build_files<D: Desk, G: Gate + Sync>(
+pub fn build_files<D: Desk, G: Gate + Sync, R: Threads + Sync>(
+    rt: &R,
     alloc: Global,
     desk: &mut D,
     gate: &G,
@@ -197,6 +205,6 @@ pub fn build_files<D: Desk, G: Gate + Sync>(
     ensures silent { SilentRow (InFile Asc request.now.asc.now) (D.seen desk.old) (D.seen desk.new) result.cause }
     ensures given { TellsLong (D.seen desk.new) result.cause }
 {
-    let made = make(alloc, desk, gate, request);
+    let made = make(rt, alloc, desk, gate, request);
     end_in_file(desk, made, FileRole::Asc, request.asc)
 }

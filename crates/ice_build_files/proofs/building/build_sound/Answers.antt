@@ -14,4 +14,4 @@ returns-in-Ok-clause-made g c =
     let b = request_view c.args.request.now in
     let task = task_of c.args.chip.now b.package_name c.args.pcf.now c.args.sound.now in
     let e = c.made_of.ensures in
-    made_of_built b c.args.texts.now task c.in-Ok.built c.made_of.result c.requires.asked (rw c.as_bytes-name.ensures.value at c.in-Ok.ensures.built) c.in-Ok.ensures.circuit e.text e.placement e.read_back
+    made_of_built b c.args.texts.now task c.in-Ok.built c.made_of.result c.requires.asked (rw c.as_bytes-name.ensures.value at c.in-Ok.ensures.built) c.in-Ok.ensures.circuit e.text e.placement e.tallies e.read_back
