@@ -2,6 +2,7 @@
 
 levels CHIP PACKAGE PCF BLIF STEPS NET_LEVELS BITS_LEVELS  writes one step a line, for the netlist's ports and for the package's pads
 compare CHIP PACKAGE PCF BLIF NET_DRIVES BITS_DRIVES       ends with 0 where the pads show what the ports show, and every other is Off
+bench BLIF STEPS CHIP_VERILOG OUT  writes a bench that runs the Verilog of bits, from which memories are taken out, beside the netlist's
 """
 import random
 import sys
@@ -89,4 +90,43 @@ def compare(chip, package, pcf, blif, net_said, bits_said):
     print(f"    {len(net)} steps, {len(ports)} ports, {len(set(net))} different lines: the same")
 
 
-{"levels": levels, "compare": compare}[sys.argv[1]](*sys.argv[2:])
+def without_memories(file):
+    """Takes the memories out of the Verilog of bits: each tile of the device has one, and none is used."""
+    kept, inside = [], False
+    for line in open(file, encoding="ascii"):
+        inside = inside or line.startswith("SB_RAM40_4K")
+        if not inside:
+            kept.append(line)
+        elif line.startswith(");"):
+            inside = False
+    open(file, "w", encoding="ascii").writelines(kept)
+
+
+def bench(blif, steps, verilog, out):
+    ports, inputs = ports_of(blif)
+    both = {word for line in open(blif, encoding="ascii") if "PACKAGE_PIN=" in line for word in line.split() if word.startswith("PACKAGE_PIN=")}
+    without_memories(verilog)
+    source = random.Random(7)
+    chance = {"en": 0.9, "rst": 0.02}
+    lines = ["module bench;", f"  reg [{len(ports) - 1}:0] level = 0;", "  integer faults = 0;"]
+    for k, port in enumerate(ports):
+        lines += [f"  wire n{k}, c{k};"]
+        if port in inputs or f"PACKAGE_PIN={port}" in both:
+            # (what a module drives is stronger than this)
+            lines += [f"  assign (pull1, pull0) n{k} = level[{k}];", f"  assign (pull1, pull0) c{k} = level[{k}];"]
+    for module, name in (("top", "n"), ("chip", "c")):
+        lines += [f"  {module} the_{module} (" + ", ".join(f".\\{port} ({name}{k})" for k, port in enumerate(ports)) + ");"]
+    lines += ["  task check; begin"]
+    differs = "if (n{0} !== c{0} || n{0} === 1'bx) begin faults = faults + 1; $display(\"    {1} differs at %0d: %b and %b\", $time, n{0}, c{0}); end"
+    lines += [f"    {differs.format(k, port)}" for k, port in enumerate(ports)]
+    lines += ["  end endtask", "  initial begin"]
+    clock = 0
+    for step in range(int(steps)):
+        clock = 1 - clock
+        levels = [clock if port == "clk" else int(source.random() < chance.get(port, 0.5)) if step % 2 or port in ("rst",) else None for port in ports]
+        lines += ["    " + " ".join(f"level[{k}] = {value};" for k, value in enumerate(levels) if value is not None) + " #1 check;"]
+    lines += [f'    $display("    {steps} steps of %0d ports in Verilog: %0d differences", {len(ports)}, faults);', "    if (faults != 0) $fatal;", "    $finish;", "  end", "endmodule"]
+    open(out, "w", encoding="ascii").write("\n".join(lines) + "\n")
+
+
+{"levels": levels, "compare": compare, "bench": bench}[sys.argv[1]](*sys.argv[2:])

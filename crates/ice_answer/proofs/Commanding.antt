@@ -1,9 +1,10 @@
 -- What each step of a command comes to, by its causes.
 use Rattle.std.proofs.Common.{◌≡◌, ◌∙◌, ◌≤◌, ◌++◌, ℕ, Option, Some, List, sym, ap, subst, take, length, arith}
+use Rattle.ice_base.specs.declared.number.TileAt.{TileAt}
 use Rattle.ice_desk.specs.Desk.{Meaning, SameButReading, SameButSaying, Rose, after_one, after_more, HoldsAfter}
 use Rattle.ice_desk.specs.Said.{SaidRow, IsSilent}
 use Rattle.ice_answer.specs.declared.cause.Cause.{Cause}
-use Rattle.ice_answer.specs.declared.cause.Cause.TheVariants.{Good, Usage, BadBlif, BadPcf, BadChip, BadNet, BadPin, Unreachable, ReadFault, WriteFault, NoMemory, BadAsc, BadBits, TooLong, BadLevels, NotBuilt}
+use Rattle.ice_answer.specs.declared.cause.Cause.TheVariants.{Good, Usage, BadBlif, BadPcf, BadChip, BadNet, BadPin, Overfull, Unreachable, GaveUp, ReadFault, WriteFault, NoMemory, BadAsc, BadBits, TooLong, BadLevels}
 use Rattle.ice_answer.specs.declared.cause.FileRole.{FileRole}
 use Rattle.ice_answer.specs.Causes.{line_of}
 use Rattle.ice_answer.specs.Reading.{IsUnread}
@@ -24,7 +25,9 @@ unread_is_true k old new (BadPcf fault) is = absurd is
 unread_is_true k old new (BadChip fault) is = absurd is
 unread_is_true k old new (BadNet fault) is = absurd is
 unread_is_true k old new (BadPin fault) is = absurd is
+unread_is_true k old new (Overfull fault) is = absurd is
 unread_is_true k old new (Unreachable placement net sink) is = absurd is
+unread_is_true k old new (GaveUp placement logs) is = absurd is
 unread_is_true k old new (ReadFault role) is = (tt, is)
 unread_is_true k old new (WriteFault role put) is = absurd is
 unread_is_true k old new NoMemory is = (tt, is)
@@ -32,7 +35,6 @@ unread_is_true k old new (BadAsc fault) is = absurd is
 unread_is_true k old new (BadBits fault) is = absurd is
 unread_is_true k old new (TooLong role limit) is = (tt, is)
 unread_is_true k old new (BadLevels line) is = absurd is
-unread_is_true k old new (NotBuilt role) is = absurd is
 
 -- why texts are refused is true of the command
 pub refusal_is_true : (k : Command) (old new : Meaning) (texts : List (List ℕ)) (cause : Cause) → AreTexts k.files old texts → new.makes ≡ old.makes → IsRefusal (k.Stands texts) cause
@@ -44,7 +46,9 @@ refusal_is_true k old new texts (BadPcf fault) are made is = (tt, ((texts, are, 
 refusal_is_true k old new texts (BadChip fault) are made is = (tt, ((texts, are, is.0), is.1))
 refusal_is_true k old new texts (BadNet fault) are made is = (tt, ((texts, are, is.0), is.1))
 refusal_is_true k old new texts (BadPin fault) are made is = (tt, ((texts, are, is.0), is.1))
+refusal_is_true k old new texts (Overfull fault) are made is = (tt, ((texts, are, is.0), is.1))
 refusal_is_true k old new texts (Unreachable placement net sink) are made is = (tt, ((texts, are, is.0), is.1))
+refusal_is_true k old new texts (GaveUp placement logs) are made is = (tt, ((texts, are, is.0), is.1))
 refusal_is_true k old new texts (ReadFault role) are made is = absurd is
 refusal_is_true k old new texts (WriteFault role put) are made is = absurd is
 refusal_is_true k old new texts NoMemory are made is = (tt, made)
@@ -52,7 +56,6 @@ refusal_is_true k old new texts (BadAsc fault) are made is = (tt, ((texts, are, 
 refusal_is_true k old new texts (BadBits fault) are made is = (tt, ((texts, are, is.0), is.1))
 refusal_is_true k old new texts (TooLong role limit) are made is = absurd is
 refusal_is_true k old new texts (BadLevels line) are made is = (tt, ((texts, are, is.0), is.1))
-refusal_is_true k old new texts (NotBuilt role) are made is = (tt, ((texts, are, is.0), is.1))
 
 -- what was given behind the reading was given by the whole call
 given_behind : (output : Output) (text : List ℕ) (old mid new : Meaning) → SameButReading old mid → IsGiven output text mid new → IsGiven output text old new
@@ -80,24 +83,29 @@ cut_behind (InFile file_role name) text old mid new role put read is = record {
 }
 
 -- what was put is true of the command
-pub put_is_true : (k : Command) (old mid new : Meaning) (text : List ℕ) (cause : Cause) → OfTexts k.files old (λ texts. k.Gives texts text) → SameButReading old mid → IsPut k.output text mid new cause
+pub put_is_true : (k : Command) (old mid new : Meaning) (text : List ℕ) (on : List TileAt) (cause : Cause) → OfTexts k.files old (λ texts. k.Gives texts text on) → SameButReading old mid → IsPut k.output text on mid new cause
     → IsTrueOf k old new cause
-put_is_true k old mid new text (Good placement) of read put = (put.0, record { text = text; texts = of; given = given_behind k.output text old mid new read put.1 })
-put_is_true k old mid new text Usage of read put = absurd put
-put_is_true k old mid new text (BadBlif fault) of read put = absurd put
-put_is_true k old mid new text (BadPcf fault) of read put = absurd put
-put_is_true k old mid new text (BadChip fault) of read put = absurd put
-put_is_true k old mid new text (BadNet fault) of read put = absurd put
-put_is_true k old mid new text (BadPin fault) of read put = absurd put
-put_is_true k old mid new text (Unreachable placement net sink) of read put = absurd put
-put_is_true k old mid new text (ReadFault role) of read put = absurd put
-put_is_true k old mid new text (WriteFault role number) of read put = record { text = text; texts = of; cut = cut_behind k.output text old mid new role number read put }
-put_is_true k old mid new text NoMemory of read put = absurd put
-put_is_true k old mid new text (BadAsc fault) of read put = absurd put
-put_is_true k old mid new text (BadBits fault) of read put = absurd put
-put_is_true k old mid new text (TooLong role limit) of read put = absurd put
-put_is_true k old mid new text (BadLevels line) of read put = absurd put
-put_is_true k old mid new text (NotBuilt role) of read put = absurd put
+put_is_true k old mid new text on (Good placement) of read put = record {
+  text = text;
+  texts = subst (λ (tiles : List TileAt). OfTexts k.files old (λ texts. k.Gives texts text tiles)) (sym put.0) of;
+  given = given_behind k.output text old mid new read put.1;
+}
+put_is_true k old mid new text on Usage of read put = absurd put
+put_is_true k old mid new text on (BadBlif fault) of read put = absurd put
+put_is_true k old mid new text on (BadPcf fault) of read put = absurd put
+put_is_true k old mid new text on (BadChip fault) of read put = absurd put
+put_is_true k old mid new text on (BadNet fault) of read put = absurd put
+put_is_true k old mid new text on (BadPin fault) of read put = absurd put
+put_is_true k old mid new text on (Overfull fault) of read put = absurd put
+put_is_true k old mid new text on (Unreachable placement net sink) of read put = absurd put
+put_is_true k old mid new text on (GaveUp placement logs) of read put = absurd put
+put_is_true k old mid new text on (ReadFault role) of read put = absurd put
+put_is_true k old mid new text on (WriteFault role number) of read put = record { text = text; placement = on; texts = of; cut = cut_behind k.output text old mid new role number read put }
+put_is_true k old mid new text on NoMemory of read put = absurd put
+put_is_true k old mid new text on (BadAsc fault) of read put = absurd put
+put_is_true k old mid new text on (BadBits fault) of read put = absurd put
+put_is_true k old mid new text on (TooLong role limit) of read put = absurd put
+put_is_true k old mid new text on (BadLevels line) of read put = absurd put
 
 -- ---- a line is said
 
@@ -110,7 +118,9 @@ true_while_said k old mid new (BadPcf fault) same refused is = is
 true_while_said k old mid new (BadChip fault) same refused is = is
 true_while_said k old mid new (BadNet fault) same refused is = is
 true_while_said k old mid new (BadPin fault) same refused is = is
+true_while_said k old mid new (Overfull fault) same refused is = is
 true_while_said k old mid new (Unreachable placement net sink) same refused is = is
+true_while_said k old mid new (GaveUp placement logs) same refused is = is
 true_while_said k old mid new (ReadFault role) same refused is = fault_said k.files old mid new role same is
 true_while_said k old mid new (WriteFault role put) same refused is = absurd refused
 true_while_said k old mid new NoMemory same refused is = same.makes ∙ is
@@ -118,7 +128,6 @@ true_while_said k old mid new (BadAsc fault) same refused is = is
 true_while_said k old mid new (BadBits fault) same refused is = is
 true_while_said k old mid new (TooLong role limit) same refused is = long_said k.files old mid new role limit same is
 true_while_said k old mid new (BadLevels line) same refused is = is
-true_while_said k old mid new (NotBuilt role) same refused is = is
 
 -- what a refusal says
 pub refused_said : (output : Output) (old new : Meaning) (cause : Cause) → IsRefused cause → SaidRow old new (line_of cause) → SaidBy output old new cause
@@ -130,7 +139,9 @@ refused_said Aloud old new (BadPcf fault) refused said = said
 refused_said Aloud old new (BadChip fault) refused said = said
 refused_said Aloud old new (BadNet fault) refused said = said
 refused_said Aloud old new (BadPin fault) refused said = said
+refused_said Aloud old new (Overfull fault) refused said = said
 refused_said Aloud old new (Unreachable placement net sink) refused said = said
+refused_said Aloud old new (GaveUp placement logs) refused said = said
 refused_said Aloud old new (ReadFault role) refused said = said
 refused_said Aloud old new (WriteFault role put) refused said = absurd refused
 refused_said Aloud old new NoMemory refused said = said
@@ -138,7 +149,6 @@ refused_said Aloud old new (BadAsc fault) refused said = said
 refused_said Aloud old new (BadBits fault) refused said = said
 refused_said Aloud old new (TooLong role limit) refused said = said
 refused_said Aloud old new (BadLevels line) refused said = said
-refused_said Aloud old new (NotBuilt role) refused said = said
 
 -- a refusal makes no file
 pub refused_made : (output : Output) (old new : Meaning) (cause : Cause) → IsRefused cause → new.makes ≡ old.makes → MadeRow output old new cause
@@ -150,7 +160,9 @@ refused_made (InFile file_role name) old new (BadPcf fault) refused made = made
 refused_made (InFile file_role name) old new (BadChip fault) refused made = made
 refused_made (InFile file_role name) old new (BadNet fault) refused made = made
 refused_made (InFile file_role name) old new (BadPin fault) refused made = made
+refused_made (InFile file_role name) old new (Overfull fault) refused made = made
 refused_made (InFile file_role name) old new (Unreachable placement net sink) refused made = made
+refused_made (InFile file_role name) old new (GaveUp placement logs) refused made = made
 refused_made (InFile file_role name) old new (ReadFault role) refused made = made
 refused_made (InFile file_role name) old new (WriteFault role put) refused made = absurd refused
 refused_made (InFile file_role name) old new NoMemory refused made = made
@@ -158,64 +170,67 @@ refused_made (InFile file_role name) old new (BadAsc fault) refused made = made
 refused_made (InFile file_role name) old new (BadBits fault) refused made = made
 refused_made (InFile file_role name) old new (TooLong role limit) refused made = made
 refused_made (InFile file_role name) old new (BadLevels line) refused made = made
-refused_made (InFile file_role name) old new (NotBuilt role) refused made = made
 
 -- behind what was said, or a front of it, nothing is said
-pub put_said : (text : List ℕ) (old mid new : Meaning) (cause : Cause) → IsPut Aloud text mid new cause → SaidBy Aloud old new cause
-put_said text old mid new (Good placement) put = tt
-put_said text old mid new Usage put = absurd put
-put_said text old mid new (BadBlif fault) put = absurd put
-put_said text old mid new (BadPcf fault) put = absurd put
-put_said text old mid new (BadChip fault) put = absurd put
-put_said text old mid new (BadNet fault) put = absurd put
-put_said text old mid new (BadPin fault) put = absurd put
-put_said text old mid new (Unreachable placement net sink) put = absurd put
-put_said text old mid new (ReadFault role) put = absurd put
-put_said text old mid new (WriteFault role number) put = tt
-put_said text old mid new NoMemory put = absurd put
-put_said text old mid new (BadAsc fault) put = absurd put
-put_said text old mid new (BadBits fault) put = absurd put
-put_said text old mid new (TooLong role limit) put = absurd put
-put_said text old mid new (BadLevels line) put = absurd put
-put_said text old mid new (NotBuilt role) put = absurd put
+pub put_said : (text : List ℕ) (on : List TileAt) (old mid new : Meaning) (cause : Cause) → IsPut Aloud text on mid new cause → SaidBy Aloud old new cause
+put_said text on old mid new (Good placement) put = tt
+put_said text on old mid new Usage put = absurd put
+put_said text on old mid new (BadBlif fault) put = absurd put
+put_said text on old mid new (BadPcf fault) put = absurd put
+put_said text on old mid new (BadChip fault) put = absurd put
+put_said text on old mid new (BadNet fault) put = absurd put
+put_said text on old mid new (BadPin fault) put = absurd put
+put_said text on old mid new (Overfull fault) put = absurd put
+put_said text on old mid new (Unreachable placement net sink) put = absurd put
+put_said text on old mid new (GaveUp placement logs) put = absurd put
+put_said text on old mid new (ReadFault role) put = absurd put
+put_said text on old mid new (WriteFault role number) put = tt
+put_said text on old mid new NoMemory put = absurd put
+put_said text on old mid new (BadAsc fault) put = absurd put
+put_said text on old mid new (BadBits fault) put = absurd put
+put_said text on old mid new (TooLong role limit) put = absurd put
+put_said text on old mid new (BadLevels line) put = absurd put
 
 -- a file was put
-pub put_done : (output : Output) (text : List ℕ) (old new : Meaning) (cause : Cause) → IsPut output text old new cause → IsDone cause
-put_done output text old new (Good placement) put = tt
-put_done output text old new Usage put = absurd put
-put_done output text old new (BadBlif fault) put = absurd put
-put_done output text old new (BadPcf fault) put = absurd put
-put_done output text old new (BadChip fault) put = absurd put
-put_done output text old new (BadNet fault) put = absurd put
-put_done output text old new (BadPin fault) put = absurd put
-put_done output text old new (Unreachable placement net sink) put = absurd put
-put_done output text old new (ReadFault role) put = absurd put
-put_done output text old new (WriteFault role number) put = tt
-put_done output text old new NoMemory put = absurd put
-put_done output text old new (BadAsc fault) put = absurd put
-put_done output text old new (BadBits fault) put = absurd put
-put_done output text old new (TooLong role limit) put = absurd put
-put_done output text old new (BadLevels line) put = absurd put
-put_done output text old new (NotBuilt role) put = absurd put
+pub put_done : (output : Output) (text : List ℕ) (on : List TileAt) (old new : Meaning) (cause : Cause) → IsPut output text on old new cause → IsDone cause
+put_done output text on old new (Good placement) put = tt
+put_done output text on old new Usage put = absurd put
+put_done output text on old new (BadBlif fault) put = absurd put
+put_done output text on old new (BadPcf fault) put = absurd put
+put_done output text on old new (BadChip fault) put = absurd put
+put_done output text on old new (BadNet fault) put = absurd put
+put_done output text on old new (BadPin fault) put = absurd put
+put_done output text on old new (Overfull fault) put = absurd put
+put_done output text on old new (Unreachable placement net sink) put = absurd put
+put_done output text on old new (GaveUp placement logs) put = absurd put
+put_done output text on old new (ReadFault role) put = absurd put
+put_done output text on old new (WriteFault role number) put = tt
+put_done output text on old new NoMemory put = absurd put
+put_done output text on old new (BadAsc fault) put = absurd put
+put_done output text on old new (BadBits fault) put = absurd put
+put_done output text on old new (TooLong role limit) put = absurd put
+put_done output text on old new (BadLevels line) put = absurd put
 
--- a file was made, where one is put
-pub put_made : (role : FileRole) (name text : List ℕ) (old new : Meaning) (cause : Cause) → IsPut (InFile role name) text old new cause → MadeRow (InFile role name) old new cause
-put_made of_role name text old new (Good placement) put = put.1.made
-put_made of_role name text old new Usage put = absurd put
-put_made of_role name text old new (BadBlif fault) put = absurd put
-put_made of_role name text old new (BadPcf fault) put = absurd put
-put_made of_role name text old new (BadChip fault) put = absurd put
-put_made of_role name text old new (BadNet fault) put = absurd put
-put_made of_role name text old new (BadPin fault) put = absurd put
-put_made of_role name text old new (Unreachable placement net sink) put = absurd put
-put_made of_role name text old new (ReadFault role) put = absurd put
-put_made of_role name text old new (WriteFault role number) put = put.made
-put_made of_role name text old new NoMemory put = absurd put
-put_made of_role name text old new (BadAsc fault) put = absurd put
-put_made of_role name text old new (BadBits fault) put = absurd put
-put_made of_role name text old new (TooLong role limit) put = absurd put
-put_made of_role name text old new (BadLevels line) put = absurd put
-put_made of_role name text old new (NotBuilt role) put = absurd put
+-- a file was made, where one is put behind the reading
+pub put_made : (role : FileRole) (name text : List ℕ) (on : List TileAt) (old mid new : Meaning) (cause : Cause) → SameButReading old mid → IsPut (InFile role name) text on mid new cause
+    → MadeRow (InFile role name) old new cause
+put_made of_role name text on old mid new (Good placement) read put = put.1.made ∙ ap after_one read.makes
+put_made of_role name text on old mid new Usage read put = absurd put
+put_made of_role name text on old mid new (BadBlif fault) read put = absurd put
+put_made of_role name text on old mid new (BadPcf fault) read put = absurd put
+put_made of_role name text on old mid new (BadChip fault) read put = absurd put
+put_made of_role name text on old mid new (BadNet fault) read put = absurd put
+put_made of_role name text on old mid new (BadPin fault) read put = absurd put
+put_made of_role name text on old mid new (Overfull fault) read put = absurd put
+put_made of_role name text on old mid new (Unreachable placement net sink) read put = absurd put
+put_made of_role name text on old mid new (GaveUp placement logs) read put = absurd put
+put_made of_role name text on old mid new (ReadFault role) read put = absurd put
+put_made of_role name text on old mid new (WriteFault role number) read put = put.made ∙ ap after_one read.makes
+put_made of_role name text on old mid new NoMemory read put = absurd put
+put_made of_role name text on old mid new (BadAsc fault) read put = absurd put
+put_made of_role name text on old mid new (BadBits fault) read put = absurd put
+put_made of_role name text on old mid new (TooLong role limit) read put = absurd put
+put_made of_role name text on old mid new (BadLevels line) read put = absurd put
 
 -- what was put to a file stands while a line is said
 whole_said : (name text : List ℕ) (old mid new : Meaning) → SameButSaying mid new → IsWrittenWhole name text old mid → IsWrittenWhole name text old new
@@ -234,24 +249,25 @@ part_said role name text old mid new of_role put same is = record {
   holds = λ t. subst (λ (f : List ℕ → Option (List ℕ)). HoldsAfter text put (old.files name) (f name)) (sym same.files) (is.holds t);
 }
 
-pub put_stays : (role : FileRole) (name text : List ℕ) (old mid new : Meaning) (cause : Cause) → SameButSaying mid new → IsPut (InFile role name) text old mid cause
-    → IsPut (InFile role name) text old new cause
-put_stays of_role name text old mid new (Good placement) same put = (put.0, whole_said name text old mid new same put.1)
-put_stays of_role name text old mid new Usage same put = absurd put
-put_stays of_role name text old mid new (BadBlif fault) same put = absurd put
-put_stays of_role name text old mid new (BadPcf fault) same put = absurd put
-put_stays of_role name text old mid new (BadChip fault) same put = absurd put
-put_stays of_role name text old mid new (BadNet fault) same put = absurd put
-put_stays of_role name text old mid new (BadPin fault) same put = absurd put
-put_stays of_role name text old mid new (Unreachable placement net sink) same put = absurd put
-put_stays of_role name text old mid new (ReadFault role) same put = absurd put
-put_stays of_role name text old mid new (WriteFault role put_number) same put = part_said of_role name text old mid new role put_number same put
-put_stays of_role name text old mid new NoMemory same put = absurd put
-put_stays of_role name text old mid new (BadAsc fault) same put = absurd put
-put_stays of_role name text old mid new (BadBits fault) same put = absurd put
-put_stays of_role name text old mid new (TooLong role limit) same put = absurd put
-put_stays of_role name text old mid new (BadLevels line) same put = absurd put
-put_stays of_role name text old mid new (NotBuilt role) same put = absurd put
+pub put_stays : (role : FileRole) (name text : List ℕ) (on : List TileAt) (old mid new : Meaning) (cause : Cause) → SameButSaying mid new → IsPut (InFile role name) text on old mid cause
+    → IsPut (InFile role name) text on old new cause
+put_stays of_role name text on old mid new (Good placement) same put = (put.0, whole_said name text old mid new same put.1)
+put_stays of_role name text on old mid new Usage same put = absurd put
+put_stays of_role name text on old mid new (BadBlif fault) same put = absurd put
+put_stays of_role name text on old mid new (BadPcf fault) same put = absurd put
+put_stays of_role name text on old mid new (BadChip fault) same put = absurd put
+put_stays of_role name text on old mid new (BadNet fault) same put = absurd put
+put_stays of_role name text on old mid new (BadPin fault) same put = absurd put
+put_stays of_role name text on old mid new (Overfull fault) same put = absurd put
+put_stays of_role name text on old mid new (Unreachable placement net sink) same put = absurd put
+put_stays of_role name text on old mid new (GaveUp placement logs) same put = absurd put
+put_stays of_role name text on old mid new (ReadFault role) same put = absurd put
+put_stays of_role name text on old mid new (WriteFault role put_number) same put = part_said of_role name text old mid new role put_number same put
+put_stays of_role name text on old mid new NoMemory same put = absurd put
+put_stays of_role name text on old mid new (BadAsc fault) same put = absurd put
+put_stays of_role name text on old mid new (BadBits fault) same put = absurd put
+put_stays of_role name text on old mid new (TooLong role limit) same put = absurd put
+put_stays of_role name text on old mid new (BadLevels line) same put = absurd put
 
 -- where the work is done and nothing was said behind it, nothing was said
 pub silent_behind : (old mid new : Meaning) (cause : Cause) → IsSilent old mid → SilentWhereDone mid new cause → SilentWhereDone old new cause
@@ -262,7 +278,9 @@ silent_behind old mid new (BadPcf fault) before silent = tt
 silent_behind old mid new (BadChip fault) before silent = tt
 silent_behind old mid new (BadNet fault) before silent = tt
 silent_behind old mid new (BadPin fault) before silent = tt
+silent_behind old mid new (Overfull fault) before silent = tt
 silent_behind old mid new (Unreachable placement net sink) before silent = tt
+silent_behind old mid new (GaveUp placement logs) before silent = tt
 silent_behind old mid new (ReadFault role) before silent = tt
 silent_behind old mid new (WriteFault role put) before silent = tt
 silent_behind old mid new NoMemory before silent = tt
@@ -270,4 +288,3 @@ silent_behind old mid new (BadAsc fault) before silent = tt
 silent_behind old mid new (BadBits fault) before silent = tt
 silent_behind old mid new (TooLong role limit) before silent = tt
 silent_behind old mid new (BadLevels line) before silent = tt
-silent_behind old mid new (NotBuilt role) before silent = tt

@@ -1,6 +1,7 @@
 pub mod ReadStops
 pub mod TextFacts
 pub mod Commanding
+pub mod Ended
 pub mod Standings
 pub mod CommandRows
 mod PieceTexts

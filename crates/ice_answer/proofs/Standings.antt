@@ -1,15 +1,17 @@
 -- From the faults of the texts to refusals.
-use Rattle.std.proofs.Common.{◌≡◌, ◌≢◌, ℕ, refl, Option, None, Some, Result, Ok, Err, inl, inr, sym, subst}
+use Rattle.std.proofs.Common.{◌≡◌, ◌≢◌, ℕ, refl, List, Option, None, Some, Result, Ok, Err, inl, inr, sym, subst}
 use Rattle.ice_answer.specs.declared.cause.Cause.{Cause}
-use Rattle.ice_answer.specs.declared.cause.Cause.TheVariants.{Good, Usage, BadBlif, BadPcf, BadChip, BadNet, BadPin, Unreachable, ReadFault, WriteFault, NoMemory, BadAsc, BadBits, TooLong, BadLevels, NotBuilt}
+use Rattle.ice_answer.specs.declared.cause.Cause.TheVariants.{Good, Usage, BadBlif, BadPcf, BadChip, BadNet, BadPin, Overfull, Unreachable, GaveUp, ReadFault, WriteFault, NoMemory, BadAsc, BadBits, TooLong, BadLevels}
 use Rattle.ice_answer.specs.declared.cause.FileRole.{FileRole}
-use Rattle.ice_answer.specs.declared.cause.Placement.{Placement}
-use Rattle.ice_answer.specs.Refusals.{IsBlifRefusal, IsPcfRefusal, IsChipRefusal, IsNetRefusal, IsAscRefusal, IsBitsRefusal}
+use Rattle.ice_base.specs.declared.number.TileAt.{TileAt}
+use Rattle.ice_answer.specs.Refusals.{IsBlifRefusal, IsPcfRefusal, IsChipRefusal, IsNetRefusal, IsAscRefusal, IsBitsRefusal, IsPinRefusal, IsPlaceRefusal}
 use Rattle.ice_answer.specs.Commands.{IsDone, stands_by, stands_with, IsRefusal}
 use Rattle.ice_blif.specs.declared.fault.BlifFault.{BlifFault}
 use Rattle.ice_blif.specs.declared.fault.BlifFault.TheVariants as blif_fault
 use Rattle.ice_pcf.specs.declared.fault.PcfFault.{PcfFault}
 use Rattle.ice_pcf.specs.declared.fault.PcfFault.TheVariants as pcf_fault
+use Rattle.ice_chip.specs.Answers as chips
+use Rattle.ice_chip.specs.Database.{Parts}
 use Rattle.ice_chip.specs.declared.fault.ChipFault.{ChipFault}
 use Rattle.ice_chip.specs.declared.fault.ChipFault.TheVariants as chip_fault
 use Rattle.ice_check.specs.declared.fault.NetFault.{NetFault}
@@ -18,6 +20,10 @@ use Rattle.ice_asc.specs.declared.fault.AscFault.{AscFault}
 use Rattle.ice_asc.specs.declared.fault.AscFault.TheVariants as asc_fault
 use Rattle.ice_decode.specs.declared.fault.DecodeFault.{DecodeFault}
 use Rattle.ice_decode.specs.declared.fault.DecodeFault.TheVariants as decode_fault
+use Rattle.ice_pads.specs.declared.fault.PinFault.{PinFault}
+use Rattle.ice_pads.specs.declared.fault.PinFault.TheVariants as pin_fault
+use Rattle.ice_place.specs.declared.fault.PlaceFault.{PlaceFault}
+use Rattle.ice_place.specs.declared.fault.PlaceFault.TheVariants as place_fault
 
 -- ---- how texts stand
 
@@ -52,7 +58,7 @@ pub some_stands : {V : Type 0} (found : Option V) (told : Cause) (then : V → C
 some_stands found told then value cause e is = rw e at is
 
 -- what is true of each answer of done work
-pub of_done : (P : Cause → Type 0) → ((placement : Placement) → P (Good placement)) → ((role : FileRole) (put : ℕ) → P (WriteFault role put)) → (cause : Cause) → IsDone cause → P cause
+pub of_done : (P : Cause → Type 0) → ((placement : List TileAt) → P (Good placement)) → ((role : FileRole) (put : ℕ) → P (WriteFault role put)) → (cause : Cause) → IsDone cause → P cause
 of_done P good cut (Good placement) done = good placement
 of_done P good cut Usage done = absurd done
 of_done P good cut (BadBlif fault) done = absurd done
@@ -60,7 +66,9 @@ of_done P good cut (BadPcf fault) done = absurd done
 of_done P good cut (BadChip fault) done = absurd done
 of_done P good cut (BadNet fault) done = absurd done
 of_done P good cut (BadPin fault) done = absurd done
+of_done P good cut (Overfull fault) done = absurd done
 of_done P good cut (Unreachable placement net sink) done = absurd done
+of_done P good cut (GaveUp placement logs) done = absurd done
 of_done P good cut (ReadFault role) done = absurd done
 of_done P good cut (WriteFault role put) done = cut role put
 of_done P good cut NoMemory done = absurd done
@@ -68,9 +76,22 @@ of_done P good cut (BadAsc fault) done = absurd done
 of_done P good cut (BadBits fault) done = absurd done
 of_done P good cut (TooLong role limit) done = absurd done
 of_done P good cut (BadLevels line) done = absurd done
-of_done P good cut (NotBuilt role) done = absurd done
 
 -- ---- refusals
+-- a fault of a chip text that a reader tells, and that isn't want of memory, is the one of the text
+pub chip_fault_is : (fault : ChipFault) (said : Result Parts ChipFault) → chips.StopsBy fault said → fault ≢ chip_fault.NoMemory → said ≡ Err fault
+chip_fault_is (chip_fault.NoDevice line) said is known = is
+chip_fault_is (chip_fault.BadNumber line) said is known = is
+chip_fault_is (chip_fault.BadName line) said is known = is
+chip_fault_is (chip_fault.OutOfRange line) said is known = is
+chip_fault_is (chip_fault.Twice line other) said is known = is
+chip_fault_is (chip_fault.BadBit line) said is known = is
+chip_fault_is (chip_fault.BadValues line) said is known = is
+chip_fault_is (chip_fault.SharedFunction line other) said is known = is
+chip_fault_is (chip_fault.LacksFunction line) said is known = is
+chip_fault_is (chip_fault.SharedPin line other) said is known = is
+chip_fault_is (chip_fault.TooMany limit) said is known = is
+chip_fault_is chip_fault.NoMemory said is known = absurd (known refl)
 
 pub blif_refused : (Stands : Cause → Type 0) (fault : BlifFault) (cause : Cause) → (fault ≢ blif_fault.NoMemory → Stands (BadBlif fault)) → IsBlifRefusal fault cause → IsRefusal Stands cause
 blif_refused Stands fault cause stands (inl e) = subst (IsRefusal Stands) (sym e.0) tt
@@ -95,3 +116,11 @@ asc_refused Stands fault cause stands (inr is) = subst (IsRefusal Stands) (sym i
 pub bits_refused : (Stands : Cause → Type 0) (fault : DecodeFault) (cause : Cause) → (fault ≢ decode_fault.NoMemory → Stands (BadBits fault)) → IsBitsRefusal fault cause → IsRefusal Stands cause
 bits_refused Stands fault cause stands (inl e) = subst (IsRefusal Stands) (sym e.0) tt
 bits_refused Stands fault cause stands (inr is) = subst (IsRefusal Stands) (sym is.0) (stands is.1, is.1)
+
+pub pin_refused : (Stands : Cause → Type 0) (fault : PinFault) (cause : Cause) → (fault ≢ pin_fault.NoMemory → Stands (BadPin fault)) → IsPinRefusal fault cause → IsRefusal Stands cause
+pin_refused Stands fault cause stands (inl e) = subst (IsRefusal Stands) (sym e.0) tt
+pin_refused Stands fault cause stands (inr is) = subst (IsRefusal Stands) (sym is.0) (stands is.1, is.1)
+
+pub place_refused : (Stands : Cause → Type 0) (fault : PlaceFault) (cause : Cause) → (fault ≢ place_fault.NoMemory → Stands (Overfull fault)) → IsPlaceRefusal fault cause → IsRefusal Stands cause
+place_refused Stands fault cause stands (inl e) = subst (IsRefusal Stands) (sym e.0) tt
+place_refused Stands fault cause stands (inr is) = subst (IsRefusal Stands) (sym is.0) (stands is.1, is.1)

@@ -1,12 +1,10 @@
 -- The statuses of the program's answers, and the line that each refusal says.
-use Rattle.std.specs.Prelude.{ℕ, List, [], ◌∷◌, ◌++◌, map, codes, decimal}
-use Rattle.ice_answer.specs.declared.cause.Placement.{Placement}
+use Rattle.std.specs.Prelude.{ℕ, List, [], ◌∷◌, ◌++◌, map, length, codes, decimal}
 use Rattle.ice_answer.specs.declared.cause.Cause.{Cause}
-use Rattle.ice_answer.specs.declared.cause.Cause.TheVariants.{Good, Usage, BadBlif, BadPcf, BadChip, BadNet, BadPin, Unreachable, ReadFault, WriteFault, NoMemory, BadAsc, BadBits, TooLong, BadLevels, NotBuilt}
+use Rattle.ice_answer.specs.declared.cause.Cause.TheVariants.{Good, Usage, BadBlif, BadPcf, BadChip, BadNet, BadPin, Overfull, Unreachable, GaveUp, ReadFault, WriteFault, NoMemory, BadAsc, BadBits, TooLong, BadLevels}
 use Rattle.ice_answer.specs.declared.cause.FileRole.{FileRole}
 use Rattle.ice_answer.specs.declared.cause.FileRole.TheVariants.{Chip, Pcf, Blif, Asc, Levels, Pins, Report, Standard}
-use Rattle.ice_answer.specs.declared.cause.PinFault.{PinFault}
-use Rattle.ice_answer.specs.declared.cause.PinFault.TheVariants as pin_fault
+use Rattle.ice_base.specs.declared.number.TileAt.{TileAt}
 use Rattle.ice_base.specs.declared.number.WireNo.{WireNo}
 use Rattle.ice_asc.specs.declared.fault.AscFault.{AscFault}
 use Rattle.ice_asc.specs.declared.fault.AscFault.TheVariants as asc_fault
@@ -18,11 +16,16 @@ use Rattle.ice_check.specs.declared.fault.NetFault.{NetFault}
 use Rattle.ice_check.specs.declared.fault.NetFault.TheVariants as net_fault
 use Rattle.ice_decode.specs.declared.fault.DecodeFault.{DecodeFault}
 use Rattle.ice_decode.specs.declared.fault.DecodeFault.TheVariants as decode_fault
+use Rattle.ice_pads.specs.declared.fault.PinFault.{PinFault}
+use Rattle.ice_pads.specs.declared.fault.PinFault.TheVariants as pin_fault
 use Rattle.ice_pcf.specs.declared.fault.PcfFault.{PcfFault}
 use Rattle.ice_pcf.specs.declared.fault.PcfFault.TheVariants as pcf_fault
+use Rattle.ice_place.specs.declared.fault.PlaceFault.{PlaceFault}
+use Rattle.ice_place.specs.declared.fault.PlaceFault.TheVariants as place_fault
 
-abbrev pub no_places : Placement
-no_places = record { at = [] }
+-- the placement of no cluster
+abbrev pub no_places : List TileAt
+no_places = []
 
 abbrev pub status_of : Cause → ℕ
 status_of (Good placement) = 0
@@ -32,7 +35,9 @@ status_of (BadPcf fault) = 4
 status_of (BadChip fault) = 5
 status_of (BadNet fault) = 6
 status_of (BadPin fault) = 7
+status_of (Overfull fault) = 8
 status_of (Unreachable placement net sink) = 9
+status_of (GaveUp placement logs) = 10
 status_of (ReadFault role) = 11
 status_of (WriteFault role put) = 12
 status_of NoMemory = 13
@@ -40,7 +45,6 @@ status_of (BadAsc fault) = 14
 status_of (BadBits fault) = 15
 status_of (TooLong role limit) = 16
 status_of (BadLevels line) = 17
-status_of (NotBuilt role) = 18
 
 abbrev pub role_name : FileRole → List ℕ
 role_name Chip = codes "chip"
@@ -120,9 +124,30 @@ net_line (net_fault.PinNotPort line) = joined (codes "error 6 net pinnotport lin
 net_line (net_fault.InoutBare port) = named_line (codes "error 6 net inoutbare ") port
 net_line net_fault.NoMemory = joined (codes "error 6 net nomemory\n" ∷ [])
 
+-- a line with a number
+abbrev pub number_line : List ℕ → ℕ → List ℕ
+number_line head a = joined (head ∷ decimal a ∷ codes "\n" ∷ [])
+
+-- a line with two numbers
+abbrev pub two_line : List ℕ → ℕ → List ℕ → ℕ → List ℕ
+two_line head a middle b = joined (head ∷ decimal a ∷ middle ∷ decimal b ∷ codes "\n" ∷ [])
+
 abbrev pub pin_line : PinFault → List ℕ
-pin_line (pin_fault.UnknownPin line) = joined (codes "error 7 pin unknownpin line " ∷ decimal line ∷ codes "\n" ∷ [])
 pin_line pin_fault.NoPackage = joined (codes "error 7 pin nopackage\n" ∷ [])
+pin_line (pin_fault.UnknownPin line) = number_line (codes "error 7 pin unknownpin line ") line
+pin_line (pin_fault.UnknownPort line) = number_line (codes "error 7 pin unknownport line ") line
+pin_line (pin_fault.PinTwice first second) = two_line (codes "error 7 pin pintwice lines ") first (codes " ") second
+pin_line (pin_fault.PortTwice first second) = two_line (codes "error 7 pin porttwice lines ") first (codes " ") second
+pin_line (pin_fault.NoPadLeft port) = named_line (codes "error 7 pin nopad ") port
+pin_line (pin_fault.TooManyGlobals need have) = two_line (codes "error 7 pin globals need ") need (codes " have ") have
+pin_line (pin_fault.PadLacks port) = named_line (codes "error 7 pin padlacks ") port
+pin_line pin_fault.NoMemory = joined (codes "error 7 pin nomemory\n" ∷ [])
+
+abbrev pub place_line : PlaceFault → List ℕ
+place_line (place_fault.RunTooLong cells tallest) = two_line (codes "error 8 full run ") cells (codes " tallest ") tallest
+place_line (place_fault.Overfull need have) = two_line (codes "error 8 full need ") need (codes " have ") have
+place_line (place_fault.RunUnplaced run cells) = two_line (codes "error 8 full unplaced ") run (codes " length ") cells
+place_line place_fault.NoMemory = joined (codes "error 8 full nomemory\n" ∷ [])
 
 -- ---- bits
 abbrev pub asc_line : AscFault → List ℕ
@@ -162,12 +187,13 @@ line_of (BadPcf fault) = pcf_line fault
 line_of (BadChip fault) = chip_line fault
 line_of (BadNet fault) = net_line fault
 line_of (BadPin fault) = pin_line fault
-line_of (Unreachable placement net sink) = joined (codes "error 9 unreachable net " ∷ decimal net.0 ∷ codes " sink " ∷ decimal sink.0 ∷ codes "\n" ∷ [])
+line_of (Overfull fault) = place_line fault
+line_of (Unreachable placement net sink) = two_line (codes "error 9 unreachable net ") net.0 (codes " sink ") sink.0
+line_of (GaveUp placement logs) = number_line (codes "error 10 gaveup rounds ") (length logs.items)
 line_of (ReadFault role) = joined (codes "error 11 read " ∷ role_name role ∷ codes "\n" ∷ [])
 line_of (WriteFault role put) = joined (codes "error 12 write " ∷ role_name role ∷ codes " put " ∷ decimal put ∷ codes "\n" ∷ [])
 line_of NoMemory = joined (codes "error 13 memory\n" ∷ [])
 line_of (BadAsc fault) = asc_line fault
 line_of (BadBits fault) = bits_line fault
 line_of (TooLong role limit) = joined (codes "error 16 long " ∷ role_name role ∷ codes " limit " ∷ decimal limit ∷ codes "\n" ∷ [])
-line_of (BadLevels line) = joined (codes "error 17 levels line " ∷ decimal line ∷ codes "\n" ∷ [])
-line_of (NotBuilt role) = joined (codes "error 18 notbuilt " ∷ role_name role ∷ codes "\n" ∷ [])
+line_of (BadLevels line) = number_line (codes "error 17 levels line ") line

@@ -1,12 +1,12 @@
 -- Commands: what each reads, how its texts may stand, and what it makes of them; and what each answer says.
 use Rattle.std.specs.Prelude.{◌≡◌, ◌⊎◌, ℕ, true, Option, None, Some, List, ◌++◌, Result, Ok, Err}
+use Rattle.ice_base.specs.declared.number.TileAt.{TileAt}
 use Rattle.ice_desk.specs.Desk.{Meaning, Rose, after_one, after_more, HoldsAfter}
 use Rattle.ice_desk.specs.Said.{SaysFront}
 use Rattle.ice_answer.specs.declared.cause.Cause.{Cause}
 use Rattle.ice_answer.specs.declared.cause.Cause.TheVariants.{Good, ReadFault, WriteFault, NoMemory, TooLong}
 use Rattle.ice_answer.specs.declared.cause.FileRole.{FileRole}
 use Rattle.ice_answer.specs.declared.cause.FileRole.TheVariants.{Standard}
-use Rattle.ice_answer.specs.Causes.{no_places}
 use Rattle.ice_answer.specs.Reading.{Files, IsReadFault, IsTooLong}
 use Rattle.ice_answer.specs.Refusals.{IsKnown}
 use Rattle.ice_answer.specs.Texts.{OfTexts}
@@ -23,11 +23,11 @@ pub record Command : Type 1 where
   -- The texts stand so that this is their answer, beside what the desk and the memory have to do with it: the refusal of what is
   -- wrong first, or that the work is done.
   pub Stands : List (List ℕ) → Cause → Type 0
-  -- what it makes of texts
-  pub Gives : List (List ℕ) → List ℕ → Type 0
+  -- what it makes of texts: a text, with the placement that it is about
+  pub Gives : List (List ℕ) → List ℕ → List TileAt → Type 0
   pub output : Output
 
-abbrev pub command_of : Files → (List (List ℕ) → Cause → Type 0) → (List (List ℕ) → List ℕ → Type 0) → Output → Command
+abbrev pub command_of : Files → (List (List ℕ) → Cause → Type 0) → (List (List ℕ) → List ℕ → List TileAt → Type 0) → Output → Command
 command_of files Stands Gives output = record { files = files; Stands = Stands; Gives = Gives; output = output }
 
 -- ---- how texts stand, one look at them after another
@@ -108,36 +108,32 @@ abbrev pub IsCut : Output → List ℕ → Meaning → Meaning → FileRole → 
 IsCut Aloud text old new role put = IsSaidInPart text old new role put
 IsCut (InFile file_role name) text old new role put = IsWrittenInPart file_role name text old new role put
 
--- how the giving ended
-abbrev pub IsPut : Output → List ℕ → Meaning → Meaning → Cause → Type 0
-IsPut output text old new (Good placement) = (placement ≡ no_places) × IsGiven output text old new
-IsPut output text old new (WriteFault role put) = IsCut output text old new role put
-IsPut output text old new cause = ⊥
+-- how the giving of a text with this placement ended
+abbrev pub IsPut : Output → List ℕ → List TileAt → Meaning → Meaning → Cause → Type 0
+IsPut output text made_on old new (Good placement) = (placement ≡ made_on) × IsGiven output text old new
+IsPut output text made_on old new (WriteFault role put) = IsCut output text old new role put
+IsPut output text made_on old new cause = ⊥
 
 -- ---- the answers
 
--- the work is done: what the texts give was given whole
-pub record IsGood (k : Command) (old new : Meaning) : Type 0 where
+-- the work is done: what the texts give with this placement was given whole
+pub record IsGood (k : Command) (old new : Meaning) (placement : List TileAt) : Type 0 where
   pub text : List ℕ
-  pub texts : OfTexts k.files old (λ texts. k.Gives texts text)
+  pub texts : OfTexts k.files old (λ texts. k.Gives texts text placement)
   pub given : IsGiven k.output text old new
 
 -- a write fault: the giving of what the texts give stopped
 pub record IsWriteFault (k : Command) (old new : Meaning) (role : FileRole) (put : ℕ) : Type 0 where
   pub text : List ℕ
-  pub texts : OfTexts k.files old (λ texts. k.Gives texts text)
+  pub placement : List TileAt
+  pub texts : OfTexts k.files old (λ texts. k.Gives texts text placement)
   pub cut : IsCut k.output text old new role put
 
 -- what each cause says of a command, of its texts, and of the desk before and after
 abbrev pub IsTrueOf : Command → Meaning → Meaning → Cause → Type 0
-IsTrueOf k old new (Good placement) = (placement ≡ no_places) × IsGood k old new
+IsTrueOf k old new (Good placement) = IsGood k old new placement
 IsTrueOf k old new (ReadFault role) = IsReadFault k.files old new role
 IsTrueOf k old new (WriteFault role put) = IsWriteFault k old new role put
 IsTrueOf k old new NoMemory = new.makes ≡ old.makes
 IsTrueOf k old new (TooLong role limit) = IsTooLong k.files old new role limit
 IsTrueOf k old new cause = OfTexts k.files old (λ texts. k.Stands texts cause) × IsKnown cause
-
--- nothing was made, by this cause: it is a refusal, and true of the command, wherever its work was to be given
-pub record IsUnmade (files : Files) (Stands : List (List ℕ) → Cause → Type 0) (Gives : List (List ℕ) → List ℕ → Type 0) (old new : Meaning) (cause : Cause) : Type 0 where
-  pub refused : IsRefused cause
-  pub is_true : (output : Output) → IsTrueOf (command_of files Stands Gives output) old new cause

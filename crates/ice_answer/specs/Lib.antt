@@ -7,3 +7,4 @@ pub mod TextLists
 pub mod Texts
 pub mod Commands
 pub mod Rows
+pub mod Ends

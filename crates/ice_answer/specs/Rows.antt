@@ -1,5 +1,6 @@
 -- When each answer of a command comes: only where its cause is true, and always there, unless the desk or the memory fails.
 use Rattle.std.specs.Prelude.{◌≡◌, ◌≢◌, ◌⊎◌, ◌↔◌, ℕ, ◌<◌, true, Some, List, ◌++◌}
+use Rattle.ice_base.specs.declared.number.TileAt.{TileAt}
 use Rattle.ice_desk.specs.Desk.{Meaning, after_one}
 use Rattle.ice_desk.specs.Said.{SaidRow}
 use Rattle.ice_answer.specs.declared.cause.Cause.{Cause}
@@ -19,17 +20,25 @@ pub record ComesExactly (k : Command) (old : Meaning) (IsSuch : Cause → Type 0
 
 -- status 0, or 12 where a fault of writing comes in between: exactly where the texts give something
 abbrev pub DoneRow : Command → Meaning → Cause → Type 0
-DoneRow k old cause = ComesExactly k old IsDone (λ texts. (text : List ℕ) × k.Gives texts text) cause
+DoneRow k old cause = ComesExactly k old IsDone (λ texts. (text : List ℕ) × (placement : List TileAt) × k.Gives texts text placement) cause
 
 -- what was made stands where it was to be given
 abbrev pub IsThere : Output → List ℕ → Meaning → Meaning → Type 0
 IsThere Aloud text old new = new.said ≡ old.said ++ text
 IsThere (InFile role name) text old new = new.files name ≡ Some text
 
--- status 0: where the desk tells its contents, what was given is what the texts give
-abbrev pub GoodRow : Command → Meaning → Meaning → ℕ → Type 0
-GoodRow k old new status =
-    status ≡ 0 → old.tells ≡ true → (texts : List (List ℕ)) × (text : List ℕ) × HoldsTexts k.files old texts × k.Gives texts text × IsThere k.output text old new
+-- what the texts of the files give with this placement stands where it was to be given
+pub record IsHeld (k : Command) (old new : Meaning) (placement : List TileAt) : Type 0 where
+  pub texts : List (List ℕ)
+  pub text : List ℕ
+  pub hold : HoldsTexts k.files old texts
+  pub gives : k.Gives texts text placement
+  pub there : IsThere k.output text old new
+
+-- status 0: the work is done; and where the desk tells its contents, what was given is what the texts give with the placement that is told
+pub record GoodRow (k : Command) (old new : Meaning) (cause : Cause) (status : ℕ) : Type 0 where
+  pub done : status ≡ 0 → (placement : List TileAt) × (cause ≡ Good placement)
+  pub held : (placement : List TileAt) → cause ≡ Good placement → old.tells ≡ true → IsHeld k old new placement
 
 -- status 11: only where the count of read faults rose in this call
 abbrev pub ReadFaultRow : Command → Meaning → Meaning → Cause → Type 0

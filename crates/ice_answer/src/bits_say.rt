@@ -1,5 +1,5 @@
 //! Saying the line of a fault of bits, piece by piece. It takes no memory.
-ghost use Rattle.std.specs.Prelude.{◌≡◌, map, decimal, codes, ◌∷◌, []};
+ghost use Rattle.std.specs.Prelude.{◌≡◌, map, decimal, ◌∷◌, []};
 ghost use Rattle.ice_desk.specs.Desk.{SameButSaying, SameTest};
 ghost use Rattle.ice_answer.specs.Causes.{joined, spaced, names_line, numbers_line, wire_text, bits_line};
 ghost use Rattle.ice_desk.specs.Said.{IsSaid};

@@ -1,18 +1,19 @@
 //! The answers of the program, each with its cause.
 
-ghost use Rattle.std.specs.Prelude.{◌≡◌, []};
+ghost use Rattle.std.specs.Prelude.{◌≡◌};
 ghost use Rattle.ice_answer.specs.Causes.{no_places};
 
 use ice_asc::AscFault;
-use ice_base::{NetNo, TileAt, WireNo};
+use ice_base::{NetNo, WireNo};
 use ice_blif::BlifFault;
 use ice_check::NetFault;
 use ice_chip::ChipFault;
+use ice_core::RoundLog;
 use ice_decode::DecodeFault;
+use ice_pads::PinFault;
 use ice_pcf::PcfFault;
+use ice_place::{PlaceFault, Placement};
 use std::alloc::Global;
-use std::marker::Model;
-use thiserror::Error;
 
 /// What a file is to the command.
 #[derive(Clone, Copy)]
@@ -35,54 +36,11 @@ pub enum FileRole {
     Standard,
 }
 
-/// Why no pads were given to the ports.
-#[derive(Clone, Copy, Debug, Error)]
-pub enum PinFault {
-    /// The package has no pin of the name that the constraint at this line gives.
-    #[error("line {line}: the package has no such pin")]
-    UnknownPin { line: u32 },
-    /// The database has no package of the name.
-    #[error("no such package")]
-    NoPackage,
-}
-
-/// The places of the clusters of logic cells, in their order: one tile for each.
-#[derive(Drop)]
-pub struct Places {
-    tiles: Vec<TileAt>,
-}
-
-impl Model for Places {
-    ghost use Rattle.std.specs.Prelude.{List};
-    ghost use Rattle.ice_base.specs.declared.number.TileAt.{TileAt};
-
-    ghost Value = { List TileAt };
-
-    ghost view = { λ p. p.tiles.items };
-}
-
-impl Places {
-    /// No places. Takes no memory.
-    pub fn new(alloc: Global) -> Places
-        ensures { result ≡ [] }
-    {
-        Places {
-            tiles: Vec::new(alloc),
-        }
-    }
-}
-
-/// Where the clusters of a design stand.
-#[derive(Drop)]
-pub struct Placement {
-    /// The tile of each cluster.
-    pub at: Places,
-}
-
 /// The answer of a command with what it is about. The number of each is its status.
 #[derive(Drop)]
 pub enum Cause {
-    /// 0: the work is done and every file is written.
+    /// 0: the work is done and every file is written; with the placement of what was built, which has no cluster where nothing is
+    /// placed.
     Good {
         placement: Placement,
     },
@@ -98,11 +56,18 @@ pub enum Cause {
     BadNet(NetFault),
     /// 7: the pins are refused.
     BadPin(PinFault),
-    /// 9: no walk leads from the net's root to this sink.
+    /// 8: the clusters have no places.
+    Overfull(PlaceFault),
+    /// 9: on this placement no walk leads from the net's root to this sink.
     Unreachable {
         placement: Placement,
         net: NetNo,
         sink: WireNo,
+    },
+    /// 10: on this placement each permitted round ends with an overused wire; with the log of each.
+    GaveUp {
+        placement: Placement,
+        logs: Vec<RoundLog>,
     },
     /// 11: the desk counted a fault of reading.
     ReadFault {
@@ -128,10 +93,6 @@ pub enum Cause {
     BadLevels {
         line: u32,
     },
-    /// 18: a text is of a form that is not built yet.
-    NotBuilt {
-        role: FileRole,
-    },
 }
 
 /// The end of a command: its status and its cause.
@@ -147,7 +108,5 @@ pub struct Done {
 pub fn no_placement(alloc: Global) -> Placement
     ensures { result ≡ no_places }
 {
-    Placement {
-        at: Places::new(alloc),
-    }
+    Placement::from_vec(Vec::new(alloc))
 }

@@ -21,7 +21,9 @@ fn status(cause: &Cause) -> u8
         Cause::BadChip(_) => 5,
         Cause::BadNet(_) => 6,
         Cause::BadPin(_) => 7,
+        Cause::Overfull(_) => 8,
         Cause::Unreachable { .. } => 9,
+        Cause::GaveUp { .. } => 10,
         Cause::ReadFault { .. } => 11,
         Cause::WriteFault { .. } => 12,
         Cause::NoMemory => 13,
@@ -29,7 +31,6 @@ fn status(cause: &Cause) -> u8
         Cause::BadBits(_) => 15,
         Cause::TooLong { .. } => 16,
         Cause::BadLevels { .. } => 17,
-        Cause::NotBuilt { .. } => 18,
     }
 }
 

@@ -6,16 +6,19 @@ mod bits_say;
 mod cause;
 mod end;
 mod files;
+mod giving;
 mod making;
 mod reading;
 mod refusal;
 mod say;
 
-pub use cause::{Cause, Done, FileRole, PinFault, Placement, Places, no_placement};
+pub use cause::{Cause, Done, FileRole, no_placement};
 pub use end::{done, finish};
-pub use files::{InputFile, Texts};
+pub use files::{InputFile, Texts, read_texts};
+pub use giving::{Made, end_aloud, end_in_file};
 pub use making::{Making, say_made, write_made};
 pub use refusal::{
-    asc_refusal, bits_refusal, blif_refusal, chip_refusal, net_refusal, pcf_refusal,
+    asc_refusal, bits_refusal, blif_refusal, chip_refusal, net_refusal, pcf_refusal, pin_refusal,
+    place_refusal,
 };
 pub use say::say_line;

@@ -1,17 +1,19 @@
 //! Commands: files are read, something is made of their texts, and only then it is said or written.
-ghost use Rattle.std.specs.Prelude.{◌≡◌, ◌<◌, ◌≤◌, ℕ, List, length, true, OnOk, IfOk, IfErr};
-ghost use Rattle.ice_desk.specs.Desk.{SameButReading, SameButSaying, SameButWriting, SameTest};
+ghost use Rattle.std.specs.Prelude.{◌≡◌, ◌<◌, ℕ, List, length, true, IfOk, IfErr};
+ghost use Rattle.ice_base.specs.declared.number.TileAt.{TileAt};
+ghost use Rattle.ice_desk.specs.Desk.{SameButReading, SameTest};
 ghost use Rattle.ice_answer.specs.declared.cause.Cause.{Cause};
 ghost use Rattle.ice_answer.specs.Causes.{status_of};
-ghost use Rattle.ice_answer.specs.Reading.{most_bytes, TellsLong};
-ghost use Rattle.ice_answer.specs.Texts.{files_view, AreReadable, OfTexts};
-ghost use Rattle.ice_answer.specs.Commands.{command_of, Aloud, InFile, IsRefusal, IsPut, IsTrueOf, IsUnmade};
+ghost use Rattle.ice_answer.specs.Reading.{TellsLong};
+ghost use Rattle.ice_answer.specs.Texts.{files_view, AreReadable};
+ghost use Rattle.ice_answer.specs.Commands.{Output, command_of, Aloud, InFile, IsRefusal, IsTrueOf};
+ghost use Rattle.ice_answer.specs.Ends.{IsMadeOf, IsToldLong};
 ghost use Rattle.ice_answer.specs.Rows.{SaidBy, KeptRow, MadeRow, SilentRow};
 
-use crate::cause::{Cause, Done, FileRole, no_placement};
-use crate::end::{done, finish};
+use crate::cause::{Cause, Done, FileRole};
 use crate::files::{InputFile, Texts, read_texts};
-use ice_desk::{Desk, WriteStop, say_text, write_whole};
+use crate::giving::{Made, end_aloud, end_in_file};
+use ice_desk::Desk;
 use std::alloc::Global;
 
 /// What a command makes of its texts.
@@ -19,12 +21,12 @@ pub trait Making {
     /// How texts stand, by the answer that they have.
     ghost stands: { Self → List (List ℕ) → Cause → Type 0 };
 
-    /// What is made of texts.
-    ghost gives: { Self → List (List ℕ) → List ℕ → Type 0 };
+    /// What is made of texts: a text, with the placement that it is about.
+    ghost gives: { Self → List (List ℕ) → List ℕ → List TileAt → Type 0 };
 
     /// What is made of the texts, or why nothing is made.
-    fn make(&self, alloc: Global, texts: &Texts) -> Result<Vec<u8>, Cause>
-        ensures given { IfOk result (λ text. gives self.now texts.now text.items) }
+    fn make(&self, alloc: Global, texts: &Texts) -> Result<Made, Cause>
+        ensures given { IfOk result (λ made. gives self.now texts.now made.text.items made.placement) }
         ensures refused { IfErr result (λ cause. IsRefusal (stands self.now texts.now) cause) };
 }
 
@@ -34,37 +36,17 @@ fn make_of<D: Desk, M: Making>(
     desk: &mut D,
     files: &[InputFile<'_>],
     making: &M,
-) -> Result<Vec<u8>, Cause>
+) -> Result<Made, Cause>
     requires { AreReadable (D.may_read desk.old) (files_view files.now) }
     ensures same { SameButReading (D.seen desk.old) (D.seen desk.new) }
     ensures names_read { SameTest (D.may_read desk.old) (D.may_read desk.new) }
     ensures names_written { SameTest (D.may_write desk.old) (D.may_write desk.new) }
-    ensures made { IfOk result (λ text. OfTexts (files_view files.now) (D.seen desk.old) (λ texts. M.gives making.now texts text.items)) }
-    ensures stop { IfErr result (λ cause. IsUnmade (files_view files.now) (M.stands making.now) (M.gives making.now) (D.seen desk.old) (D.seen desk.new) cause) }
-    ensures given { OnOk result (0 < length files.now → (D.seen desk.new).given ≤ most_bytes) }
-    ensures given_stop { IfErr result (λ cause. 0 < length files.now → TellsLong (D.seen desk.new) cause) }
+    ensures made { (output : Output) → IsMadeOf (command_of (files_view files.now) (M.stands making.now) (M.gives making.now) output) (D.seen desk.old) (D.seen desk.new) result }
+    ensures given { 0 < length files.now → IsToldLong (D.seen desk.new) result }
 {
     match read_texts(alloc, desk, files) {
         Ok(texts) => making.make(alloc, &texts),
         Err(cause) => Err(cause),
-    }
-}
-
-// Says a text, whole or up to a say that failed. Each memory was taken before.
-fn put_aloud<D: Desk>(alloc: Global, desk: &mut D, text: &[u8]) -> Cause
-    ensures same { SameButSaying (D.seen desk.old) (D.seen desk.new) }
-    ensures names_read { SameTest (D.may_read desk.old) (D.may_read desk.new) }
-    ensures names_written { SameTest (D.may_write desk.old) (D.may_write desk.new) }
-    ensures put { IsPut Aloud text.now (D.seen desk.old) (D.seen desk.new) result }
-{
-    match say_text(desk, text) {
-        Ok(()) => Cause::Good {
-            placement: no_placement(alloc),
-        },
-        Err(put) => Cause::WriteFault {
-            role: FileRole::Standard,
-            put,
-        },
     }
 }
 
@@ -84,32 +66,8 @@ pub fn say_made<D: Desk, M: Making>(
     ensures made { (D.seen desk.new).makes ≡ (D.seen desk.old).makes }
     ensures given { 0 < length files.now → TellsLong (D.seen desk.new) result.cause }
 {
-    match make_of(alloc, desk, files, making) {
-        Ok(text) => done(put_aloud(alloc, desk, &text)),
-        Err(cause) => finish(desk, cause),
-    }
-}
-
-// Writes a text to a file. Each memory was taken before.
-fn put_in_file<D: Desk>(
-    alloc: Global,
-    desk: &mut D,
-    role: FileRole,
-    name: &str,
-    text: &[u8],
-) -> Cause
-    requires { D.may_write desk.old name.now }
-    ensures same { SameButWriting name.now (D.seen desk.old) (D.seen desk.new) }
-    ensures names_read { SameTest (D.may_read desk.old) (D.may_read desk.new) }
-    ensures names_written { SameTest (D.may_write desk.old) (D.may_write desk.new) }
-    ensures put { IsPut (InFile role name.now) text.now (D.seen desk.old) (D.seen desk.new) result }
-{
-    match write_whole(desk, name, text) {
-        Ok(()) => Cause::Good {
-            placement: no_placement(alloc),
-        },
-        Err(WriteStop::Failed { put }) => Cause::WriteFault { role, put },
-    }
+    let made = make_of(alloc, desk, files, making);
+    end_aloud(desk, made)
 }
 
 /// Reads files, and writes what is made of their texts to the file of this role and name, or says the line of a refusal.
@@ -131,11 +89,6 @@ pub fn write_made<D: Desk, M: Making>(
     ensures silent { SilentRow (InFile role name.now) (D.seen desk.old) (D.seen desk.new) result.cause }
     ensures given { 0 < length files.now → TellsLong (D.seen desk.new) result.cause }
 {
-    match make_of(alloc, desk, files, making) {
-        Ok(text) => {
-            let cause = put_in_file(alloc, desk, role, name, &text);
-            finish(desk, cause)
-        }
-        Err(cause) => finish(desk, cause),
-    }
+    let made = make_of(alloc, desk, files, making);
+    end_in_file(desk, made, role, name)
 }

@@ -1,5 +1,5 @@
-//! From the faults of readers, and of bits, to causes.
-ghost use Rattle.ice_answer.specs.Refusals.{IsBlifRefusal, IsPcfRefusal, IsChipRefusal, IsAscRefusal, IsBitsRefusal, IsNetRefusal};
+//! From the faults of readers, of pins and places, and of bits, to causes.
+ghost use Rattle.ice_answer.specs.Refusals.{IsBlifRefusal, IsPcfRefusal, IsChipRefusal, IsAscRefusal, IsBitsRefusal, IsNetRefusal, IsPinRefusal, IsPlaceRefusal};
 
 use crate::cause::Cause;
 use ice_asc::AscFault;
@@ -7,7 +7,9 @@ use ice_blif::BlifFault;
 use ice_check::NetFault;
 use ice_chip::ChipFault;
 use ice_decode::DecodeFault;
+use ice_pads::PinFault;
 use ice_pcf::PcfFault;
+use ice_place::PlaceFault;
 
 /// Why there is no netlist: the fault of its text, or want of memory.
 pub fn blif_refusal(fault: BlifFault) -> Cause
@@ -66,5 +68,25 @@ pub fn net_refusal(fault: NetFault) -> Cause
     match fault {
         NetFault::NoMemory => Cause::NoMemory,
         fault => Cause::BadNet(fault),
+    }
+}
+
+/// Why ports have no pads, or global buffers no globals: the fault, or want of memory.
+pub fn pin_refusal(fault: PinFault) -> Cause
+    ensures { IsPinRefusal fault result }
+{
+    match fault {
+        PinFault::NoMemory => Cause::NoMemory,
+        fault => Cause::BadPin(fault),
+    }
+}
+
+/// Why clusters have no places: the fault, or want of memory.
+pub fn place_refusal(fault: PlaceFault) -> Cause
+    ensures { IsPlaceRefusal fault result }
+{
+    match fault {
+        PlaceFault::NoMemory => Cause::NoMemory,
+        fault => Cause::Overfull(fault),
     }
 }

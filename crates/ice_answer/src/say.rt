@@ -1,19 +1,21 @@
 //! Saying the line of a refusal, piece by piece. It takes no memory.
 ghost use Rattle.std.specs.Prelude.{◌≡◌, map, decimal, codes, ◌∷◌, []};
 ghost use Rattle.ice_desk.specs.Desk.{SameButSaying, SameTest};
-ghost use Rattle.ice_answer.specs.Causes.{no_places, joined, faulty_line, named_line, names_line, spaced, line_of, role_name, blif_line, pcf_line, chip_line, net_line, pin_line, asc_line};
+ghost use Rattle.ice_answer.specs.Causes.{no_places, joined, faulty_line, named_line, names_line, spaced, line_of, role_name, blif_line, pcf_line, chip_line, net_line, pin_line, place_line, asc_line};
 ghost use Rattle.ice_desk.specs.Said.{IsSaid};
-ghost use Rattle.ice_answer.specs.Pieces.{piece_text, IsPlain, IsNameless};
+ghost use Rattle.ice_answer.specs.Pieces.{piece_text, IsPlain, IsNameless, IsPortless};
 
 use crate::bits_say::say_bits_fault;
-use crate::cause::{Cause, FileRole, PinFault};
+use crate::cause::{Cause, FileRole};
 use ice_asc::AscFault;
 use ice_base::{Name, NetNo, WireNo};
 use ice_blif::BlifFault;
 use ice_check::{Names, NetFault};
 use ice_chip::ChipFault;
 use ice_desk::{Desk, say_text};
+use ice_pads::PinFault;
 use ice_pcf::PcfFault;
+use ice_place::PlaceFault;
 use itoa::Buffer;
 
 // Says a text. Whether no say failed.
@@ -219,16 +221,59 @@ fn asc_pieces(fault: AscFault) -> [Piece; 5]
     }
 }
 
-// The line of a fault of the pins.
-fn pin_pieces(fault: PinFault) -> [Piece; 5]
-    ensures { joined (map piece_text result) ≡ pin_line fault }
+// A fault of the pins at a line.
+fn pin_at(head: &'static [u8], line: u32) -> [Piece; 5]
+    ensures { joined (map piece_text result) ≡ joined (head.now ∷ decimal line ∷ codes "\n" ∷ []) }
+{
+    three(head, Piece::Number(line as u64), b"\n")
+}
+
+// A fault of two numbers.
+fn two(head: &'static [u8], first: u32, middle: &'static [u8], second: u32) -> [Piece; 5]
+    ensures { joined (map piece_text result) ≡ joined (head.now ∷ decimal first ∷ middle.now ∷ decimal second ∷ codes "\n" ∷ []) }
+{
+    let first = Piece::Number(first as u64);
+    let second = Piece::Number(second as u64);
+    five(head, first, middle, second)
+}
+
+// The line of a fault of the pins that names no port of a netlist.
+fn pin_pieces(fault: &PinFault) -> [Piece; 5]
+    requires { IsPortless fault.now }
+    ensures { joined (map piece_text result) ≡ pin_line fault.now }
 {
     match fault {
-        PinFault::UnknownPin { line } => {
-            let line = Piece::Number(line as u64);
-            three(b"error 7 pin unknownpin line ", line, b"\n")
-        }
         PinFault::NoPackage => one(b"error 7 pin nopackage\n"),
+        PinFault::UnknownPin { line } => pin_at(b"error 7 pin unknownpin line ", *line),
+        PinFault::UnknownPort { line } => pin_at(b"error 7 pin unknownport line ", *line),
+        PinFault::PinTwice { first, second } => {
+            two(b"error 7 pin pintwice lines ", *first, b" ", *second)
+        }
+        PinFault::PortTwice { first, second } => {
+            two(b"error 7 pin porttwice lines ", *first, b" ", *second)
+        }
+        PinFault::TooManyGlobals { need, have } => {
+            two(b"error 7 pin globals need ", *need, b" have ", *have)
+        }
+        _ => one(b"error 7 pin nomemory\n"),
+    }
+}
+
+// The line of a fault of the places.
+fn place_pieces(fault: &PlaceFault) -> [Piece; 5]
+    ensures { joined (map piece_text result) ≡ place_line fault.now }
+{
+    match fault {
+        PlaceFault::RunTooLong { length, tallest } => {
+            two(b"error 8 full run ", *length, b" tallest ", *tallest)
+        }
+        PlaceFault::Overfull { need, have } => {
+            two(b"error 8 full need ", *need, b" have ", *have)
+        }
+        PlaceFault::RunUnplaced { run, length } => {
+            two(b"error 8 full unplaced ", *run, b" length ", *length)
+        }
+        PlaceFault::NoMemory => one(b"error 8 full nomemory\n"),
     }
 }
 
@@ -238,13 +283,17 @@ fn line_pieces(cause: &Cause) -> [Piece; 5]
     ensures { joined (map piece_text result) ≡ line_of cause.now }
 {
     match cause {
-        Cause::Good { .. } | Cause::BadNet(_) | Cause::BadBits(_) => one(b""),
+        Cause::Good { .. } | Cause::BadNet(_) | Cause::BadPin(_) | Cause::BadBits(_) => one(b""),
         Cause::Usage => one(b"error 2 usage\n"),
         Cause::BadBlif(fault) => blif_pieces(*fault),
         Cause::BadPcf(fault) => pcf_pieces(*fault),
         Cause::BadChip(fault) => chip_pieces(*fault),
-        Cause::BadPin(fault) => pin_pieces(*fault),
+        Cause::Overfull(fault) => place_pieces(fault),
         Cause::Unreachable { net, sink, .. } => unreachable_pieces(*net, *sink),
+        Cause::GaveUp { logs, .. } => {
+            let rounds = Piece::Number(logs.len() as u64);
+            three(b"error 10 gaveup rounds ", rounds, b"\n")
+        }
         Cause::ReadFault { role } => three(b"error 11 read ", role_name(*role), b"\n"),
         Cause::WriteFault { role, put } => {
             let put = Piece::Number(*put);
@@ -259,7 +308,6 @@ fn line_pieces(cause: &Cause) -> [Piece; 5]
         Cause::BadLevels { line } => {
             three(b"error 17 levels line ", Piece::Number(*line as u64), b"\n")
         }
-        Cause::NotBuilt { role } => three(b"error 18 notbuilt ", role_name(*role), b"\n"),
     }
 }
 
@@ -267,9 +315,7 @@ fn line_pieces(cause: &Cause) -> [Piece; 5]
 fn unreachable_pieces(net: NetNo, sink: WireNo) -> [Piece; 5]
     ensures { joined (map piece_text result) ≡ line_of (Cause.Unreachable no_places net sink) }
 {
-    let net = Piece::Number(net.0 as u64);
-    let sink = Piece::Number(sink.0 as u64);
-    five(b"error 9 unreachable net ", net, b" sink ", sink)
+    two(b"error 9 unreachable net ", net.0, b" sink ", sink.0)
 }
 
 // Says a text and then a name.
@@ -365,6 +411,20 @@ fn say_fault<D: Desk>(desk: &mut D, fault: &NetFault) -> bool
     }
 }
 
+// Says the line of a fault of the pins.
+fn say_pin_fault<D: Desk>(desk: &mut D, fault: &PinFault) -> bool
+    ensures same { SameButSaying (D.seen desk.old) (D.seen desk.new) }
+    ensures names_read { SameTest (D.may_read desk.old) (D.may_read desk.new) }
+    ensures names_written { SameTest (D.may_write desk.old) (D.may_write desk.new) }
+    ensures said { IsSaid (D.seen desk.old) (D.seen desk.new) (pin_line fault.now) result }
+{
+    match fault {
+        PinFault::NoPadLeft { port } => say_name_line(desk, b"error 7 pin nopad ", port),
+        PinFault::PadLacks { port } => say_name_line(desk, b"error 7 pin padlacks ", port),
+        fault => say_pieces(desk, &pin_pieces(fault)),
+    }
+}
+
 /// Says the line of a refusal, and nothing where the work is done. Whether no say failed.
 pub fn say_line<D: Desk>(desk: &mut D, cause: &Cause) -> bool
     ensures same { SameButSaying (D.seen desk.old) (D.seen desk.new) }
@@ -374,6 +434,7 @@ pub fn say_line<D: Desk>(desk: &mut D, cause: &Cause) -> bool
 {
     match cause {
         Cause::BadNet(fault) => say_fault(desk, fault),
+        Cause::BadPin(fault) => say_pin_fault(desk, fault),
         Cause::BadBits(fault) => say_bits_fault(desk, fault),
         cause => say_pieces(desk, &line_pieces(cause)),
     }

@@ -1,29 +1,32 @@
 -- The answers of the stages of building make its answer.
-use Rattle.std.proofs.Common.{◌≡◌, ℕ, inl, inr, refl, sym, ap, ◌∙◌, subst}
+use Rattle.std.proofs.Common.{◌≡◌, ◌⊎◌, ℕ, inl, inr, refl, sym, ap, ◌∙◌, subst}
 use Rattle.std.specs.Prelude.{Result, Ok, Err}
 use Rattle.ice_net.specs.NetlistData.{NetlistData}
+use Rattle.ice_bits.specs.Configuration.{Bits as BitsAt}
 use Rattle.ice_chip.specs.Database.{Parts}
 use Rattle.ice_cells.specs.Clusters.{clusters_of}
 use Rattle.ice_cells.specs.Runs.{design_of}
 use Rattle.ice_cells.specs.declared.cluster.Clusters.{Clusters}
 use Rattle.ice_cells.specs.declared.design.Design.{Design}
+use Rattle.ice_decode.specs.Faults.{HasNoLoop}
 use Rattle.ice_negotiate.specs.declared.fault.RouteFault.{RouteFault}
 use Rattle.ice_negotiate.specs.declared.fault.RouteFault.TheVariants as route
 use Rattle.ice_pads.specs.Assign.{PadsData, assign_of}
 use Rattle.ice_pads.specs.declared.fault.PinFault.{PinFault}
 use Rattle.ice_place.specs.Place.{place_of}
 use Rattle.ice_place.specs.declared.fault.PlaceFault.{PlaceFault}
+use Rattle.ice_realised.specs.Feeds.{FeedsNoGlobal}
 use Rattle.ice_sites.specs.Stretches.{stretches_of}
 use Rattle.ice_written.specs.Routed.{AreTrees}
 use Rattle.ice_written.specs.Written.{IsWritten}
 use Rattle.ice_build.specs.Answers.{IsBuilt, IsFault, IsComplete, IsRouted, pins_said, places_said, routes_in}
 use Rattle.ice_build.specs.Laid.{Task, IsLaidOut, IsSettled, StandsOn, plan_in}
 use Rattle.ice_build.specs.Shown.{IsCircuitOf}
-use Rattle.ice_build.specs.Stages.{IsPlaceFault, IsLayFault, IsRouteFault, IsFinished, IsEndFault, unrouted}
+use Rattle.ice_build.specs.Stages.{IsPlaceFault, IsLayFault, IsRouteFault, IsFinished, IsEndFault, IsBitsFault, unrouted}
 use Rattle.ice_build.specs.declared.answer.Built.{Built}
 use Rattle.ice_build.specs.declared.answer.Layout.{Layout}
 use Rattle.ice_build.specs.declared.answer.BuildFault.{BuildFault}
-use Rattle.ice_build.specs.declared.answer.BuildFault.TheVariants.{Pins, Places, Unreachable, GaveUp, NoMemory}
+use Rattle.ice_build.specs.declared.answer.BuildFault.TheVariants.{Pins, Places, Unreachable, GaveUp, Bits, NoMemory}
 
 -- ---- faults of stages
 -- the places have a fault, where the pins have none
@@ -40,6 +43,7 @@ lay_stops task n d clusters found fault same_net same_design same_clusters said 
     by (Places fault) good e = (found, good, e)
     by (Unreachable layout net sink) good never = absurd never
     by (GaveUp layout logs) good never = absurd never
+    by (Bits fault) good never = absurd never
     by NoMemory good e = tt
 
 pub lay_fault : (task : Task) (rounds : ℕ) (fault : BuildFault) → IsLayFault task fault → IsFault task rounds fault
@@ -47,6 +51,7 @@ lay_fault task rounds (Pins fault) e = e
 lay_fault task rounds (Places fault) e = e
 lay_fault task rounds (Unreachable layout net sink) never = absurd never
 lay_fault task rounds (GaveUp layout logs) never = absurd never
+lay_fault task rounds (Bits fault) never = absurd never
 lay_fault task rounds NoMemory e = tt
 
 pub end_fault : (task : Task) (rounds : ℕ) (layout : Layout) (fault : BuildFault) → IsLaidOut task layout → IsEndFault task.parts rounds layout fault → IsFault task rounds fault
@@ -56,6 +61,15 @@ end_fault task rounds layout fault laid (stop, is, same) = subst (IsFault task r
     by (route.Unreachable net sink) is = (laid, is)
     by (route.GaveUp logs) is = (laid, is)
     by route.NoMemory is = tt
+
+-- the bits have no circuit
+pub bits_stop : (task : Task) (rounds : ℕ) (made : Built) (fault : BuildFault) → IsBuilt task rounds made → IsBitsFault task.parts made.bits fault → IsFault task rounds fault
+bits_stop task rounds made (Pins fault) is never = absurd never
+bits_stop task rounds made (Places fault) is never = absurd never
+bits_stop task rounds made (Unreachable layout net sink) is never = absurd never
+bits_stop task rounds made (GaveUp layout logs) is never = absurd never
+bits_stop task rounds made (Bits fault) is stop = (made, is, stop)
+bits_stop task rounds made NoMemory is stop = tt
 
 -- ---- what is built
 pub laid_out : (task : Task) (n : NetlistData) (d : Design) (clusters : Clusters) (found : PadsData) (layout : Layout) → n ≡ task.circuit → d ≡ design_of task.circuit → clusters ≡ clusters_of d
@@ -84,6 +98,11 @@ built task rounds layout made laid stands finished = record {
 pub circuit : (n : NetlistData) (parts : Parts) (layout : Layout) (made : Built) → made.layout ≡ layout → IsCircuitOf n layout.pads.ports parts made.bits → IsCircuitOf n made.layout.pads.ports parts made.bits
 circuit n parts layout made same is = subst (λ (l : Layout). IsCircuitOf n l.pads.ports parts made.bits) (sym same) is
 
+-- no global is fed by a global, or the decoder was asked
+pub no_loop : (parts : Parts) (bits : BitsAt) → (FeedsNoGlobal parts → HasNoLoop parts bits) → FeedsNoGlobal parts ⊎ HasNoLoop parts bits → HasNoLoop parts bits
+no_loop parts bits by_feeds (inl feeds) = by_feeds feeds
+no_loop parts bits by_feeds (inr none) = none
+
 -- ---- which answers there are
 not_both : {A E : Type 0} (said : Result A E) (value : A) (fault : E) → said ≡ Ok value → said ≡ Err fault → ⊥
 not_both said value fault ok err = cc
@@ -91,10 +110,10 @@ not_both said value fault ok err = cc
 one_fault : {A E : Type 0} (said : Result A E) (fault other : E) → said ≡ Err fault → said ≡ Err other → fault ≡ other
 one_fault said fault other a b = cc
 
-pins_good : (task : Task) (layout : Layout) → IsLaidOut task layout → pins_said task ≡ Ok layout.pads
+pub pins_good : (task : Task) (layout : Layout) → IsLaidOut task layout → pins_said task ≡ Ok layout.pads
 pins_good task layout laid = subst (λ (d : Design). assign_of task.parts task.name task.constraints task.circuit d ≡ Ok layout.pads) laid.design laid.pads
 
-places_good : (task : Task) (layout : Layout) (laid : IsLaidOut task layout) → places_said task ≡ Ok laid.placed.first
+pub places_good : (task : Task) (layout : Layout) (laid : IsLaidOut task layout) → places_said task ≡ Ok laid.placed.first
 places_good task layout laid =
     let of_clusters = subst (λ (c : Clusters). place_of (stretches_of task.parts) c layout.design ≡ Ok laid.placed.first) laid.clusters laid.placed.is_first in
     subst (λ (d : Design). place_of (stretches_of task.parts) (clusters_of d) d ≡ Ok laid.placed.first) laid.design of_clusters
@@ -128,6 +147,11 @@ complete task rounds (Err (Unreachable layout net sink)) is = record {
 complete task rounds (Err (GaveUp layout logs)) is = record {
   pins = λ fault e. absurd (not_both (pins_said task) layout.pads fault (pins_good task layout is.0) e);
   places = λ found fault said e. absurd (not_both (places_said task) is.0.placed.first fault (places_good task layout is.0) e);
+  tried = λ found first said e. tt;
+}
+complete task rounds (Err (Bits fault)) is = record {
+  pins = λ other e. absurd (not_both (pins_said task) is.0.layout.pads other (pins_good task is.0.layout is.1.laid) e);
+  places = λ found other said e. absurd (not_both (places_said task) is.1.laid.placed.first other (places_good task is.0.layout is.1.laid) e);
   tried = λ found first said e. tt;
 }
 complete task rounds (Err NoMemory) is = record {

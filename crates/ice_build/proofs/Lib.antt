@@ -1,3 +1,3 @@
 mod Standing
 mod Showing
-mod Answering
+pub mod Answering

@@ -3,11 +3,15 @@ use Rattle.std.specs.Prelude.{◌≡◌, ◌⊎◌, ℕ, Result, Ok, Err, List, 
 use Rattle.ice_base.specs.declared.number.NetNo.{NetNo}
 use Rattle.ice_base.specs.declared.number.TileAt.{TileAt}
 use Rattle.ice_base.specs.declared.number.WireNo.{WireNo}
+use Rattle.ice_bits.specs.Configuration.{Configuration, bits_of}
 use Rattle.ice_chip.specs.Database.{Parts}
 use Rattle.ice_cells.specs.Clusters.{clusters_of}
 use Rattle.ice_cells.specs.Runs.{design_of}
 use Rattle.ice_core.specs.declared.log.RoundLog.{RoundLog}
 use Rattle.ice_core.specs.declared.net.Net.{Net}
+use Rattle.ice_decode.specs.declared.fault.DecodeFault.{DecodeFault}
+use Rattle.ice_decode.specs.declared.fault.DecodeFault.TheVariants as decode
+use Rattle.ice_decode.specs.Refusals.{IsFaultOf}
 use Rattle.ice_graph.specs.Network.{Network}
 use Rattle.ice_negotiate.specs.Logs.{AreRouted, AllEndOverused}
 use Rattle.ice_negotiate.specs.Rounds.{IsUnreachable}
@@ -18,6 +22,7 @@ use Rattle.ice_pads.specs.declared.fault.PinFault.{PinFault}
 use Rattle.ice_place.specs.Place.{place_of}
 use Rattle.ice_place.specs.declared.fault.PlaceFault.{PlaceFault}
 use Rattle.ice_plan.specs.Plan.{Plan}
+use Rattle.ice_realised.specs.Feeds.{FeedsNoGlobal}
 use Rattle.ice_sites.specs.Stretches.{stretches_of}
 use Rattle.ice_written.specs.Routed.{AreTrees}
 use Rattle.ice_written.specs.Written.{IsWritten}
@@ -25,7 +30,7 @@ use Rattle.ice_routed_trees.specs.Routing.{IsFabric, AreNetsOf}
 use Rattle.ice_build.specs.Laid.{Task, IsLaidOut, StandsOn, plan_in}
 use Rattle.ice_build.specs.declared.answer.Built.{Built}
 use Rattle.ice_build.specs.declared.answer.BuildFault.{BuildFault}
-use Rattle.ice_build.specs.declared.answer.BuildFault.TheVariants.{Pins, Places, Unreachable, GaveUp, NoMemory}
+use Rattle.ice_build.specs.declared.answer.BuildFault.TheVariants.{Pins, Places, Unreachable, GaveUp, Bits, NoMemory}
 
 -- ---- what is routed
 -- the nets of a placed design, on the graph of the chip's usable rows
@@ -66,11 +71,18 @@ pins_said task = assign_of task.parts task.name task.constraints task.circuit (d
 abbrev pub places_said : Task → Result (List TileAt) PlaceFault
 places_said task = place_of (stretches_of task.parts) (clusters_of (design_of task.circuit)) (design_of task.circuit)
 
+-- the bits have no circuit, for this fault of theirs, and some global of the chip is fed by a global
+pub record IsUndecoded (parts : Parts) (k : Configuration) (fault : DecodeFault) : Type 0 where
+  pub fed : FeedsNoGlobal parts → ⊥
+  pub is_fault : IsFaultOf parts (bits_of k) k.extras fault
+  pub told : fault ≡ decode.NoMemory → ⊥
+
 abbrev pub IsFault : Task → ℕ → BuildFault → Type 0
 IsFault task rounds (Pins fault) = pins_said task ≡ Err fault
 IsFault task rounds (Places fault) = (pads : PadsData) × (pins_said task ≡ Ok pads) × (places_said task ≡ Err fault)
 IsFault task rounds (Unreachable layout net sink) = IsLaidOut task layout × IsStuck task.parts (plan_in layout) net sink
 IsFault task rounds (GaveUp layout logs) = IsLaidOut task layout × IsGivenUp task.parts (plan_in layout) rounds logs.items
+IsFault task rounds (Bits fault) = (built : Built) × IsBuilt task rounds built × IsUndecoded task.parts built.bits fault
 IsFault task rounds NoMemory = Unit {0}
 
 -- ---- which answers there are
@@ -85,10 +97,11 @@ IsTried (Err (Pins fault)) = ⊥
 IsTried (Err (Places fault)) = ⊥
 IsTried (Err (Unreachable layout net sink)) = Unit {0}
 IsTried (Err (GaveUp layout logs)) = Unit {0}
+IsTried (Err (Bits fault)) = Unit {0}
 IsTried (Err NoMemory) = Unit {0}
 
 -- A fault of the pins is told where there is one; otherwise one of the places where there is one; otherwise the answer is what
--- was built, a sink that can't be reached, rounds that all end with an overused wire, or want of memory.
+-- was built, a sink that can't be reached, rounds that all end with an overused wire, bits without a circuit, or want of memory.
 pub record IsComplete (task : Task) (result : Result Built BuildFault) : Type 0 where
   pub pins : (fault : PinFault) → pins_said task ≡ Err fault → IsRefusal result (Pins fault)
   pub places : (pads : PadsData) (fault : PlaceFault) → pins_said task ≡ Ok pads → places_said task ≡ Err fault → IsRefusal result (Places fault)

@@ -1,5 +1,6 @@
 -- What the stages of building answer.
 use Rattle.std.specs.Prelude.{◌≡◌, ℕ, ◌≤◌, Ok, Err}
+use Rattle.ice_bits.specs.Configuration.{Configuration}
 use Rattle.ice_chip.specs.Database.{Parts}
 use Rattle.ice_cells.specs.declared.cluster.Clusters.{Clusters}
 use Rattle.ice_cells.specs.declared.design.Design.{Design}
@@ -11,13 +12,13 @@ use Rattle.ice_plan.specs.Plan.{Plan}
 use Rattle.ice_sites.specs.Stretches.{stretches_of}
 use Rattle.ice_written.specs.Routed.{AreTrees}
 use Rattle.ice_written.specs.Written.{IsWritten}
-use Rattle.ice_build.specs.Answers.{IsRouted, IsStuck, IsGivenUp, routes_in, pins_said, places_said}
+use Rattle.ice_build.specs.Answers.{IsRouted, IsStuck, IsGivenUp, IsUndecoded, routes_in, pins_said, places_said}
 use Rattle.ice_build.specs.Laid.{Task, plan_in}
 use Rattle.ice_build.specs.declared.answer.Built.{Built}
 use Rattle.ice_build.specs.declared.answer.Effort.{Effort}
 use Rattle.ice_build.specs.declared.answer.Layout.{Layout}
 use Rattle.ice_build.specs.declared.answer.BuildFault.{BuildFault}
-use Rattle.ice_build.specs.declared.answer.BuildFault.TheVariants.{Pins, Places, Unreachable, GaveUp, NoMemory}
+use Rattle.ice_build.specs.declared.answer.BuildFault.TheVariants.{Pins, Places, Unreachable, GaveUp, Bits, NoMemory}
 
 -- from 1 to 64 rounds and from 1 to 8 workers
 pub record IsPermitted (effort : Effort) : Type 0 where
@@ -32,6 +33,7 @@ IsPlaceFault parts clusters d (Pins fault) = ⊥
 IsPlaceFault parts clusters d (Places fault) = place_of (stretches_of parts) clusters d ≡ Err fault
 IsPlaceFault parts clusters d (Unreachable layout net sink) = ⊥
 IsPlaceFault parts clusters d (GaveUp layout logs) = ⊥
+IsPlaceFault parts clusters d (Bits fault) = ⊥
 IsPlaceFault parts clusters d NoMemory = Unit {0}
 
 -- why a netlist is not placed
@@ -40,6 +42,7 @@ IsLayFault task (Pins fault) = pins_said task ≡ Err fault
 IsLayFault task (Places fault) = (pads : PadsData) × (pins_said task ≡ Ok pads) × (places_said task ≡ Err fault)
 IsLayFault task (Unreachable layout net sink) = ⊥
 IsLayFault task (GaveUp layout logs) = ⊥
+IsLayFault task (Bits fault) = ⊥
 IsLayFault task NoMemory = Unit {0}
 
 -- why the nets of a placed design are not routed
@@ -64,3 +67,12 @@ pub record IsFinished (parts : Parts) (rounds : ℕ) (layout : Layout) (built : 
 -- why it is not
 abbrev pub IsEndFault : Parts → ℕ → Layout → BuildFault → Type 0
 IsEndFault parts rounds layout fault = (stop : RouteFault) × IsRouteFault parts (plan_in layout) rounds stop × (fault ≡ unrouted layout stop)
+
+-- why bits have no circuit
+abbrev pub IsBitsFault : Parts → Configuration → BuildFault → Type 0
+IsBitsFault parts k (Pins fault) = ⊥
+IsBitsFault parts k (Places fault) = ⊥
+IsBitsFault parts k (Unreachable layout net sink) = ⊥
+IsBitsFault parts k (GaveUp layout logs) = ⊥
+IsBitsFault parts k (Bits fault) = IsUndecoded parts k fault
+IsBitsFault parts k NoMemory = Unit {0}

@@ -1,13 +1,14 @@
 //! What building answers.
 ghost use Rattle.std.specs.Prelude.{◌≡◌};
 ghost use Rattle.ice_build.specs.declared.answer.BuildFault.TheVariants.{NoMemory as out_of_memory};
-ghost use Rattle.ice_build.specs.Faults.{pin_fault, place_fault};
+ghost use Rattle.ice_build.specs.Faults.{pin_fault, place_fault, bits_fault};
 
 use ice_base::{NetNo, NoMemory, WireNo};
 use ice_bits::Bits;
 use ice_carry::CarryFault;
 use ice_cells::{Clusters, Design};
 use ice_core::RoundLog;
+use ice_decode::DecodeFault;
 use ice_negotiate::Routed;
 use ice_pads::{Pads, PinFault};
 use ice_place::{PlaceFault, Placement};
@@ -82,6 +83,9 @@ pub enum BuildFault {
         /// The logs of the rounds in order.
         logs: Vec<RoundLog>,
     },
+    /// The bits that would be written have no circuit, since globals of the chip feed each other; never for want of memory.
+    #[error("no circuit: {0}")]
+    Bits(DecodeFault),
     /// Want of memory.
     #[error("want of memory")]
     NoMemory,
@@ -121,6 +125,17 @@ impl From<PlaceFault> for BuildFault {
         match fault {
             PlaceFault::NoMemory => BuildFault::NoMemory,
             other => BuildFault::Places(other),
+        }
+    }
+}
+
+impl From<DecodeFault> for BuildFault {
+    ghost from_gives = { λ fault e. e ≡ bits_fault fault };
+
+    fn from(fault: DecodeFault) -> BuildFault {
+        match fault {
+            DecodeFault::NoMemory => BuildFault::NoMemory,
+            other => BuildFault::Bits(other),
         }
     }
 }

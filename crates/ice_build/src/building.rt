@@ -1,12 +1,12 @@
 //! From a netlist to the bits of a chip.
 ghost use Rattle.std.specs.Prelude.{IfOk, IfErr};
-ghost use Rattle.ice_realised.specs.Feeds.{FeedsNoGlobal};
 ghost use Rattle.ice_build.specs.Answers.{IsBuilt, IsComplete, IsFault};
 ghost use Rattle.ice_build.specs.Laid.{task_of};
 ghost use Rattle.ice_build.specs.Shown.{IsCircuitOf};
 ghost use Rattle.ice_build.specs.Stages.{IsPermitted};
 
 use crate::answer::{BuildFault, Built, Effort};
+use crate::checking::check_loops;
 use crate::laws::{layouts_stand_on_their_chip, realised_layouts_show_their_netlist};
 use crate::laying::lay_out;
 use crate::routing::finish;
@@ -21,13 +21,14 @@ use std::alloc::Global;
 /// then improved from a seed; its nets are routed over the usable rows of the chip in at most so many rounds, from 1 to 64, by 1 to 8
 /// workers, on whom nothing depends; and the bits of all that are set, and no others.
 ///
-/// On every chip on which no global is fed by a global, as where each is fed in an IO tile, the bits are a circuit without a fault,
-/// which for every list of levels shows at the ports' pads, step by step, what the netlist shows, and drives no other pad.
+/// The bits are a circuit without a fault, which for every list of levels shows at the ports' pads, step by step, what the netlist
+/// shows, and drives no other pad. On a chip on which a global is fed by a global the decoder is asked for it.
 ///
 /// # Errors
 /// In this order: the fault of the pins exactly where `assign` has one; that of the places exactly where the first placement has one;
 /// the first sink to which no walk leads, and permitted rounds that all end with an overused wire, each with the placed design of
-/// which it is true. Want of memory may come at any time; more than 65,536 nets count as such.
+/// which it is true; the decoder's fault of the bits, only where a global of the chip is fed by a global. Want of memory may come at
+/// any time; more than 65,536 nets count as such.
 pub fn build<G: Gate + Sync>(
     alloc: Global,
     chip: &Chip,
@@ -39,7 +40,7 @@ pub fn build<G: Gate + Sync>(
 ) -> Result<Built, BuildFault>
     requires { IsPermitted effort }
     ensures built { IfOk result (IsBuilt (task_of chip.now name.now pcf.now sound.now) effort.rounds) }
-    ensures circuit { FeedsNoGlobal chip.now → IfOk result (λ built. IsCircuitOf sound.now built.layout.pads.ports chip.now built.bits) }
+    ensures circuit { IfOk result (λ built. IsCircuitOf sound.now built.layout.pads.ports chip.now built.bits) }
     ensures fault { IfErr result (IsFault (task_of chip.now name.now pcf.now sound.now) effort.rounds) }
     ensures complete { IsComplete (task_of chip.now name.now pcf.now sound.now) result }
 {
@@ -47,5 +48,6 @@ pub fn build<G: Gate + Sync>(
     realised_layouts_show_their_netlist(sound);
     let layout = lay_out(alloc, chip, name, pcf, sound, effort.seed)?;
     let built = finish(alloc, chip, layout, effort, gate)?;
+    check_loops(alloc, chip, &built.bits)?;
     Ok(built)
 }

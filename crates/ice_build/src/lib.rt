@@ -3,6 +3,7 @@
 
 mod answer;
 mod building;
+mod checking;
 pub mod laws;
 mod laying;
 mod routing;

@@ -1,6 +1,7 @@
 //! The trees and the bits of a placed design.
 ghost use Rattle.std.specs.Prelude.{◌≡◌, IfOk, IfErr};
 ghost use Rattle.ice_bits.specs.Configuration.{bits_of};
+ghost use Rattle.ice_decode.specs.Faults.{HasNoLoop};
 ghost use Rattle.ice_emit.specs.Placed.{IsPlacedOn};
 ghost use Rattle.ice_realised.specs.Feeds.{FeedsNoGlobal};
 ghost use Rattle.ice_written.specs.Realised.{Realises};
@@ -82,7 +83,8 @@ fn write(alloc: Global, chip: &Chip, layout: Layout, routed: Routed) -> Result<B
     ensures layout { IfOk result (λ built. built.layout ≡ layout) }
     ensures routed { IfOk result (λ built. built.routed ≡ routed) }
     ensures written { IfOk result (λ built. IsWritten chip.now (plan_in layout) layout.pads.pullups (routes_in routed) built.bits) }
-    ensures realised { FeedsNoGlobal chip.now → IfOk result (λ built. Realises chip.now (plan_in layout) (wanted_rows chip.now (plan_in layout) (routes_in routed)) (bits_of built.bits)) }
+    ensures loopless { IfOk result (λ built. FeedsNoGlobal chip.now → HasNoLoop chip.now (bits_of built.bits)) }
+    ensures realised { IfOk result (λ built. HasNoLoop chip.now (bits_of built.bits) → Realises chip.now (plan_in layout) (wanted_rows chip.now (plan_in layout) (routes_in routed)) (bits_of built.bits)) }
 {
     let bits = emit(
         alloc,
@@ -114,7 +116,8 @@ pub fn finish<G: Gate + Sync>(
     requires placed { IsPlacedOn chip.now (plan_in layout) layout.pads.pullups }
     requires effort { IsPermitted effort }
     ensures finished { IfOk result (IsFinished chip.now effort.rounds layout) }
-    ensures realised { FeedsNoGlobal chip.now → IfOk result (λ built. Realises chip.now (plan_in layout) (wanted_rows chip.now (plan_in layout) (routes_in built.routed)) (bits_of built.bits)) }
+    ensures loopless { IfOk result (λ built. FeedsNoGlobal chip.now → HasNoLoop chip.now (bits_of built.bits)) }
+    ensures realised { IfOk result (λ built. HasNoLoop chip.now (bits_of built.bits) → Realises chip.now (plan_in layout) (wanted_rows chip.now (plan_in layout) (routes_in built.routed)) (bits_of built.bits)) }
     ensures fault { IfErr result (IsEndFault chip.now effort.rounds layout) }
 {
     match route(alloc, chip, &layout, effort, gate) {

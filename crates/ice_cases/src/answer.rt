@@ -16,6 +16,8 @@ pub struct Setting<'a> {
     pub number: u32,
     /// The words of the run.
     pub words: &'a [u8],
+    /// The words of a second run over the same desk.
+    pub then: &'a [u8],
     /// How many bytes a call of the desk moves at most.
     pub moves: &'a [u8],
     /// The calls that fail, each a kind and a number.
@@ -31,6 +33,7 @@ impl<'a> Setting<'a> {
             group,
             number: 0,
             words: &[],
+            then: &[],
             moves: &[],
             fails: &[],
             shows: &[],
@@ -55,19 +58,31 @@ fn words_behind(alloc: Global, line: &[u8]) -> Result<Vec<String>, AllocError> {
     Ok(words)
 }
 
-// The texts that words of the run name, as files.
-fn files_of(
+// Adds the texts that words of a run name, as files.
+fn add_files(
     alloc: Global,
+    files: &mut Vec<(Name, Vec<u8>)>,
     line: &[u8],
     texts: &[Text<'_>],
-) -> Result<Vec<(Name, Vec<u8>)>, AllocError> {
-    let mut files = Vec::new(alloc);
+) -> Result<(), AllocError> {
     for word in words_of(line).skip(1) {
         if let Some(bytes) = find(texts, word) {
             let name = Name::from_bytes(Vec::from_slice(alloc, word)?);
             files.push((name, Vec::from_slice(alloc, bytes)?))?;
         }
     }
+    Ok(())
+}
+
+// The texts that words of both runs name, as files.
+fn files_of(
+    alloc: Global,
+    case: &Setting<'_>,
+    texts: &[Text<'_>],
+) -> Result<Vec<(Name, Vec<u8>)>, AllocError> {
+    let mut files = Vec::new(alloc);
+    add_files(alloc, &mut files, case.words, texts)?;
+    add_files(alloc, &mut files, case.then, texts)?;
     Ok(files)
 }
 
@@ -101,7 +116,7 @@ fn desk_of(
     case: &Setting<'_>,
     texts: &[Text<'_>],
 ) -> Result<MemoryDesk, AllocError> {
-    let files = files_of(alloc, case.words, texts)?;
+    let files = files_of(alloc, case, texts)?;
     let fails = calls_of(alloc, case.fails)?;
     let moves = number_at(case.moves, 1, 4096).max(1);
     Ok(MemoryDesk::new(alloc, files, moves as usize, fails))
@@ -138,31 +153,45 @@ fn add_file(out: &mut Vec<u8>, desk: &MemoryDesk, name: &[u8]) -> Result<(), All
     }
 }
 
-// Adds the head of an answer: the case and the status.
-fn add_head(out: &mut Vec<u8>, case: &Setting<'_>, status: u8) -> Result<(), AllocError> {
-    out.extend_from_slice(case.group)?;
-    out.extend_from_slice(b" ")?;
-    out.extend_from_slice(Buffer::new().format(case.number).as_bytes())?;
-    out.extend_from_slice(b": status ")?;
-    out.extend_from_slice(Buffer::new().format(status).as_bytes())?;
-    out.extend_from_slice(b"\n")?;
+// Adds the number of a run's case, or of its status.
+fn add_number(out: &mut Vec<u8>, before: &[u8], number: u32) -> Result<(), AllocError> {
+    out.extend_from_slice(before)?;
+    out.extend_from_slice(Buffer::new().format(number).as_bytes())?;
     Ok(())
 }
 
-// What a desk tells of a run: the status, what was said, and the files that the case shows.
-fn told(
-    alloc: Global,
+// Does what words ask for, and adds the status behind this, and what was said.
+fn add_run(
+    out: &mut Vec<u8>,
+    before: &[u8],
+    line: &[u8],
+    desk: &mut MemoryDesk,
+) -> Result<(), AllocError> {
+    let alloc = *out.allocator();
+    let words = words_behind(alloc, line)?;
+    let said = desk.said().len();
+    let done = run(alloc, &words, desk, &OpenGate);
+    add_number(out, before, u32::from(done.status))?;
+    out.push(b'\n')?;
+    add_lines(out, desk.said().get(said..).unwrap_or(&[]))
+}
+
+// Adds the runs of a case, and the files that it shows.
+fn add_answer(
+    out: &mut Vec<u8>,
     case: &Setting<'_>,
-    desk: &MemoryDesk,
-    status: u8,
-) -> Result<Vec<u8>, AllocError> {
-    let mut out = Vec::new(alloc);
-    add_head(&mut out, case, status)?;
-    add_lines(&mut out, desk.said())?;
-    for name in words_of(case.shows).skip(1) {
-        add_file(&mut out, desk, name)?;
+    desk: &mut MemoryDesk,
+) -> Result<(), AllocError> {
+    out.extend_from_slice(case.group)?;
+    add_number(out, b" ", case.number)?;
+    add_run(out, b": status ", case.words, desk)?;
+    if !case.then.is_empty() {
+        add_run(out, b"then status ", case.then, desk)?;
     }
-    Ok(out)
+    for name in words_of(case.shows).skip(1) {
+        add_file(out, desk, name)?;
+    }
+    Ok(())
 }
 
 /// The answer to a case, as text.
@@ -172,7 +201,7 @@ pub fn answer(
     texts: &[Text<'_>],
 ) -> Result<Vec<u8>, AllocError> {
     let mut desk = desk_of(alloc, case, texts)?;
-    let words = words_behind(alloc, case.words)?;
-    let done = run(alloc, &words, &mut desk, &OpenGate);
-    told(alloc, case, &desk, done.status)
+    let mut out = Vec::new(alloc);
+    add_answer(&mut out, case, &mut desk)?;
+    Ok(out)
 }

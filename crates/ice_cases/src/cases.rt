@@ -119,6 +119,7 @@ impl<'a> Cases<'a> {
             b"until" => draft.until(&self.texts, line)?,
             b"copy" => draft.copy(&self.texts, line)?,
             b"sample" => draft.sample(alloc, line)?,
+            b"netlist" => draft.netlist(line)?,
             _ => return Ok(draft.add_marked(&self.texts, line)?),
         }
         Ok(true)
@@ -133,6 +134,7 @@ impl<'a> Cases<'a> {
             b"group" => self.begin_group(line),
             b"case" => self.begin_case(alloc)?,
             b"words" => self.case.words = line,
+            b"then" => self.case.then = line,
             b"moves" => self.case.moves = line,
             b"fails" => self.case.fails = line,
             b"shows" => self.case.shows = line,

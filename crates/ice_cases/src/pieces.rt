@@ -1,7 +1,7 @@
 //! The pieces of a text: lines, bytes, bytes many times, and lines of other texts.
 use crate::texts::{Text, text_of};
 use ice_base::{NoMemory, lines_of, number_of, words_of};
-use ice_sample::sample_chip;
+use ice_sample::{sample_chip, sample_net};
 use itoa::Buffer;
 use std::alloc::{AllocError, Global};
 
@@ -158,5 +158,11 @@ impl<'a> Draft<'a> {
         let width = number_at(line, 1, 0).clamp(4, 64) as u16;
         let height = number_at(line, 2, 0).clamp(4, 64) as u16;
         sample_chip(alloc, width, height, &mut self.bytes)
+    }
+
+    /// Adds the text of the sample netlist of the number and the cells that a line names.
+    pub fn netlist(&mut self, line: &[u8]) -> Result<(), NoMemory> {
+        let number = u64::from(number_at(line, 1, 0));
+        sample_net(number, number_at(line, 2, 1), &mut self.bytes)
     }
 }

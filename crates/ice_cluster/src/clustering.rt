@@ -32,7 +32,7 @@ fn groups_in(
 fn slots_of(alloc: Global, cells: &[u32]) -> Result<Vec<Option<u32>>, NoMemory>
     ensures { IfOk result (λ made. made.items ≡ slots cells.now) }
 {
-    let mut slots = Vec::new(alloc);
+    let mut slots = Vec::with_capacity(alloc, 8)?;
     for c in cells {
         slots.push(Some(*c))?;
     }

@@ -21,7 +21,8 @@ fn open<'a>(
 ) -> Result<&'a [u32], NoMemory>
     ensures { IfOk result (λ rest. (groups.new.items, rest.now) ≡ ends (group_of members.now control run ∷ []) plains.now groups.old.items) }
 {
-    let mut cells = Vec::from_slice(alloc, members)?;
+    let mut cells = Vec::with_capacity(alloc, 8)?;
+    cells.extend_from_slice(members)?;
     let room = 8usize.saturating_sub(members.len()).min(plains.len());
     let (now, later) = plains.split_at(room);
     cells.extend_from_slice(now)?;

@@ -5,6 +5,7 @@ use Rattle.ice_base.specs.declared.number.BitAt.{BitAt}
 use Rattle.ice_base.specs.declared.number.TileAt.{TileAt}
 use Rattle.ice_chip.specs.Database.{Parts, PackageRows}
 use Rattle.ice_bits.specs.Configuration.{Bits, Configuration, bits_of}
+use Rattle.ice_decode.specs.Faults.{HasNoLoop}
 use Rattle.ice_decode.specs.declared.driver.Switch.{Switch}
 use Rattle.ice_negotiate.specs.Trees.{Route}
 use Rattle.ice_plan.specs.Plan.{Plan}
@@ -28,16 +29,43 @@ Drives parts = (wanted : List Switch) (more : Bits) → AreWanted parts wanted �
 
 abbrev pub Means : Parts → Type 0
 Means parts =
-    (rows : PackageRows) (plan : Plan) (pullups : List Bool) (wanted : List Switch) (held : Held) (bits : Bits) → FeedsNoGlobal parts → IsPlaced parts rows plan pullups → AreLed parts plan wanted held → AreSet parts plan wanted held bits
+    (rows : PackageRows) (plan : Plan) (pullups : List Bool) (wanted : List Switch) (held : Held) (bits : Bits) → HasNoLoop parts bits → IsPlaced parts rows plan pullups → AreLed parts plan wanted held → AreSet parts plan wanted held bits
     → IsWired parts bits wanted → Realises parts plan wanted bits
 
-pub are_meant : (parts : Parts) (rows : PackageRows) (plan : Plan) (pullups : List Bool) (routes : List Route) (k : Configuration) → Leads parts → SetsNoGroups parts → SetsDesigns parts → Drives parts → Means parts → FeedsNoGlobal parts
-    → IsPlaced parts rows plan pullups → AreTrees parts plan routes → IsWritten parts plan pullups routes k → Realises parts plan (wanted_rows parts plan routes) (bits_of k)
-are_meant parts rows plan pullups routes k leads apart sets drives means feeds placed trees written =
-    let wanted : List Switch = wanted_rows parts plan routes in
-    let held : Held = held_by parts plan routes in
-    let led = leads rows plan pullups routes placed trees in
-    let own : Bits = design_bits parts plan pullups held wanted in
-    let same : written_bits parts plan pullups routes ≡ bits_of k = fun_ext (λ (t : TileAt). fun_ext (λ (b : BitAt). sym (written.bits t b))) in
-    subst (λ (bits : Bits). Realises parts plan wanted bits) same
-    (means rows plan pullups wanted held (set_bits parts wanted own) feeds placed led (sets rows plan pullups held wanted placed led.rows) (drives wanted own led.rows (apart rows plan pullups held wanted placed)))
+abbrev pub Unloops : Parts → Type 0
+Unloops parts =
+    (rows : PackageRows) (plan : Plan) (pullups : List Bool) (wanted : List Switch) (held : Held) (bits : Bits) → FeedsNoGlobal parts → IsPlaced parts rows plan pullups → AreLed parts plan wanted held → AreSet parts plan wanted held bits
+    → IsWired parts bits wanted → HasNoLoop parts bits
+
+module _ (parts : Parts) (rows : PackageRows) (plan : Plan) (pullups : List Bool) (routes : List Route) (k : Configuration) (leads : Leads parts) (apart : SetsNoGroups parts) (sets : SetsDesigns parts) (drives : Drives parts)
+    (placed : IsPlaced parts rows plan pullups) (trees : AreTrees parts plan routes) (written : IsWritten parts plan pullups routes k) where
+  abbrev wanted : List Switch
+  wanted = wanted_rows parts plan routes
+
+  abbrev held : Held
+  held = held_by parts plan routes
+
+  abbrev own : Bits
+  own = design_bits parts plan pullups held wanted
+
+  led : AreLed parts plan wanted held
+  led = leads rows plan pullups routes placed trees
+
+  same : written_bits parts plan pullups routes ≡ bits_of k
+  same = fun_ext (λ (t : TileAt). fun_ext (λ (b : BitAt). sym (written.bits t b)))
+
+  set : AreSet parts plan wanted held (set_bits parts wanted own)
+  set = sets rows plan pullups held wanted placed led.rows
+
+  wired : IsWired parts (set_bits parts wanted own) wanted
+  wired = drives wanted own led.rows (apart rows plan pullups held wanted placed)
+
+  pub are_meant : Means parts → HasNoLoop parts (bits_of k) → Realises parts plan wanted (bits_of k)
+  are_meant means loopless =
+      subst (λ (bits : Bits). Realises parts plan wanted bits) same
+      (means rows plan pullups wanted held (set_bits parts wanted own) (subst (λ (bits : Bits). HasNoLoop parts bits) (sym same) loopless) placed led set wired)
+
+  pub have_no_loop : Unloops parts → FeedsNoGlobal parts → HasNoLoop parts (bits_of k)
+  have_no_loop unloops unfed =
+      subst (λ (bits : Bits). HasNoLoop parts bits) same
+      (unloops rows plan pullups wanted held (set_bits parts wanted own) unfed placed led set wired)

@@ -1,6 +1,7 @@
 //! The bit writer.
 ghost use Rattle.std.specs.Prelude.{◌≡◌, map, IfOk};
 ghost use Rattle.ice_bits.specs.Configuration.{bits_of};
+ghost use Rattle.ice_decode.specs.Faults.{HasNoLoop};
 ghost use Rattle.ice_negotiate.specs.Trees.{route_of};
 ghost use Rattle.ice_nets.specs.Plans.{plan_in, plan_of};
 ghost use Rattle.ice_written.specs.Functions.{settings};
@@ -30,7 +31,7 @@ use ice_led::laws::roots_are_led_to_pins;
 use ice_nets::{Placed, placed_of, wires_of};
 use ice_pads::Pads;
 use ice_place::Placement;
-use ice_realised::laws::bits_realise_their_design;
+use ice_realised::laws::{bits_have_no_loop, bits_realise_their_design};
 use ice_rows::index_of;
 use ice_set::laws::designs_are_set;
 use ice_wiring::laws::wanted_rows_drive;
@@ -114,9 +115,9 @@ fn bits_with(alloc: Global, chip: &Chip, rows: &[RowNo], made: &[Setting]) -> Re
 /// cells, their tables rewired to the inputs at which their signals arrive; of clocks' edges and carries into runs; of the pads'
 /// types and pull-ups, of inputs that nothing reads, and of the column buffers that globals pass. No other bit is set.
 ///
-/// Decoding these bits gives no fault: each wanted row drives its wire and no other wire has a driver, the ports' pads show for every
-/// list of levels what the design shows, and every other pad is off. It is so on every chip on which no global is fed by a global,
-/// as where each global is fed in an IO tile.
+/// Decoding these bits gives no fault but a loop, and no loop where no global of the chip is fed by a global, as where each is fed in an
+/// IO tile. Where they have no loop each wanted row drives its wire and no other wire has a driver, the ports' pads show for every list
+/// of levels what the design shows, and every other pad is off.
 ///
 /// # Errors
 /// Want of memory alone; more than 4,294,967,295 trees count as such.
@@ -132,11 +133,13 @@ pub fn emit(
     requires placed { IsPlacedOn chip.now (plan_of design.now clusters.now placement.now pads.now) pads.now.pullups }
     requires trees { AreTrees chip.now (plan_of design.now clusters.now placement.now pads.now) (map route_of trees.now) }
     ensures written { IfOk result (IsWritten chip.now (plan_of design.now clusters.now placement.now pads.now) pads.now.pullups (map route_of trees.now)) }
-    ensures realised { FeedsNoGlobal chip.now → IfOk result (λ bits. Realises chip.now (plan_of design.now clusters.now placement.now pads.now) (wanted_rows chip.now (plan_of design.now clusters.now placement.now pads.now) (map route_of trees.now)) (bits_of bits)) }
+    ensures loopless { IfOk result (λ bits. FeedsNoGlobal chip.now → HasNoLoop chip.now (bits_of bits)) }
+    ensures realised { IfOk result (λ bits. HasNoLoop chip.now (bits_of bits) → Realises chip.now (plan_of design.now clusters.now placement.now pads.now) (wanted_rows chip.now (plan_of design.now clusters.now placement.now pads.now) (map route_of trees.now)) (bits_of bits)) }
 {
     roots_are_led_to_pins(chip);
     designs_are_set(chip);
     wanted_rows_drive(chip);
+    bits_have_no_loop(chip);
     bits_realise_their_design(chip);
     let placed = placed_of(chip, design, clusters, placement, pads);
     let rows = rows_of(alloc, &placed, trees)?;

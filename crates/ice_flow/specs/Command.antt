@@ -2,16 +2,10 @@
 use Rattle.std.specs.Prelude.{ℕ, Bool, ◌&&◌, not, Option, Some, None, List, [], ◌∷◌, if◌then◌else◌, codes}
 use Rattle.std.specs.Str.{bytes_eq}
 use Rattle.ice_base.specs.Comments.{begins_with}
+use Rattle.ice_build.specs.declared.answer.Effort.{Effort}
+use Rattle.ice_build_files.specs.Asked.{Build}
 use Rattle.ice_play.specs.Played.{PlayNet}
 use Rattle.ice_play_bits.specs.Played.{PlayBits}
-
--- the words of `build CHIP PACKAGE PCF BLIF ASC`: names of files, and the name of a package
-pub record Build : Type 0 where
-  pub chip : List ℕ
-  pub package_name : List ℕ
-  pub pcf : List ℕ
-  pub blif : List ℕ
-  pub asc : List ℕ
 
 -- a command with its names
 pub data Request : Type 0 where
@@ -25,6 +19,10 @@ is_plain word = not (begins_with 45 word)
 
 abbrev pub are_plain : Build → Bool
 are_plain b = is_plain b.chip && is_plain b.package_name && is_plain b.pcf && is_plain b.blif && is_plain b.asc
+
+-- how long a build tries, and from where: from the seed 1, in at most 64 rounds, with 2 workers
+abbrev pub default_effort : Effort
+default_effort = record { seed = 1; rounds = 64; workers = 2 }
 
 -- the request of a command and its names
 abbrev pub build_with : List ℕ → Build → Option Request
@@ -44,5 +42,5 @@ abbrev pub request_of : List (List ℕ) → Option Request
 request_of (command ∷ blif ∷ levels ∷ []) = play_with command (record { blif = blif; levels = levels })
 request_of (command ∷ chip ∷ name ∷ asc ∷ levels ∷ []) = play_bits_with command (record { chip = chip; package_name = name; asc = asc; levels = levels })
 request_of (command ∷ chip ∷ name ∷ pcf ∷ blif ∷ asc ∷ []) =
-    build_with command (record { chip = chip; package_name = name; pcf = pcf; blif = blif; asc = asc })
+    build_with command (record { chip = chip; package_name = name; pcf = pcf; blif = blif; asc = asc; effort = default_effort })
 request_of words = None

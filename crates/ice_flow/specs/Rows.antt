@@ -1,31 +1,24 @@
 -- When each answer of the program comes: only where its cause is true, and always there, unless the desk or the memory fails.
-use Rattle.std.specs.Prelude.{◌≡◌, ◌↔◌, ℕ, true, Option, None, Some, List}
+use Rattle.std.specs.Prelude.{◌≡◌, ◌↔◌, ℕ, Option, None, Some, List}
 use Rattle.ice_desk.specs.Desk.{Meaning}
 use Rattle.ice_desk.specs.Said.{SaidRow}
 use Rattle.ice_answer.specs.declared.cause.Cause.{Cause}
-use Rattle.ice_answer.specs.declared.cause.Cause.TheVariants.{Usage, BadBlif, BadPcf, BadChip, BadPin, NoMemory, NotBuilt}
-use Rattle.ice_answer.specs.declared.cause.FileRole.TheVariants.{Chip, Pcf, Blif}
-use Rattle.ice_answer.specs.declared.cause.PinFault.TheVariants as pin_fault
+use Rattle.ice_answer.specs.declared.cause.Cause.TheVariants.{Usage, NoMemory}
 use Rattle.ice_answer.specs.Causes.{line_of}
-use Rattle.ice_answer.specs.Commands.{Command, IsDone, IsTrueOf}
+use Rattle.ice_answer.specs.Commands.{Command, IsTrueOf}
 use Rattle.ice_answer.specs.Reading.{TellsLong}
 use Rattle.ice_answer.specs.Refusals.{IsKnown}
 use Rattle.ice_answer.specs.Rows as answers
-use Rattle.ice_answer.specs.Rows.{ComesExactly, SaidBy}
-use Rattle.ice_answer.specs.Texts.{HoldsTexts, text_at}
-use Rattle.ice_blif.specs.declared.fault.BlifFault.{BlifFault}
-use Rattle.ice_chip.specs.declared.fault.ChipFault.{ChipFault}
-use Rattle.ice_pcf.specs.declared.fault.PcfFault.{PcfFault}
+use Rattle.ice_answer.specs.Rows.{SaidBy}
+use Rattle.ice_build_files.specs.Asked.{Build}
+use Rattle.ice_build_files.specs.Command.{build_files}
 use Rattle.ice_play.specs.Played.{PlayNet, play_net}
 use Rattle.ice_play_bits.specs.Played.{PlayBits, play_bits}
-use Rattle.ice_flow.specs.Command.{Build, Request, ForBuild, ForPlayNet, ForPlayBits}
-use Rattle.ice_flow.specs.Standing.{FaultyChip, FaultyPins, FaultyNetlist, OtherChip, OtherNetlist, OtherPins, UnknownPin}
-use Rattle.ice_flow.specs.Headline.{IsCircuitOf}
-use Rattle.ice_flow.specs.Answers.{files_of, unreachable_at, build, Stands, Apart, Routable}
+use Rattle.ice_flow.specs.Command.{Request, ForBuild, ForPlayNet, ForPlayBits}
 
 -- the command that the words ask for
 abbrev pub asked_for : Request → Command
-asked_for (ForBuild b) = build b
+asked_for (ForBuild b) = build_files b
 asked_for (ForPlayNet p) = play_net p
 asked_for (ForPlayBits p) = play_bits p
 
@@ -50,54 +43,10 @@ PlaysBits request P = (p : PlayBits) → request ≡ Some (ForPlayBits p) → P 
 abbrev pub UsageRow : Option Request → Cause → Type 0
 UsageRow request cause = (cause ≡ Usage) ↔ (request ≡ None)
 
--- status 5: exactly where the chip text has a fault, with the first one
-abbrev pub ChipRow : Build → Meaning → Cause → Type 0
-ChipRow b old cause = (fault : ChipFault) → ComesExactly (build b) old (λ c. c ≡ BadChip fault) (Stands b (FaultyChip fault)) cause
-
--- status 4: exactly where the text of the pins has a fault, with the first one
-abbrev pub PcfRow : Build → Meaning → Cause → Type 0
-PcfRow b old cause = (fault : PcfFault) → ComesExactly (build b) old (λ c. c ≡ BadPcf fault) (Stands b (FaultyPins fault)) cause
-
--- status 3: exactly where the netlist's text has a fault, with the first one
-abbrev pub BlifRow : Build → Meaning → Cause → Type 0
-BlifRow b old cause = (fault : BlifFault) → ComesExactly (build b) old (λ c. c ≡ BadBlif fault) (Stands b (FaultyNetlist fault)) cause
-
--- status 18 of the chip: exactly where its text is of another form than the one that is built so far
-abbrev pub OtherChipRow : Build → Meaning → Cause → Type 0
-OtherChipRow b old cause = ComesExactly (build b) old (λ c. c ≡ NotBuilt Chip) (Stands b OtherChip) cause
-
--- status 18 of the netlist: exactly where it is of another form than the one that is built so far
-abbrev pub OtherNetlistRow : Build → Meaning → Cause → Type 0
-OtherNetlistRow b old cause = ComesExactly (build b) old (λ c. c ≡ NotBuilt Blif) (Stands b OtherNetlist) cause
-
--- status 18 of the pins: exactly where their text, the package or the pads are of another form
-abbrev pub OtherPinsRow : Build → Meaning → Cause → Type 0
-OtherPinsRow b old cause = ComesExactly (build b) old (λ c. c ≡ NotBuilt Pcf) (Stands b OtherPins) cause
-
--- status 7: exactly where a constraint names a pin that the package lacks, with its line
-abbrev pub PinRow : Build → Meaning → Cause → Type 0
-PinRow b old cause = (line : ℕ) → ComesExactly (build b) old (λ c. c ≡ BadPin (pin_fault.UnknownPin line)) (Stands b (UnknownPin line)) cause
-
--- status 9: exactly where no walk over usable rows leads to the sink
-abbrev pub UnreachableRow : Build → Meaning → Cause → Type 0
-UnreachableRow b old cause =
-    (sink : ℕ) → ComesExactly (build b) old (λ c. c ≡ unreachable_at sink) (Apart b sink) cause
-
--- status 0, or 12 where a fault of writing comes in between: exactly where the texts are good and a walk leads to the sink
-abbrev pub DoneRow : Build → Meaning → Cause → Type 0
-DoneRow b old cause = ComesExactly (build b) old IsDone (Routable b) cause
-
 -- status 13 is free, and no file was made; want of memory has this status alone
 pub record NoMemoryRow (old new : Meaning) (cause : Cause) : Type 0 where
   pub unmade : cause ≡ NoMemory → new.makes ≡ old.makes
   pub alone : IsKnown cause
-
--- The headline: where the desk tells its contents, status 0 means that the file of the bits holds the circuit of the netlist.
-abbrev pub HeadlineRow : Build → Meaning → Meaning → ℕ → Type 0
-HeadlineRow b old new status =
-    status ≡ 0 → old.tells ≡ true
-    → (texts : List (List ℕ)) × (asc : List ℕ) × HoldsTexts (files_of b) old texts × (new.files b.asc ≡ Some asc)
-    × IsCircuitOf b.package_name (text_at texts 1) (text_at texts 2) (text_at texts 3) asc
 
 -- what was said, beside what a command says that plays: the whole line of a refusal, or a front of it where a say failed
 abbrev pub SaidByWords : Option Request → Meaning → Meaning → Cause → Type 0

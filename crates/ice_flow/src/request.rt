@@ -1,28 +1,17 @@
 //! The words of the program, read by hand: a command and its names.
-ghost use Rattle.std.specs.Prelude.{◌≡◌, map, string_bytes, not, option_map};
+ghost use Rattle.std.specs.Prelude.{◌≡◌, map, string_bytes, not, option_map, IfSome};
 ghost use Rattle.ice_flow.specs.Command.{is_plain, are_plain, are_plain_words, build_with, play_with, play_bits_with, request_of};
-ghost use Rattle.ice_flow.specs.Requests.{build_view, request_view};
+ghost use Rattle.ice_build.specs.Stages.{IsPermitted};
+ghost use Rattle.ice_flow.specs.Requests.{request_view, MayTry};
+ghost use Rattle.ice_build_files.specs.Requests as build;
 ghost use Rattle.ice_play.specs.Requests as play;
 ghost use Rattle.ice_play_bits.specs.Requests as play_bits;
 
 use ice_base::begins_with;
+use ice_build::Effort;
+use ice_build_files::BuildRequest;
 use ice_play::NetRequest;
 use ice_play_bits::BitsRequest;
-
-/// What a build is asked for: the text of bits at `asc` from the texts of three files, for a package.
-#[derive(Clone, Copy)]
-pub struct BuildRequest<'a> {
-    /// The name of the file of the chip database.
-    pub chip: &'a str,
-    /// The name of the package.
-    pub package_name: &'a str,
-    /// The name of the file of the pin constraints.
-    pub pcf: &'a str,
-    /// The name of the netlist's file.
-    pub blif: &'a str,
-    /// The name of the file of bits.
-    pub asc: &'a str,
-}
 
 /// What the words ask for.
 #[derive(Clone, Copy)]
@@ -35,6 +24,13 @@ pub enum Request<'a> {
     PlayBits(BitsRequest<'a>),
 }
 
+// How long a build tries, and from where.
+const EFFORT: Effort = Effort {
+    seed: 1,
+    rounds: 64,
+    workers: 2,
+};
+
 // Whether a word stands for itself, and is no option.
 fn is_plain(word: &str) -> bool
     ensures { result ≡ is_plain word.now }
@@ -44,7 +40,9 @@ fn is_plain(word: &str) -> bool
 
 // The request of `build` and its names.
 fn build_request<'a>(command: &str, request: BuildRequest<'a>) -> Option<Request<'a>>
-    ensures { option_map request_view result ≡ build_with command.now (build_view request.entry) }
+    requires { IsPermitted request.effort }
+    ensures request { option_map request_view result ≡ build_with command.now (build.request_view request.entry) }
+    ensures permitted { IfSome result MayTry }
 {
     if command == "build" && are_plain(&request) {
         Some(Request::Build(request))
@@ -55,7 +53,8 @@ fn build_request<'a>(command: &str, request: BuildRequest<'a>) -> Option<Request
 
 // The request of `play-net` and its names.
 fn play_net_request<'a>(command: &str, request: NetRequest<'a>) -> Option<Request<'a>>
-    ensures { option_map request_view result ≡ play_with command.now (play.request_view request.entry) }
+    ensures request { option_map request_view result ≡ play_with command.now (play.request_view request.entry) }
+    ensures permitted { IfSome result MayTry }
 {
     if command == "play-net" && is_plain(request.blif) && is_plain(request.levels) {
         Some(Request::PlayNet(request))
@@ -66,7 +65,8 @@ fn play_net_request<'a>(command: &str, request: NetRequest<'a>) -> Option<Reques
 
 // The request of `play-bits` and its names.
 fn play_bits_request<'a>(command: &str, request: BitsRequest<'a>) -> Option<Request<'a>>
-    ensures { option_map request_view result ≡ play_bits_with command.now (play_bits.request_view request.entry) }
+    ensures request { option_map request_view result ≡ play_bits_with command.now (play_bits.request_view request.entry) }
+    ensures permitted { IfSome result MayTry }
 {
     if command == "play-bits" && are_plain_words(&request) {
         Some(Request::PlayBits(request))
@@ -77,7 +77,8 @@ fn play_bits_request<'a>(command: &str, request: BitsRequest<'a>) -> Option<Requ
 
 /// The request of the words after the program's name, where they are one.
 pub fn read_request(words: &[String]) -> Option<Request<'_>>
-    ensures { option_map request_view result ≡ request_of (map string_bytes words.now) }
+    ensures request { option_map request_view result ≡ request_of (map string_bytes words.now) }
+    ensures permitted { IfSome result MayTry }
 {
     match words {
         [command, blif, levels] => {
@@ -103,6 +104,7 @@ pub fn read_request(words: &[String]) -> Option<Request<'_>>
                 pcf: pcf.as_str(),
                 blif: blif.as_str(),
                 asc: asc.as_str(),
+                effort: EFFORT,
             };
             build_request(command.as_str(), request)
         }
@@ -112,7 +114,7 @@ pub fn read_request(words: &[String]) -> Option<Request<'_>>
 
 // Whether all names of a build stand for themselves.
 fn are_plain(request: &BuildRequest<'_>) -> bool
-    ensures { result ≡ are_plain (build_view request.now) }
+    ensures { result ≡ are_plain (build.request_view request.now) }
 {
     is_plain(request.chip)
         && is_plain(request.package_name)

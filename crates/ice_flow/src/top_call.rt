@@ -5,16 +5,21 @@ ghost use Rattle.ice_flow.specs.Command.{request_of};
 ghost use Rattle.ice_flow.specs.Rows.{Caused, SaidByWords, KeptRow, MadeRow, SilentRow, GivenRow, MayUse};
 ghost use Rattle.ice_flow.specs.Run.{IsAnswer};
 
-use crate::build::build;
 use crate::request::{Request, read_request};
 use ice_answer::{Cause, Done, finish};
+use ice_build_files::build_files;
 use ice_desk::{Desk, Gate};
 use ice_play::play_net;
 use ice_play_bits::play_bits;
 use std::alloc::Global;
 
 // The answer to the words, with all that is known of it.
-fn answer<D: Desk>(alloc: Global, words: &[String], desk: &mut D) -> Done
+fn answer<D: Desk, G: Gate + Sync>(
+    alloc: Global,
+    words: &[String],
+    desk: &mut D,
+    gate: &G,
+) -> Done
     requires { MayUse (D.may_read desk.old) (D.may_write desk.old) (request_of (map string_bytes words.now)) }
     ensures status { result.status ≡ status_of result.cause }
     ensures caused { Caused (request_of (map string_bytes words.now)) (D.seen desk.old) (D.seen desk.new) result.cause }
@@ -26,7 +31,7 @@ fn answer<D: Desk>(alloc: Global, words: &[String], desk: &mut D) -> Done
 {
     match read_request(words) {
         None => finish(desk, Cause::Usage),
-        Some(Request::Build(request)) => build(alloc, desk, &request),
+        Some(Request::Build(request)) => build_files(alloc, desk, gate, &request),
         Some(Request::PlayNet(request)) => play_net(alloc, desk, &request),
         Some(Request::PlayBits(request)) => play_bits(alloc, desk, &request),
     }
@@ -37,11 +42,16 @@ fn answer<D: Desk>(alloc: Global, words: &[String], desk: &mut D) -> Done
 /// `build CHIP PACKAGE PCF BLIF ASC` reads the texts of a chip database, pin constraints and a netlist, and writes
 /// the text of the bits. `play-net BLIF LEVELS` reads the texts of a netlist and of levels, and says what the netlist's
 /// ports drive, step by step. `play-bits CHIP PACKAGE ASC LEVELS` reads the texts of a chip database, of bits and of levels, and says
-/// what the configured chip drives at the pads of the package, step by step. No worker runs yet, so the gate is not passed.
+/// what the configured chip drives at the pads of the package, step by step.
 #[tactic(auto, using(crate::proofs::RowLaws::answers_so))]
-pub fn run<D: Desk, G: Gate>(alloc: Global, words: &[String], desk: &mut D, _gate: &G) -> Done
+pub fn run<D: Desk, G: Gate + Sync>(
+    alloc: Global,
+    words: &[String],
+    desk: &mut D,
+    gate: &G,
+) -> Done
     requires { MayUse (D.may_read desk.old) (D.may_write desk.old) (request_of (map string_bytes words.now)) }
     ensures { IsAnswer (request_of (map string_bytes words.now)) (D.seen desk.old) (D.seen desk.new) result }
 {
-    answer(alloc, words, desk)
+    answer(alloc, words, desk, gate)
 }

@@ -1,5 +1,5 @@
 -- When each answer of `play-net` comes, from how its texts stand.
-use Rattle.std.proofs.Common.{◌≡◌, ◌≢◌, ◌∙◌, ℕ, Bool, List, length, Result, Ok, Err, inl, inr, refl, sym, subst}
+use Rattle.std.proofs.Common.{◌≡◌, ℕ, Bool, List, length, Result, Ok, Err, inl, inr, refl, sym, subst}
 use Rattle.ice_desk.specs.Desk.{Meaning}
 use Rattle.ice_net.specs.NetlistData.{NetlistData}
 use Rattle.ice_blif.specs.Grammar.{netlist_of}
@@ -14,8 +14,8 @@ use Rattle.ice_answer.specs.Texts.{text_at}
 use Rattle.ice_answer.specs.Commands.{IsDone, IsTrueOf}
 use Rattle.ice_answer.proofs.Standings.{behind, fault_alone, then_stands, of_done}
 use Rattle.ice_answer.proofs.TextFacts.{of_weaker}
-use Rattle.ice_answer.proofs.CommandRows.{Lawful, comes}
-use Rattle.ice_play.specs.Played.{PlayNet, files_of, IsNetCause, LevelsStand, NetStands, Stands, IsFaulty, HasBadLine, IsPlayed, play_net}
+use Rattle.ice_answer.proofs.CommandRows.{Lawful, StandsAlone, comes}
+use Rattle.ice_play.specs.Played.{PlayNet, files_of, LevelsStand, NetStands, Stands, IsFaulty, HasBadLine, play_net}
 use Rattle.ice_play.specs.PlayRows.{BlifRow, IsMalformed, IsNetFault, IsUnsound, NetRow, LevelsRow}
 
 -- what a refusal tells of the texts
@@ -66,14 +66,16 @@ net_alone texts circuit cause unsound (inr good) = absurd (unsound good.0)
 pub lawful : (p : PlayNet) → Lawful (play_net p)
 unfolding Told
 lawful p = record {
-  done = λ texts text cause g done.
-      behind (netlist_of (text_at texts 1)) BadBlif (NetStands (text_at texts 2)) g.circuit cause g.is_circuit
-      (inr (g.is_sound, behind (levels_of (length g.circuit.ports) (text_at texts 2)) BadLevels (λ levels. IsDone) g.levels cause g.are_levels done));
-  alone = λ texts text cause g m.
-      then_stands (levels_of (length g.circuit.ports) (text_at texts 2)) BadLevels (λ levels. IsDone) g.levels cause g.are_levels
-      (levels_stand texts g.circuit cause g.is_sound (net_stands texts g.circuit cause g.is_circuit m));
+  done = λ texts text on cause g done.
+      behind (netlist_of (text_at texts 1)) BadBlif (NetStands (text_at texts 2)) g.0.circuit cause g.0.is_circuit
+      (inr (g.0.is_sound, behind (levels_of (length g.0.circuit.ports) (text_at texts 2)) BadLevels (λ levels. IsDone) g.0.levels cause g.0.are_levels done));
   never = λ texts m. told texts Usage m;
 }
+
+pub alone : (p : PlayNet) → StandsAlone (play_net p)
+alone p texts text on cause g m =
+    then_stands (levels_of (length g.0.circuit.ports) (text_at texts 2)) BadLevels (λ levels. IsDone) g.0.levels cause g.0.are_levels
+    (levels_stand texts g.0.circuit cause g.0.is_sound (net_stands texts g.0.circuit cause g.0.is_circuit m))
 
 -- ---- the rows
 

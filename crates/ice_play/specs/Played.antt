@@ -1,6 +1,7 @@
 -- How the two texts of `play-net` stand, and what it makes of them: of the netlist's text, which is the first, and of the text of
 -- levels, which is the second.
 use Rattle.std.specs.Prelude.{◌≡◌, ◌≢◌, Bool, ℕ, List, [], ◌∷◌, length, Ok, Err}
+use Rattle.ice_base.specs.declared.number.TileAt.{TileAt}
 use Rattle.ice_net.specs.NetlistData.{NetlistData}
 use Rattle.ice_net.specs.Meaning.{shows}
 use Rattle.ice_blif.specs.Grammar.{netlist_of}
@@ -11,10 +12,12 @@ use Rattle.ice_check.specs.declared.fault.NetFault.{NetFault}
 use Rattle.ice_sim.specs.LevelTexts.{levels_of}
 use Rattle.ice_sim.specs.DriveTexts.{drives_text}
 use Rattle.ice_answer.specs.declared.cause.Cause.{Cause}
-use Rattle.ice_answer.specs.declared.cause.Cause.TheVariants.{BadBlif, BadNet, BadLevels}
+use Rattle.ice_answer.specs.declared.cause.Cause.TheVariants.{BadBlif, BadLevels}
 use Rattle.ice_answer.specs.declared.cause.FileRole.TheVariants.{Blif, Levels}
+use Rattle.ice_answer.specs.Causes.{no_places}
 use Rattle.ice_answer.specs.Commands.{Command, command_of, Aloud, IsDone, stands_by, stands_if}
 use Rattle.ice_answer.specs.Reading.{Files}
+use Rattle.ice_answer.specs.Refusals.{IsNetCause}
 use Rattle.ice_answer.specs.Texts.{text_at}
 
 -- the words of `play-net BLIF LEVELS`: names of files
@@ -27,10 +30,6 @@ abbrev pub files_of : PlayNet → Files
 files_of p = record { role = Blif; name = p.blif } ∷ record { role = Levels; name = p.levels } ∷ []
 
 -- ---- how the texts stand
-
--- the cause is this fault of the netlist, which isn't want of memory
-abbrev pub IsNetCause : NetlistData → Cause → Type 0
-IsNetCause circuit cause = (fault : NetFault) × (cause ≡ BadNet fault) × IsFaultOf circuit fault × (fault ≢ net_fault.NoMemory)
 
 -- the levels of a sound netlist: the work is done where they are one for each port in each line
 abbrev pub LevelsStand : NetlistData → List ℕ → Cause → Type 0
@@ -67,5 +66,9 @@ pub record IsPlayed (texts : List (List ℕ)) (text : List ℕ) : Type 0 where
   pub are_levels : levels_of (length circuit.ports) (text_at texts 2) ≡ Ok levels
   pub is_text : text ≡ drives_text (shows circuit levels)
 
+-- what is made of the texts; nothing is placed
+abbrev pub IsMade : List (List ℕ) → List ℕ → List TileAt → Type 0
+IsMade texts text placement = IsPlayed texts text × (placement ≡ no_places)
+
 abbrev pub play_net : PlayNet → Command
-play_net p = command_of (files_of p) Stands IsPlayed Aloud
+play_net p = command_of (files_of p) Stands IsMade Aloud

@@ -1,15 +1,15 @@
 //! Playing a netlist: two texts are read, and the text of drives is said.
-ghost use Rattle.std.specs.Prelude.{◌≡◌, true, List, ℕ};
-ghost use Rattle.ice_answer.specs.declared.cause.Cause.{Cause};
+ghost use Rattle.std.specs.Prelude.{◌≡◌, true};
 ghost use Rattle.ice_answer.specs.Causes.{status_of};
 ghost use Rattle.ice_answer.specs.Commands.{Aloud, IsTrueOf};
 ghost use Rattle.ice_answer.specs.Reading.{TellsLong};
 ghost use Rattle.ice_answer.specs.Rows.{SaidBy, KeptRow};
-ghost use Rattle.ice_play.specs.Played.{Stands, IsPlayed, play_net};
+ghost use Rattle.ice_play.specs.Played.{Stands, IsMade, play_net};
 ghost use Rattle.ice_play.specs.Requests.{request_view};
 
 use ice_answer::{
-    Cause, Done, FileRole, InputFile, Making, Texts, blif_refusal, net_refusal, say_made,
+    Cause, Done, FileRole, InputFile, Made, Making, Texts, blif_refusal, net_refusal, no_placement,
+    say_made,
 };
 use ice_base::NoMemory;
 use ice_blif::read_blif;
@@ -30,9 +30,9 @@ pub struct NetRequest<'a> {
 impl<'a> Making for NetRequest<'a> {
     ghost stands = { λ request texts cause. Stands texts cause };
 
-    ghost gives = { λ request texts text. IsPlayed texts text };
+    ghost gives = { λ request texts text placement. IsMade texts text placement };
 
-    fn make(&self, alloc: Global, texts: &Texts) -> Result<Vec<u8>, Cause> {
+    fn make(&self, alloc: Global, texts: &Texts) -> Result<Made, Cause> {
         let netlist = match read_blif(alloc, texts.at(1)) {
             Ok(netlist) => netlist,
             Err(fault) => return Err(blif_refusal(fault)),
@@ -47,7 +47,10 @@ impl<'a> Making for NetRequest<'a> {
             Err(LevelFault::NoMemory) => return Err(Cause::NoMemory),
         };
         match play(alloc, &sound, &levels) {
-            Ok(text) => Ok(text),
+            Ok(text) => Ok(Made {
+                text,
+                placement: no_placement(alloc),
+            }),
             Err(NoMemory) => Err(Cause::NoMemory),
         }
     }

@@ -10,15 +10,15 @@ use Rattle.ice_asc.specs.Grammar.{asc_in}
 use Rattle.ice_asc.specs.declared.fault.AscFault.{AscFault}
 use Rattle.ice_decode.specs.Refusals.{IsFaultless}
 use Rattle.ice_decode.specs.declared.fault.DecodeFault.{DecodeFault}
+use Rattle.ice_pads.specs.declared.fault.PinFault.TheVariants as pin_fault
 use Rattle.ice_sim.specs.LevelTexts.{levels_of}
 use Rattle.ice_answer.specs.declared.cause.Cause.{Cause}
 use Rattle.ice_answer.specs.declared.cause.Cause.TheVariants.{Good, Usage, WriteFault, BadChip, BadPin, BadAsc, BadBits, BadLevels}
-use Rattle.ice_answer.specs.declared.cause.PinFault.TheVariants as pin_fault
 use Rattle.ice_answer.specs.Texts.{text_at}
 use Rattle.ice_answer.specs.Commands.{IsDone, IsTrueOf}
 use Rattle.ice_answer.proofs.Standings.{behind, fault_alone, none_alone, then_stands, some_stands, of_done}
 use Rattle.ice_answer.proofs.TextFacts.{of_weaker}
-use Rattle.ice_answer.proofs.CommandRows.{Lawful, comes}
+use Rattle.ice_answer.proofs.CommandRows.{Lawful, StandsAlone, comes}
 use Rattle.ice_play_bits.specs.Played.{PlayBits, files_of, LevelsStand, BitsStand, PackageStands, AscStands, Stands, IsRead, IsPacked, LacksPackage, IsBadBits, HasBadLine, play_bits}
 use Rattle.ice_play_bits.specs.BitsRows.{ChipRow, HasChipFault, HasAscFault, AscRow, PackageRow, IsBitsFault, IsFaulty, BitsRow, LevelsRow}
 use Rattle.ice_play_bits.proofs.Standing.{none_of, asc_stands, package_stands, bits_stand, levels_stand, packed_so}
@@ -80,14 +80,16 @@ told name t cause m = told_chip name t (chip_says (text_at t 1)) cause refl m
 pub lawful : (p : PlayBits) → Lawful (play_bits p)
 unfolding Told
 lawful p = record {
-  done = λ t text cause g done.
-      packed_so p.package_name t g.parts g.configuration g.bonded cause g.is_packed
-      (inr (g.faultless, behind (levels_of (length g.bonded.pads) (text_at t 3)) BadLevels (λ levels. IsDone) g.levels cause g.levels_are done));
-  alone = λ t text cause g m.
-      then_stands (levels_of (length g.bonded.pads) (text_at t 3)) BadLevels (λ levels. IsDone) g.levels cause g.levels_are
-      (levels_stand p.package_name t g.parts g.configuration g.bonded cause g.is_packed g.faultless m);
+  done = λ t text on cause g done.
+      packed_so p.package_name t g.0.parts g.0.configuration g.0.bonded cause g.0.is_packed
+      (inr (g.0.faultless, behind (levels_of (length g.0.bonded.pads) (text_at t 3)) BadLevels (λ levels. IsDone) g.0.levels cause g.0.levels_are done));
   never = λ t m. told p.package_name t Usage m;
 }
+
+pub alone : (p : PlayBits) → StandsAlone (play_bits p)
+alone p t text on cause g m =
+    then_stands (levels_of (length g.0.bonded.pads) (text_at t 3)) BadLevels (λ levels. IsDone) g.0.levels cause g.0.levels_are
+    (levels_stand p.package_name t g.0.parts g.0.configuration g.0.bonded cause g.0.is_packed g.0.faultless m)
 
 -- ---- the rows
 

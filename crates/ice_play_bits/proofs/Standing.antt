@@ -4,7 +4,6 @@ use Rattle.ice_chip.specs.Answers as chip_answers
 use Rattle.ice_chip.specs.Database.{Parts, PackageRows}
 use Rattle.ice_chip.specs.Lookups.{package_of}
 use Rattle.ice_chip.specs.declared.fault.ChipFault.{ChipFault}
-use Rattle.ice_chip.specs.declared.fault.ChipFault.TheVariants as chip_fault
 use Rattle.ice_chip_read.specs.Whole.{chip_says}
 use Rattle.ice_bits.specs.Configuration.{Bits, Configuration, bits_of}
 use Rattle.ice_asc.specs.Answers as asc_answers
@@ -16,15 +15,15 @@ use Rattle.ice_decode.specs.Meaning.{shows}
 use Rattle.ice_decode.specs.Refusals.{IsFaultless, IsFaultOf}
 use Rattle.ice_decode.specs.declared.fault.DecodeFault.{DecodeFault}
 use Rattle.ice_decode.specs.declared.fault.DecodeFault.TheVariants as decode_fault
+use Rattle.ice_pads.specs.declared.fault.PinFault.TheVariants as pin_fault
 use Rattle.ice_sim.specs.DriveTexts.{drives_text}
 use Rattle.ice_sim.specs.LevelTexts.{levels_of}
 use Rattle.ice_answer.specs.declared.cause.Cause.{Cause}
 use Rattle.ice_answer.specs.declared.cause.Cause.TheVariants.{BadChip, BadPin, BadAsc}
-use Rattle.ice_answer.specs.declared.cause.PinFault.TheVariants as pin_fault
 use Rattle.ice_answer.specs.Commands.{IsRefusal}
 use Rattle.ice_answer.specs.Refusals.{IsChipRefusal, IsAscRefusal}
 use Rattle.ice_answer.specs.Texts.{text_at}
-use Rattle.ice_answer.proofs.Standings.{at_fault, behind, then_stands, at_none, behind_some, some_stands}
+use Rattle.ice_answer.proofs.Standings.{at_fault, behind, then_stands, behind_some, some_stands}
 use Rattle.ice_answer.proofs.Standings as standings
 use Rattle.ice_play_bits.specs.Played.{LevelsStand, BitsStand, PackageStands, AscStands, Stands, IsRead, IsPacked, IsPlayed}
 
@@ -75,23 +74,9 @@ packed_so name t parts k bonded cause packed m =
 
 -- ---- the refusals
 
-chip_fault_is : (fault : ChipFault) (said : Result Parts ChipFault) → chip_answers.StopsBy fault said → fault ≢ chip_fault.NoMemory → said ≡ Err fault
-chip_fault_is (chip_fault.NoDevice line) said is known = is
-chip_fault_is (chip_fault.BadNumber line) said is known = is
-chip_fault_is (chip_fault.BadName line) said is known = is
-chip_fault_is (chip_fault.OutOfRange line) said is known = is
-chip_fault_is (chip_fault.Twice line other) said is known = is
-chip_fault_is (chip_fault.BadBit line) said is known = is
-chip_fault_is (chip_fault.BadValues line) said is known = is
-chip_fault_is (chip_fault.SharedFunction line other) said is known = is
-chip_fault_is (chip_fault.LacksFunction line) said is known = is
-chip_fault_is (chip_fault.SharedPin line other) said is known = is
-chip_fault_is (chip_fault.TooMany limit) said is known = is
-chip_fault_is chip_fault.NoMemory said is known = absurd (known refl)
-
 pub chip_refused : (name : List ℕ) (t : List (List ℕ)) (fault : ChipFault) (cause : Cause) → chip_answers.StopsBy fault (chip_says (text_at t 1)) → IsChipRefusal fault cause → IsRefusal (Stands name t) cause
 chip_refused name t fault cause says is =
-    standings.chip_refused (Stands name t) fault cause (λ known. at_fault (chip_says (text_at t 1)) BadChip (AscStands name (text_at t 2) (text_at t 3)) fault (chip_fault_is fault (chip_says (text_at t 1)) says known)) is
+    standings.chip_refused (Stands name t) fault cause (λ known. at_fault (chip_says (text_at t 1)) BadChip (AscStands name (text_at t 2) (text_at t 3)) fault (standings.chip_fault_is fault (chip_says (text_at t 1)) says known)) is
 
 asc_fault_is : (fault : AscFault) (said : Result Configuration AscFault) → asc_answers.StopsBy fault said → fault ≢ asc_fault.NoMemory → said ≡ Err fault
 asc_fault_is (asc_fault.NoDevice line) said is known = is

@@ -10,9 +10,9 @@ use Rattle.ice_asc.specs.Grammar.{asc_in}
 use Rattle.ice_asc.specs.declared.fault.AscFault.{AscFault}
 use Rattle.ice_decode.specs.Refusals.{IsFaultless}
 use Rattle.ice_decode.specs.declared.fault.DecodeFault.{DecodeFault}
+use Rattle.ice_pads.specs.declared.fault.PinFault.TheVariants as pin_fault
 use Rattle.ice_answer.specs.declared.cause.Cause.{Cause}
 use Rattle.ice_answer.specs.declared.cause.Cause.TheVariants.{BadChip, BadPin, BadAsc, BadBits, BadLevels}
-use Rattle.ice_answer.specs.declared.cause.PinFault.TheVariants as pin_fault
 use Rattle.ice_answer.specs.Rows.{ComesExactly}
 use Rattle.ice_answer.specs.Texts.{OfTexts, text_at}
 use Rattle.ice_play_bits.specs.Played.{PlayBits, files_of, IsPacked, LacksPackage, IsBadBits, HasBadLine, play_bits}

@@ -1,6 +1,7 @@
 -- How the three texts of `play-bits` stand, and what it makes of them: of the chip text, which is the first, of the text of bits, which is
 -- the second, and of the text of levels, which is the third.
 use Rattle.std.specs.Prelude.{◌≡◌, ◌≢◌, ℕ, Bool, None, Some, List, [], ◌∷◌, length, Ok, Err}
+use Rattle.ice_base.specs.declared.number.TileAt.{TileAt}
 use Rattle.ice_chip.specs.Database.{Parts, PackageRows}
 use Rattle.ice_chip.specs.Lookups.{package_of}
 use Rattle.ice_chip_read.specs.Whole.{chip_says}
@@ -10,12 +11,13 @@ use Rattle.ice_decode.specs.Meaning.{shows}
 use Rattle.ice_decode.specs.Refusals.{IsFaultless, IsFaultOf}
 use Rattle.ice_decode.specs.declared.fault.DecodeFault.{DecodeFault}
 use Rattle.ice_decode.specs.declared.fault.DecodeFault.TheVariants as decode_fault
+use Rattle.ice_pads.specs.declared.fault.PinFault.TheVariants as pin_fault
 use Rattle.ice_sim.specs.LevelTexts.{levels_of}
 use Rattle.ice_sim.specs.DriveTexts.{drives_text}
 use Rattle.ice_answer.specs.declared.cause.Cause.{Cause}
 use Rattle.ice_answer.specs.declared.cause.Cause.TheVariants.{BadChip, BadPin, BadAsc, BadBits, BadLevels}
 use Rattle.ice_answer.specs.declared.cause.FileRole.TheVariants.{Chip, Asc, Levels}
-use Rattle.ice_answer.specs.declared.cause.PinFault.TheVariants as pin_fault
+use Rattle.ice_answer.specs.Causes.{no_places}
 use Rattle.ice_answer.specs.Commands.{Command, command_of, Aloud, IsDone, stands_by, stands_with, stands_if}
 use Rattle.ice_answer.specs.Reading.{Files}
 use Rattle.ice_answer.specs.Texts.{text_at}
@@ -103,5 +105,9 @@ pub record IsPlayed (name : List ℕ) (texts : List (List ℕ)) (text : List ℕ
   pub levels_are : levels_of (length bonded.pads) (text_at texts 3) ≡ Ok levels
   pub is_text : text ≡ drives_text (shows parts (bits_of configuration) bonded.pads bonded.pads levels)
 
+-- what is made of the texts; nothing is placed
+abbrev pub IsMade : List ℕ → List (List ℕ) → List ℕ → List TileAt → Type 0
+IsMade name texts text placement = IsPlayed name texts text × (placement ≡ no_places)
+
 abbrev pub play_bits : PlayBits → Command
-play_bits p = command_of (files_of p) (Stands p.package_name) (IsPlayed p.package_name) Aloud
+play_bits p = command_of (files_of p) (Stands p.package_name) (IsMade p.package_name) Aloud

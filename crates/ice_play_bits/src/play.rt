@@ -7,12 +7,12 @@ ghost use Rattle.ice_answer.specs.Rows.{SaidBy, KeptRow};
 ghost use Rattle.ice_answer.specs.Texts.{text_at};
 ghost use Rattle.ice_chip_read.specs.Whole.{chip_says};
 ghost use Rattle.ice_asc.specs.Grammar.{asc_in};
-ghost use Rattle.ice_play_bits.specs.Played.{Stands, IsPlayed, play_bits};
+ghost use Rattle.ice_play_bits.specs.Played.{Stands, IsMade, play_bits};
 ghost use Rattle.ice_play_bits.specs.Requests.{request_view};
 
 use ice_answer::{
-    Cause, Done, FileRole, InputFile, Making, PinFault, Texts, asc_refusal, bits_refusal,
-    chip_refusal, say_made,
+    Cause, Done, FileRole, InputFile, Made, Making, Texts, asc_refusal, bits_refusal, chip_refusal,
+    no_placement, say_made,
 };
 use ice_asc::read_asc;
 use ice_base::NoMemory;
@@ -21,6 +21,7 @@ use ice_chip::Chip;
 use ice_chip_read::read_chip;
 use ice_decode::decode;
 use ice_desk::Desk;
+use ice_pads::PinFault;
 use ice_sim::{LevelFault, play_chip, read_levels};
 use std::alloc::Global;
 
@@ -44,10 +45,10 @@ fn play_read(
     texts: &Texts,
     chip: &Chip,
     bits: &Bits,
-) -> Result<Vec<u8>, Cause>
+) -> Result<Made, Cause>
     requires chip { chip_says (text_at texts.now 1) ≡ Ok chip.now }
     requires bits { asc_in chip.now (text_at texts.now 2) ≡ Ok bits.now }
-    ensures played { IfOk result (λ text. IsPlayed package_name.now texts.now text.items) }
+    ensures played { IfOk result (λ made. IsMade package_name.now texts.now made.text.items made.placement) }
     ensures refused { IfErr result (λ cause. IsRefusal (Stands package_name.now texts.now) cause) }
 {
     let Some(bonded) = chip.package(package_name.as_bytes()) else {
@@ -63,15 +64,18 @@ fn play_read(
         Err(LevelFault::NoMemory) => return Err(Cause::NoMemory),
     };
     match play_chip(alloc, chip, &circuit, bonded, &levels) {
-        Ok(text) => Ok(text),
+        Ok(text) => Ok(Made {
+            text,
+            placement: no_placement(alloc),
+        }),
         Err(NoMemory) => Err(Cause::NoMemory),
     }
 }
 
 // The text of what the bits of the second text drive on a chip, for all steps.
-fn play_on(alloc: Global, package_name: &str, texts: &Texts, chip: &Chip) -> Result<Vec<u8>, Cause>
+fn play_on(alloc: Global, package_name: &str, texts: &Texts, chip: &Chip) -> Result<Made, Cause>
     requires { chip_says (text_at texts.now 1) ≡ Ok chip.now }
-    ensures played { IfOk result (λ text. IsPlayed package_name.now texts.now text.items) }
+    ensures played { IfOk result (λ made. IsMade package_name.now texts.now made.text.items made.placement) }
     ensures refused { IfErr result (λ cause. IsRefusal (Stands package_name.now texts.now) cause) }
 {
     match read_asc(alloc, texts.at(2), chip) {
@@ -83,9 +87,9 @@ fn play_on(alloc: Global, package_name: &str, texts: &Texts, chip: &Chip) -> Res
 impl<'a> Making for BitsRequest<'a> {
     ghost stands = { λ request texts cause. Stands request.package_name.now texts cause };
 
-    ghost gives = { λ request texts text. IsPlayed request.package_name.now texts text };
+    ghost gives = { λ request texts text placement. IsMade request.package_name.now texts text placement };
 
-    fn make(&self, alloc: Global, texts: &Texts) -> Result<Vec<u8>, Cause> {
+    fn make(&self, alloc: Global, texts: &Texts) -> Result<Made, Cause> {
         match read_chip(alloc, texts.at(1)) {
             Ok(chip) => play_on(alloc, self.package_name, texts, &chip),
             Err(fault) => Err(chip_refusal(fault)),

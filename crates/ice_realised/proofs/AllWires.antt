@@ -1,6 +1,7 @@
--- Each wire of the chip has a level.
+-- Where no global is fed by a global, each wire of the chip has a level, and so there is no loop.
 use Rattle.std.proofs.Common.{◌≡◌, ◌⊎◌, ℕ, zero, suc, ◌+◌, ◌<◌, Bool, true, false, cond, Option, None, Some, List, [], ◌∷◌, inl, inr, refl, sym, ap, ◌∙◌, subst, true≢false, arith}
-use Rattle.std.specs.Prelude.{nat_eq, slice_index_or, option_map}
+use Rattle.std.specs.Prelude.{◌*◌, nat_eq, slice_index_or, option_map}
+use Rattle.std.specs.Option.{option_map_or}
 use Rattle.std.proofs.lemmas.Bool.{cases_lt}
 use Rattle.std.proofs.lemmas.Option.{same_Some, none-some}
 use Rattle.ice_base.specs.declared.number.TileAt.{TileAt}
@@ -18,9 +19,9 @@ use Rattle.ice_decode.specs.declared.role.Role.{Role}
 use Rattle.ice_decode.specs.declared.role.Role.TheVariants.{Plain, Output, LookUp, CarryOut, PadInput, Global, CarryIn, ClockEnable}
 use Rattle.ice_decode.specs.declared.driver.Driver.TheVariants.{Nothing}
 use Rattle.ice_decode.specs.declared.driver.Switch.{Switch}
-use Rattle.ice_decode.specs.Cells.{has_flop}
+use Rattle.ice_decode.specs.Cells.{has_flop, logic_tiles}
 use Rattle.ice_decode.specs.Faults.{HasNoLoop}
-use Rattle.ice_decode.specs.Meaning.{kept_at, system_of, role_makes}
+use Rattle.ice_decode.specs.Meaning.{kept_at, tile_place, system_of, role_makes}
 use Rattle.ice_decode.specs.Reads.{wire_point, at_pin, at_pin_of, global_feed, cell_inputs, role_reads}
 use Rattle.ice_decode.specs.Roles.{role_of}
 use Rattle.ice_decode.proofs.Loopless.{valued_loopless}
@@ -31,6 +32,7 @@ use Rattle.ice_cells.specs.Nodes.{Node, Net}
 use Rattle.ice_nets.specs.Ends.{wire_no}
 use Rattle.ice_written.specs.Led.{IsBare, IsOfRoot, IsLink}
 use Rattle.ice_written.specs.Slots.{StandsIn}
+use Rattle.ice_realised.specs.Feeds.{FeedsNoGlobal}
 use Rattle.ice_realised.proofs.Premises.{Premises}
 use Rattle.ice_realised.proofs.Arriving.{arrives, source_level, v}
 use Rattle.ice_realised.proofs.CarriesIn.{IsInRun, run_before}
@@ -53,7 +55,7 @@ entered_or_bare (first ∷ wanted) w = by (nat_eq first.target.0 w) refl (entere
     by false e (inl found) = inl (found.0, (suc found.1.0, found.1.1), found.2)
     by false e (inr bare) = inr (never e bare)
 
-module _ (g : Premises) (bonded : List Pad) (levels kept kept_cells : List Bool)
+module _ (g : Premises) (unfed : FeedsNoGlobal g.parts) (bonded : List Pad) (levels kept kept_cells : List Bool)
     (alike : (t : TileAt) (i c : ℕ) (cell : LogicCell) → StandsIn g.plan t i c cell → kept_at g.parts kept t i ≡ slice_index_or kept_cells c false) where
   abbrev HasL : Point → Bool → Type 0
   HasL p x = HasLevel g.parts g.bits bonded levels kept p x
@@ -172,7 +174,7 @@ module _ (g : Premises) (bonded : List Pad) (levels kept kept_cells : List Bool)
     where
       at_wire : (t : TileAt) (o : Option ℕ) → global_feed g.parts n ≡ option_map wire_point o → (x : Bool) × Reads g.parts g.bits bonded levels kept (option_map wire_point o) x
       at_wire t None e = (false, refl)
-      at_wire t (Some w) e = valued_by w (λ none. other_valued w none (role_of g.parts w) refl (cell_fits g.parts w) (λ m is. g.unfed.none n m w e is))
+      at_wire t (Some w) e = valued_by w (λ none. other_valued w none (role_of g.parts w) refl (cell_fits g.parts w) (λ m is. unfed.none n m w e is))
 
       in_tile : (o : Option TileAt) → global_of g.parts n ≡ o → (x : Bool) × Reads g.parts g.bits bonded levels kept (global_feed g.parts n) x
       in_tile None e = subst (λ (q : Option TileAt). (x : Bool) × Reads g.parts g.bits bonded levels kept (at_pin_of g.parts q fabout_name) x) (sym e) (false, refl)
@@ -221,5 +223,16 @@ module _ (g : Premises) (bonded : List Pad) (levels kept kept_cells : List Bool)
               smaller : (w ≡ n → ⊥) → w < n
               smaller ne = elim (cases_lt w n) [ inl less ↦ less | inr le ↦ absurd (ne (omega (arith, lt, le))) ]
 
-  pub no_loop : HasNoLoop g.parts g.bits
+  no_loop : HasNoLoop g.parts g.bits
   no_loop = let all = within g.parts.wires in valued_loopless g.parts g.bits g.chip_read bonded levels kept all.0 all.1
+
+-- before the first step
+nothing_kept : (g : Premises) (t : TileAt) (i : ℕ) → kept_at g.parts [] t i ≡ false
+nothing_kept g t i = by (tile_place t (logic_tiles g.parts))
+  where
+    by : (o : Option ℕ) → option_map_or (λ k. slice_index_or [] (8 * k + i) false) o false ≡ false
+    by None = refl
+    by (Some k) = refl
+
+pub unfed_loopless : (g : Premises) → FeedsNoGlobal g.parts → HasNoLoop g.parts g.bits
+unfed_loopless g unfed = no_loop g unfed [] [] [] [] (λ t i c cell s. nothing_kept g t i)

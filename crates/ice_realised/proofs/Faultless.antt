@@ -1,11 +1,9 @@
--- The bits of a placed and routed design have no fault.
+-- The bits of a placed and routed design have no fault, but for loops.
 use Rattle.std.proofs.Common.{◌≡◌, ◌⊎◌, ℕ, zero, suc, ◌+◌, ◌/◌, ◌%◌, Bool, true, false, cond, Option, None, Some, List, [], ◌∷◌, ◌++◌, length, take, find, inl, inr, refl, sym, ap, ◌∙◌, subst, true≢false, eqb-true}
-use Rattle.std.specs.Prelude.{◌&&◌, ◌||◌, ◌==◌, ◌*◌, not, nat_eq, option_map, slice_index_or, codes}
+use Rattle.std.specs.Prelude.{◌&&◌, ◌||◌, ◌==◌, not, nat_eq, option_map, codes}
 use Rattle.std.specs.Cmp.Lexicographic.{pointwise}
 use Rattle.std.specs.List.{list_any}
-use Rattle.std.specs.Option.{option_map_or}
 use Rattle.std.proofs.lemmas.Bool.{and_parts, and_from, and_right, false_from_ne_true}
-use Rattle.ice_base.specs.declared.number.TileAt.{TileAt}
 use Rattle.ice_base.proofs.Booleans.{not_true}
 use Rattle.ice_value.specs.Order.{At, Has}
 use Rattle.ice_value.proofs.Members.{Has_any, any_Has}
@@ -21,9 +19,7 @@ use Rattle.ice_chip.proofs.Keys.{pad_same}
 use Rattle.ice_base.proofs.Keys.{tile_self, nat_self}
 use Rattle.ice_decode.specs.declared.driver.Switch.{Switch}
 use Rattle.ice_decode.specs.Drivers.{driver, switches_on}
-use Rattle.ice_decode.specs.Faults.{or_else, first_of, contended_by, contention, is_memory_output, is_foreign_wire, foreign_source, is_output_part, is_read, is_input_read, has_wrong_type}
-use Rattle.ice_decode.specs.Meaning.{tile_place, kept_at}
-use Rattle.ice_decode.specs.Cells.{logic_tiles}
+use Rattle.ice_decode.specs.Faults.{or_else, first_of, contended_by, contention, is_memory_output, is_foreign_wire, foreign_source, is_output_part, is_read, is_input_read, has_wrong_type, HasNoLoop}
 use Rattle.ice_decode.specs.Pads.{pads, pin_type}
 use Rattle.ice_decode.specs.Refusals.{IsFaultless}
 use Rattle.ice_cells.specs.declared.design.DesignPad.{DesignPad}
@@ -34,7 +30,7 @@ use Rattle.ice_rows.specs.WireNames.{has_memory_name}
 use Rattle.ice_wiring.specs.Wanted.{IsRowOf}
 use Rattle.ice_written.specs.Led.{IsBare}
 use Rattle.ice_realised.proofs.Premises.{Premises}
-use Rattle.ice_realised.proofs.AllWires.{entered_or_bare, no_loop}
+use Rattle.ice_realised.proofs.AllWires.{entered_or_bare}
 use Rattle.ice_realised.proofs.Read.{item_beside}
 
 -- ---- lists
@@ -137,17 +133,9 @@ module _ (g : Premises) where
           let off = unread pad there none in
           ap (λ m. not (is_output_part (m / 4)) || (is_input_read g.parts g.bits pad && not (m % 4 == 1))) zero_type ∙ ap (λ b. false || (b && true)) off
 
-  -- ---- loops
-  nothing_kept : (t : TileAt) (i c : ℕ) → kept_at g.parts [] t i ≡ false
-  nothing_kept t i c = by (tile_place t (logic_tiles g.parts))
-    where
-      by : (o : Option ℕ) → option_map_or (λ k. slice_index_or [] (8 * k + i) false) o false ≡ false
-      by None = refl
-      by (Some k) = refl
-
-  pub faultless : IsFaultless g.parts g.bits []
-  faultless = record {
+  pub faultless : HasNoLoop g.parts g.bits → IsFaultless g.parts g.bits []
+  faultless loopless = record {
     of_chip = record { uncontended = uncontended; sources = sourced; functions = g.are_set.own; no_extras = refl };
-    loopless = no_loop g [] [] [] [] (λ t i c cell s. nothing_kept t i c);
+    loopless = loopless;
     types = find_none (has_wrong_type g.parts g.bits) (pads g.parts) typed;
   }

@@ -14,7 +14,7 @@ use Rattle.ice_decode.specs.Roles.{role_of}
 use Rattle.ice_realised.specs.Feeds.{FeedsNoGlobal, AreFedByIo}
 use Rattle.ice_realised.proofs.Pins.{fabout_plain}
 
-abbrev number : Point → ℕ
+abbrev pub number : Point → ℕ
 number (Wire w) = w.0
 number (Carry t i) = 0
 

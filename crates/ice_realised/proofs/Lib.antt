@@ -1,6 +1,7 @@
 mod Premises
 mod Pins
 mod IoFeeds
+mod Feeding
 mod CarriesIn
 mod Read
 mod Slots

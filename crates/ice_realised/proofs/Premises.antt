@@ -14,7 +14,6 @@ use Rattle.ice_written.specs.Arrivals.{Held}
 use Rattle.ice_written.specs.Led.{AreLed}
 use Rattle.ice_written.specs.Routed.{IsPlaced}
 use Rattle.ice_written.specs.Set.{AreSet}
-use Rattle.ice_realised.specs.Feeds.{FeedsNoGlobal}
 
 -- the clusters of a plan, as they are made
 abbrev pub listed : Plan → Clusters
@@ -31,7 +30,6 @@ pub record Premises : Type 0 where
   -- the chip
   pub chip_read : IsRead parts
   pub lawful : IsLawful parts
-  pub unfed : FeedsNoGlobal parts
   -- what is placed, led and set
   pub placed : IsPlaced parts bonded plan pullups
   pub led : AreLed parts plan wanted held

@@ -4,6 +4,7 @@ use Rattle.ice_chip.specs.Database.{Parts, PackageRows}
 use Rattle.ice_chip.specs.IsRead.{IsRead}
 use Rattle.ice_chip_laws.specs.Laws.{IsLawful}
 use Rattle.ice_bits.specs.Configuration.{Bits}
+use Rattle.ice_decode.specs.Faults.{HasNoLoop}
 use Rattle.ice_decode.specs.declared.driver.Switch.{Switch}
 use Rattle.ice_cells.specs.Clusters.{clusters_of}
 use Rattle.ice_cells.specs.declared.cluster.Cluster.{Cluster}
@@ -17,42 +18,47 @@ use Rattle.ice_written.specs.Realised.{Realises}
 use Rattle.ice_written.specs.Routed.{IsPlaced}
 use Rattle.ice_written.specs.Set.{AreSet}
 use Rattle.ice_realised.specs.Feeds.{FeedsNoGlobal}
+use Rattle.ice_realised.proofs.AllWires.{unfed_loopless}
 use Rattle.ice_realised.proofs.Premises.{Premises, listed}
 use Rattle.ice_realised.proofs.Faultless.{faultless}
 use Rattle.ice_realised.proofs.Steps.{shows_same, off_elsewhere}
 
-realised : (g : Premises) → Realises g.parts g.plan g.wanted g.bits
-realised g = record {
-  faultless = faultless g;
+realised : (g : Premises) → HasNoLoop g.parts g.bits → Realises g.parts g.plan g.wanted g.bits
+realised g loopless = record {
+  faultless = faultless g loopless;
   wired = g.wired;
-  shows = λ bonded steps. shows_same g bonded steps;
-  elsewhere = λ bonded steps pad there none. off_elsewhere g bonded steps pad there none;
+  shows = λ bonded steps. shows_same g loopless bonded steps;
+  elsewhere = λ bonded steps pad there none. off_elsewhere g loopless bonded steps pad there none;
   disabled = g.are_set.disabled;
 }
 
-pub realise : (parts : Parts) → IsRead parts → IsLawful parts → CellsStandInOneSlot → FlopsAreDrivenAsTheirCluster → RunsStandInChunks
-    → (bonded : PackageRows) (plan : Plan) (pullups : List Bool) (wanted : List Switch) (held : Held) (bits : Bits) → FeedsNoGlobal parts → IsPlaced parts bonded plan pullups → AreLed parts plan wanted held
-    → AreSet parts plan wanted held bits → IsWired parts bits wanted → Realises parts plan wanted bits
-realise parts read lawful slots driven chunks bonded plan pullups wanted held bits unfed placed led are_set wired =
-    let made : (clusters_of plan.design).list ≡ plan.clusters = sym placed.clusters in
-    let all : clusters_of plan.design ≡ listed plan = ap (λ (list : List Cluster). record { list = list }) made in
-    let g : Premises = record {
-      parts = parts;
-      bonded = bonded;
-      plan = plan;
-      pullups = pullups;
-      wanted = wanted;
-      held = held;
-      bits = bits;
-      chip_read = read;
-      lawful = lawful;
-      unfed = unfed;
-      placed = placed;
-      led = led;
-      are_set = are_set;
-      wired = wired;
-      slots = subst (AreSlots plan.design) all (slots plan.design placed.formed);
-      driven = subst (AreDriven plan.design) all (driven plan.design placed.formed);
-      chunks = subst (AreChunks plan.design) made (chunks plan.design placed.formed);
-    } in
-    realised g
+module _ (parts : Parts) (read : IsRead parts) (lawful : IsLawful parts) (slots : CellsStandInOneSlot) (driven : FlopsAreDrivenAsTheirCluster) (chunks : RunsStandInChunks) (bonded : PackageRows) (plan : Plan) (pullups : List Bool)
+    (wanted : List Switch) (held : Held) (bits : Bits) where
+  abbrev premises : IsPlaced parts bonded plan pullups → AreLed parts plan wanted held → AreSet parts plan wanted held bits → IsWired parts bits wanted → Premises
+  premises placed led are_set wired =
+      let made : (clusters_of plan.design).list ≡ plan.clusters = sym placed.clusters in
+      let all : clusters_of plan.design ≡ listed plan = ap (λ (list : List Cluster). record { list = list }) made in
+      record {
+        parts = parts;
+        bonded = bonded;
+        plan = plan;
+        pullups = pullups;
+        wanted = wanted;
+        held = held;
+        bits = bits;
+        chip_read = read;
+        lawful = lawful;
+        placed = placed;
+        led = led;
+        are_set = are_set;
+        wired = wired;
+        slots = subst (AreSlots plan.design) all (slots plan.design placed.formed);
+        driven = subst (AreDriven plan.design) all (driven plan.design placed.formed);
+        chunks = subst (AreChunks plan.design) made (chunks plan.design placed.formed);
+      }
+
+  pub realise : HasNoLoop parts bits → IsPlaced parts bonded plan pullups → AreLed parts plan wanted held → AreSet parts plan wanted held bits → IsWired parts bits wanted → Realises parts plan wanted bits
+  realise loopless placed led are_set wired = realised (premises placed led are_set wired) loopless
+
+  pub have_no_loop : FeedsNoGlobal parts → IsPlaced parts bonded plan pullups → AreLed parts plan wanted held → AreSet parts plan wanted held bits → IsWired parts bits wanted → HasNoLoop parts bits
+  have_no_loop unfed placed led are_set wired = unfed_loopless (premises placed led are_set wired) unfed

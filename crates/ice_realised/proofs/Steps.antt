@@ -32,6 +32,7 @@ use Rattle.ice_decode.specs.declared.point.Point.TheVariants.{Wire, Carry}
 use Rattle.ice_decode.specs.declared.role.Role.TheVariants.{Plain, ClockEnable}
 use Rattle.ice_decode.specs.declared.driver.Driver.TheVariants.{Nothing}
 use Rattle.ice_decode.specs.Cells.{cells, logic_tiles, has_flop, reset_of, looked_up}
+use Rattle.ice_decode.specs.Faults.{HasNoLoop}
 use Rattle.ice_decode.specs.Meaning as chip
 use Rattle.ice_decode.specs.Meaning.{tile_place, kept_at, kept_after, clock_after, point_level, system_of}
 use Rattle.ice_decode.specs.Pads.{pads, pin_level, part_drive, drive_at}
@@ -132,7 +133,7 @@ typed : (n m : ℕ) (level enable : Bool) → n ≡ m → part_drive (m / 4) lev
 typed n m level enable e same = ap (λ k. part_drive (k / 4) level enable) e ∙ same ∙ sym (ap (λ k. pad_drive k level enable) e)
 
 -- ---- states
-module _ (g : Premises) where
+module _ (g : Premises) (loopless : HasNoLoop g.parts g.bits) where
   abbrev d : Design
   d = g.plan.design
 
@@ -175,7 +176,7 @@ module _ (g : Premises) where
     level_now w x lt (k, e) =
         let system = system_of g.parts g.bits bonded levels s.kept in
         let is : value system (count_points g.parts + 1) (Wire w) ≡ Some (now (Wire w)) =
-        faultless_valued g.parts g.bits [] g.chip_read (faultless g) bonded levels s.kept (Wire w) (w.0, wire_at g.parts.wires (logic_tiles g.parts) w.0 lt) in
+        faultless_valued g.parts g.bits [] g.chip_read (faultless g loopless) bonded levels s.kept (Wire w) (w.0, wire_at g.parts.wires (logic_tiles g.parts) w.0 lt) in
         let one = value_at_more system (count_points g.parts + 1) (k + (count_points g.parts + 1)) (Wire w) (now (Wire w)) (omega arith) is in
         let two = value_at_more system k (k + (count_points g.parts + 1)) (Wire w) x (omega arith) e in
         same_Some (now (Wire w)) x (sym one ∙ two)

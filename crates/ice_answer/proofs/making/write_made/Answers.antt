@@ -1,16 +1,22 @@
-use Rattle.std.proofs.Common.{subst, sym}
-use Rattle.ice_answer.specs.declared.cause.Cause.{Cause}
+use Rattle.ice_answer.specs.Commands.{InFile, command_of}
 use Rattle.ice_answer.specs.Texts.{files_view}
-use Rattle.ice_answer.specs.Commands.{command_of, InFile, IsTrueOf}
-use Rattle.ice_answer.proofs.Commanding.{true_while_said}
+use Rattle.ice_answer.proofs.Ended.{end_is_in_file}
 use Rattle.ice_answer.proofs.making.write_made.Goals as goal
 
-pub returns-in-Err-clause-cause : goal.returns-in-Err-clause-cause
-returns-in-Err-clause-cause g c =
+pub returns-clause-cause : goal.returns-clause-cause
+returns-clause-cause g c =
     let D = g.D.Desk in
-    let old = D.seen c.args.desk.now in
-    let mid = D.seen c.make_of.new.desk in
-    let new = D.seen c.finish-in-Err.new.desk in
+    let made = c.make_of-made in
+    let end = c.end_in_file in
     let output = InFile c.args.role c.args.name.now in
     let k = command_of (files_view c.args.files.now) (g.M.Making.stands c.args.making.now) (g.M.Making.gives c.args.making.now) output in
-    subst (λ (x : Cause). IsTrueOf k old new x) (sym c.finish-in-Err.ensures.cause) (true_while_said k old mid new c.in-Err.cause c.finish-in-Err.ensures.same c.in-Err.ensures.stop.refused (c.in-Err.ensures.stop.is_true output))
+    (end_is_in_file k c.args.role c.args.name.now (D.seen c.args.desk.now) (D.seen made.new.desk) (D.seen end.new.desk) made.result end.result.cause made.ensures.same (made.ensures.made output) end.ensures.end).is_true
+
+pub returns-clause-made : goal.returns-clause-made
+returns-clause-made g c =
+    let D = g.D.Desk in
+    let made = c.make_of-made in
+    let end = c.end_in_file in
+    let output = InFile c.args.role c.args.name.now in
+    let k = command_of (files_view c.args.files.now) (g.M.Making.stands c.args.making.now) (g.M.Making.gives c.args.making.now) output in
+    (end_is_in_file k c.args.role c.args.name.now (D.seen c.args.desk.now) (D.seen made.new.desk) (D.seen end.new.desk) made.result end.result.cause made.ensures.same (made.ensures.made output) end.ensures.end).made

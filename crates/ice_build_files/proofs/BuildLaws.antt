@@ -1,0 +1,297 @@
+-- When each answer of `build` comes, from how its texts stand.
+use Rattle.std.proofs.Common.{◌≡◌, ◌≢◌, ◌∙◌, ℕ, List, Result, Err, inl, inr, refl, sym, ap, subst}
+use Rattle.std.specs.Global.{Vec}
+use Rattle.ice_base.specs.declared.number.NetNo.{NetNo}
+use Rattle.ice_base.specs.declared.number.TileAt.{TileAt}
+use Rattle.ice_base.specs.declared.number.WireNo.{WireNo}
+use Rattle.ice_desk.specs.Desk.{Meaning, SameButReading}
+use Rattle.ice_net.specs.NetlistData.{NetlistData}
+use Rattle.ice_blif.specs.Grammar.{netlist_of}
+use Rattle.ice_check.proofs.Faulty.{faulty}
+use Rattle.ice_check.specs.Refusals.{IsFaultOf}
+use Rattle.ice_check.specs.Sound.{IsSound}
+use Rattle.ice_check.specs.declared.fault.NetFault.{NetFault}
+use Rattle.ice_check.specs.declared.fault.NetFault.TheVariants as net_fault
+use Rattle.ice_chip.specs.Database.{Parts}
+use Rattle.ice_chip_read.specs.Whole.{chip_says}
+use Rattle.ice_core.specs.declared.log.RoundLog.{RoundLog}
+use Rattle.ice_pcf.specs.Grammar.{text_says}
+use Rattle.ice_pcf.specs.declared.constraint.Constraint.{Constraint}
+use Rattle.ice_build.specs.Answers.{pins_said, places_said}
+use Rattle.ice_build.specs.Laid.{Task, IsLaidOut}
+use Rattle.ice_build.specs.declared.answer.Layout.{Layout}
+use Rattle.ice_build.proofs.Answering.{pins_good, places_good}
+use Rattle.ice_answer.specs.declared.cause.Cause.{Cause}
+use Rattle.ice_answer.specs.declared.cause.Cause.TheVariants.{Good, Usage, BadBlif, BadPcf, BadChip, BadNet, BadPin, Overfull, Unreachable, GaveUp, BadBits}
+use Rattle.ice_answer.specs.declared.cause.Done.{Done}
+use Rattle.ice_answer.specs.declared.cause.FileRole.TheVariants.{Asc}
+use Rattle.ice_answer.specs.declared.giving.Made.{Made}
+use Rattle.ice_answer.specs.Causes.{status_of}
+use Rattle.ice_answer.specs.Commands.{IsDone, IsTrueOf}
+use Rattle.ice_answer.specs.Ends.{IsEndInFile, IsMadeOf, IsEndOf}
+use Rattle.ice_answer.specs.Reading.{TellsLong}
+use Rattle.ice_answer.specs.Rows.{IsHeld, GoodRow}
+use Rattle.ice_answer.specs.Texts.{OfTexts, HoldsTexts, text_at}
+use Rattle.ice_answer.proofs.CommandRows.{Lawful, comes, good_row, read_fault_row, write_fault_row, too_long_row}
+use Rattle.ice_answer.proofs.Ended.{end_is_in_file}
+use Rattle.ice_answer.proofs.Standings.{fault_alone, of_done}
+use Rattle.ice_answer.proofs.TextFacts.{at_files, of_weaker}
+use Rattle.ice_build_files.specs.Asked.{Build, files_of, IsAsked, Asks}
+use Rattle.ice_build_files.specs.BuildRows.{ChipRow, HasChipFault, PcfRow, HasPcfFault, BlifRow, HasBlifFault, SaysNetlist, IsNetFault, NetRow, PinRow, PlaceRow, HasPlaceFault, IsPlaceable, IsTried, TriedRow, IsAbout, IsGood, BuiltRow, IsUnreachable, UnreachableRow, HasGivenUp, GaveUpRow, BitsRow, HeadlineRow, IsBuildAnswer}
+use Rattle.ice_build_files.specs.Command.{build_files}
+use Rattle.ice_build_files.specs.Made.{IsMade, IsShown, IsBuiltOn, IsStuckOn, IsGivenUpOn, HasBadBits}
+use Rattle.ice_build_files.specs.Standing.{IsEnd, PlacesStand, NetStands, BlifStands, PcfStands, Stands}
+use Rattle.ice_build_files.proofs.Excluding.{built_not_stuck, built_not_given_up, given_up_not_stuck_on, stuck_on_one}
+use Rattle.ice_build_files.proofs.Standing.{pcf_stands, blif_stands, net_stands, task_stands, places_stand, end_stands, end_so, one_task}
+use Rattle.ice_build_files.proofs.Telling.{of_end, of_tried, of_about, Told, told}
+
+done_end : (task : Task) (rounds : ℕ) (cause : Cause) → IsDone cause → IsEnd task rounds cause
+done_end task rounds cause done = of_done (IsEnd task rounds) (λ placement. tt) (λ role put. tt) cause done
+
+pub lawful : (b : Build) → Lawful (build_files b)
+lawful b = record {
+  done = λ t text on cause g done.
+      let layout = g.built.layout in
+      let laid = g.is_built.laid in
+      end_so b.package_name b.effort.rounds t g.task layout.pads laid.placed.first cause g.is_asked (pins_good g.task layout laid) (places_good g.task layout laid) (done_end g.task b.effort.rounds cause done);
+  never = λ t m. told b.package_name b.effort.rounds t Usage m;
+}
+
+-- what a refusal by this cause tells of the texts that were read
+told_of : (b : Build) (old new : Meaning) (cause : Cause) (fault : Cause) (AreSo : List (List ℕ) → Type 0) → IsTrueOf (build_files b) old new cause → cause ≡ fault
+    → (IsTrueOf (build_files b) old new fault → OfTexts (files_of b) old (λ t. Stands b.package_name b.effort.rounds t fault))
+    → ((t : List (List ℕ)) → Told b.package_name b.effort.rounds t fault → AreSo t) → OfTexts (files_of b) old AreSo
+told_of b old new cause fault AreSo is e stands so =
+    of_weaker (files_of b) old (λ t. Stands b.package_name b.effort.rounds t fault) AreSo (λ t m. so t (told b.package_name b.effort.rounds t fault m))
+    (stands (subst (λ (x : Cause). IsTrueOf (build_files b) old new x) e is))
+
+-- ---- the texts
+chip_row : (b : Build) (old new : Meaning) (cause : Cause) → IsTrueOf (build_files b) old new cause → ChipRow b old cause
+chip_row b old new cause is fault =
+    comes (build_files b) old new cause (λ c. c ≡ BadChip fault) (HasChipFault fault) (lawful b) is
+    (λ e. told_of b old new cause (BadChip fault) (HasChipFault fault) is e (λ i. i.0) (λ t h. h))
+    (λ t h m. fault_alone (chip_says (text_at t 1)) BadChip (PcfStands b.package_name b.effort.rounds (text_at t 2) (text_at t 3)) fault cause h m)
+
+pcf_row : (b : Build) (old new : Meaning) (cause : Cause) → IsTrueOf (build_files b) old new cause → PcfRow b old cause
+pcf_row b old new cause is fault =
+    comes (build_files b) old new cause (λ c. c ≡ BadPcf fault) (HasPcfFault fault) (lawful b) is
+    (λ e. told_of b old new cause (BadPcf fault) (HasPcfFault fault) is e (λ i. i.0) (λ t h. h))
+    (λ t h m. fault_alone (text_says (text_at t 2)) BadPcf (BlifStands b.package_name b.effort.rounds (text_at t 3) h.0) fault cause h.2
+    (pcf_stands b.package_name b.effort.rounds t h.0 cause h.1 m))
+
+blif_row : (b : Build) (old new : Meaning) (cause : Cause) → IsTrueOf (build_files b) old new cause → BlifRow b old cause
+blif_row b old new cause is fault =
+    comes (build_files b) old new cause (λ c. c ≡ BadBlif fault) (HasBlifFault fault) (lawful b) is
+    (λ e. told_of b old new cause (BadBlif fault) (HasBlifFault fault) is e (λ i. i.0) (λ t h. h))
+    (λ t h m. fault_alone (netlist_of (text_at t 3)) BadBlif (NetStands b.package_name b.effort.rounds h.0 h.1) fault cause h.3
+    (blif_stands b.package_name b.effort.rounds t h.0 h.1 cause h.2 m))
+
+-- ---- the netlist
+unsound_alone : (name : List ℕ) (rounds : ℕ) (parts : Parts) (constraints : List Constraint) (circuit : NetlistData) (cause : Cause) → (IsSound circuit → ⊥)
+    → NetStands name rounds parts constraints circuit cause → IsNetFault cause
+unsound_alone name rounds parts constraints circuit cause unsound (inl bad) = (bad.0, bad.1)
+unsound_alone name rounds parts constraints circuit cause unsound (inr good) = absurd (unsound good.0)
+
+abbrev IsFaulty : NetFault → NetlistData → Type 0
+IsFaulty fault circuit = IsFaultOf circuit fault × (fault ≢ net_fault.NoMemory)
+
+netlist_weaker : (P Q : NetlistData → Type 0) (t : List (List ℕ)) → ((circuit : NetlistData) → P circuit → Q circuit) → SaysNetlist P t → SaysNetlist Q t
+netlist_weaker P Q t weaker h = record { parts = h.parts; constraints = h.constraints; circuit = h.circuit; is_read = h.is_read; is_circuit = h.is_circuit; is_so = weaker h.circuit h.is_so }
+
+net_row : (b : Build) (old new : Meaning) (cause : Cause) → IsTrueOf (build_files b) old new cause → NetRow b old cause
+net_row b old new cause is = record {
+  comes = comes (build_files b) old new cause IsNetFault (SaysNetlist (λ circuit. IsSound circuit → ⊥)) (lawful b) is
+      (λ f. told_of b old new cause (BadNet f.0) (SaysNetlist (λ circuit. IsSound circuit → ⊥)) is f.1 (λ i. i.0)
+      (λ t h. netlist_weaker (IsFaulty f.0) (λ circuit. IsSound circuit → ⊥) t (λ circuit bad. faulty circuit f.0 bad.1 bad.0) h))
+      (λ t h m. unsound_alone b.package_name b.effort.rounds h.parts h.constraints h.circuit cause h.is_so
+      (net_stands b.package_name b.effort.rounds t h.parts h.constraints h.circuit cause h.is_read h.is_circuit m));
+  fault_is = λ fault e.
+      told_of b old new cause (BadNet fault) (SaysNetlist (λ circuit. IsFaultOf circuit fault)) is e (λ i. i.0)
+      (λ t h. netlist_weaker (IsFaulty fault) (λ circuit. IsFaultOf circuit fault) t (λ circuit bad. bad.0) h);
+}
+
+-- ---- pins and places
+pin_row : (b : Build) (old new : Meaning) (cause : Cause) → IsTrueOf (build_files b) old new cause → PinRow b old cause
+pin_row b old new cause is fault =
+    comes (build_files b) old new cause (λ c. c ≡ BadPin fault) (Asks b.package_name (λ task. pins_said task ≡ Err fault)) (lawful b) is
+    (λ e. told_of b old new cause (BadPin fault) (Asks b.package_name (λ task. pins_said task ≡ Err fault)) is e (λ i. i.0) (λ t h. h))
+    (λ t h m. fault_alone (pins_said h.task) BadPin (λ pads. PlacesStand h.task b.effort.rounds) fault cause h.is_so
+    (task_stands b.package_name b.effort.rounds t h.task cause h.is_asked m))
+
+place_row : (b : Build) (old new : Meaning) (cause : Cause) → IsTrueOf (build_files b) old new cause → PlaceRow b old cause
+place_row b old new cause is fault =
+    comes (build_files b) old new cause (λ c. c ≡ Overfull fault) (Asks b.package_name (HasPlaceFault fault)) (lawful b) is
+    (λ e. told_of b old new cause (Overfull fault) (Asks b.package_name (HasPlaceFault fault)) is e (λ i. i.0) (λ t h. h))
+    (λ t h m. fault_alone (places_said h.task) Overfull (λ first. IsEnd h.task b.effort.rounds) fault cause h.is_so.2
+    (places_stand b.package_name b.effort.rounds t h.task h.is_so.0 cause h.is_asked h.is_so.1 m))
+
+-- ---- what is built
+laid_placeable : (task : Task) (layout : Layout) → IsLaidOut task layout → IsPlaceable task
+laid_placeable task layout laid = (layout.pads, laid.placed.first, pins_good task layout laid, places_good task layout laid)
+
+asks_weaker : (name : List ℕ) (P Q : Task → Type 0) (t : List (List ℕ)) → ((task : Task) → P task → Q task) → Asks name P t → Asks name Q t
+asks_weaker name P Q t weaker h = record { task = h.task; is_asked = h.is_asked; is_so = weaker h.task h.is_so }
+
+made_placeable : (b : Build) (t : List (List ℕ)) (text : List ℕ) (on : List TileAt) → IsMade b t text on → Asks b.package_name IsPlaceable t
+made_placeable b t text on g = record { task = g.task; is_asked = g.is_asked; is_so = laid_placeable g.task g.built.layout g.is_built.laid }
+
+end_tried : (task : Task) (rounds : ℕ) (cause : Cause) → IsEnd task rounds cause → IsTried cause
+end_tried task rounds cause is = of_end IsTried task rounds (λ placement. tt) (λ role put. tt) (λ placement net sink stuck. tt) (λ placement logs given. tt) (λ fault bits. tt) cause is
+
+tried_only : (b : Build) (old new : Meaning) (cause : Cause) → IsTrueOf (build_files b) old new cause → IsTried cause → OfTexts (files_of b) old (Asks b.package_name IsPlaceable)
+tried_only b old new cause is tried =
+    of_tried (λ c. IsTrueOf (build_files b) old new c → OfTexts (files_of b) old (Asks b.package_name IsPlaceable))
+    (λ placement i. of_weaker (files_of b) old (λ t. IsMade b t i.text placement) (Asks b.package_name IsPlaceable) (λ t g. made_placeable b t i.text placement g) i.texts)
+    (λ role put i. of_weaker (files_of b) old (λ t. IsMade b t i.text i.placement) (Asks b.package_name IsPlaceable) (λ t g. made_placeable b t i.text i.placement g) i.texts)
+    (λ placement net sink i. told_of b old new (Unreachable placement net sink) (Unreachable placement net sink) (Asks b.package_name IsPlaceable) i refl (λ j. j.0)
+    (λ t h. asks_weaker b.package_name (λ task. IsStuckOn task placement net sink) IsPlaceable t (λ task stuck. laid_placeable task stuck.0 stuck.1) h))
+    (λ placement logs i. told_of b old new (GaveUp placement logs) (GaveUp placement logs) (Asks b.package_name IsPlaceable) i refl (λ j. j.0)
+    (λ t h. asks_weaker b.package_name (λ task. IsGivenUpOn task b.effort.rounds placement logs.items) IsPlaceable t (λ task given. laid_placeable task given.0 given.1) h))
+    (λ fault i. told_of b old new (BadBits fault) (BadBits fault) (Asks b.package_name IsPlaceable) i refl (λ j. j.0)
+    (λ t h. asks_weaker b.package_name (λ task. HasBadBits task b.effort.rounds fault) IsPlaceable t (λ task bits. laid_placeable task bits.0.layout bits.1.laid) h))
+    cause tried is
+
+tried_row : (b : Build) (old new : Meaning) (cause : Cause) → IsTrueOf (build_files b) old new cause → TriedRow b old cause
+tried_row b old new cause is =
+    comes (build_files b) old new cause IsTried (Asks b.package_name IsPlaceable) (lawful b) is (tried_only b old new cause is)
+    (λ t h m. end_tried h.task b.effort.rounds cause (end_stands b.package_name b.effort.rounds t h.task h.is_so.0 h.is_so.1 cause h.is_asked h.is_so.2 h.is_so.3 m))
+
+-- ---- the placement that is told
+-- what the answer says of the task that the files hold
+held_built : (b : Build) (old new : Meaning) (placement : List TileAt) (t : List (List ℕ)) (task : Task) → HoldsTexts (files_of b) old t → IsAsked b.package_name t task
+    → IsTrueOf (build_files b) old new (Good placement) → IsBuiltOn task b.effort.rounds placement
+held_built b old new placement t task holds asked is =
+    let g = at_files (files_of b) old (λ texts. IsMade b texts is.text placement) t holds is.texts in
+    subst (λ (x : Task). IsBuiltOn x b.effort.rounds placement) (one_task b.package_name t g.task task g.is_asked asked) (g.built, g.is_built, sym g.is_placement)
+
+held_stuck : (b : Build) (old new : Meaning) (placement : List TileAt) (net : NetNo) (sink : WireNo) (t : List (List ℕ)) (task : Task) → HoldsTexts (files_of b) old t
+    → IsAsked b.package_name t task → IsTrueOf (build_files b) old new (Unreachable placement net sink) → IsStuckOn task placement net sink
+held_stuck b old new placement net sink t task holds asked is =
+    let h = told b.package_name b.effort.rounds t (Unreachable placement net sink) (at_files (files_of b) old (λ texts. Stands b.package_name b.effort.rounds texts (Unreachable placement net sink)) t holds is.0) in
+    subst (λ (x : Task). IsStuckOn x placement net sink) (one_task b.package_name t h.task task h.is_asked asked) h.is_so
+
+held_given_up : (b : Build) (old new : Meaning) (placement : List TileAt) (logs : Vec RoundLog) (t : List (List ℕ)) (task : Task) → HoldsTexts (files_of b) old t
+    → IsAsked b.package_name t task → IsTrueOf (build_files b) old new (GaveUp placement logs) → IsGivenUpOn task b.effort.rounds placement logs.items
+held_given_up b old new placement logs t task holds asked is =
+    let h = told b.package_name b.effort.rounds t (GaveUp placement logs) (at_files (files_of b) old (λ texts. Stands b.package_name b.effort.rounds texts (GaveUp placement logs)) t holds is.0) in
+    subst (λ (x : Task). IsGivenUpOn x b.effort.rounds placement logs.items) (one_task b.package_name t h.task task h.is_asked asked) h.is_so
+
+built_row : (b : Build) (old new : Meaning) (cause : Cause) → IsTrueOf (build_files b) old new cause → BuiltRow b old cause
+built_row b old new cause is = record {
+  only = λ placement about good. only placement good.0 good.1 (about_good placement good.0 good.1 about);
+  always = λ placement t about holds h.
+      of_about (λ c. IsTrueOf (build_files b) old new c → IsGood c) placement (λ i. (placement, refl))
+      (λ net sink i. absurd (built_not_stuck h.task b.effort.rounds placement net sink h.is_so (held_stuck b old new placement net sink t h.task holds h.is_asked i)))
+      (λ logs i. absurd (built_not_given_up h.task b.effort.rounds placement logs.items h.is_so (held_given_up b old new placement logs t h.task holds h.is_asked i)))
+      cause about is;
+}
+  where
+    about_good : (placement on : List TileAt) → cause ≡ Good on → IsAbout placement cause → on ≡ placement
+    about_good placement on e about = subst (IsAbout placement) e about
+
+    only : (placement on : List TileAt) → cause ≡ Good on → on ≡ placement → OfTexts (files_of b) old (Asks b.package_name (λ task. IsBuiltOn task b.effort.rounds placement))
+    only placement on e same =
+        let i = subst (λ (x : Cause). IsTrueOf (build_files b) old new x) (e ∙ ap Good same) is in
+        of_weaker (files_of b) old (λ t. IsMade b t i.text placement) (Asks b.package_name (λ task. IsBuiltOn task b.effort.rounds placement))
+        (λ t g. record { task = g.task; is_asked = g.is_asked; is_so = (g.built, g.is_built, sym g.is_placement) }) i.texts
+
+unreachable_row : (b : Build) (old new : Meaning) (cause : Cause) → IsTrueOf (build_files b) old new cause → UnreachableRow b old cause
+unreachable_row b old new cause is net sink = record {
+  only = λ placement about stuck. only placement stuck.0 stuck.1 (about_stuck placement stuck.0 stuck.1 about);
+  always = λ placement t about holds h.
+      of_about (λ c. IsTrueOf (build_files b) old new c → IsUnreachable net sink c) placement
+      (λ i. absurd (built_not_stuck h.task b.effort.rounds placement net sink (held_built b old new placement t h.task holds h.is_asked i) h.is_so))
+      (λ other last i. let same = stuck_on_one h.task placement other net last sink (held_stuck b old new placement other last t h.task holds h.is_asked i) h.is_so in (placement, told_same placement other last same.0 same.1))
+      (λ logs i. absurd (given_up_not_stuck_on h.task b.effort.rounds placement logs.items net sink (held_given_up b old new placement logs t h.task holds h.is_asked i) h.is_so))
+      cause about is;
+}
+  where
+    about_stuck : (placement on : List TileAt) → cause ≡ Unreachable on net sink → IsAbout placement cause → on ≡ placement
+    about_stuck placement on e about = subst (IsAbout placement) e about
+
+    told_same : (placement : List TileAt) (other : NetNo) (last : WireNo) → other ≡ net → last ≡ sink → Unreachable placement other last ≡ Unreachable placement net sink
+    told_same placement other last e f = ap (λ (n : NetNo). Unreachable placement n last) e ∙ ap (λ (w : WireNo). Unreachable placement net w) f
+
+    only : (placement on : List TileAt) → cause ≡ Unreachable on net sink → on ≡ placement → OfTexts (files_of b) old (Asks b.package_name (λ task. IsStuckOn task placement net sink))
+    only placement on e same =
+        told_of b old new cause (Unreachable placement net sink) (Asks b.package_name (λ task. IsStuckOn task placement net sink)) is
+        (e ∙ ap (λ (x : List TileAt). Unreachable x net sink) same) (λ i. i.0) (λ t h. h)
+
+given_up_at : (b : Build) (old new : Meaning) (cause : Cause) (placement : List TileAt) (logs : Vec RoundLog) → IsTrueOf (build_files b) old new cause → cause ≡ GaveUp placement logs
+    → OfTexts (files_of b) old (Asks b.package_name (λ task. IsGivenUpOn task b.effort.rounds placement logs.items))
+given_up_at b old new cause placement logs is e =
+    told_of b old new cause (GaveUp placement logs) (Asks b.package_name (λ task. IsGivenUpOn task b.effort.rounds placement logs.items)) is e (λ i. i.0) (λ t h. h)
+
+gave_up_row : (b : Build) (old new : Meaning) (cause : Cause) → IsTrueOf (build_files b) old new cause → GaveUpRow b old cause
+gave_up_row b old new cause is = record {
+  comes = record {
+    only = λ placement about gave. only placement gave.0 gave.1 gave.2 (about_gave placement gave.0 gave.1 gave.2 about);
+    always = λ placement t about holds h.
+        of_about (λ c. IsTrueOf (build_files b) old new c → HasGivenUp c) placement
+        (λ i. absurd (built_not_given_up h.task b.effort.rounds placement h.is_so.0 (held_built b old new placement t h.task holds h.is_asked i) h.is_so.1))
+        (λ net sink i. absurd (given_up_not_stuck_on h.task b.effort.rounds placement h.is_so.0 net sink h.is_so.1 (held_stuck b old new placement net sink t h.task holds h.is_asked i)))
+        (λ logs i. (placement, logs, refl)) cause about is;
+  };
+  logs_are = λ placement logs e. given_up_at b old new cause placement logs is e;
+}
+  where
+    about_gave : (placement on : List TileAt) (logs : Vec RoundLog) → cause ≡ GaveUp on logs → IsAbout placement cause → on ≡ placement
+    about_gave placement on logs e about = subst (IsAbout placement) e about
+
+    only : (placement on : List TileAt) (logs : Vec RoundLog) → cause ≡ GaveUp on logs → on ≡ placement
+        → OfTexts (files_of b) old (Asks b.package_name (λ task. (all : List RoundLog) × IsGivenUpOn task b.effort.rounds placement all))
+    only placement on logs e same =
+        of_weaker (files_of b) old (Asks b.package_name (λ task. IsGivenUpOn task b.effort.rounds placement logs.items))
+        (Asks b.package_name (λ task. (all : List RoundLog) × IsGivenUpOn task b.effort.rounds placement all))
+        (λ t h. record { task = h.task; is_asked = h.is_asked; is_so = (logs.items, h.is_so) })
+        (given_up_at b old new cause placement logs is (e ∙ ap (λ (x : List TileAt). GaveUp x logs) same))
+
+bits_row : (b : Build) (old new : Meaning) (cause : Cause) → IsTrueOf (build_files b) old new cause → BitsRow b old cause
+bits_row b old new cause is fault e =
+    told_of b old new cause (BadBits fault) (Asks b.package_name (λ task. HasBadBits task b.effort.rounds fault)) is e (λ i. i.0) (λ t h. h)
+
+-- ---- the headline
+made_shown : (b : Build) (t : List (List ℕ)) (text : List ℕ) (on : List TileAt) → IsMade b t text on → IsShown b.package_name t text
+made_shown b t text on g = record {
+  task = g.task;
+  pads = g.built.layout.pads;
+  configuration = g.built.bits;
+  is_asked = g.is_asked;
+  are_pads = pins_good g.task g.built.layout g.is_built.laid;
+  decodes = g.is_read_back;
+  is_circuit = g.is_shown;
+}
+
+headline_row : (b : Build) (old new : Meaning) (cause : Cause) (status : ℕ) → GoodRow (build_files b) old new cause status → HeadlineRow b old new status
+headline_row b old new cause status good zero_status tells =
+    let done = good.done zero_status in
+    let held : IsHeld (build_files b) old new done.0 = good.held done.0 done.1 tells in
+    (held.texts, held.text, held.hold, held.there, made_shown b held.texts held.text done.0 held.gives)
+
+-- ---- all of them
+pub answers : (b : Build) (old new : Meaning) (end : Done) → IsTrueOf (build_files b) old new end.cause → end.status ≡ status_of end.cause → TellsLong new end.cause → IsBuildAnswer b old new end
+answers b old new end is status told_long =
+    let good = good_row (build_files b) old new end.cause end.status is status in
+    record {
+      headline = headline_row b old new end.cause end.status good;
+      good = good;
+      built = built_row b old new end.cause is;
+      bad_blif = blif_row b old new end.cause is;
+      bad_pcf = pcf_row b old new end.cause is;
+      bad_chip = chip_row b old new end.cause is;
+      bad_net = net_row b old new end.cause is;
+      bad_pin = pin_row b old new end.cause is;
+      overfull = place_row b old new end.cause is;
+      tried = tried_row b old new end.cause is;
+      unreachable = unreachable_row b old new end.cause is;
+      gave_up = gave_up_row b old new end.cause is;
+      bad_bits = bits_row b old new end.cause is;
+      read_fault = read_fault_row (build_files b) old new end.cause is;
+      write_fault = write_fault_row (build_files b) old new end.cause is;
+      too_long = too_long_row (build_files b) old new end.cause is told_long;
+    }
+
+-- how the command ended
+pub ends : (b : Build) (old mid new : Meaning) (result : Result Made Cause) (cause : Cause) → SameButReading old mid → IsMadeOf (build_files b) old mid result
+    → IsEndInFile Asc b.asc result mid new cause → IsEndOf (build_files b) old new cause
+ends b old mid new result cause read made end = end_is_in_file (build_files b) Asc b.asc old mid new result cause read made end

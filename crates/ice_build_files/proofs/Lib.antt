@@ -1,0 +1,5 @@
+pub mod Standing
+pub mod Excluding
+pub mod Telling
+pub mod Refusing
+pub mod BuildLaws

@@ -1,0 +1,39 @@
+-- What `build` is asked for, and the task that its three texts say.
+use Rattle.std.specs.Prelude.{◌≡◌, ℕ, List, [], ◌∷◌, Ok}
+use Rattle.ice_blif.specs.Grammar.{netlist_of}
+use Rattle.ice_check.specs.Sound.{IsSound}
+use Rattle.ice_chip_read.specs.Whole.{chip_says}
+use Rattle.ice_pcf.specs.Grammar.{text_says}
+use Rattle.ice_build.specs.Laid.{Task}
+use Rattle.ice_build.specs.declared.answer.Effort.{Effort}
+use Rattle.ice_answer.specs.declared.cause.FileRole.TheVariants.{Chip, Pcf, Blif}
+use Rattle.ice_answer.specs.Reading.{Files}
+use Rattle.ice_answer.specs.Texts.{text_at}
+
+-- the words of `build CHIP PACKAGE PCF BLIF ASC`: names of files, and the name of a package; and how long to try
+pub record Build : Type 0 where
+  pub chip : List ℕ
+  pub package_name : List ℕ
+  pub pcf : List ℕ
+  pub blif : List ℕ
+  pub asc : List ℕ
+  pub effort : Effort
+
+-- the files that are read, in the order of reading
+abbrev pub files_of : Build → Files
+files_of b = record { role = Chip; name = b.chip } ∷ record { role = Pcf; name = b.pcf } ∷ record { role = Blif; name = b.blif } ∷ []
+
+-- The texts say this task: the first says the chip, the second the constraints, and the third a sound netlist, which is to be built in
+-- the package of this name.
+pub record IsAsked (name : List ℕ) (texts : List (List ℕ)) (task : Task) : Type 0 where
+  pub is_chip : chip_says (text_at texts 1) ≡ Ok task.parts
+  pub is_name : task.name ≡ name
+  pub are_constraints : text_says (text_at texts 2) ≡ Ok task.constraints
+  pub is_circuit : netlist_of (text_at texts 3) ≡ Ok task.circuit
+  pub is_sound : IsSound task.circuit
+
+-- the texts say a task of which this is true
+pub record Asks (name : List ℕ) (IsSo : Task → Type 0) (texts : List (List ℕ)) : Type 0 where
+  pub task : Task
+  pub is_asked : IsAsked name texts task
+  pub is_so : IsSo task

@@ -1,0 +1,63 @@
+-- What `build` makes of its texts, and what it shows.
+use Rattle.std.specs.Prelude.{◌≡◌, ℕ, List, Ok}
+use Rattle.ice_base.specs.declared.number.NetNo.{NetNo}
+use Rattle.ice_base.specs.declared.number.TileAt.{TileAt}
+use Rattle.ice_base.specs.declared.number.WireNo.{WireNo}
+use Rattle.ice_bits.specs.Configuration.{Configuration}
+use Rattle.ice_asc.specs.Grammar.{asc_in}
+use Rattle.ice_asc.specs.Text.{asc_text}
+use Rattle.ice_core.specs.declared.log.RoundLog.{RoundLog}
+use Rattle.ice_decode.specs.declared.fault.DecodeFault.{DecodeFault}
+use Rattle.ice_pads.specs.Assign.{PadsData}
+use Rattle.ice_build.specs.Answers.{IsBuilt, IsStuck, IsGivenUp, IsUndecoded, pins_said}
+use Rattle.ice_build.specs.Laid.{Task, IsLaidOut, plan_in}
+use Rattle.ice_build.specs.Shown.{IsCircuitOf}
+use Rattle.ice_build.specs.declared.answer.Built.{Built}
+use Rattle.ice_build.specs.declared.answer.Layout.{Layout}
+use Rattle.ice_build_files.specs.Asked.{Build, IsAsked}
+
+-- The netlist that the texts say is built with this placement, and this is the text of the bits. The text says these bits, and they are
+-- a circuit that shows what the netlist shows.
+pub record IsMade (b : Build) (texts : List (List ℕ)) (text : List ℕ) (placement : List TileAt) : Type 0 where
+  pub task : Task
+  pub built : Built
+  pub is_asked : IsAsked b.package_name texts task
+  pub is_built : IsBuilt task b.effort.rounds built
+  pub is_placement : placement ≡ built.layout.placement
+  pub is_text : text ≡ asc_text task.parts built.bits
+  pub is_read_back : asc_in task.parts text ≡ Ok built.bits
+  pub is_shown : IsCircuitOf task.circuit built.layout.pads.ports task.parts built.bits
+
+-- The text of bits, read by the database of the chip text, is a circuit without a fault. For every list of levels of the package's pads
+-- it shows, step by step, exactly what the netlist of the netlist's text shows, at the pads that the constraints give its ports, and it
+-- drives no other pad.
+pub record IsShown (name : List ℕ) (texts : List (List ℕ)) (text : List ℕ) : Type 0 where
+  pub task : Task
+  pub pads : PadsData
+  pub configuration : Configuration
+  pub is_asked : IsAsked name texts task
+  pub are_pads : pins_said task ≡ Ok pads
+  pub decodes : asc_in task.parts text ≡ Ok configuration
+  pub is_circuit : IsCircuitOf task.circuit pads.ports task.parts configuration
+
+-- ---- of a placement
+-- the task is laid out with this placement, and this is true of the layout
+abbrev pub IsLaidOn : Task → List TileAt → (Layout → Type 0) → Type 0
+IsLaidOn task placement IsSo = (layout : Layout) × IsLaidOut task layout × (layout.placement ≡ placement) × IsSo layout
+
+-- with this placement the task is built
+abbrev pub IsBuiltOn : Task → ℕ → List TileAt → Type 0
+IsBuiltOn task rounds placement = (built : Built) × IsBuilt task rounds built × (built.layout.placement ≡ placement)
+
+-- with this placement no walk leads from the net's root to any target of a sink, of which this is the first
+abbrev pub IsStuckOn : Task → List TileAt → NetNo → WireNo → Type 0
+IsStuckOn task placement net sink = IsLaidOn task placement (λ layout. IsStuck task.parts (plan_in layout) net sink)
+
+-- with this placement each permitted round ends with an overused wire, and these are the logs of the rounds
+abbrev pub IsGivenUpOn : Task → ℕ → List TileAt → List RoundLog → Type 0
+IsGivenUpOn task rounds placement logs = IsLaidOn task placement (λ layout. IsGivenUp task.parts (plan_in layout) rounds logs)
+
+-- ---- of bits
+-- the task is built, but for this fault the bits have no circuit; so some global of the chip is fed by a global
+abbrev pub HasBadBits : Task → ℕ → DecodeFault → Type 0
+HasBadBits task rounds fault = (built : Built) × IsBuilt task rounds built × IsUndecoded task.parts built.bits fault
