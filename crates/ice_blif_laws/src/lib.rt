@@ -1,0 +1,6 @@
+//! Laws of the netlists that texts say.
+#![tactic(auto)]
+
+mod laws;
+
+pub use laws::{texts_name_once, written_shows_the_same};
