@@ -1,3 +1,4 @@
+<<<<<<< HEAD
 //! Laws of netlists that were read. The functions do nothing: their contracts are the laws.
 #![tactic(auto)]
 
@@ -7,3 +8,11 @@ ghost use Rattle.ice_blif_laws.specs.ReadNames.{ReadNamesAreWords};
 pub fn read_names_are_words()
     ensures { ReadNamesAreWords }
 {}
+=======
+//! Laws of the netlists that texts say.
+#![tactic(auto)]
+
+mod laws;
+
+pub use laws::{texts_name_once, written_shows_the_same};
+>>>>>>> c217b5e7b0d486b5083ce9195e0e11a96a60c128

@@ -1,0 +1,12 @@
+//! Laws of the netlists that texts say. The functions do nothing: their contracts are the laws.
+ghost use Rattle.ice_blif_laws.specs.SameNames.{TextsNameOnce, WrittenShowsTheSame};
+
+/// A text names no signal of its netlist twice.
+pub fn texts_name_once()
+    ensures { TextsNameOnce }
+{}
+
+/// A text with the ports and cells of a sound netlist, by the names of their signals, says a sound netlist, which shows the same.
+pub fn written_shows_the_same()
+    ensures { WrittenShowsTheSame }
+{}

@@ -1,0 +1,2 @@
+mod LineWords
+mod Named
