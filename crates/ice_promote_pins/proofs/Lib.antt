@@ -1,0 +1,2 @@
+mod PortNames
+mod Assigned
