@@ -27,7 +27,7 @@ use Rattle.ice_pads.specs.Assign.{pads_with, assigned, assign_of}
 use Rattle.ice_report.specs.Lines.{line_of}
 use Rattle.ice_report.specs.PinReport.{pad_words, way_word, pin_line, pin_text}
 use Rattle.ice_promote.specs.Promoted.{buffered_name, promoted_clocks, promoted}
-use Rattle.ice_promote_pins.proofs.PortNames.{same_port, same_name, same_port_name}
+use Rattle.ice_clocks.proofs.PortNames.{same_port, same_name, same_port_name}
 
 -- what goes on alike gives the same
 bind_same : {A B : Type 0} (x : Result A PinFault) (f g : A → Result B PinFault) → ((a : A) → f a ≡ g a) → (x >>= f) ≡ (x >>= g)

@@ -1,2 +1,3 @@
 mod PortNames
 mod Assigned
+mod FewGlobals

@@ -1,8 +1,6 @@
 //! What promoted clocks leave as it is: the pads of the ports, and the report on them. The functions do nothing: their contracts are
 //! the laws.
-#![tactic(auto)]
-
-ghost use Rattle.ice_promote_pins.specs.Pins.{PinsStay, PinReportsStay};
+ghost use Rattle.ice_clocks.specs.Pins.{PinsStay, PinReportsStay};
 
 /// The ports get the pads that they get of the netlist without promoted clocks, or the same fault.
 pub fn pins_stay()
