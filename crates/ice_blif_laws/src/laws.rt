@@ -1,4 +1,5 @@
 //! Laws of the netlists that texts say. The functions do nothing: their contracts are the laws.
+ghost use Rattle.ice_blif_laws.specs.ReadNames.{ReadNamesAreWords};
 ghost use Rattle.ice_blif_laws.specs.SameNames.{TextsNameOnce, WrittenShowsTheSame};
 
 /// A text names no signal of its netlist twice.
@@ -9,4 +10,9 @@ pub fn texts_name_once()
 /// A text with the ports and cells of a sound netlist, by the names of their signals, says a sound netlist, which shows the same.
 pub fn written_shows_the_same()
     ensures { WrittenShowsTheSame }
+{}
+
+/// Each name of a netlist that a text says is a word: it has a byte, and no blank.
+pub fn read_names_are_words()
+    ensures { ReadNamesAreWords }
 {}
