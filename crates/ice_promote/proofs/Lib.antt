@@ -7,3 +7,10 @@ mod Clocks
 mod NewFormed
 mod NewSound
 mod PromotionExamples
+mod Counted
+mod Chosen
+mod Redirected
+mod Filled
+mod NewNames
+mod Unpromoted
+mod PlainNames

@@ -1,11 +1,12 @@
 -- Promoted netlists, found by computing.
-use Rattle.std.proofs.Common.{◌≡◌, ℕ, zero, suc, ◌+◌, false, List, [], ◌∷◌, ◌++◌, map, Option, Some, codes, refl, replicate, take, drop}
+use Rattle.std.proofs.Common.{◌≡◌, ℕ, zero, suc, ◌+◌, false, List, [], ◌∷◌, ◌++◌, map, length, Option, Some, codes, refl, replicate, take, drop}
 use Rattle.ice_base.specs.declared.number.SignalNo.{SignalNo}
 use Rattle.ice_net.specs.declared.cell.Cell.{Cell}
 use Rattle.ice_net.specs.declared.kind.CellKind.TheVariants.{Cover, Flop, Global}
 use Rattle.ice_net.specs.declared.kind.Reset.TheVariants.{Nothing}
 use Rattle.ice_net.specs.declared.port.Way.TheVariants.{Input}
 use Rattle.ice_net.specs.NetlistData.{NetlistData}
+use Rattle.ice_promote.specs.Free.{free_beside}
 use Rattle.ice_promote.specs.Promoted.{promoted_clocks, promoted}
 
 abbrev wire : ℕ → Option SignalNo
@@ -74,3 +75,23 @@ buffer_last = refl
 
 name_last : drop 34 (promoted (netlist (flops 0 1 2 16)) 8).names ≡ codes "c gb" ∷ []
 name_last = refl
+
+-- with sixteen flip-flops two inputs, sixteen outputs and the buffer's signal, and with fifteen no buffer's signal
+abbrev few_names : ℕ → List Cell → NetlistData
+few_names outs cells = record (netlist cells) { names = codes "c" ∷ codes "d" ∷ replicate outs (codes "q") }
+
+sixteen_signals : length (promoted (few_names 16 (flops 0 1 2 16)) 8).names ≡ 19
+sixteen_signals = refl
+
+sixteen_cells : length (promoted (few_names 16 (flops 0 1 2 16)) 8).cells ≡ 17
+sixteen_cells = refl
+
+fifteen_signals : length (promoted (few_names 15 (flops 0 1 2 15)) 8).names ≡ 17
+fifteen_signals = refl
+
+-- each buffer of the netlist takes one of the eight globals, and eight leave none
+seven_free : free_beside 8 (netlist (global ∷ flops 33 1 2 16)) ≡ 7
+seven_free = refl
+
+none_left : free_beside 8 (netlist (replicate 9 global)) ≡ 0
+none_left = refl

@@ -1,2 +1,5 @@
 pub mod Promoted
 pub mod PromotionLaws
+pub mod Promotable
+pub mod Filling
+pub mod Free

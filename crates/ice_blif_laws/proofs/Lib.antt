@@ -1,0 +1,2 @@
+mod WordLines
+mod WordNames

@@ -1,0 +1,3 @@
+mod PortNames
+mod Assigned
+mod FewGlobals

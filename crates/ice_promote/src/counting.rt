@@ -1,0 +1,153 @@
+//! How many flip-flops each signal is the clock of, and which signals need no buffer.
+ghost use Rattle.std.specs.Prelude.{◌≡◌, ◌≢◌, ℕ, ◌+◌, ◌<◌, ◌≤◌, None, All, length, map, slice_index_or, IfOk};
+ghost use Rattle.ice_net.specs.Formed.{IsBelow, IsFormed};
+ghost use Rattle.ice_net.specs.Drivers.{is_signal};
+ghost use Rattle.ice_check.specs.Tables.{AreTimes, once};
+ghost use Rattle.ice_promote.specs.Filling.{AreCounts};
+ghost use Rattle.ice_promote.specs.Promoted.{clock_of, is_settled, settled_of};
+
+use ice_base::{NoMemory, SignalNo};
+use ice_net::{Cell, CellKind, Netlist};
+use std::alloc::Global;
+
+/// Counts of cells, by the number of a signal.
+#[derive(Drop)]
+pub struct Counts {
+    /// The flip-flops that have the signal as their clock.
+    pub clocks: Vec<usize>,
+    /// The cells that drive the signal and whose output needs no buffer.
+    pub settled: Vec<usize>,
+}
+
+// The signal at the first place; None where there is none.
+fn first_of(signals: &[Option<SignalNo>]) -> Option<SignalNo>
+    ensures { result ≡ slice_index_or signals.now 0 None }
+{
+    match signals.get(0) {
+        Some(signal) => *signal,
+        None => None,
+    }
+}
+
+// The signal at the clock input of a flip-flop.
+fn clock_of(cell: &Cell) -> Option<SignalNo>
+    ensures { result ≡ clock_of cell.now }
+{
+    match cell.kind {
+        CellKind::Flop { .. } => first_of(cell.ins.as_slice()),
+        _ => None,
+    }
+}
+
+// Whether the output of a cell needs no buffer: it is a global network already, or it never changes.
+fn is_settled(kind: CellKind) -> bool
+    ensures { result ≡ is_settled kind }
+{
+    match kind {
+        CellKind::Cover { width, .. } => width == 0,
+        CellKind::Global => true,
+        _ => false,
+    }
+}
+
+// The output of a cell, where it needs no buffer.
+fn settled_of(cell: &Cell) -> Option<SignalNo>
+    ensures { result ≡ settled_of cell.now }
+{
+    if is_settled(cell.kind) {
+        return first_of(cell.outs.as_slice());
+    }
+    None
+}
+
+// The clocks, cell by cell.
+fn clocks(alloc: Global, cells: &[Cell]) -> Result<Vec<Option<SignalNo>>, NoMemory>
+    ensures { IfOk result (λ list. list.items ≡ map clock_of cells.now) }
+{
+    let mut list = Vec::new(alloc);
+    for cell in cells {
+        list.push(clock_of(cell))?;
+    }
+    Ok(list)
+}
+
+// The outputs that need no buffer, cell by cell.
+fn settled(alloc: Global, cells: &[Cell]) -> Result<Vec<Option<SignalNo>>, NoMemory>
+    ensures { IfOk result (λ list. list.items ≡ map settled_of cells.now) }
+{
+    let mut list = Vec::new(alloc);
+    for cell in cells {
+        list.push(settled_of(cell))?;
+    }
+    Ok(list)
+}
+
+fn add_one(table: &mut Vec<usize>, index: usize)
+    requires index { index < length table.old.items }
+    requires room { slice_index_or table.old.items index 0 < 9223372036854775808 }
+    ensures length { length table.new.items ≡ length table.old.items }
+    ensures added { slice_index_or table.new.items index 0 ≡ slice_index_or table.old.items index 0 + 1 }
+    ensures others { (s : ℕ) → s ≢ index → slice_index_or table.new.items s 0 ≡ slice_index_or table.old.items s 0 }
+{
+    table[index] += 1;
+}
+
+// Counts a signal once more, where it stood at most so often.
+#[tactic(auto, using(ice_check::proofs::TableSteps::tallied_there, ice_check::proofs::TableSteps::tallied_missing))]
+fn tally(table: &mut Vec<usize>, signal: Option<SignalNo>, most: usize)
+    requires below { IsBelow (length table.old.items) signal }
+    requires room { (s : ℕ) → slice_index_or table.old.items s 0 ≤ most }
+    requires most { most < 9223372036854775808 }
+    ensures length { length table.new.items ≡ length table.old.items }
+    ensures tallied { (s : ℕ) → slice_index_or table.new.items s 0 ≡ slice_index_or table.old.items s 0 + once (is_signal s signal) }
+{
+    match signal {
+        Some(signal) => add_one(table, signal.0 as usize),
+        None => {}
+    }
+}
+
+// How often each signal stands in a list.
+#[tactic(auto, using(ice_check::proofs::TableSteps::times_none, ice_check::proofs::TableSteps::times_more, ice_check::proofs::TableSteps::times_all, ice_check::proofs::TableSteps::below_here_too, ice_check::proofs::TableSteps::times_room))]
+fn times_of(alloc: Global, count: usize, list: &[Option<SignalNo>]) -> Result<Vec<usize>, NoMemory>
+    requires { All (IsBelow count) list.now }
+    ensures { IfOk result (λ table. AreTimes count list.now table.items) }
+{
+    let mut table = vec![in alloc; 0; count]?;
+    for (place, signal) in list.iter().enumerate() {
+        tally(&mut table, *signal, place);
+    }
+    Ok(table)
+}
+
+// How many flip-flops have each signal as their clock.
+#[tactic(auto, using(crate::proofs::Counted::clocks_below))]
+fn clock_counts(alloc: Global, netlist: &Netlist) -> Result<Vec<usize>, NoMemory>
+    ensures { IfOk result (λ table. AreTimes (length netlist.now.names) (map clock_of netlist.now.cells) table.items) }
+{
+    let list = clocks(alloc, netlist.cells())?;
+    let table = times_of(alloc, netlist.signals() as usize, &list)?;
+    Ok(table)
+}
+
+// How many cells whose output needs no buffer drive each signal.
+#[tactic(auto, using(crate::proofs::Counted::settled_below))]
+fn settled_counts(alloc: Global, netlist: &Netlist) -> Result<Vec<usize>, NoMemory>
+    ensures { IfOk result (λ table. AreTimes (length netlist.now.names) (map settled_of netlist.now.cells) table.items) }
+{
+    let list = settled(alloc, netlist.cells())?;
+    let table = times_of(alloc, netlist.signals() as usize, &list)?;
+    Ok(table)
+}
+
+/// The counts of the cells of a netlist.
+///
+/// # Errors
+/// Want of memory alone.
+pub(crate) fn counts_of(alloc: Global, netlist: &Netlist) -> Result<Counts, NoMemory>
+    ensures { IfOk result (λ counts. AreCounts netlist.now counts) }
+{
+    let clocks = clock_counts(alloc, netlist)?;
+    let settled = settled_counts(alloc, netlist)?;
+    Ok(Counts { clocks, settled })
+}
