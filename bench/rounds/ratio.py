@@ -7,7 +7,7 @@ import os
 import re
 import sys
 
-TIMED = ("read", "fabric", "rounds", "memory")
+TIMED = ("read", "fabric", "rounds", "memory", "clock")
 
 
 def turn_of(path: str) -> tuple:

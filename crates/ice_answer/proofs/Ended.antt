@@ -16,7 +16,7 @@ use Rattle.ice_answer.proofs.Commanding.{refusal_is_true, put_is_true, true_whil
 
 -- ---- what came of the making
 pub made_of_texts : (k : Command) (old new : Meaning) (texts : List (List ℕ)) (result : Result Made Cause) → AreTexts k.files old texts → new.makes ≡ old.makes
-    → IfOk result (λ made. k.Gives texts made.text.items made.placement) → IfErr result (λ cause. IsRefusal (k.Stands texts) cause) → IsMadeOf k old new result
+    → IfOk result (λ made. k.Gives texts made.text.items made.placement made.tallies.items) → IfErr result (λ cause. IsRefusal (k.Stands texts) cause) → IsMadeOf k old new result
 made_of_texts k old new texts (Ok made) are same gives refused = (texts, are, gives)
 made_of_texts k old new texts (Err refusal) are same gives refused = refusal_is_true k old new texts refusal are same refused
 
@@ -69,8 +69,8 @@ in_file k role name = record k { output = InFile role name }
 pub end_is_aloud : (k : Command) (old mid new : Meaning) (result : Result Made Cause) (cause : Cause) → SameButReading old mid → IsMadeOf (aloud k) old mid result → IsEndAloud result mid new cause
     → IsEndOf (aloud k) old new cause
 end_is_aloud k old mid new (Ok made) cause read of end = record {
-  is_true = put_is_true (aloud k) old mid new made.text.items made.placement cause of read end.put;
-  said = λ t. put_said made.text.items made.placement old mid new cause end.put;
+  is_true = put_is_true (aloud k) old mid new made.text.items made.placement made.tallies.items cause of read end.put;
+  said = λ t. put_said made.text.items made.placement made.tallies.items old mid new cause end.put;
   kept = λ t. (end.same.makes ∙ read.makes, λ name. files_same old new name (end.same.files ∙ read.files));
   made = end.same.makes ∙ read.makes;
   silent = tt;
@@ -80,15 +80,15 @@ end_is_aloud k old mid new (Err refusal) cause read of end = refusal_end (aloud 
 pub end_is_in_file : (k : Command) (role : FileRole) (name : List ℕ) (old mid new : Meaning) (result : Result Made Cause) (cause : Cause) → SameButReading old mid
     → IsMadeOf (in_file k role name) old mid result → IsEndInFile role name result mid new cause → IsEndOf (in_file k role name) old new cause
 end_is_in_file k role name old mid new (Ok made) cause read of end =
-    let put = put_stays role name made.text.items made.placement mid end.written new cause end.line.same end.put in
+    let put = put_stays role name made.text.items made.placement made.tallies.items mid end.written new cause end.line.same end.put in
     record {
-      is_true = put_is_true (in_file k role name) old mid new made.text.items made.placement cause of read put;
+      is_true = put_is_true (in_file k role name) old mid new made.text.items made.placement made.tallies.items cause of read put;
       said = λ t. after_silence old end.written new (line_of cause) (silent_written name old mid end.written read end.same) (end.line.said (end.same.tells ∙ read.tells ∙ t));
       kept = λ t. (
         (λ other apart. files_same end.written new other end.line.same.files ∙ end.same.others (read.tells ∙ t) other apart ∙ files_same old mid other read.files),
-        inl (put_done (InFile role name) made.text.items made.placement mid end.written cause end.put),
+        inl (put_done (InFile role name) made.text.items made.placement made.tallies.items mid end.written cause end.put),
       );
-      made = put_made role name made.text.items made.placement old mid new cause read put;
+      made = put_made role name made.text.items made.placement made.tallies.items old mid new cause read put;
       silent = silent_behind old end.written new cause (silent_written name old mid end.written read end.same) end.line.silent;
     }
 end_is_in_file k role name old mid new (Err refusal) cause read of end = refusal_end (in_file k role name) old mid new refusal cause read of.0 of.1 end

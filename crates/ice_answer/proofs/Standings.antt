@@ -1,5 +1,6 @@
 -- From the faults of the texts to refusals.
 use Rattle.std.proofs.Common.{◌≡◌, ◌≢◌, ℕ, refl, List, Option, None, Some, Result, Ok, Err, inl, inr, sym, subst}
+use Rattle.std.specs.Global.{Vec}
 use Rattle.ice_answer.specs.declared.cause.Cause.{Cause}
 use Rattle.ice_answer.specs.declared.cause.Cause.TheVariants.{Good, Usage, BadBlif, BadPcf, BadChip, BadNet, BadPin, Overfull, Unreachable, GaveUp, ReadFault, WriteFault, NoMemory, BadAsc, BadBits, TooLong, BadLevels}
 use Rattle.ice_answer.specs.declared.cause.FileRole.{FileRole}
@@ -24,6 +25,7 @@ use Rattle.ice_pads.specs.declared.fault.PinFault.{PinFault}
 use Rattle.ice_pads.specs.declared.fault.PinFault.TheVariants as pin_fault
 use Rattle.ice_place.specs.declared.fault.PlaceFault.{PlaceFault}
 use Rattle.ice_place.specs.declared.fault.PlaceFault.TheVariants as place_fault
+use Rattle.ice_words.specs.Grips.{Shut}
 
 -- ---- how texts stand
 
@@ -58,8 +60,8 @@ pub some_stands : {V : Type 0} (found : Option V) (told : Cause) (then : V → C
 some_stands found told then value cause e is = rw e at is
 
 -- what is true of each answer of done work
-pub of_done : (P : Cause → Type 0) → ((placement : List TileAt) → P (Good placement)) → ((role : FileRole) (put : ℕ) → P (WriteFault role put)) → (cause : Cause) → IsDone cause → P cause
-of_done P good cut (Good placement) done = good placement
+pub of_done : (P : Cause → Type 0) → ((placement : List TileAt) (tallies : Vec Shut) → P (Good placement tallies)) → ((role : FileRole) (put : ℕ) → P (WriteFault role put)) → (cause : Cause) → IsDone cause → P cause
+of_done P good cut (Good placement tallies) done = good placement tallies
 of_done P good cut Usage done = absurd done
 of_done P good cut (BadBlif fault) done = absurd done
 of_done P good cut (BadPcf fault) done = absurd done
@@ -68,7 +70,7 @@ of_done P good cut (BadNet fault) done = absurd done
 of_done P good cut (BadPin fault) done = absurd done
 of_done P good cut (Overfull fault) done = absurd done
 of_done P good cut (Unreachable placement net sink) done = absurd done
-of_done P good cut (GaveUp placement logs) done = absurd done
+of_done P good cut (GaveUp placement logs tallies) done = absurd done
 of_done P good cut (ReadFault role) done = absurd done
 of_done P good cut (WriteFault role put) done = cut role put
 of_done P good cut NoMemory done = absurd done

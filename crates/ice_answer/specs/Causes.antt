@@ -28,7 +28,7 @@ abbrev pub no_places : List TileAt
 no_places = []
 
 abbrev pub status_of : Cause → ℕ
-status_of (Good placement) = 0
+status_of (Good placement tallies) = 0
 status_of Usage = 2
 status_of (BadBlif fault) = 3
 status_of (BadPcf fault) = 4
@@ -37,7 +37,7 @@ status_of (BadNet fault) = 6
 status_of (BadPin fault) = 7
 status_of (Overfull fault) = 8
 status_of (Unreachable placement net sink) = 9
-status_of (GaveUp placement logs) = 10
+status_of (GaveUp placement logs tallies) = 10
 status_of (ReadFault role) = 11
 status_of (WriteFault role put) = 12
 status_of NoMemory = 13
@@ -180,7 +180,7 @@ bits_line decode_fault.NoMemory = joined (codes "error 15 bits nomemory\n" ∷ [
 
 -- the line that an answer says: nothing where the work is done
 abbrev pub line_of : Cause → List ℕ
-line_of (Good placement) = []
+line_of (Good placement tallies) = []
 line_of Usage = joined (codes "error 2 usage\n" ∷ [])
 line_of (BadBlif fault) = blif_line fault
 line_of (BadPcf fault) = pcf_line fault
@@ -189,7 +189,7 @@ line_of (BadNet fault) = net_line fault
 line_of (BadPin fault) = pin_line fault
 line_of (Overfull fault) = place_line fault
 line_of (Unreachable placement net sink) = two_line (codes "error 9 unreachable net ") net.0 (codes " sink ") sink.0
-line_of (GaveUp placement logs) = number_line (codes "error 10 gaveup rounds ") (length logs.items)
+line_of (GaveUp placement logs tallies) = number_line (codes "error 10 gaveup rounds ") (length logs.items)
 line_of (ReadFault role) = joined (codes "error 11 read " ∷ role_name role ∷ codes "\n" ∷ [])
 line_of (WriteFault role put) = joined (codes "error 12 write " ∷ role_name role ∷ codes " put " ∷ decimal put ∷ codes "\n" ∷ [])
 line_of NoMemory = joined (codes "error 13 memory\n" ∷ [])

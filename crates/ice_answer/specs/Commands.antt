@@ -10,6 +10,7 @@ use Rattle.ice_answer.specs.declared.cause.FileRole.TheVariants.{Standard}
 use Rattle.ice_answer.specs.Reading.{Files, IsReadFault, IsTooLong}
 use Rattle.ice_answer.specs.Refusals.{IsKnown}
 use Rattle.ice_answer.specs.Texts.{OfTexts}
+use Rattle.ice_words.specs.Grips.{Shut}
 
 -- where a command gives what it makes: on the standard output, or to the file of this role and name
 pub data Output : Type 0 where
@@ -23,18 +24,18 @@ pub record Command : Type 1 where
   -- The texts stand so that this is their answer, beside what the desk and the memory have to do with it: the refusal of what is
   -- wrong first, or that the work is done.
   pub Stands : List (List ℕ) → Cause → Type 0
-  -- what it makes of texts: a text, with the placement that it is about
-  pub Gives : List (List ℕ) → List ℕ → List TileAt → Type 0
+  -- what it makes of texts: a text, with the placement that it is about and the tallies of its routing
+  pub Gives : List (List ℕ) → List ℕ → List TileAt → List Shut → Type 0
   pub output : Output
 
-abbrev pub command_of : Files → (List (List ℕ) → Cause → Type 0) → (List (List ℕ) → List ℕ → List TileAt → Type 0) → Output → Command
+abbrev pub command_of : Files → (List (List ℕ) → Cause → Type 0) → (List (List ℕ) → List ℕ → List TileAt → List Shut → Type 0) → Output → Command
 command_of files Stands Gives output = record { files = files; Stands = Stands; Gives = Gives; output = output }
 
 -- ---- how texts stand, one look at them after another
 
 -- the work is done, or a fault of writing came in between
 abbrev pub IsDone : Cause → Type 0
-IsDone (Good placement) = Unit {0}
+IsDone (Good placement tallies) = Unit {0}
 IsDone (WriteFault role put) = Unit {0}
 IsDone cause = ⊥
 
@@ -56,7 +57,7 @@ stands_if IsSo IsOtherwise then cause = IsOtherwise cause ⊎ (IsSo × then caus
 
 -- texts that stand so are refused by this cause, or there was no memory
 abbrev pub IsRefusal : (Cause → Type 0) → Cause → Type 0
-IsRefusal Stands (Good placement) = ⊥
+IsRefusal Stands (Good placement tallies) = ⊥
 IsRefusal Stands (ReadFault role) = ⊥
 IsRefusal Stands (WriteFault role put) = ⊥
 IsRefusal Stands NoMemory = Unit {0}
@@ -65,7 +66,7 @@ IsRefusal Stands cause = Stands cause × IsKnown cause
 
 -- a refusal: neither was the work done, nor did its writing fail
 abbrev pub IsRefused : Cause → Type 0
-IsRefused (Good placement) = ⊥
+IsRefused (Good placement tallies) = ⊥
 IsRefused (WriteFault role put) = ⊥
 IsRefused cause = Unit {0}
 
@@ -108,30 +109,31 @@ abbrev pub IsCut : Output → List ℕ → Meaning → Meaning → FileRole → 
 IsCut Aloud text old new role put = IsSaidInPart text old new role put
 IsCut (InFile file_role name) text old new role put = IsWrittenInPart file_role name text old new role put
 
--- how the giving of a text with this placement ended
-abbrev pub IsPut : Output → List ℕ → List TileAt → Meaning → Meaning → Cause → Type 0
-IsPut output text made_on old new (Good placement) = (placement ≡ made_on) × IsGiven output text old new
-IsPut output text made_on old new (WriteFault role put) = IsCut output text old new role put
-IsPut output text made_on old new cause = ⊥
+-- how the giving of a text with this placement and these tallies ended
+abbrev pub IsPut : Output → List ℕ → List TileAt → List Shut → Meaning → Meaning → Cause → Type 0
+IsPut output text made_on counted old new (Good placement tallies) = (placement ≡ made_on) × (tallies.items ≡ counted) × IsGiven output text old new
+IsPut output text made_on counted old new (WriteFault role put) = IsCut output text old new role put
+IsPut output text made_on counted old new cause = ⊥
 
 -- ---- the answers
 
--- the work is done: what the texts give with this placement was given whole
-pub record IsGood (k : Command) (old new : Meaning) (placement : List TileAt) : Type 0 where
+-- the work is done: what the texts give with this placement and these tallies was given whole
+pub record IsGood (k : Command) (old new : Meaning) (placement : List TileAt) (tallies : List Shut) : Type 0 where
   pub text : List ℕ
-  pub texts : OfTexts k.files old (λ texts. k.Gives texts text placement)
+  pub texts : OfTexts k.files old (λ texts. k.Gives texts text placement tallies)
   pub given : IsGiven k.output text old new
 
 -- a write fault: the giving of what the texts give stopped
 pub record IsWriteFault (k : Command) (old new : Meaning) (role : FileRole) (put : ℕ) : Type 0 where
   pub text : List ℕ
   pub placement : List TileAt
-  pub texts : OfTexts k.files old (λ texts. k.Gives texts text placement)
+  pub tallies : List Shut
+  pub texts : OfTexts k.files old (λ texts. k.Gives texts text placement tallies)
   pub cut : IsCut k.output text old new role put
 
 -- what each cause says of a command, of its texts, and of the desk before and after
 abbrev pub IsTrueOf : Command → Meaning → Meaning → Cause → Type 0
-IsTrueOf k old new (Good placement) = IsGood k old new placement
+IsTrueOf k old new (Good placement tallies) = IsGood k old new placement tallies.items
 IsTrueOf k old new (ReadFault role) = IsReadFault k.files old new role
 IsTrueOf k old new (WriteFault role put) = IsWriteFault k old new role put
 IsTrueOf k old new NoMemory = new.makes ≡ old.makes

@@ -3,6 +3,7 @@ use Rattle.std.specs.Prelude.{◌≡◌, ℕ, ◌≤◌, true, List, Result, Ok,
 use Rattle.ice_base.specs.declared.number.TileAt.{TileAt}
 use Rattle.ice_desk.specs.Desk.{Meaning, SameButSaying, SameButWriting}
 use Rattle.ice_desk.specs.Said.{SaidRow}
+use Rattle.ice_words.specs.Grips.{Shut}
 use Rattle.ice_answer.specs.declared.cause.Cause.{Cause}
 use Rattle.ice_answer.specs.declared.cause.FileRole.{FileRole}
 use Rattle.ice_answer.specs.declared.giving.Made.{Made}
@@ -25,31 +26,31 @@ pub record IsRefusalSaid (refusal : Cause) (old new : Meaning) (cause : Cause) :
   pub is_cause : cause ≡ refusal
   pub line : IsLineSaid old new cause
 
--- a text with this placement was said
-pub record IsTextGiven (text : List ℕ) (placement : List TileAt) (old new : Meaning) (cause : Cause) : Type 0 where
+-- a text with this placement and these tallies was said
+pub record IsTextGiven (text : List ℕ) (placement : List TileAt) (tallies : List Shut) (old new : Meaning) (cause : Cause) : Type 0 where
   pub same : SameButSaying old new
-  pub put : IsPut Aloud text placement old new cause
+  pub put : IsPut Aloud text placement tallies old new cause
 
 -- it was written to the file of this role and name, and then the line of the cause was said
-pub record IsFileGiven (role : FileRole) (name text : List ℕ) (placement : List TileAt) (old new : Meaning) (cause : Cause) : Type 0 where
+pub record IsFileGiven (role : FileRole) (name text : List ℕ) (placement : List TileAt) (tallies : List Shut) (old new : Meaning) (cause : Cause) : Type 0 where
   pub written : Meaning
   pub same : SameButWriting name old written
-  pub put : IsPut (InFile role name) text placement old written cause
+  pub put : IsPut (InFile role name) text placement tallies old written cause
   pub line : IsLineSaid written new cause
 
 abbrev pub IsEndAloud : Result Made Cause → Meaning → Meaning → Cause → Type 0
-IsEndAloud (Ok made) old new cause = IsTextGiven made.text.items made.placement old new cause
+IsEndAloud (Ok made) old new cause = IsTextGiven made.text.items made.placement made.tallies.items old new cause
 IsEndAloud (Err refusal) old new cause = IsRefusalSaid refusal old new cause
 
 abbrev pub IsEndInFile : FileRole → List ℕ → Result Made Cause → Meaning → Meaning → Cause → Type 0
-IsEndInFile role name (Ok made) old new cause = IsFileGiven role name made.text.items made.placement old new cause
+IsEndInFile role name (Ok made) old new cause = IsFileGiven role name made.text.items made.placement made.tallies.items old new cause
 IsEndInFile role name (Err refusal) old new cause = IsRefusalSaid refusal old new cause
 
 -- ---- what it is to a command
 -- What came of the making, where the desk was seen as `old` before the files were read, and is seen as `new` after: what the texts give,
 -- or a refusal that is true of the command.
 abbrev pub IsMadeOf : Command → Meaning → Meaning → Result Made Cause → Type 0
-IsMadeOf k old new (Ok made) = OfTexts k.files old (λ texts. k.Gives texts made.text.items made.placement)
+IsMadeOf k old new (Ok made) = OfTexts k.files old (λ texts. k.Gives texts made.text.items made.placement made.tallies.items)
 IsMadeOf k old new (Err refusal) = IsRefused refusal × IsTrueOf k old new refusal
 
 -- no text was too long, or that is the refusal

@@ -1,8 +1,10 @@
 -- When each answer of a command comes: only where its cause is true, and always there, unless the desk or the memory fails.
 use Rattle.std.specs.Prelude.{◌≡◌, ◌≢◌, ◌⊎◌, ◌↔◌, ℕ, ◌<◌, true, Some, List, ◌++◌}
+use Rattle.std.specs.Global.{Vec}
 use Rattle.ice_base.specs.declared.number.TileAt.{TileAt}
 use Rattle.ice_desk.specs.Desk.{Meaning, after_one}
 use Rattle.ice_desk.specs.Said.{SaidRow}
+use Rattle.ice_words.specs.Grips.{Shut}
 use Rattle.ice_answer.specs.declared.cause.Cause.{Cause}
 use Rattle.ice_answer.specs.declared.cause.Cause.TheVariants.{Good, ReadFault, WriteFault, TooLong}
 use Rattle.ice_answer.specs.declared.cause.FileRole.{FileRole}
@@ -20,25 +22,26 @@ pub record ComesExactly (k : Command) (old : Meaning) (IsSuch : Cause → Type 0
 
 -- status 0, or 12 where a fault of writing comes in between: exactly where the texts give something
 abbrev pub DoneRow : Command → Meaning → Cause → Type 0
-DoneRow k old cause = ComesExactly k old IsDone (λ texts. (text : List ℕ) × (placement : List TileAt) × k.Gives texts text placement) cause
+DoneRow k old cause = ComesExactly k old IsDone (λ texts. (text : List ℕ) × (placement : List TileAt) × (tallies : List Shut) × k.Gives texts text placement tallies) cause
 
 -- what was made stands where it was to be given
 abbrev pub IsThere : Output → List ℕ → Meaning → Meaning → Type 0
 IsThere Aloud text old new = new.said ≡ old.said ++ text
 IsThere (InFile role name) text old new = new.files name ≡ Some text
 
--- what the texts of the files give with this placement stands where it was to be given
-pub record IsHeld (k : Command) (old new : Meaning) (placement : List TileAt) : Type 0 where
+-- what the texts of the files give with this placement and these tallies stands where it was to be given
+pub record IsHeld (k : Command) (old new : Meaning) (placement : List TileAt) (tallies : List Shut) : Type 0 where
   pub texts : List (List ℕ)
   pub text : List ℕ
   pub hold : HoldsTexts k.files old texts
-  pub gives : k.Gives texts text placement
+  pub gives : k.Gives texts text placement tallies
   pub there : IsThere k.output text old new
 
--- status 0: the work is done; and where the desk tells its contents, what was given is what the texts give with the placement that is told
+-- status 0: the work is done; and where the desk tells its contents, what was given is what the texts give with the placement and
+-- the tallies that are told
 pub record GoodRow (k : Command) (old new : Meaning) (cause : Cause) (status : ℕ) : Type 0 where
-  pub done : status ≡ 0 → (placement : List TileAt) × (cause ≡ Good placement)
-  pub held : (placement : List TileAt) → cause ≡ Good placement → old.tells ≡ true → IsHeld k old new placement
+  pub done : status ≡ 0 → (placement : List TileAt) × (tallies : Vec Shut) × (cause ≡ Good placement tallies)
+  pub held : (placement : List TileAt) (tallies : Vec Shut) → cause ≡ Good placement tallies → old.tells ≡ true → IsHeld k old new placement tallies.items
 
 -- status 11: only where the count of read faults rose in this call
 abbrev pub ReadFaultRow : Command → Meaning → Meaning → Cause → Type 0
@@ -60,7 +63,7 @@ pub record TooLongRow (k : Command) (old new : Meaning) (cause : Cause) : Type 0
 -- What was said, beside what a command says that speaks: the whole line of a refusal, or a front of it where a say failed. After a
 -- failed say of what was made nothing more was said.
 abbrev pub SaidBy : Output → Meaning → Meaning → Cause → Type 0
-SaidBy Aloud old new (Good placement) = Unit {0}
+SaidBy Aloud old new (Good placement tallies) = Unit {0}
 SaidBy Aloud old new (WriteFault role put) = Unit {0}
 SaidBy Aloud old new cause = SaidRow old new (line_of cause)
 SaidBy (InFile role name) old new cause = SaidRow old new (line_of cause)
@@ -75,7 +78,7 @@ KeptRow (InFile role name) old new cause =
 -- how many files were made, over every desk: one where a command that writes came to its writing, and else none
 abbrev pub MadeRow : Output → Meaning → Meaning → Cause → Type 0
 MadeRow Aloud old new cause = new.makes ≡ old.makes
-MadeRow (InFile role name) old new (Good placement) = new.makes ≡ after_one old.makes
+MadeRow (InFile role name) old new (Good placement tallies) = new.makes ≡ after_one old.makes
 MadeRow (InFile role name) old new (WriteFault of_role put) = new.makes ≡ after_one old.makes
 MadeRow (InFile role name) old new cause = new.makes ≡ old.makes
 

@@ -1,6 +1,6 @@
 //! The answers of the program, each with its cause.
 
-ghost use Rattle.std.specs.Prelude.{◌≡◌};
+ghost use Rattle.std.specs.Prelude.{◌≡◌, []};
 ghost use Rattle.ice_answer.specs.Causes.{no_places};
 
 use ice_asc::AscFault;
@@ -13,6 +13,7 @@ use ice_decode::DecodeFault;
 use ice_pads::PinFault;
 use ice_pcf::PcfFault;
 use ice_place::{PlaceFault, Placement};
+use ice_words::Tally;
 use std::alloc::Global;
 
 /// What a file is to the command.
@@ -40,9 +41,10 @@ pub enum FileRole {
 #[derive(Drop)]
 pub enum Cause {
     /// 0: the work is done and every file is written; with the placement of what was built, which has no cluster where nothing is
-    /// placed.
+    /// placed, and the tally of each of its rounds of routing.
     Good {
         placement: Placement,
+        tallies: Vec<Tally>,
     },
     /// 2: the words are no command.
     Usage,
@@ -64,10 +66,11 @@ pub enum Cause {
         net: NetNo,
         sink: WireNo,
     },
-    /// 10: on this placement each permitted round ends with an overused wire; with the log of each.
+    /// 10: on this placement each permitted round ends with an overused wire; with the log and the tally of each.
     GaveUp {
         placement: Placement,
         logs: Vec<RoundLog>,
+        tallies: Vec<Tally>,
     },
     /// 11: the desk counted a fault of reading.
     ReadFault {
@@ -109,4 +112,11 @@ pub fn no_placement(alloc: Global) -> Placement
     ensures { result ≡ no_places }
 {
     Placement::from_vec(Vec::new(alloc))
+}
+
+/// The tallies of no round. It takes no memory.
+pub fn no_tallies(alloc: Global) -> Vec<Tally>
+    ensures { result.items ≡ [] }
+{
+    Vec::new(alloc)
 }

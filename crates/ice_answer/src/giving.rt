@@ -9,6 +9,7 @@ use crate::cause::{Cause, Done, FileRole};
 use crate::end::{done, finish};
 use ice_desk::{Desk, WriteStop, say_text, write_whole};
 use ice_place::Placement;
+use ice_words::Tally;
 
 /// What a command made of its texts.
 #[derive(Drop)]
@@ -17,16 +18,19 @@ pub struct Made {
     pub text: Vec<u8>,
     /// The placement of what was built; it has no cluster where nothing is placed.
     pub placement: Placement,
+    /// The tallies of its rounds in order; there are none where nothing is routed.
+    pub tallies: Vec<Tally>,
 }
 
 // Says what was made, whole or up to a say that failed. Each memory was taken before.
 fn put_aloud<D: Desk>(desk: &mut D, made: Made) -> Cause
     ensures same { SameButSaying (D.seen desk.old) (D.seen desk.new) }
-    ensures put { IsPut Aloud made.text.items made.placement (D.seen desk.old) (D.seen desk.new) result }
+    ensures put { IsPut Aloud made.text.items made.placement made.tallies.items (D.seen desk.old) (D.seen desk.new) result }
 {
     match say_text(desk, &made.text) {
         Ok(()) => Cause::Good {
             placement: made.placement,
+            tallies: made.tallies,
         },
         Err(put) => Cause::WriteFault {
             role: FileRole::Standard,
@@ -51,11 +55,12 @@ pub fn end_aloud<D: Desk>(desk: &mut D, made: Result<Made, Cause>) -> Done
 fn put_in_file<D: Desk>(desk: &mut D, role: FileRole, name: &str, made: Made) -> Cause
     requires { D.may_write desk.old name.now }
     ensures same { SameButWriting name.now (D.seen desk.old) (D.seen desk.new) }
-    ensures put { IsPut (InFile role name.now) made.text.items made.placement (D.seen desk.old) (D.seen desk.new) result }
+    ensures put { IsPut (InFile role name.now) made.text.items made.placement made.tallies.items (D.seen desk.old) (D.seen desk.new) result }
 {
     match write_whole(desk, name, &made.text) {
         Ok(()) => Cause::Good {
             placement: made.placement,
+            tallies: made.tallies,
         },
         Err(WriteStop::Failed { put }) => Cause::WriteFault { role, put },
     }

@@ -12,7 +12,7 @@ mod reading;
 mod refusal;
 mod say;
 
-pub use cause::{Cause, Done, FileRole, no_placement};
+pub use cause::{Cause, Done, FileRole, no_placement, no_tallies};
 pub use end::{done, finish};
 pub use files::{InputFile, Texts, read_texts};
 pub use giving::{Made, end_aloud, end_in_file};

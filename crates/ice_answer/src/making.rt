@@ -2,6 +2,7 @@
 ghost use Rattle.std.specs.Prelude.{◌≡◌, ◌<◌, ℕ, List, length, true, IfOk, IfErr};
 ghost use Rattle.ice_base.specs.declared.number.TileAt.{TileAt};
 ghost use Rattle.ice_desk.specs.Desk.{SameButReading, SameTest};
+ghost use Rattle.ice_words.specs.Grips.{Shut};
 ghost use Rattle.ice_answer.specs.declared.cause.Cause.{Cause};
 ghost use Rattle.ice_answer.specs.Causes.{status_of};
 ghost use Rattle.ice_answer.specs.Reading.{TellsLong};
@@ -21,12 +22,12 @@ pub trait Making {
     /// How texts stand, by the answer that they have.
     ghost stands: { Self → List (List ℕ) → Cause → Type 0 };
 
-    /// What is made of texts: a text, with the placement that it is about.
-    ghost gives: { Self → List (List ℕ) → List ℕ → List TileAt → Type 0 };
+    /// What is made of texts: a text, with the placement that it is about and the tallies of its routing.
+    ghost gives: { Self → List (List ℕ) → List ℕ → List TileAt → List Shut → Type 0 };
 
     /// What is made of the texts, or why nothing is made.
     fn make(&self, alloc: Global, texts: &Texts) -> Result<Made, Cause>
-        ensures given { IfOk result (λ made. gives self.now texts.now made.text.items made.placement) }
+        ensures given { IfOk result (λ made. gives self.now texts.now made.text.items made.placement made.tallies.items) }
         ensures refused { IfErr result (λ cause. IsRefusal (stands self.now texts.now) cause) };
 }
 

@@ -1,9 +1,8 @@
-mod RootLevels
-mod CellRoles
-mod Ranks
-mod Inputs
-mod Standing
-mod Levels
-mod Steps
-mod Loopless
-mod Driving
+mod Turned
+mod Rooms
+mod FirstPins
+mod Filled
+mod SiteFacts
+mod Ports
+mod PadCells
+mod Named

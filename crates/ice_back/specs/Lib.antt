@@ -1,4 +1,4 @@
-pub mod Roots
-pub mod Numbers
-pub mod Back
-pub mod Law
+pub mod Filling
+pub mod Sites
+pub mod Adding
+pub mod Naming

@@ -1,9 +1,13 @@
-//! The netlist of a configured chip: its definition and its laws. The program that makes it comes next.
+//! The netlist of a configured chip: a port and an SB_IO for each pad of a package, and the look-up tables, carries and flip-flops that
+//! the bits make.
 #![tactic(auto)]
 
-mod laws;
+mod cells;
+mod filling;
+mod logic;
+mod making;
+mod names;
+mod roots;
+mod site;
 
-pub use laws::{
-    netlist_has_no_loop, netlist_is_connected, netlist_shows_what_bits_show,
-    points_have_their_roots_levels,
-};
+pub use making::back;

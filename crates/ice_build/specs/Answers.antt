@@ -24,6 +24,7 @@ use Rattle.ice_place.specs.declared.fault.PlaceFault.{PlaceFault}
 use Rattle.ice_plan.specs.Plan.{Plan}
 use Rattle.ice_realised.specs.Feeds.{FeedsNoGlobal}
 use Rattle.ice_sites.specs.Stretches.{stretches_of}
+use Rattle.ice_words.specs.Grips.{Shut}
 use Rattle.ice_written.specs.Routed.{AreTrees}
 use Rattle.ice_written.specs.Written.{IsWritten}
 use Rattle.ice_routed_trees.specs.Routing.{IsFabric, AreNetsOf}
@@ -46,8 +47,8 @@ abbrev pub IsStuck : Parts → Plan → NetNo → WireNo → Type 0
 IsStuck parts plan net sink = (graph : Network) × (nets : List Net) × IsRouting parts plan graph nets × IsUnreachable graph nets net sink
 
 -- each permitted round ends with an overused wire
-abbrev pub IsGivenUp : Parts → Plan → ℕ → List RoundLog → Type 0
-IsGivenUp parts plan rounds logs = (graph : Network) × (nets : List Net) × IsRouting parts plan graph nets × AllEndOverused graph nets rounds logs
+abbrev pub IsGivenUp : Parts → Plan → ℕ → List RoundLog → List Shut → Type 0
+IsGivenUp parts plan rounds logs tallies = (graph : Network) × (nets : List Net) × IsRouting parts plan graph nets × AllEndOverused graph nets rounds logs tallies
 
 abbrev pub routes_in : Routed → List Route
 routes_in routed = map route_of routed.trees.items
@@ -81,7 +82,7 @@ abbrev pub IsFault : Task → ℕ → BuildFault → Type 0
 IsFault task rounds (Pins fault) = pins_said task ≡ Err fault
 IsFault task rounds (Places fault) = (pads : PadsData) × (pins_said task ≡ Ok pads) × (places_said task ≡ Err fault)
 IsFault task rounds (Unreachable layout net sink) = IsLaidOut task layout × IsStuck task.parts (plan_in layout) net sink
-IsFault task rounds (GaveUp layout logs) = IsLaidOut task layout × IsGivenUp task.parts (plan_in layout) rounds logs.items
+IsFault task rounds (GaveUp layout logs tallies) = IsLaidOut task layout × IsGivenUp task.parts (plan_in layout) rounds logs.items tallies.items
 IsFault task rounds (Bits fault) = (built : Built) × IsBuilt task rounds built × IsUndecoded task.parts built.bits fault
 IsFault task rounds NoMemory = Unit {0}
 
@@ -96,7 +97,7 @@ IsTried (Ok built) = Unit {0}
 IsTried (Err (Pins fault)) = ⊥
 IsTried (Err (Places fault)) = ⊥
 IsTried (Err (Unreachable layout net sink)) = Unit {0}
-IsTried (Err (GaveUp layout logs)) = Unit {0}
+IsTried (Err (GaveUp layout logs tallies)) = Unit {0}
 IsTried (Err (Bits fault)) = Unit {0}
 IsTried (Err NoMemory) = Unit {0}
 

@@ -32,7 +32,7 @@ abbrev pub IsPlaceFault : Parts → Clusters → Design → BuildFault → Type 
 IsPlaceFault parts clusters d (Pins fault) = ⊥
 IsPlaceFault parts clusters d (Places fault) = place_of (stretches_of parts) clusters d ≡ Err fault
 IsPlaceFault parts clusters d (Unreachable layout net sink) = ⊥
-IsPlaceFault parts clusters d (GaveUp layout logs) = ⊥
+IsPlaceFault parts clusters d (GaveUp layout logs tallies) = ⊥
 IsPlaceFault parts clusters d (Bits fault) = ⊥
 IsPlaceFault parts clusters d NoMemory = Unit {0}
 
@@ -41,20 +41,20 @@ abbrev pub IsLayFault : Task → BuildFault → Type 0
 IsLayFault task (Pins fault) = pins_said task ≡ Err fault
 IsLayFault task (Places fault) = (pads : PadsData) × (pins_said task ≡ Ok pads) × (places_said task ≡ Err fault)
 IsLayFault task (Unreachable layout net sink) = ⊥
-IsLayFault task (GaveUp layout logs) = ⊥
+IsLayFault task (GaveUp layout logs tallies) = ⊥
 IsLayFault task (Bits fault) = ⊥
 IsLayFault task NoMemory = Unit {0}
 
 -- why the nets of a placed design are not routed
 abbrev pub IsRouteFault : Parts → Plan → ℕ → RouteFault → Type 0
 IsRouteFault parts plan rounds (route.Unreachable net sink) = IsStuck parts plan net sink
-IsRouteFault parts plan rounds (route.GaveUp logs) = IsGivenUp parts plan rounds logs.items
+IsRouteFault parts plan rounds (route.GaveUp logs tallies) = IsGivenUp parts plan rounds logs.items tallies.items
 IsRouteFault parts plan rounds route.NoMemory = Unit {0}
 
 -- the same of building, with the placed design
 abbrev pub unrouted : Layout → RouteFault → BuildFault
 unrouted layout (route.Unreachable net sink) = Unreachable layout net sink
-unrouted layout (route.GaveUp logs) = GaveUp layout logs
+unrouted layout (route.GaveUp logs tallies) = GaveUp layout logs tallies
 unrouted layout route.NoMemory = NoMemory
 
 -- a placed design is routed, and its bits are written
@@ -73,6 +73,6 @@ abbrev pub IsBitsFault : Parts → Configuration → BuildFault → Type 0
 IsBitsFault parts k (Pins fault) = ⊥
 IsBitsFault parts k (Places fault) = ⊥
 IsBitsFault parts k (Unreachable layout net sink) = ⊥
-IsBitsFault parts k (GaveUp layout logs) = ⊥
+IsBitsFault parts k (GaveUp layout logs tallies) = ⊥
 IsBitsFault parts k (Bits fault) = IsUndecoded parts k fault
 IsBitsFault parts k NoMemory = Unit {0}

@@ -12,6 +12,7 @@ use ice_decode::DecodeFault;
 use ice_negotiate::Routed;
 use ice_pads::{Pads, PinFault};
 use ice_place::{PlaceFault, Placement};
+use ice_words::Tally;
 use std::fmt;
 use thiserror::Error;
 
@@ -82,6 +83,8 @@ pub enum BuildFault {
         layout: Layout,
         /// The logs of the rounds in order.
         logs: Vec<RoundLog>,
+        /// The tallies of the rounds in order.
+        tallies: Vec<Tally>,
     },
     /// The bits that would be written have no circuit, since globals of the chip feed each other; never for want of memory.
     #[error("no circuit: {0}")]

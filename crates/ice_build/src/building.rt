@@ -15,11 +15,12 @@ use ice_chip::Chip;
 use ice_desk::Gate;
 use ice_pcf::Pcf;
 use std::alloc::Global;
+use std::thread::Threads;
 
 /// Builds a netlist on a chip, in the package of that name: the bits, with the placed design and its trees. The netlist is packed, the
 /// runs of its carries are made, its cells are put into clusters, its ports get pads, its clusters get places, first by first fit and
 /// then improved from a seed; its nets are routed over the usable rows of the chip in at most so many rounds, from 1 to 64, by 1 to 8
-/// workers, on whom nothing depends; and the bits of all that are set, and no others.
+/// workers, each in a thread, on whom nothing depends; and the bits of all that are set, and no others.
 ///
 /// The bits are a circuit without a fault, which for every list of levels shows at the ports' pads, step by step, what the netlist
 /// shows, and drives no other pad. On a chip on which a global is fed by a global the decoder is asked for it.
@@ -29,7 +30,8 @@ use std::alloc::Global;
 /// the first sink to which no walk leads, and permitted rounds that all end with an overused wire, each with the placed design of
 /// which it is true; the decoder's fault of the bits, only where a global of the chip is fed by a global. Want of memory may come at
 /// any time; more than 65,536 nets count as such.
-pub fn build<G: Gate + Sync>(
+pub fn build<G: Gate + Sync, R: Threads + Sync>(
+    rt: &R,
     alloc: Global,
     chip: &Chip,
     name: &[u8],
@@ -47,7 +49,7 @@ pub fn build<G: Gate + Sync>(
     layouts_stand_on_their_chip(chip, sound);
     realised_layouts_show_their_netlist(sound);
     let layout = lay_out(alloc, chip, name, pcf, sound, effort.seed)?;
-    let built = finish(alloc, chip, layout, effort, gate)?;
+    let built = finish(rt, alloc, chip, layout, effort, gate)?;
     check_loops(alloc, chip, &built.bits)?;
     Ok(built)
 }

@@ -17,17 +17,20 @@ use ice_chip::Chip;
 use ice_desk::Gate;
 use ice_emit::emit;
 use ice_fabric::fabric;
-use ice_negotiate::{RouteFault, Routed, negotiate};
+use ice_negotiate::{RouteFault, Routed};
 use ice_nets::nets_of;
+use ice_rounds::negotiate;
 use ice_routable::laws::placed_nets_are_routable;
 use ice_routed_trees::laws::routed_nets_are_trees;
 use std::alloc::Global;
+use std::thread::Threads;
 
 // As many nets can be counted on a wire.
 const MOST_NETS: usize = 65_536;
 
 // The trees of the nets of a placed design. More nets than are counted are want of memory.
-fn route<G: Gate + Sync>(
+fn route<G: Gate + Sync, R: Threads + Sync>(
+    rt: &R,
     alloc: Global,
     chip: &Chip,
     layout: &Layout,
@@ -56,6 +59,7 @@ fn route<G: Gate + Sync>(
     }
     let graph = fabric(alloc, chip)?;
     negotiate(
+        rt,
         alloc,
         &graph,
         nets.as_slice(),
@@ -71,7 +75,11 @@ fn unrouted(layout: Layout, fault: RouteFault) -> BuildFault
 {
     match fault {
         RouteFault::Unreachable { net, sink } => BuildFault::Unreachable { layout, net, sink },
-        RouteFault::GaveUp { logs } => BuildFault::GaveUp { layout, logs },
+        RouteFault::GaveUp { logs, tallies } => BuildFault::GaveUp {
+            layout,
+            logs,
+            tallies,
+        },
         RouteFault::NoMemory => BuildFault::NoMemory,
     }
 }
@@ -106,7 +114,8 @@ fn write(alloc: Global, chip: &Chip, layout: Layout, routed: Routed) -> Result<B
 ///
 /// # Errors
 /// A sink that can't be reached, or permitted rounds that all end with an overused wire, with the placed design; want of memory.
-pub fn finish<G: Gate + Sync>(
+pub fn finish<G: Gate + Sync, R: Threads + Sync>(
+    rt: &R,
     alloc: Global,
     chip: &Chip,
     layout: Layout,
@@ -120,7 +129,7 @@ pub fn finish<G: Gate + Sync>(
     ensures realised { IfOk result (λ built. HasNoLoop chip.now (bits_of built.bits) → Realises chip.now (plan_in layout) (wanted_rows chip.now (plan_in layout) (routes_in built.routed)) (bits_of built.bits)) }
     ensures fault { IfErr result (IsEndFault chip.now effort.rounds layout) }
 {
-    match route(alloc, chip, &layout, effort, gate) {
+    match route(rt, alloc, chip, &layout, effort, gate) {
         Err(fault) => Err(unrouted(layout, fault)),
         Ok(routed) => {
             let built = write(alloc, chip, layout, routed)?;

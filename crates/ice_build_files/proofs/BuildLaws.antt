@@ -17,6 +17,7 @@ use Rattle.ice_chip_read.specs.Whole.{chip_says}
 use Rattle.ice_core.specs.declared.log.RoundLog.{RoundLog}
 use Rattle.ice_pcf.specs.Grammar.{text_says}
 use Rattle.ice_pcf.specs.declared.constraint.Constraint.{Constraint}
+use Rattle.ice_words.specs.Grips.{Shut}
 use Rattle.ice_build.specs.Answers.{pins_said, places_said}
 use Rattle.ice_build.specs.Laid.{Task, IsLaidOut}
 use Rattle.ice_build.specs.declared.answer.Layout.{Layout}
@@ -42,18 +43,18 @@ use Rattle.ice_cells.specs.Runs.{design_of}
 use Rattle.ice_pads.specs.Assign.{assign_of}
 use Rattle.ice_build_files.specs.Command.{build_files}
 use Rattle.ice_build_files.specs.Headline.{IsShown}
-use Rattle.ice_build_files.specs.Made.{IsMade, IsBuiltOn, IsStuckOn, IsGivenUpOn, HasBadBits}
+use Rattle.ice_build_files.specs.Made.{IsMade, IsBuiltOn, IsTalliedOn, IsStuckOn, IsGivenUpOn, HasBadBits}
 use Rattle.ice_build_files.specs.Standing.{IsEnd, PlacesStand, NetStands, BlifStands, PcfStands, Stands}
 use Rattle.ice_build_files.proofs.Excluding.{built_not_stuck, built_not_given_up, given_up_not_stuck_on, stuck_on_one}
 use Rattle.ice_build_files.proofs.Standing.{pcf_stands, blif_stands, net_stands, task_stands, places_stand, end_stands, end_so, one_task}
 use Rattle.ice_build_files.proofs.Telling.{of_end, of_tried, of_about, Told, told}
 
 done_end : (task : Task) (rounds : ℕ) (cause : Cause) → IsDone cause → IsEnd task rounds cause
-done_end task rounds cause done = of_done (IsEnd task rounds) (λ placement. tt) (λ role put. tt) cause done
+done_end task rounds cause done = of_done (IsEnd task rounds) (λ placement tallies. tt) (λ role put. tt) cause done
 
 pub lawful : (b : Build) → Lawful (build_files b)
 lawful b = record {
-  done = λ t text on cause g done.
+  done = λ t text on counted cause g done.
       let layout = g.built.layout in
       let laid = g.is_built.laid in
       end_so b.package_name b.effort.rounds t g.task layout.pads laid.placed.first cause g.is_asked (pins_good g.task layout laid) (places_good g.task layout laid) (done_end g.task b.effort.rounds cause done);
@@ -135,21 +136,21 @@ laid_placeable task layout laid = (layout.pads, laid.placed.first, pins_good tas
 asks_weaker : (name : List ℕ) (P Q : Task → Type 0) (t : List (List ℕ)) → ((task : Task) → P task → Q task) → Asks name P t → Asks name Q t
 asks_weaker name P Q t weaker h = record { task = h.task; is_asked = h.is_asked; is_so = weaker h.task h.is_so }
 
-made_placeable : (b : Build) (t : List (List ℕ)) (text : List ℕ) (on : List TileAt) → IsMade b t text on → Asks b.package_name IsPlaceable t
-made_placeable b t text on g = record { task = g.task; is_asked = g.is_asked; is_so = laid_placeable g.task g.built.layout g.is_built.laid }
+made_placeable : (b : Build) (t : List (List ℕ)) (text : List ℕ) (on : List TileAt) (counted : List Shut) → IsMade b t text on counted → Asks b.package_name IsPlaceable t
+made_placeable b t text on counted g = record { task = g.task; is_asked = g.is_asked; is_so = laid_placeable g.task g.built.layout g.is_built.laid }
 
 end_tried : (task : Task) (rounds : ℕ) (cause : Cause) → IsEnd task rounds cause → IsTried cause
-end_tried task rounds cause is = of_end IsTried task rounds (λ placement. tt) (λ role put. tt) (λ placement net sink stuck. tt) (λ placement logs given. tt) (λ fault bits. tt) cause is
+end_tried task rounds cause is = of_end IsTried task rounds (λ placement tallies. tt) (λ role put. tt) (λ placement net sink stuck. tt) (λ placement logs tallies given. tt) (λ fault bits. tt) cause is
 
 tried_only : (b : Build) (old new : Meaning) (cause : Cause) → IsTrueOf (build_files b) old new cause → IsTried cause → OfTexts (files_of b) old (Asks b.package_name IsPlaceable)
 tried_only b old new cause is tried =
     of_tried (λ c. IsTrueOf (build_files b) old new c → OfTexts (files_of b) old (Asks b.package_name IsPlaceable))
-    (λ placement i. of_weaker (files_of b) old (λ t. IsMade b t i.text placement) (Asks b.package_name IsPlaceable) (λ t g. made_placeable b t i.text placement g) i.texts)
-    (λ role put i. of_weaker (files_of b) old (λ t. IsMade b t i.text i.placement) (Asks b.package_name IsPlaceable) (λ t g. made_placeable b t i.text i.placement g) i.texts)
+    (λ placement tallies i. of_weaker (files_of b) old (λ t. IsMade b t i.text placement tallies.items) (Asks b.package_name IsPlaceable) (λ t g. made_placeable b t i.text placement tallies.items g) i.texts)
+    (λ role put i. of_weaker (files_of b) old (λ t. IsMade b t i.text i.placement i.tallies) (Asks b.package_name IsPlaceable) (λ t g. made_placeable b t i.text i.placement i.tallies g) i.texts)
     (λ placement net sink i. told_of b old new (Unreachable placement net sink) (Unreachable placement net sink) (Asks b.package_name IsPlaceable) i refl (λ j. j.0)
     (λ t h. asks_weaker b.package_name (λ task. IsStuckOn task placement net sink) IsPlaceable t (λ task stuck. laid_placeable task stuck.0 stuck.1) h))
-    (λ placement logs i. told_of b old new (GaveUp placement logs) (GaveUp placement logs) (Asks b.package_name IsPlaceable) i refl (λ j. j.0)
-    (λ t h. asks_weaker b.package_name (λ task. IsGivenUpOn task b.effort.rounds placement logs.items) IsPlaceable t (λ task given. laid_placeable task given.0 given.1) h))
+    (λ placement logs tallies i. told_of b old new (GaveUp placement logs tallies) (GaveUp placement logs tallies) (Asks b.package_name IsPlaceable) i refl (λ j. j.0)
+    (λ t h. asks_weaker b.package_name (λ task. IsGivenUpOn task b.effort.rounds placement logs.items tallies.items) IsPlaceable t (λ task given. laid_placeable task given.0 given.1) h))
     (λ fault i. told_of b old new (BadBits fault) (BadBits fault) (Asks b.package_name IsPlaceable) i refl (λ j. j.0)
     (λ t h. asks_weaker b.package_name (λ task. HasBadBits task b.effort.rounds fault) IsPlaceable t (λ task bits. laid_placeable task bits.0.layout bits.1.laid) h))
     cause tried is
@@ -161,10 +162,10 @@ tried_row b old new cause is =
 
 -- ---- the placement that is told
 -- what the answer says of the task that the files hold
-held_built : (b : Build) (old new : Meaning) (placement : List TileAt) (t : List (List ℕ)) (task : Task) → HoldsTexts (files_of b) old t → IsAsked b.package_name t task
-    → IsTrueOf (build_files b) old new (Good placement) → IsBuiltOn task b.effort.rounds placement
-held_built b old new placement t task holds asked is =
-    let g = at_files (files_of b) old (λ texts. IsMade b texts is.text placement) t holds is.texts in
+held_built : (b : Build) (old new : Meaning) (placement : List TileAt) (tallies : Vec Shut) (t : List (List ℕ)) (task : Task) → HoldsTexts (files_of b) old t
+    → IsAsked b.package_name t task → IsTrueOf (build_files b) old new (Good placement tallies) → IsBuiltOn task b.effort.rounds placement
+held_built b old new placement tallies t task holds asked is =
+    let g = at_files (files_of b) old (λ texts. IsMade b texts is.text placement tallies.items) t holds is.texts in
     subst (λ (x : Task). IsBuiltOn x b.effort.rounds placement) (one_task b.package_name t g.task task g.is_asked asked) (g.built, g.is_built, sym g.is_placement)
 
 held_stuck : (b : Build) (old new : Meaning) (placement : List TileAt) (net : NetNo) (sink : WireNo) (t : List (List ℕ)) (task : Task) → HoldsTexts (files_of b) old t
@@ -173,39 +174,51 @@ held_stuck b old new placement net sink t task holds asked is =
     let h = told b.package_name b.effort.rounds t (Unreachable placement net sink) (at_files (files_of b) old (λ texts. Stands b.package_name b.effort.rounds texts (Unreachable placement net sink)) t holds is.0) in
     subst (λ (x : Task). IsStuckOn x placement net sink) (one_task b.package_name t h.task task h.is_asked asked) h.is_so
 
-held_given_up : (b : Build) (old new : Meaning) (placement : List TileAt) (logs : Vec RoundLog) (t : List (List ℕ)) (task : Task) → HoldsTexts (files_of b) old t
-    → IsAsked b.package_name t task → IsTrueOf (build_files b) old new (GaveUp placement logs) → IsGivenUpOn task b.effort.rounds placement logs.items
-held_given_up b old new placement logs t task holds asked is =
-    let h = told b.package_name b.effort.rounds t (GaveUp placement logs) (at_files (files_of b) old (λ texts. Stands b.package_name b.effort.rounds texts (GaveUp placement logs)) t holds is.0) in
-    subst (λ (x : Task). IsGivenUpOn x b.effort.rounds placement logs.items) (one_task b.package_name t h.task task h.is_asked asked) h.is_so
+held_given_up : (b : Build) (old new : Meaning) (placement : List TileAt) (logs : Vec RoundLog) (tallies : Vec Shut) (t : List (List ℕ)) (task : Task) → HoldsTexts (files_of b) old t
+    → IsAsked b.package_name t task → IsTrueOf (build_files b) old new (GaveUp placement logs tallies) → IsGivenUpOn task b.effort.rounds placement logs.items tallies.items
+held_given_up b old new placement logs tallies t task holds asked is =
+    let h = told b.package_name b.effort.rounds t (GaveUp placement logs tallies) (at_files (files_of b) old (λ texts. Stands b.package_name b.effort.rounds texts (GaveUp placement logs tallies)) t holds is.0) in
+    subst (λ (x : Task). IsGivenUpOn x b.effort.rounds placement logs.items tallies.items) (one_task b.package_name t h.task task h.is_asked asked) h.is_so
+
+tallied_at : (b : Build) (old new : Meaning) (cause : Cause) (placement : List TileAt) (tallies : Vec Shut) → IsTrueOf (build_files b) old new cause → cause ≡ Good placement tallies
+    → OfTexts (files_of b) old (Asks b.package_name (λ task. IsTalliedOn task b.effort.rounds placement tallies.items))
+tallied_at b old new cause placement tallies is e =
+    let i = subst (λ (x : Cause). IsTrueOf (build_files b) old new x) e is in
+    of_weaker (files_of b) old (λ t. IsMade b t i.text placement tallies.items) (Asks b.package_name (λ task. IsTalliedOn task b.effort.rounds placement tallies.items))
+    (λ t g. record { task = g.task; is_asked = g.is_asked; is_so = (g.built, g.is_built, sym g.is_placement, sym g.are_tallies) }) i.texts
 
 built_row : (b : Build) (old new : Meaning) (cause : Cause) → IsTrueOf (build_files b) old new cause → BuiltRow b old cause
 built_row b old new cause is = record {
-  only = λ placement about good. only placement good.0 good.1 (about_good placement good.0 good.1 about);
-  always = λ placement t about holds h.
-      of_about (λ c. IsTrueOf (build_files b) old new c → IsGood c) placement (λ i. (placement, refl))
-      (λ net sink i. absurd (built_not_stuck h.task b.effort.rounds placement net sink h.is_so (held_stuck b old new placement net sink t h.task holds h.is_asked i)))
-      (λ logs i. absurd (built_not_given_up h.task b.effort.rounds placement logs.items h.is_so (held_given_up b old new placement logs t h.task holds h.is_asked i)))
-      cause about is;
+  comes = record {
+    only = λ placement about good. only placement good.0 good.1 good.2 (about_good placement good.0 good.1 good.2 about);
+    always = λ placement t about holds h.
+        of_about (λ c. IsTrueOf (build_files b) old new c → IsGood c) placement (λ tallies i. (placement, tallies, refl))
+        (λ net sink i. absurd (built_not_stuck h.task b.effort.rounds placement net sink h.is_so (held_stuck b old new placement net sink t h.task holds h.is_asked i)))
+        (λ logs tallies i. absurd (built_not_given_up h.task b.effort.rounds placement logs.items tallies.items h.is_so (held_given_up b old new placement logs tallies t h.task holds h.is_asked i)))
+        cause about is;
+  };
+  tallies_are = λ placement tallies e. tallied_at b old new cause placement tallies is e;
 }
   where
-    about_good : (placement on : List TileAt) → cause ≡ Good on → IsAbout placement cause → on ≡ placement
-    about_good placement on e about = subst (IsAbout placement) e about
+    about_good : (placement on : List TileAt) (tallies : Vec Shut) → cause ≡ Good on tallies → IsAbout placement cause → on ≡ placement
+    about_good placement on tallies e about = subst (IsAbout placement) e about
 
-    only : (placement on : List TileAt) → cause ≡ Good on → on ≡ placement → OfTexts (files_of b) old (Asks b.package_name (λ task. IsBuiltOn task b.effort.rounds placement))
-    only placement on e same =
-        let i = subst (λ (x : Cause). IsTrueOf (build_files b) old new x) (e ∙ ap Good same) is in
-        of_weaker (files_of b) old (λ t. IsMade b t i.text placement) (Asks b.package_name (λ task. IsBuiltOn task b.effort.rounds placement))
-        (λ t g. record { task = g.task; is_asked = g.is_asked; is_so = (g.built, g.is_built, sym g.is_placement) }) i.texts
+    only : (placement on : List TileAt) (tallies : Vec Shut) → cause ≡ Good on tallies → on ≡ placement
+        → OfTexts (files_of b) old (Asks b.package_name (λ task. IsBuiltOn task b.effort.rounds placement))
+    only placement on tallies e same =
+        of_weaker (files_of b) old (Asks b.package_name (λ task. IsTalliedOn task b.effort.rounds placement tallies.items))
+        (Asks b.package_name (λ task. IsBuiltOn task b.effort.rounds placement))
+        (λ t h. record { task = h.task; is_asked = h.is_asked; is_so = (h.is_so.0, h.is_so.1, h.is_so.2) })
+        (tallied_at b old new cause placement tallies is (e ∙ ap (λ (x : List TileAt). Good x tallies) same))
 
 unreachable_row : (b : Build) (old new : Meaning) (cause : Cause) → IsTrueOf (build_files b) old new cause → UnreachableRow b old cause
 unreachable_row b old new cause is net sink = record {
   only = λ placement about stuck. only placement stuck.0 stuck.1 (about_stuck placement stuck.0 stuck.1 about);
   always = λ placement t about holds h.
       of_about (λ c. IsTrueOf (build_files b) old new c → IsUnreachable net sink c) placement
-      (λ i. absurd (built_not_stuck h.task b.effort.rounds placement net sink (held_built b old new placement t h.task holds h.is_asked i) h.is_so))
+      (λ tallies i. absurd (built_not_stuck h.task b.effort.rounds placement net sink (held_built b old new placement tallies t h.task holds h.is_asked i) h.is_so))
       (λ other last i. let same = stuck_on_one h.task placement other net last sink (held_stuck b old new placement other last t h.task holds h.is_asked i) h.is_so in (placement, told_same placement other last same.0 same.1))
-      (λ logs i. absurd (given_up_not_stuck_on h.task b.effort.rounds placement logs.items net sink (held_given_up b old new placement logs t h.task holds h.is_asked i) h.is_so))
+      (λ logs tallies i. absurd (given_up_not_stuck_on h.task b.effort.rounds placement logs.items tallies.items net sink (held_given_up b old new placement logs tallies t h.task holds h.is_asked i) h.is_so))
       cause about is;
 }
   where
@@ -220,42 +233,42 @@ unreachable_row b old new cause is net sink = record {
         told_of b old new cause (Unreachable placement net sink) (Asks b.package_name (λ task. IsStuckOn task placement net sink)) is
         (e ∙ ap (λ (x : List TileAt). Unreachable x net sink) same) (λ i. i.0) (λ t h. h)
 
-given_up_at : (b : Build) (old new : Meaning) (cause : Cause) (placement : List TileAt) (logs : Vec RoundLog) → IsTrueOf (build_files b) old new cause → cause ≡ GaveUp placement logs
-    → OfTexts (files_of b) old (Asks b.package_name (λ task. IsGivenUpOn task b.effort.rounds placement logs.items))
-given_up_at b old new cause placement logs is e =
-    told_of b old new cause (GaveUp placement logs) (Asks b.package_name (λ task. IsGivenUpOn task b.effort.rounds placement logs.items)) is e (λ i. i.0) (λ t h. h)
+given_up_at : (b : Build) (old new : Meaning) (cause : Cause) (placement : List TileAt) (logs : Vec RoundLog) (tallies : Vec Shut) → IsTrueOf (build_files b) old new cause
+    → cause ≡ GaveUp placement logs tallies → OfTexts (files_of b) old (Asks b.package_name (λ task. IsGivenUpOn task b.effort.rounds placement logs.items tallies.items))
+given_up_at b old new cause placement logs tallies is e =
+    told_of b old new cause (GaveUp placement logs tallies) (Asks b.package_name (λ task. IsGivenUpOn task b.effort.rounds placement logs.items tallies.items)) is e (λ i. i.0) (λ t h. h)
 
 gave_up_row : (b : Build) (old new : Meaning) (cause : Cause) → IsTrueOf (build_files b) old new cause → GaveUpRow b old cause
 gave_up_row b old new cause is = record {
   comes = record {
-    only = λ placement about gave. only placement gave.0 gave.1 gave.2 (about_gave placement gave.0 gave.1 gave.2 about);
+    only = λ placement about gave. only placement gave.0 gave.1 gave.2 gave.3 (about_gave placement gave.0 gave.1 gave.2 gave.3 about);
     always = λ placement t about holds h.
         of_about (λ c. IsTrueOf (build_files b) old new c → HasGivenUp c) placement
-        (λ i. absurd (built_not_given_up h.task b.effort.rounds placement h.is_so.0 (held_built b old new placement t h.task holds h.is_asked i) h.is_so.1))
-        (λ net sink i. absurd (given_up_not_stuck_on h.task b.effort.rounds placement h.is_so.0 net sink h.is_so.1 (held_stuck b old new placement net sink t h.task holds h.is_asked i)))
-        (λ logs i. (placement, logs, refl)) cause about is;
+        (λ tallies i. absurd (built_not_given_up h.task b.effort.rounds placement h.is_so.0 h.is_so.1 (held_built b old new placement tallies t h.task holds h.is_asked i) h.is_so.2))
+        (λ net sink i. absurd (given_up_not_stuck_on h.task b.effort.rounds placement h.is_so.0 h.is_so.1 net sink h.is_so.2 (held_stuck b old new placement net sink t h.task holds h.is_asked i)))
+        (λ logs tallies i. (placement, logs, tallies, refl)) cause about is;
   };
-  logs_are = λ placement logs e. given_up_at b old new cause placement logs is e;
+  logs_are = λ placement logs tallies e. given_up_at b old new cause placement logs tallies is e;
 }
   where
-    about_gave : (placement on : List TileAt) (logs : Vec RoundLog) → cause ≡ GaveUp on logs → IsAbout placement cause → on ≡ placement
-    about_gave placement on logs e about = subst (IsAbout placement) e about
+    about_gave : (placement on : List TileAt) (logs : Vec RoundLog) (tallies : Vec Shut) → cause ≡ GaveUp on logs tallies → IsAbout placement cause → on ≡ placement
+    about_gave placement on logs tallies e about = subst (IsAbout placement) e about
 
-    only : (placement on : List TileAt) (logs : Vec RoundLog) → cause ≡ GaveUp on logs → on ≡ placement
-        → OfTexts (files_of b) old (Asks b.package_name (λ task. (all : List RoundLog) × IsGivenUpOn task b.effort.rounds placement all))
-    only placement on logs e same =
-        of_weaker (files_of b) old (Asks b.package_name (λ task. IsGivenUpOn task b.effort.rounds placement logs.items))
-        (Asks b.package_name (λ task. (all : List RoundLog) × IsGivenUpOn task b.effort.rounds placement all))
-        (λ t h. record { task = h.task; is_asked = h.is_asked; is_so = (logs.items, h.is_so) })
-        (given_up_at b old new cause placement logs is (e ∙ ap (λ (x : List TileAt). GaveUp x logs) same))
+    only : (placement on : List TileAt) (logs : Vec RoundLog) (tallies : Vec Shut) → cause ≡ GaveUp on logs tallies → on ≡ placement
+        → OfTexts (files_of b) old (Asks b.package_name (λ task. (all : List RoundLog) × (shuts : List Shut) × IsGivenUpOn task b.effort.rounds placement all shuts))
+    only placement on logs tallies e same =
+        of_weaker (files_of b) old (Asks b.package_name (λ task. IsGivenUpOn task b.effort.rounds placement logs.items tallies.items))
+        (Asks b.package_name (λ task. (all : List RoundLog) × (shuts : List Shut) × IsGivenUpOn task b.effort.rounds placement all shuts))
+        (λ t h. record { task = h.task; is_asked = h.is_asked; is_so = (logs.items, tallies.items, h.is_so) })
+        (given_up_at b old new cause placement logs tallies is (e ∙ ap (λ (x : List TileAt). GaveUp x logs tallies) same))
 
 bits_row : (b : Build) (old new : Meaning) (cause : Cause) → IsTrueOf (build_files b) old new cause → BitsRow b old cause
 bits_row b old new cause is fault e =
     told_of b old new cause (BadBits fault) (Asks b.package_name (λ task. HasBadBits task b.effort.rounds fault)) is e (λ i. i.0) (λ t h. h)
 
 -- ---- the headline
-made_shown : (b : Build) (t : List (List ℕ)) (text : List ℕ) (on : List TileAt) → IsMade b t text on → IsShown b.package_name t text
-made_shown b t text on g = record {
+made_shown : (b : Build) (t : List (List ℕ)) (text : List ℕ) (on : List TileAt) (counted : List Shut) → IsMade b t text on counted → IsShown b.package_name t text
+made_shown b t text on counted g = record {
   parts = g.task.parts;
   constraints = g.task.constraints;
   circuit = g.is_asked.circuit;
@@ -273,8 +286,8 @@ made_shown b t text on g = record {
 headline_row : (b : Build) (old new : Meaning) (cause : Cause) (status : ℕ) → GoodRow (build_files b) old new cause status → HeadlineRow b old new status
 headline_row b old new cause status good zero_status tells =
     let done = good.done zero_status in
-    let held : IsHeld (build_files b) old new done.0 = good.held done.0 done.1 tells in
-    (held.texts, held.text, held.hold, held.there, made_shown b held.texts held.text done.0 held.gives)
+    let held : IsHeld (build_files b) old new done.0 done.1.items = good.held done.0 done.1 done.2 tells in
+    (held.texts, held.text, held.hold, held.there, made_shown b held.texts held.text done.0 done.1.items held.gives)
 
 -- ---- all of them
 pub answers : (b : Build) (old new : Meaning) (end : Done) → IsTrueOf (build_files b) old new end.cause → end.status ≡ status_of end.cause → TellsLong new end.cause → IsBuildAnswer b old new end

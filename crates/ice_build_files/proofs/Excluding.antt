@@ -26,6 +26,7 @@ use Rattle.ice_pads.specs.Assign.{PadsData, assign_of}
 use Rattle.ice_pads.specs.declared.fault.PinFault.{PinFault}
 use Rattle.ice_plan.specs.Plan.{Plan}
 use Rattle.ice_value.proofs.Members.{At_map, map_At}
+use Rattle.ice_words.specs.Grips.{Shut}
 use Rattle.ice_build.specs.Answers.{IsRouting, IsStuck, IsGivenUp, IsRouted}
 use Rattle.ice_build.specs.Laid.{Task, IsLaidOut, plan_in}
 use Rattle.ice_build.specs.declared.answer.Layout.{Layout}
@@ -137,14 +138,15 @@ rounds_as graph other nets others rounds same are = record {
   counted = λ k one at. let is = are.counted k one at in (is.0 ∙ same.wires, is.1);
 }
 
-overused_as : (graph other : Network) (nets others : List Net) (permitted : ℕ) (logs : List RoundLog) → AreSameRouting graph other nets others → AllEndOverused graph nets permitted logs
-    → AllEndOverused other others permitted logs
-overused_as graph other nets others permitted logs same all = record {
+overused_as : (graph other : Network) (nets others : List Net) (permitted : ℕ) (logs : List RoundLog) (tallies : List Shut) → AreSameRouting graph other nets others
+    → AllEndOverused graph nets permitted logs tallies → AllEndOverused other others permitted logs tallies
+overused_as graph other nets others permitted logs tallies same all = record {
   past = all.past;
   rounds = rounds_as graph other nets others all.past same all.rounds;
   all = all.all;
   overused = all.overused;
   logs_of = all.logs_of;
+  tallies_of = all.tallies_of;
   reached = subst (λ (n : ℕ). AreReachedBefore other others n) same.long (reached_before graph other nets others (length nets) same all.reached);
 }
 
@@ -208,14 +210,16 @@ routed_not_stuck parts plan rounds routed net sink (graph, nets, one, are) (othe
     let same = same_routing parts plan graph other nets others one two in
     reached_all other others net sink (subst (λ (n : ℕ). AreReachedBefore other others n) same.long (reached_before graph other nets others (length nets) same are.reached)) stuck
 
-given_up_not_stuck : (parts : Parts) (plan : Plan) (rounds : ℕ) (logs : List RoundLog) (net : NetNo) (sink : WireNo) → IsGivenUp parts plan rounds logs → IsStuck parts plan net sink → ⊥
-given_up_not_stuck parts plan rounds logs net sink (graph, nets, one, all) (other, others, two, stuck) =
+given_up_not_stuck : (parts : Parts) (plan : Plan) (rounds : ℕ) (logs : List RoundLog) (tallies : List Shut) (net : NetNo) (sink : WireNo) → IsGivenUp parts plan rounds logs tallies
+    → IsStuck parts plan net sink → ⊥
+given_up_not_stuck parts plan rounds logs tallies net sink (graph, nets, one, all) (other, others, two, stuck) =
     let same = same_routing parts plan graph other nets others one two in
     reached_all other others net sink (subst (λ (n : ℕ). AreReachedBefore other others n) same.long (reached_before graph other nets others (length nets) same all.reached)) stuck
 
-routed_not_given_up : (parts : Parts) (plan : Plan) (rounds : ℕ) (routed : Routed) (logs : List RoundLog) → IsRouted parts plan rounds routed → IsGivenUp parts plan rounds logs → ⊥
-routed_not_given_up parts plan rounds routed logs (graph, nets, one, are) (other, others, two, all) =
-    routed_free graph nets rounds routed logs are (overused_as other graph others nets rounds logs (same_routing parts plan other graph others nets two one) all)
+routed_not_given_up : (parts : Parts) (plan : Plan) (rounds : ℕ) (routed : Routed) (logs : List RoundLog) (tallies : List Shut) → IsRouted parts plan rounds routed
+    → IsGivenUp parts plan rounds logs tallies → ⊥
+routed_not_given_up parts plan rounds routed logs tallies (graph, nets, one, are) (other, others, two, all) =
+    routed_free graph nets rounds routed logs tallies are (overused_as other graph others nets rounds logs tallies (same_routing parts plan other graph others nets two one) all)
 
 stuck_at_one : (parts : Parts) (plan : Plan) (net other : NetNo) (sink last : WireNo) → IsStuck parts plan net sink → IsStuck parts plan other last → (net ≡ other) × (sink ≡ last)
 stuck_at_one parts plan net other sink last (graph, nets, one, stuck) (graph', nets', two, stuck') =
@@ -246,16 +250,17 @@ built_not_stuck task rounds placement net sink (built, is, on) (layout, laid, he
     let same = same_layout task layout built.layout laid is.laid (here ∙ sym on) in
     routed_not_stuck task.parts (plan_in built.layout) rounds built.routed net sink is.routed (subst (λ (l : Layout). IsStuck task.parts (plan_in l) net sink) same stuck)
 
-pub built_not_given_up : (task : Task) (rounds : ℕ) (placement : List TileAt) (logs : List RoundLog) → IsBuiltOn task rounds placement → IsGivenUpOn task rounds placement logs → ⊥
-built_not_given_up task rounds placement logs (built, is, on) (layout, laid, here, all) =
+pub built_not_given_up : (task : Task) (rounds : ℕ) (placement : List TileAt) (logs : List RoundLog) (tallies : List Shut) → IsBuiltOn task rounds placement
+    → IsGivenUpOn task rounds placement logs tallies → ⊥
+built_not_given_up task rounds placement logs tallies (built, is, on) (layout, laid, here, all) =
     let same = same_layout task layout built.layout laid is.laid (here ∙ sym on) in
-    routed_not_given_up task.parts (plan_in built.layout) rounds built.routed logs is.routed (subst (λ (l : Layout). IsGivenUp task.parts (plan_in l) rounds logs) same all)
+    routed_not_given_up task.parts (plan_in built.layout) rounds built.routed logs tallies is.routed (subst (λ (l : Layout). IsGivenUp task.parts (plan_in l) rounds logs tallies) same all)
 
-pub given_up_not_stuck_on : (task : Task) (rounds : ℕ) (placement : List TileAt) (logs : List RoundLog) (net : NetNo) (sink : WireNo) → IsGivenUpOn task rounds placement logs
+pub given_up_not_stuck_on : (task : Task) (rounds : ℕ) (placement : List TileAt) (logs : List RoundLog) (tallies : List Shut) (net : NetNo) (sink : WireNo) → IsGivenUpOn task rounds placement logs tallies
     → IsStuckOn task placement net sink → ⊥
-given_up_not_stuck_on task rounds placement logs net sink (layout, laid, here, all) (other, laid', there, stuck) =
+given_up_not_stuck_on task rounds placement logs tallies net sink (layout, laid, here, all) (other, laid', there, stuck) =
     let same = same_layout task other layout laid' laid (there ∙ sym here) in
-    given_up_not_stuck task.parts (plan_in layout) rounds logs net sink all (subst (λ (l : Layout). IsStuck task.parts (plan_in l) net sink) same stuck)
+    given_up_not_stuck task.parts (plan_in layout) rounds logs tallies net sink all (subst (λ (l : Layout). IsStuck task.parts (plan_in l) net sink) same stuck)
 
 pub stuck_on_one : (task : Task) (placement : List TileAt) (net other : NetNo) (sink last : WireNo) → IsStuckOn task placement net sink → IsStuckOn task placement other last
     → (net ≡ other) × (sink ≡ last)

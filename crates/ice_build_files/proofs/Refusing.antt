@@ -32,6 +32,7 @@ use Rattle.ice_build_files.specs.Ending.{IsBuildRefusal}
 use Rattle.ice_build_files.specs.Made.{IsMade}
 use Rattle.ice_build_files.specs.Standing.{IsEnd, PlacesStand, Stands}
 use Rattle.ice_build_files.proofs.Standing.{asked_so, pins_so, end_so}
+use Rattle.ice_words.specs.Grips.{Shut}
 
 pub refused : (name : List ℕ) (rounds : ℕ) (t : List (List ℕ)) (task : Task) (fault : BuildFault) (cause : Cause) → IsAsked name t task → IsFault task rounds fault → IsBuildRefusal fault cause
     → IsRefusal (Stands name rounds t) cause
@@ -44,9 +45,9 @@ refused name rounds t task (build.Places fault) cause asked (pads, pins, said) i
 refused name rounds t task (build.Unreachable layout net sink) cause asked (laid, stuck) is =
     subst (IsRefusal (Stands name rounds t)) (sym is)
     (end_so name rounds t task layout.pads laid.placed.first (Unreachable layout.placement net sink) asked (pins_good task layout laid) (places_good task layout laid) (layout, laid, refl, stuck), tt)
-refused name rounds t task (build.GaveUp layout logs) cause asked (laid, given) is =
+refused name rounds t task (build.GaveUp layout logs tallies) cause asked (laid, given) is =
     subst (IsRefusal (Stands name rounds t)) (sym is)
-    (end_so name rounds t task layout.pads laid.placed.first (GaveUp layout.placement logs) asked (pins_good task layout laid) (places_good task layout laid) (layout, laid, refl, given), tt)
+    (end_so name rounds t task layout.pads laid.placed.first (GaveUp layout.placement logs tallies) asked (pins_good task layout laid) (places_good task layout laid) (layout, laid, refl, given), tt)
 refused name rounds t task (build.Bits fault) cause asked bits is =
     let layout = bits.0.layout in
     let laid = bits.1.laid in
@@ -87,14 +88,15 @@ module _ (b : Build) (t : List (List ℕ)) (task : Task) (built : Built) (asked 
       (stays.shows asked.circuit (free_globals task.parts asked.circuit) formed)
       (subst (λ (n : NetlistData). IsCircuitOf n built.layout.pads.ports task.parts built.bits) asked.is_promoted shown)
 
-  made_is : (text : List ℕ) (on : List TileAt) → IsCircuitOf task.circuit built.layout.pads.ports task.parts built.bits → text ≡ asc_text task.parts built.bits → on ≡ built.layout.placement
-      → (IsOf task.parts built.bits → asc_in task.parts text ≡ Ok built.bits) → IsMade b t text on
-  made_is text on shown is_text here read_back = record {
+  made_is : (text : List ℕ) (on : List TileAt) (counted : List Shut) → IsCircuitOf task.circuit built.layout.pads.ports task.parts built.bits → text ≡ asc_text task.parts built.bits → on ≡ built.layout.placement
+      → counted ≡ built.routed.tallies.items → (IsOf task.parts built.bits → asc_in task.parts text ≡ Ok built.bits) → IsMade b t text on counted
+  made_is text on counted shown is_text here tallied read_back = record {
     task = task;
     built = built;
     is_asked = asked;
     is_built = is;
     is_placement = here;
+    are_tallies = tallied;
     is_text = is_text;
     is_read_back = read_back shown.form;
     are_pads = pads_are;
@@ -103,6 +105,7 @@ module _ (b : Build) (t : List (List ℕ)) (task : Task) (built : Built) (asked 
 
   pub made_of_built : (result : Result Made Cause) → IsCircuitOf task.circuit built.layout.pads.ports task.parts built.bits
       → IfOk result (λ made. made.text.items ≡ asc_text task.parts built.bits) → IfOk result (λ made. made.placement ≡ built.layout.placement)
-      → IfOk result (λ made. IsOf task.parts built.bits → asc_in task.parts made.text.items ≡ Ok built.bits) → IfOk result (λ made. IsMade b t made.text.items made.placement)
-  made_of_built (Ok made) shown text here read_back = made_is made.text.items made.placement shown text here read_back
-  made_of_built (Err cause) shown text here read_back = tt
+      → IfOk result (λ made. made.tallies.items ≡ built.routed.tallies.items) → IfOk result (λ made. IsOf task.parts built.bits → asc_in task.parts made.text.items ≡ Ok built.bits)
+      → IfOk result (λ made. IsMade b t made.text.items made.placement made.tallies.items)
+  made_of_built (Ok made) shown text here tallied read_back = made_is made.text.items made.placement made.tallies.items shown text here tallied read_back
+  made_of_built (Err cause) shown text here tallied read_back = tt

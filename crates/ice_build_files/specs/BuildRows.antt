@@ -23,6 +23,7 @@ use Rattle.ice_pcf.specs.Grammar.{text_says}
 use Rattle.ice_pcf.specs.declared.constraint.Constraint.{Constraint}
 use Rattle.ice_pcf.specs.declared.fault.PcfFault.{PcfFault}
 use Rattle.ice_place.specs.declared.fault.PlaceFault.{PlaceFault}
+use Rattle.ice_words.specs.Grips.{Shut}
 use Rattle.ice_build.specs.Answers.{pins_said, places_said}
 use Rattle.ice_build.specs.Laid.{Task}
 use Rattle.ice_answer.specs.declared.cause.Cause.{Cause}
@@ -33,7 +34,7 @@ use Rattle.ice_answer.specs.Texts.{OfTexts, HoldsTexts, text_at}
 use Rattle.ice_build_files.specs.Asked.{Build, files_of, Asks}
 use Rattle.ice_build_files.specs.Command.{build_files}
 use Rattle.ice_build_files.specs.Headline.{IsShown}
-use Rattle.ice_build_files.specs.Made.{IsBuiltOn, IsStuckOn, IsGivenUpOn, HasBadBits}
+use Rattle.ice_build_files.specs.Made.{IsBuiltOn, IsTalliedOn, IsStuckOn, IsGivenUpOn, HasBadBits}
 
 -- ---- the texts
 -- the chip text has this first fault
@@ -104,10 +105,10 @@ IsPlaceable task = (pads : PadsData) × (first : List TileAt) × (pins_said task
 -- the work is done, or a fault of writing came in between; or a sink can't be reached, the permitted rounds all end with an overused
 -- wire, or the bits have no circuit
 abbrev pub IsTried : Cause → Type 0
-IsTried (Good placement) = Unit {0}
+IsTried (Good placement tallies) = Unit {0}
 IsTried (WriteFault role put) = Unit {0}
 IsTried (Unreachable placement net sink) = Unit {0}
-IsTried (GaveUp placement logs) = Unit {0}
+IsTried (GaveUp placement logs tallies) = Unit {0}
 IsTried (BadBits fault) = Unit {0}
 IsTried cause = ⊥
 
@@ -117,9 +118,9 @@ TriedRow b old cause = ComesExactly (build_files b) old IsTried (Asks b.package_
 
 -- the answer tells this placement
 abbrev pub IsAbout : List TileAt → Cause → Type 0
-IsAbout placement (Good told) = told ≡ placement
+IsAbout placement (Good told tallies) = told ≡ placement
 IsAbout placement (Unreachable told net sink) = told ≡ placement
-IsAbout placement (GaveUp told logs) = told ≡ placement
+IsAbout placement (GaveUp told logs tallies) = told ≡ placement
 IsAbout placement cause = ⊥
 
 -- Such an answer that tells a placement comes only where this is true of the placement; and where it is true of the placement that the
@@ -129,11 +130,13 @@ pub record ComesOn (b : Build) (old : Meaning) (IsSuch : Cause → Type 0) (IsSo
   pub always : (placement : List TileAt) (texts : List (List ℕ)) → IsAbout placement cause → HoldsTexts (files_of b) old texts → Asks b.package_name (IsSo placement) texts → IsSuch cause
 
 abbrev pub IsGood : Cause → Type 0
-IsGood cause = (placement : List TileAt) × (cause ≡ Good placement)
+IsGood cause = (placement : List TileAt) × (tallies : Vec Shut) × (cause ≡ Good placement tallies)
 
--- status 0: exactly where the nets are routed with the placement that is told
-abbrev pub BuiltRow : Build → Meaning → Cause → Type 0
-BuiltRow b old cause = ComesOn b old IsGood (λ placement task. IsBuiltOn task b.effort.rounds placement) cause
+-- status 0: exactly where the nets are routed with the placement that is told; with the tallies of their rounds
+pub record BuiltRow (b : Build) (old : Meaning) (cause : Cause) : Type 0 where
+  pub comes : ComesOn b old IsGood (λ placement task. IsBuiltOn task b.effort.rounds placement) cause
+  pub tallies_are : (placement : List TileAt) (tallies : Vec Shut) → cause ≡ Good placement tallies
+      → OfTexts (files_of b) old (Asks b.package_name (λ task. IsTalliedOn task b.effort.rounds placement tallies.items))
 
 abbrev pub IsUnreachable : NetNo → WireNo → Cause → Type 0
 IsUnreachable net sink cause = (placement : List TileAt) × (cause ≡ Unreachable placement net sink)
@@ -143,13 +146,14 @@ abbrev pub UnreachableRow : Build → Meaning → Cause → Type 0
 UnreachableRow b old cause = (net : NetNo) (sink : WireNo) → ComesOn b old (IsUnreachable net sink) (λ placement task. IsStuckOn task placement net sink) cause
 
 abbrev pub HasGivenUp : Cause → Type 0
-HasGivenUp cause = (placement : List TileAt) × (logs : Vec RoundLog) × (cause ≡ GaveUp placement logs)
+HasGivenUp cause = (placement : List TileAt) × (logs : Vec RoundLog) × (tallies : Vec Shut) × (cause ≡ GaveUp placement logs tallies)
 
--- status 10: exactly where with the placement that is told each permitted round ends with an overused wire; with the logs of these rounds
+-- status 10: exactly where with the placement that is told each permitted round ends with an overused wire; with the logs and
+-- the tallies of these rounds
 pub record GaveUpRow (b : Build) (old : Meaning) (cause : Cause) : Type 0 where
-  pub comes : ComesOn b old HasGivenUp (λ placement task. (logs : List RoundLog) × IsGivenUpOn task b.effort.rounds placement logs) cause
-  pub logs_are : (placement : List TileAt) (logs : Vec RoundLog) → cause ≡ GaveUp placement logs
-      → OfTexts (files_of b) old (Asks b.package_name (λ task. IsGivenUpOn task b.effort.rounds placement logs.items))
+  pub comes : ComesOn b old HasGivenUp (λ placement task. (logs : List RoundLog) × (tallies : List Shut) × IsGivenUpOn task b.effort.rounds placement logs tallies) cause
+  pub logs_are : (placement : List TileAt) (logs : Vec RoundLog) (tallies : Vec Shut) → cause ≡ GaveUp placement logs tallies
+      → OfTexts (files_of b) old (Asks b.package_name (λ task. IsGivenUpOn task b.effort.rounds placement logs.items tallies.items))
 
 -- status 15: only where the bits that would be written have this fault, and never where no global of the chip is fed by a global
 abbrev pub BitsRow : Build → Meaning → Cause → Type 0

@@ -11,6 +11,6 @@ abbrev pub IsBuildRefusal : BuildFault → Cause → Type 0
 IsBuildRefusal (build.Pins fault) cause = IsPinRefusal fault cause
 IsBuildRefusal (build.Places fault) cause = IsPlaceRefusal fault cause
 IsBuildRefusal (build.Unreachable layout net sink) cause = cause ≡ Unreachable layout.placement net sink
-IsBuildRefusal (build.GaveUp layout logs) cause = cause ≡ GaveUp layout.placement logs
+IsBuildRefusal (build.GaveUp layout logs tallies) cause = cause ≡ GaveUp layout.placement logs tallies
 IsBuildRefusal (build.Bits fault) cause = IsBitsRefusal fault cause
 IsBuildRefusal build.NoMemory cause = cause ≡ NoMemory

@@ -9,6 +9,7 @@ use Rattle.ice_cells.specs.Runs.{design_of}
 use Rattle.ice_core.specs.declared.log.RoundLog.{RoundLog}
 use Rattle.ice_decode.specs.declared.fault.DecodeFault.{DecodeFault}
 use Rattle.ice_pads.specs.Assign.{assign_of}
+use Rattle.ice_words.specs.Grips.{Shut}
 use Rattle.ice_build.specs.Answers.{IsBuilt, IsStuck, IsGivenUp, IsUndecoded}
 use Rattle.ice_build.specs.Laid.{Task, IsLaidOut, plan_in}
 use Rattle.ice_build.specs.Shown.{IsCircuitOf}
@@ -16,14 +17,15 @@ use Rattle.ice_build.specs.declared.answer.Built.{Built}
 use Rattle.ice_build.specs.declared.answer.Layout.{Layout}
 use Rattle.ice_build_files.specs.Asked.{Build, IsAsked}
 
--- The netlist that the texts say is built with this placement, and this is the text of the bits. The text says these bits, and they are
--- a circuit that shows what the netlist read shows, at the pads of its ports.
-pub record IsMade (b : Build) (texts : List (List ℕ)) (text : List ℕ) (placement : List TileAt) : Type 0 where
+-- The netlist that the texts say is built with this placement and in rounds of these tallies, and this is the text of the bits. The text
+-- says these bits, and they are a circuit that shows what the netlist read shows, at the pads of its ports.
+pub record IsMade (b : Build) (texts : List (List ℕ)) (text : List ℕ) (placement : List TileAt) (tallies : List Shut) : Type 0 where
   pub task : Task
   pub built : Built
   pub is_asked : IsAsked b.package_name texts task
   pub is_built : IsBuilt task b.effort.rounds built
   pub is_placement : placement ≡ built.layout.placement
+  pub are_tallies : tallies ≡ built.routed.tallies.items
   pub is_text : text ≡ asc_text task.parts built.bits
   pub is_read_back : asc_in task.parts text ≡ Ok built.bits
   pub are_pads : assign_of task.parts b.package_name task.constraints is_asked.circuit (design_of task.circuit) ≡ Ok built.layout.pads
@@ -38,13 +40,17 @@ IsLaidOn task placement IsSo = (layout : Layout) × IsLaidOut task layout × (la
 abbrev pub IsBuiltOn : Task → ℕ → List TileAt → Type 0
 IsBuiltOn task rounds placement = (built : Built) × IsBuilt task rounds built × (built.layout.placement ≡ placement)
 
+-- and these are the tallies of its rounds
+abbrev pub IsTalliedOn : Task → ℕ → List TileAt → List Shut → Type 0
+IsTalliedOn task rounds placement tallies = (built : Built) × IsBuilt task rounds built × (built.layout.placement ≡ placement) × (built.routed.tallies.items ≡ tallies)
+
 -- with this placement no walk leads from the net's root to any target of a sink, of which this is the first
 abbrev pub IsStuckOn : Task → List TileAt → NetNo → WireNo → Type 0
 IsStuckOn task placement net sink = IsLaidOn task placement (λ layout. IsStuck task.parts (plan_in layout) net sink)
 
--- with this placement each permitted round ends with an overused wire, and these are the logs of the rounds
-abbrev pub IsGivenUpOn : Task → ℕ → List TileAt → List RoundLog → Type 0
-IsGivenUpOn task rounds placement logs = IsLaidOn task placement (λ layout. IsGivenUp task.parts (plan_in layout) rounds logs)
+-- with this placement each permitted round ends with an overused wire, and these are the logs and the tallies of the rounds
+abbrev pub IsGivenUpOn : Task → ℕ → List TileAt → List RoundLog → List Shut → Type 0
+IsGivenUpOn task rounds placement logs tallies = IsLaidOn task placement (λ layout. IsGivenUp task.parts (plan_in layout) rounds logs tallies)
 
 -- ---- of bits
 -- the task is built, but for this fault the bits have no circuit; so some global of the chip is fed by a global

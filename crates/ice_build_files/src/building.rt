@@ -43,6 +43,7 @@ use ice_net::Netlist;
 use ice_pcf::{Pcf, read_pcf};
 use ice_promote::laws::{netlists_of_words_can_be_promoted, promoted_show_the_same};
 use std::alloc::Global;
+use std::thread::Threads;
 
 // A sound netlist is well formed.
 fn is_formed(sound: &Sound)
@@ -54,7 +55,8 @@ fn is_formed(sound: &Sound)
 }
 
 // What is made of a task that the texts say. The netlist's clocks are promoted.
-fn build_promoted<G: Gate + Sync>(
+fn build_promoted<G: Gate + Sync, R: Threads + Sync>(
+    rt: &R,
     alloc: Global,
     gate: &G,
     request: &BuildRequest<'_>,
@@ -66,20 +68,21 @@ fn build_promoted<G: Gate + Sync>(
     requires asked { IsAsked request.now.package_name.now texts.now (task_of chip.now request.now.package_name.now pcf.now sound.now) }
     requires formed { (n : NetlistData) → netlist_of (text_at texts.now 3) ≡ Ok n → IsFormed n }
     requires effort { IsPermitted request.now.effort }
-    ensures made { IfOk result (λ made. IsMade (request_view request.now) texts.now made.text.items made.placement) }
+    ensures made { IfOk result (λ made. IsMade (request_view request.now) texts.now made.text.items made.placement made.tallies.items) }
     ensures refused { IfErr result (λ cause. IsRefusal (Stands request.now.package_name.now request.now.effort.rounds texts.now) cause) }
 {
     pins_stay();
     promoted_show_the_same();
     let name = request.package_name.as_bytes();
-    match build(alloc, chip, name, pcf, sound, request.effort, gate) {
+    match build(rt, alloc, chip, name, pcf, sound, request.effort, gate) {
         Ok(built) => made_of(alloc, chip, built),
         Err(fault) => Err(build_refusal(fault)),
     }
 }
 
 // What is made of a sound netlist that the third text says.
-fn build_sound<G: Gate + Sync>(
+fn build_sound<G: Gate + Sync, R: Threads + Sync>(
+    rt: &R,
     alloc: Global,
     gate: &G,
     request: &BuildRequest<'_>,
@@ -92,20 +95,21 @@ fn build_sound<G: Gate + Sync>(
     requires netlist { netlist_of (text_at texts.now 3) ≡ Ok sound }
     requires limits { IsWithinLimits sound }
     requires effort { IsPermitted request.now.effort }
-    ensures made { IfOk result (λ made. IsMade (request_view request.now) texts.now made.text.items made.placement) }
+    ensures made { IfOk result (λ made. IsMade (request_view request.now) texts.now made.text.items made.placement made.tallies.items) }
     ensures refused { IfErr result (λ cause. IsRefusal (Stands request.now.package_name.now request.now.effort.rounds texts.now) cause) }
 {
     read_names_are_words();
     netlists_of_words_can_be_promoted();
     is_formed(&sound);
     match promote_clocks(alloc, chip, sound) {
-        Ok(promoted) => build_promoted(alloc, gate, request, texts, chip, pcf, &promoted),
+        Ok(promoted) => build_promoted(rt, alloc, gate, request, texts, chip, pcf, &promoted),
         Err(NoMemory) => Err(Cause::NoMemory),
     }
 }
 
 // What is made of a netlist that the third text says.
-fn build_net<G: Gate + Sync>(
+fn build_net<G: Gate + Sync, R: Threads + Sync>(
+    rt: &R,
     alloc: Global,
     gate: &G,
     request: &BuildRequest<'_>,
@@ -118,17 +122,18 @@ fn build_net<G: Gate + Sync>(
     requires netlist { netlist_of (text_at texts.now 3) ≡ Ok netlist }
     requires limits { IsWithinLimits netlist }
     requires effort { IsPermitted request.now.effort }
-    ensures made { IfOk result (λ made. IsMade (request_view request.now) texts.now made.text.items made.placement) }
+    ensures made { IfOk result (λ made. IsMade (request_view request.now) texts.now made.text.items made.placement made.tallies.items) }
     ensures refused { IfErr result (λ cause. IsRefusal (Stands request.now.package_name.now request.now.effort.rounds texts.now) cause) }
 {
     match check(alloc, netlist) {
-        Ok(sound) => build_sound(alloc, gate, request, texts, chip, pcf, sound),
+        Ok(sound) => build_sound(rt, alloc, gate, request, texts, chip, pcf, sound),
         Err(fault) => Err(net_refusal(fault)),
     }
 }
 
 // What is made of a chip and constraints that the first two texts say.
-fn build_read<G: Gate + Sync>(
+fn build_read<G: Gate + Sync, R: Threads + Sync>(
+    rt: &R,
     alloc: Global,
     gate: &G,
     request: &BuildRequest<'_>,
@@ -138,17 +143,18 @@ fn build_read<G: Gate + Sync>(
 ) -> Result<Made, Cause>
     requires read { IsRead texts.now chip.now pcf.now }
     requires effort { IsPermitted request.now.effort }
-    ensures made { IfOk result (λ made. IsMade (request_view request.now) texts.now made.text.items made.placement) }
+    ensures made { IfOk result (λ made. IsMade (request_view request.now) texts.now made.text.items made.placement made.tallies.items) }
     ensures refused { IfErr result (λ cause. IsRefusal (Stands request.now.package_name.now request.now.effort.rounds texts.now) cause) }
 {
     match read_blif(alloc, texts.at(3)) {
-        Ok(netlist) => build_net(alloc, gate, request, texts, chip, pcf, netlist),
+        Ok(netlist) => build_net(rt, alloc, gate, request, texts, chip, pcf, netlist),
         Err(fault) => Err(blif_refusal(fault)),
     }
 }
 
 // What is made of a chip that the first text says.
-fn build_on<G: Gate + Sync>(
+fn build_on<G: Gate + Sync, R: Threads + Sync>(
+    rt: &R,
     alloc: Global,
     gate: &G,
     request: &BuildRequest<'_>,
@@ -157,34 +163,36 @@ fn build_on<G: Gate + Sync>(
 ) -> Result<Made, Cause>
     requires chip { chip_says (text_at texts.now 1) ≡ Ok chip.now }
     requires effort { IsPermitted request.now.effort }
-    ensures made { IfOk result (λ made. IsMade (request_view request.now) texts.now made.text.items made.placement) }
+    ensures made { IfOk result (λ made. IsMade (request_view request.now) texts.now made.text.items made.placement made.tallies.items) }
     ensures refused { IfErr result (λ cause. IsRefusal (Stands request.now.package_name.now request.now.effort.rounds texts.now) cause) }
 {
     match read_pcf(alloc, texts.at(2)) {
-        Ok(pcf) => build_read(alloc, gate, request, texts, chip, &pcf),
+        Ok(pcf) => build_read(rt, alloc, gate, request, texts, chip, &pcf),
         Err(fault) => Err(pcf_refusal(fault)),
     }
 }
 
 // What is made of the texts.
-fn build_texts<G: Gate + Sync>(
+fn build_texts<G: Gate + Sync, R: Threads + Sync>(
+    rt: &R,
     alloc: Global,
     gate: &G,
     request: &BuildRequest<'_>,
     texts: &Texts,
 ) -> Result<Made, Cause>
     requires { IsPermitted request.now.effort }
-    ensures made { IfOk result (λ made. IsMade (request_view request.now) texts.now made.text.items made.placement) }
+    ensures made { IfOk result (λ made. IsMade (request_view request.now) texts.now made.text.items made.placement made.tallies.items) }
     ensures refused { IfErr result (λ cause. IsRefusal (Stands request.now.package_name.now request.now.effort.rounds texts.now) cause) }
 {
     match read_chip(alloc, texts.at(1)) {
-        Ok(chip) => build_on(alloc, gate, request, texts, &chip),
+        Ok(chip) => build_on(rt, alloc, gate, request, texts, &chip),
         Err(fault) => Err(chip_refusal(fault)),
     }
 }
 
 // Reads the files, and builds what their texts say.
-fn make<D: Desk, G: Gate + Sync>(
+fn make<D: Desk, G: Gate + Sync, R: Threads + Sync>(
+    rt: &R,
     alloc: Global,
     desk: &mut D,
     gate: &G,
@@ -214,18 +222,19 @@ fn make<D: Desk, G: Gate + Sync>(
         },
     ];
     match read_texts(alloc, desk, &files) {
-        Ok(texts) => build_texts(alloc, gate, request, &texts),
+        Ok(texts) => build_texts(rt, alloc, gate, request, &texts),
         Err(cause) => Err(cause),
     }
 }
 
 /// Builds the netlist of one file on the chip of another, with the constraints of a third: reads the texts, makes the text of the bits,
 /// and only then writes it to the file of bits. A refusal says its line, and writes nothing. It may try for 1 to 64 rounds of routing,
-/// with 1 to 8 workers, which pass the gate.
+/// with 1 to 8 workers, each in a thread, which pass the gate.
 ///
 /// Where it is done and the desk tells its contents, the text that was written, read by the database of the chip's file, is a circuit
 /// that for every list of levels shows step by step at the ports' pads what the netlist shows, and drives no other pad.
-pub fn build_files<D: Desk, G: Gate + Sync>(
+pub fn build_files<D: Desk, G: Gate + Sync, R: Threads + Sync>(
+    rt: &R,
     alloc: Global,
     desk: &mut D,
     gate: &G,
@@ -245,6 +254,6 @@ pub fn build_files<D: Desk, G: Gate + Sync>(
     ensures silent { SilentRow (InFile Asc request.now.asc.now) (D.seen desk.old) (D.seen desk.new) result.cause }
     ensures given { TellsLong (D.seen desk.new) result.cause }
 {
-    let made = make(alloc, desk, gate, request);
+    let made = make(rt, alloc, desk, gate, request);
     end_in_file(desk, made, FileRole::Asc, request.asc)
 }

@@ -13,22 +13,28 @@ use ice_build::{BuildFault, Built};
 use ice_chip::Chip;
 use std::alloc::Global;
 
-/// What is made of what was built: the text of the bits, with the placement. Where the bits are of the chip, the text says them.
+/// What is made of what was built: the text of the bits, with the placement and the tallies. Where the bits are of the chip, the text says them.
 ///
 /// # Errors
 /// Want of memory alone.
 pub fn made_of(alloc: Global, chip: &Chip, built: Built) -> Result<Made, Cause>
     ensures text { IfOk result (λ made. made.text.items ≡ asc_text chip.now built.bits) }
     ensures placement { IfOk result (λ made. made.placement ≡ built.layout.placement) }
+    ensures tallies { IfOk result (λ made. made.tallies.items ≡ built.routed.tallies.items) }
     ensures read_back { IfOk result (λ made. IsOf chip.now built.bits → asc_in chip.now made.text.items ≡ Ok built.bits) }
     ensures stop { IfErr result (λ cause. cause ≡ out_of_memory) }
 {
     let mut text = Vec::new(alloc);
     match write_asc(&built.bits, chip, &mut text) {
-        Ok(()) => Ok(Made {
-            text,
-            placement: built.layout.placement,
-        }),
+        Ok(()) => {
+            let layout = built.layout;
+            let routed = built.routed;
+            Ok(Made {
+                text,
+                placement: layout.placement,
+                tallies: routed.tallies,
+            })
+        }
         Err(NoMemory) => Err(Cause::NoMemory),
     }
 }
@@ -45,9 +51,14 @@ pub fn build_refusal(fault: BuildFault) -> Cause
             net,
             sink,
         },
-        BuildFault::GaveUp { layout, logs } => Cause::GaveUp {
+        BuildFault::GaveUp {
+            layout,
+            logs,
+            tallies,
+        } => Cause::GaveUp {
             placement: layout.placement,
             logs,
+            tallies,
         },
         BuildFault::Bits(fault) => bits_refusal(fault),
         BuildFault::NoMemory => Cause::NoMemory,

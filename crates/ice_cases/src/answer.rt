@@ -7,6 +7,7 @@ use ice_flow::run;
 use itoa::Buffer;
 use std::alloc::{AllocError, Global};
 use std::str;
+use std::thread::Threads;
 
 /// What holds for a run: each is a line, whose first word says what it is.
 #[derive(Clone, Copy)]
@@ -161,7 +162,8 @@ fn add_number(out: &mut Vec<u8>, before: &[u8], number: u32) -> Result<(), Alloc
 }
 
 // Does what words ask for, and adds the status behind this, and what was said.
-fn add_run(
+fn add_run<R: Threads + Sync>(
+    rt: &R,
     out: &mut Vec<u8>,
     before: &[u8],
     line: &[u8],
@@ -170,23 +172,24 @@ fn add_run(
     let alloc = *out.allocator();
     let words = words_behind(alloc, line)?;
     let said = desk.said().len();
-    let done = run(alloc, &words, desk, &OpenGate);
+    let done = run(rt, alloc, &words, desk, &OpenGate);
     add_number(out, before, u32::from(done.status))?;
     out.push(b'\n')?;
     add_lines(out, desk.said().get(said..).unwrap_or(&[]))
 }
 
 // Adds the runs of a case, and the files that it shows.
-fn add_answer(
+fn add_answer<R: Threads + Sync>(
+    rt: &R,
     out: &mut Vec<u8>,
     case: &Setting<'_>,
     desk: &mut MemoryDesk,
 ) -> Result<(), AllocError> {
     out.extend_from_slice(case.group)?;
     add_number(out, b" ", case.number)?;
-    add_run(out, b": status ", case.words, desk)?;
+    add_run(rt, out, b": status ", case.words, desk)?;
     if !case.then.is_empty() {
-        add_run(out, b"then status ", case.then, desk)?;
+        add_run(rt, out, b"then status ", case.then, desk)?;
     }
     for name in words_of(case.shows).skip(1) {
         add_file(out, desk, name)?;
@@ -195,13 +198,14 @@ fn add_answer(
 }
 
 /// The answer to a case, as text.
-pub fn answer(
+pub fn answer<R: Threads + Sync>(
+    rt: &R,
     alloc: Global,
     case: &Setting<'_>,
     texts: &[Text<'_>],
 ) -> Result<Vec<u8>, AllocError> {
     let mut desk = desk_of(alloc, case, texts)?;
     let mut out = Vec::new(alloc);
-    add_answer(&mut out, case, &mut desk)?;
+    add_answer(rt, &mut out, case, &mut desk)?;
     Ok(out)
 }

@@ -4,6 +4,7 @@ use crate::pieces::{Draft, word_at};
 use crate::texts::Text;
 use ice_base::NoMemory;
 use std::alloc::{AllocError, Global};
+use std::thread::Threads;
 
 /// How far the lines are read.
 #[derive(Clone, Copy, PartialEq, Eq)]
@@ -74,12 +75,16 @@ impl<'a> Cases<'a> {
     }
 
     /// Ends a case: the text of its answer, and nothing where no case is open.
-    pub fn close(&mut self, alloc: Global) -> Result<Vec<u8>, AllocError> {
+    pub fn close<R: Threads + Sync>(
+        &mut self,
+        rt: &R,
+        alloc: Global,
+    ) -> Result<Vec<u8>, AllocError> {
         self.end_text()?;
         if self.stage != Stage::Case {
             return Ok(Vec::new(alloc));
         }
-        let said = answer(alloc, &self.case, &self.texts)?;
+        let said = answer(rt, alloc, &self.case, &self.texts)?;
         self.texts.truncate(self.shared);
         Ok(said)
     }

@@ -11,31 +11,42 @@ use cases::{Cases, heads};
 use ice_base::lines_of;
 use std::alloc::Global;
 use std::io::{self, Input, Read, Write};
+use std::thread::Threads;
 
 // Says the answer of the case that ends here, where one does.
-fn close<W: Write + Drop>(alloc: Global, out: &mut W, cases: &mut Cases<'_>) -> anyhow::Result<()> {
-    let said = cases.close(alloc)?;
+fn close<W: Write + Drop, R: Threads + Sync>(
+    rt: &R,
+    alloc: Global,
+    out: &mut W,
+    cases: &mut Cases<'_>,
+) -> anyhow::Result<()> {
+    let said = cases.close(rt, alloc)?;
     out.write_all(&said)?;
     Ok(())
 }
 
 // Runs the cases of a text.
-fn play<W: Write + Drop>(alloc: Global, out: &mut W, text: &[u8]) -> anyhow::Result<()> {
+fn play<W: Write + Drop, R: Threads + Sync>(
+    rt: &R,
+    alloc: Global,
+    out: &mut W,
+    text: &[u8],
+) -> anyhow::Result<()> {
     let mut cases = Cases::new(alloc);
     for line in lines_of(text) {
         if heads(line.text) {
-            close(alloc, out, &mut cases)?;
+            close(rt, alloc, out, &mut cases)?;
         }
         if !cases.follow(alloc, line.text)? {
             anyhow::bail!("no line of a case is line {}", line.number);
         }
     }
-    close(alloc, out, &mut cases)
+    close(rt, alloc, out, &mut cases)
 }
 
 fn main(rt: HostRuntime) -> anyhow::Result<()> {
     let alloc = rt.alloc();
     let mut text = Vec::new(alloc);
     rt.reader().read_to_end(&mut text)?;
-    play(alloc, &mut io::writer(&rt), &text)
+    play(&rt, alloc, &mut io::writer(&rt), &text)
 }

@@ -4,7 +4,6 @@ use Rattle.std.proofs.lemmas.List.{length-map}
 use Rattle.std.proofs.lemmas.List.Elements.{All-nil, All-push}
 use Rattle.std.specs.Map.{lookup}
 use Rattle.ice_base.specs.Comments.{begins_with}
-use Rattle.ice_base.specs.Text.{lines, numbered}
 use Rattle.ice_base.specs.declared.number.TileAt.{TileAt}
 use Rattle.ice_chip.specs.Database.{Parts, WireName, SwitchGroup, SwitchRow}
 use Rattle.ice_chip.specs.Functions.{is_read, is_foreign, function_line}
@@ -20,12 +19,12 @@ use Rattle.ice_chip_read.specs.declared.section.Heading.{Heading}
 use Rattle.ice_chip_read.specs.declared.section.Heading.TheVariants as heading
 use Rattle.ice_chip_read.specs.Faults.{◌>>=◌}
 use Rattle.ice_chip_read.specs.Headings.{heading_of}
-use Rattle.ice_base.specs.PlainLines.{plain_lines}
 use Rattle.ice_chip_read.specs.Reading.{Reading, begun, closed}
 use Rattle.ice_base.specs.BitNames.{bits_named}
 use Rattle.ice_chip_read.specs.Words.{number, two, three, ended}
 use Rattle.ice_chip.specs.Limits.{most_wires, most_places, most_rows}
-use Rattle.ice_chip_read.specs.Lines.{tile_in, pad_in, wire_in, global_in, unseen, one_word, sizes_in, begun_within, device_first, new_tile, bits_at, group_bits, heading_says, kept_function, values_at, with_row, row_says, with_closed, line_says, lines_say, first_says, plain_says, text_says}
+use Rattle.ice_chip_read.specs.Lines.{tile_in, pad_in, wire_in, global_in, unseen, one_word, sizes_in, begun_within, device_first, new_tile, bits_at, group_bits, heading_says, kept_function, values_at, with_row, row_says, with_closed, line_says, lines_say, first_says, plain_says}
+use Rattle.ice_chip_read.specs.Whole.{AreReadOfLines}
 use Rattle.ice_chip_read.proofs.Results.{bind, held}
 use Rattle.ice_chip_read.proofs.ReadForms.{AreWithin, plain_within}
 
@@ -260,8 +259,6 @@ closed_is_read r h within =
       buffers = within.served.buffers;
     }
 
--- what is read of a text are the rows of a database
-pub text_is_read : (text : List ℕ) → IfOk (text_says text) IsRead
-text_is_read text =
-    let ls = plain_lines (numbered 1 (lines text)) in
-    bind IsRead (plain_says ls) _ (λ r e. closed_is_read r (held Holds (plain_says ls) r e (plain_holds ls)) (plain_within ls r e))
+-- what is read of lines are the rows of a database
+pub rows_are_read : (r : Reading) → AreReadOfLines r → IsRead (closed r)
+rows_are_read r (ls, e) = closed_is_read r (held Holds (plain_says ls) r e (plain_holds ls)) (plain_within ls r e)

@@ -12,6 +12,7 @@ mod rows;
 mod section;
 mod words;
 
-use fault::ReadStop;
+pub use fault::ReadStop;
 pub use laws::says_chip_or_first_fault;
-pub use read::read_chip;
+pub use read::{finish, read_chip, take_first, take_line};
+pub use reading::Reading;

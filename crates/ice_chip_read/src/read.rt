@@ -1,9 +1,9 @@
 //! Reading a chip text to the rows of its database.
 ghost use Rattle.std.specs.Prelude.{◌≡◌, ◌∷◌};
-ghost use Rattle.ice_chip.specs.Answers.{Answers};
-ghost use Rattle.ice_chip.specs.Views.{parts_view};
-ghost use Rattle.ice_chip_read.specs.Lines.{line_says, lines_say, first_says, plain_says, text_says};
-ghost use Rattle.ice_chip_read.specs.Whole.{chip_says};
+ghost use Rattle.ice_chip.specs.Answers.{Answers, chip_of};
+ghost use Rattle.ice_chip_read.specs.Lines.{line_says, lines_say, first_says, plain_says};
+ghost use Rattle.ice_chip_read.specs.Reading.{closed};
+ghost use Rattle.ice_chip_read.specs.Whole.{chip_says, AreReadOfLines};
 ghost use Rattle.ice_chip_read.specs.Views.{Says, Gives, reading_view};
 
 use crate::ReadStop;
@@ -12,11 +12,14 @@ use crate::reading::{Reading, close};
 use crate::rows::row_line;
 use crate::section::heading_named;
 use ice_base::{PlainLine, PlainLines, begins_with, lines_of, plain_lines};
-use ice_chip::{Chip, ChipFault, ChipParts, build};
+use ice_chip::{Chip, ChipFault, build};
 use std::alloc::Global;
 
-// One line more.
-fn take_line(alloc: Global, reading: &mut Reading, line: PlainLine<'_>) -> Result<(), ReadStop>
+/// One line more. After an error what is read is of no use.
+///
+/// # Errors
+/// The line's fault, or want of memory.
+pub fn take_line(alloc: Global, reading: &mut Reading, line: PlainLine<'_>) -> Result<(), ReadStop>
     ensures { Gives (λ _. reading_view reading.new) result (line_says (reading_view reading.old) line.entry.number (line.entry.first.now ∷ line.entry.others)) }
 {
     if begins_with(b'.', line.first) {
@@ -32,8 +35,11 @@ fn take_line(alloc: Global, reading: &mut Reading, line: PlainLine<'_>) -> Resul
     row_line(alloc, reading, line.number, line.first, line.others)
 }
 
-// The first line.
-fn take_first(alloc: Global, line: PlainLine<'_>) -> Result<Reading, ChipFault>
+/// What is read behind the first line that has words.
+///
+/// # Errors
+/// The line's fault.
+pub fn take_first(alloc: Global, line: PlainLine<'_>) -> Result<Reading, ChipFault>
     ensures { Says reading_view result (first_says line.entry.number (line.entry.first.now ∷ line.entry.others)) }
 {
     if line.first != b".device".as_slice() {
@@ -66,15 +72,18 @@ fn read_lines(alloc: Global, mut lines: PlainLines<'_>) -> Result<Reading, ReadS
     }
 }
 
-// The rows of the chip database that a text writes, or the first fault of its lines.
-fn read_parts(alloc: Global, text: &[u8]) -> Result<ChipParts, ReadStop>
-    ensures { Gives parts_view result (text_says text.now) }
+/// The chip of the rows that are read of all lines, or the first fault of the whole.
+///
+/// # Errors
+/// The fault, or want of memory.
+pub fn finish(alloc: Global, mut reading: Reading) -> Result<Chip, ChipFault>
+    requires { AreReadOfLines (reading_view reading) }
+    ensures { Answers result (chip_of (closed (reading_view reading))) }
 {
-    let mut reading = read_lines(alloc, plain_lines(lines_of(text)))?;
-    match close(alloc, &mut reading) {
-        Ok(()) => Ok(reading.parts),
-        Err(stop) => Err(stop),
+    if let Err(stop) = close(alloc, &mut reading) {
+        return Err(ChipFault::from(stop));
     }
+    build(alloc, reading.parts)
 }
 
 /// The chip that the text of a chip database writes, or its first fault.
@@ -85,8 +94,8 @@ fn read_parts(alloc: Global, text: &[u8]) -> Result<ChipParts, ReadStop>
 pub fn read_chip(alloc: Global, text: &[u8]) -> Result<Chip, ChipFault>
     ensures { Answers result (chip_says text.now) }
 {
-    match read_parts(alloc, text) {
-        Ok(parts) => build(alloc, parts),
+    match read_lines(alloc, plain_lines(lines_of(text))) {
+        Ok(reading) => finish(alloc, reading),
         Err(stop) => Err(ChipFault::from(stop)),
     }
 }

@@ -12,9 +12,16 @@ use ice_desk::{Desk, Gate};
 use ice_play::play_net;
 use ice_play_bits::play_bits;
 use std::alloc::Global;
+use std::thread::Threads;
 
 // The answer to the words, with all that is known of it.
-fn answer<D: Desk, G: Gate + Sync>(alloc: Global, words: &[String], desk: &mut D, gate: &G) -> Done
+fn answer<D: Desk, G: Gate + Sync, R: Threads + Sync>(
+    rt: &R,
+    alloc: Global,
+    words: &[String],
+    desk: &mut D,
+    gate: &G,
+) -> Done
     requires { MayUse (D.may_read desk.old) (D.may_write desk.old) (request_of (map string_bytes words.now)) }
     ensures status { result.status ≡ status_of result.cause }
     ensures caused { Caused (request_of (map string_bytes words.now)) (D.seen desk.old) (D.seen desk.new) result.cause }
@@ -26,7 +33,7 @@ fn answer<D: Desk, G: Gate + Sync>(alloc: Global, words: &[String], desk: &mut D
 {
     match read_request(words) {
         None => finish(desk, Cause::Usage),
-        Some(Request::Build(request)) => build_files(alloc, desk, gate, &request),
+        Some(Request::Build(request)) => build_files(rt, alloc, desk, gate, &request),
         Some(Request::PlayNet(request)) => play_net(alloc, desk, &request),
         Some(Request::PlayBits(request)) => play_bits(alloc, desk, &request),
     }
@@ -39,9 +46,15 @@ fn answer<D: Desk, G: Gate + Sync>(alloc: Global, words: &[String], desk: &mut D
 /// ports drive, step by step. `play-bits CHIP PACKAGE ASC LEVELS` reads the texts of a chip database, of bits and of levels, and says
 /// what the configured chip drives at the pads of the package, step by step.
 #[tactic(auto, using(crate::proofs::RowLaws::answers_so))]
-pub fn run<D: Desk, G: Gate + Sync>(alloc: Global, words: &[String], desk: &mut D, gate: &G) -> Done
+pub fn run<D: Desk, G: Gate + Sync, R: Threads + Sync>(
+    rt: &R,
+    alloc: Global,
+    words: &[String],
+    desk: &mut D,
+    gate: &G,
+) -> Done
     requires { MayUse (D.may_read desk.old) (D.may_write desk.old) (request_of (map string_bytes words.now)) }
     ensures { IsAnswer (request_of (map string_bytes words.now)) (D.seen desk.old) (D.seen desk.new) result }
 {
-    answer(alloc, words, desk, gate)
+    answer(rt, alloc, words, desk, gate)
 }

@@ -39,7 +39,7 @@ fn main(rt: HostRuntime) -> ExitCode {
         let _printed = println!(rt; "error 13 memory");
         return ExitCode::from(NO_MEMORY);
     };
-    let mut desk = HostDesk::new(rt);
-    let done = run(alloc, &words, &mut desk, &OpenGate);
+    let mut desk = HostDesk::new(&rt);
+    let done = run(&rt, alloc, &words, &mut desk, &OpenGate);
     ExitCode::from(done.status)
 }

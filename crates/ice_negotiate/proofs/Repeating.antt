@@ -13,6 +13,7 @@ use Rattle.ice_core.specs.declared.log.RoundLog.{RoundLog}
 use Rattle.ice_core.specs.declared.prices.Prices.{Prices}
 use Rattle.ice_core.specs.Congestion.{price, next_history}
 use Rattle.ice_core.specs.Moves.{IsOccupancy, holds, stands_in, occupancy, place, leaves, moves, movers_from, movers_of}
+use Rattle.ice_words.specs.Grips.{Shut}
 use Rattle.ice_negotiate.specs.Trees.{Route, route_of, bare, IsTree}
 use Rattle.ice_negotiate.specs.Rounds.{Past, ArePricesOf, Moves, IsOneOf, IsRound, IsFirst, Follows, AreAll, AreRounds, IsUnreachable, AreReachedBefore}
 use Rattle.ice_negotiate.specs.Logs.{AreRouted, AllEndOverused}
@@ -253,8 +254,8 @@ last_at (x ∷ earlier) last = last_at earlier last
 free_not_over : (one other : List ℕ) (w : ℕ) → one ≡ other → slice_index one w ≤ 1 → 1 < slice_index other w → ⊥
 free_not_over one other w e le lt = (let same : slice_index one w ≡ slice_index other w = ap (λ xs. slice_index xs w) e in omega arith)
 
-pub routed_free : (graph : Network) (nets : List Net) (permitted : ℕ) (routed : Routed) (logs : List RoundLog) → AreRouted graph nets permitted routed → AllEndOverused graph nets permitted logs → ⊥
-routed_free graph nets permitted routed logs h k =
+pub routed_free : (graph : Network) (nets : List Net) (permitted : ℕ) (routed : Routed) (logs : List RoundLog) (tallies : List Shut) → AreRouted graph nets permitted routed → AllEndOverused graph nets permitted logs tallies → ⊥
+routed_free graph nets permitted routed logs tallies h k =
     let few = h.few in
     let all = k.all in
     let place = length h.earlier in

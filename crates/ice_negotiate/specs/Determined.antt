@@ -6,6 +6,7 @@ use Rattle.ice_graph.specs.declared.tree.Tree.{Tree}
 use Rattle.ice_graph.specs.Network.{Network}
 use Rattle.ice_core.specs.declared.net.Net.{Net}
 use Rattle.ice_core.specs.declared.log.RoundLog.{RoundLog}
+use Rattle.ice_words.specs.Grips.{Shut}
 use Rattle.ice_negotiate.specs.Trees.{route_of}
 use Rattle.ice_negotiate.specs.Rounds.{Past, AreRounds, IsUnreachable}
 use Rattle.ice_negotiate.specs.Logs.{AreRouted, AllEndOverused}
@@ -36,10 +37,10 @@ RoutedAreReached = (graph : Network) (nets : List Net) (permitted : ℕ) (routed
 
 -- nets that are routed within the permitted rounds do not end each of them with an overused wire
 abbrev pub RoutedEndFree : Type 0
-RoutedEndFree = (graph : Network) (nets : List Net) (permitted : ℕ) (routed : Routed) (logs : List RoundLog)
-    → AreRouted graph nets permitted routed → AllEndOverused graph nets permitted logs → ⊥
+RoutedEndFree = (graph : Network) (nets : List Net) (permitted : ℕ) (routed : Routed) (logs : List RoundLog) (tallies : List Shut)
+    → AreRouted graph nets permitted routed → AllEndOverused graph nets permitted logs tallies → ⊥
 
 -- nets of which each round ends with an overused wire have no sink that can't be reached
 abbrev pub OverusedAreReached : Type 0
-OverusedAreReached = (graph : Network) (nets : List Net) (permitted : ℕ) (logs : List RoundLog) (net : NetNo) (sink : WireNo)
-    → AllEndOverused graph nets permitted logs → IsUnreachable graph nets net sink → ⊥
+OverusedAreReached = (graph : Network) (nets : List Net) (permitted : ℕ) (logs : List RoundLog) (tallies : List Shut) (net : NetNo) (sink : WireNo)
+    → AllEndOverused graph nets permitted logs tallies → IsUnreachable graph nets net sink → ⊥

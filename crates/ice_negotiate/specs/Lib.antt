@@ -1,6 +1,6 @@
 pub mod Trees
 pub mod Rounds
+pub mod Tallies
 pub mod Logs
-pub mod Progress
 pub mod Determined
 pub mod Leading

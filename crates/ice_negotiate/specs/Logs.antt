@@ -6,10 +6,10 @@ use Rattle.ice_graph.specs.declared.tree.Tree.{Tree}
 use Rattle.ice_graph.specs.Network.{Network}
 use Rattle.ice_core.specs.declared.net.Net.{Net}
 use Rattle.ice_core.specs.declared.log.RoundLog.{RoundLog}
+use Rattle.ice_words.specs.Grips.{Shut}
 use Rattle.ice_negotiate.specs.Trees.{route_of}
-use Rattle.ice_negotiate.specs.declared.stop.TreeStop.{TreeStop}
-use Rattle.ice_negotiate.specs.declared.stop.TreeStop.TheVariants.{Unreachable as Cut, NoMemory as Memory}
 use Rattle.ice_negotiate.specs.Rounds.{Past, IsFree, AreRounds, AreOverused, AreReachedBefore, IsUnreachable, IsFirstStop}
+use Rattle.ice_negotiate.specs.Tallies.{AreTallies}
 use Rattle.ice_negotiate.specs.declared.fault.Routed.{Routed}
 use Rattle.ice_negotiate.specs.declared.fault.RouteFault.{RouteFault}
 use Rattle.ice_negotiate.specs.declared.fault.RouteFault.TheVariants.{Unreachable, GaveUp, NoMemory}
@@ -47,30 +47,27 @@ pub record AreRouted (graph : Network) (nets : List Net) (permitted : ℕ) (rout
   pub free : IsFree last
   pub trees : routed.trees.items ≡ last.trees
   pub logs : AreLogs (earlier ++ last ∷ []) routed.logs.items
+  pub tallies : AreTallies (earlier ++ last ∷ []) routed.tallies.items
   pub reached : AreReachedBefore graph nets (length nets)
 
 -- each of the permitted rounds ends with an overused wire
-pub record AllEndOverused (graph : Network) (nets : List Net) (permitted : ℕ) (logs : List RoundLog) : Type 0 where
+pub record AllEndOverused (graph : Network) (nets : List Net) (permitted : ℕ) (logs : List RoundLog) (tallies : List Shut) : Type 0 where
   pub past : List Past
   pub rounds : AreRounds graph nets past
   pub all : length past ≡ permitted
   pub overused : AreOverused past
   pub logs_of : AreLogs past logs
+  pub tallies_of : AreTallies past tallies
   pub reached : AreReachedBefore graph nets (length nets)
 
 -- why the nets are not routed
 abbrev pub IsFault : Network → List Net → ℕ → RouteFault → Type 0
 IsFault graph nets permitted (Unreachable net sink) = IsUnreachable graph nets net sink
-IsFault graph nets permitted (GaveUp logs) = AllEndOverused graph nets permitted logs.items
+IsFault graph nets permitted (GaveUp logs tallies) = AllEndOverused graph nets permitted logs.items tallies.items
 IsFault graph nets permitted NoMemory = Unit {0}
 
 -- why a round stops
 abbrev pub IsStop : Network → List Net → List NetNo → RouteFault → Type 0
 IsStop graph nets moved (Unreachable net sink) = IsFirstStop graph nets moved net sink
-IsStop graph nets moved (GaveUp logs) = ⊥
+IsStop graph nets moved (GaveUp logs tallies) = ⊥
 IsStop graph nets moved NoMemory = Unit {0}
-
--- the fault of the net that gets no tree
-abbrev pub fault_of : NetNo → TreeStop → RouteFault
-fault_of net (Cut sink) = Unreachable net sink
-fault_of net Memory = NoMemory

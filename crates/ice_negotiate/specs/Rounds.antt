@@ -1,5 +1,5 @@
 -- Rounds of negotiated congestion: in each the nets that move get new trees, in the prices of the moment at which it began.
-use Rattle.std.specs.Prelude.{◌≡◌, ℕ, ◌+◌, ◌-◌, ◌*◌, ◌<◌, ◌≤◌, ◌⊎◌, List, [], Some, true, cond, length, replicate, slice_get, slice_index}
+use Rattle.std.specs.Prelude.{◌≡◌, ℕ, ◌+◌, ◌-◌, ◌*◌, ◌<◌, ◌≤◌, ◌⊎◌, List, [], Some, cond, length, replicate, slice_get, slice_index}
 use Rattle.ice_base.specs.declared.number.WireNo.{WireNo}
 use Rattle.ice_base.specs.declared.number.NetNo.{NetNo}
 use Rattle.ice_graph.specs.declared.tree.Tree.{Tree}
@@ -8,7 +8,6 @@ use Rattle.ice_core.specs.declared.net.Net.{Net}
 use Rattle.ice_core.specs.declared.prices.Prices.{Prices}
 use Rattle.ice_core.specs.Congestion.{price, next_history}
 use Rattle.ice_core.specs.Moves.{IsOccupancy, holds, movers_of}
-use Rattle.ice_path.specs.Room.{AreWires}
 use Rattle.ice_negotiate.specs.Trees.{IsTree, AreOnce, AreReached, AreSinks, IsCause, route_of}
 use Rattle.ice_negotiate.specs.declared.stop.TreeStop.TheVariants.{Unreachable}
 
@@ -123,17 +122,6 @@ AreFew counts tree = (w : ℕ) → w < length counts → slice_index counts w - 
 -- no tree holds a wire twice
 abbrev pub HoldOnce : List Tree → Type 0
 HoldOnce trees = (n : ℕ) (tree : Tree) → slice_get trees n ≡ Some tree → AreOnce tree.wires.items
-
--- the net of this tree is among those that are counted, at most 65,536
-pub record IsCounted (counts : List ℕ) (tree : Tree) : Type 0 where
-  pub within : AreWires (length counts) tree.wires.items
-  pub held : (w : ℕ) → w < length counts → holds w tree ≡ true → 1 ≤ slice_index counts w
-  pub fits : (w : ℕ) → w < length counts → slice_index counts w ≤ 65536
-
--- the counts of the nets of which one leaves the one tree and comes to the other
-pub record AreRecounted (counts : List ℕ) (old new : Tree) (next : List ℕ) : Type 0 where
-  pub long : length next ≡ length counts
-  pub each : (w : ℕ) → w < length counts → slice_index next w ≡ slice_index counts w - cond (holds w old) 1 0 + cond (holds w new) 1 0
 
 -- the prices of the round with all nets among the others
 pub record AreOpen (round : ℕ) (history counts : List ℕ) (p : Prices) : Type 0 where

@@ -5,6 +5,7 @@ ghost use Rattle.ice_negotiate.specs.declared.fault.RouteFault.TheVariants.{NoMe
 use ice_base::{NetNo, WireNo};
 use ice_core::RoundLog;
 use ice_graph::Tree;
+use ice_words::Tally;
 use std::alloc::{AllocError, AllocFailed};
 use thiserror::Error;
 
@@ -15,6 +16,8 @@ pub struct Routed {
     pub trees: Vec<Tree>,
     /// The logs of the rounds in order.
     pub logs: Vec<RoundLog>,
+    /// The tallies of the rounds in order.
+    pub tallies: Vec<Tally>,
 }
 
 /// Why nets are not routed.
@@ -33,6 +36,8 @@ pub enum RouteFault {
     GaveUp {
         /// The logs of the rounds in order.
         logs: Vec<RoundLog>,
+        /// The tallies of the rounds in order.
+        tallies: Vec<Tally>,
     },
     /// Want of memory.
     #[error("want of memory")]

@@ -20,7 +20,7 @@ use Rattle.ice_play.specs.PlayRows.{BlifRow, IsMalformed, IsNetFault, IsUnsound,
 
 -- what a refusal tells of the texts
 Told : List (List ℕ) → Cause → Type 0
-Told texts (Good placement) = Unit {0}
+Told texts (Good placement tallies) = Unit {0}
 Told texts (WriteFault role put) = Unit {0}
 Told texts (BadBlif fault) = IsMalformed fault texts
 Told texts (BadNet fault) = IsFaulty fault texts
@@ -33,7 +33,7 @@ unfolding Told
 told_levels texts circuit (Err line) cause e sound is m =
     subst (Told texts) (sym (fault_alone (levels_of (length circuit.ports) (text_at texts 2)) BadLevels (λ levels. IsDone) line cause is m)) (record { circuit = circuit; is_circuit = e; is_sound = sound; is_line = is })
 told_levels texts circuit (Ok levels) cause e sound is m =
-    of_done (Told texts) (λ p. tt) (λ r n. tt) cause (then_stands (levels_of (length circuit.ports) (text_at texts 2)) BadLevels (λ ls. IsDone) levels cause is m)
+    of_done (Told texts) (λ p s. tt) (λ r n. tt) cause (then_stands (levels_of (length circuit.ports) (text_at texts 2)) BadLevels (λ ls. IsDone) levels cause is m)
 
 told_net : (texts : List (List ℕ)) (circuit : NetlistData) (cause : Cause) → netlist_of (text_at texts 1) ≡ Ok circuit → NetStands (text_at texts 2) circuit cause → Told texts cause
 unfolding Told
@@ -66,14 +66,14 @@ net_alone texts circuit cause unsound (inr good) = absurd (unsound good.0)
 pub lawful : (p : PlayNet) → Lawful (play_net p)
 unfolding Told
 lawful p = record {
-  done = λ texts text on cause g done.
+  done = λ texts text on counted cause g done.
       behind (netlist_of (text_at texts 1)) BadBlif (NetStands (text_at texts 2)) g.0.circuit cause g.0.is_circuit
       (inr (g.0.is_sound, behind (levels_of (length g.0.circuit.ports) (text_at texts 2)) BadLevels (λ levels. IsDone) g.0.levels cause g.0.are_levels done));
   never = λ texts m. told texts Usage m;
 }
 
 pub alone : (p : PlayNet) → StandsAlone (play_net p)
-alone p texts text on cause g m =
+alone p texts text on counted cause g m =
     then_stands (levels_of (length g.0.circuit.ports) (text_at texts 2)) BadLevels (λ levels. IsDone) g.0.levels cause g.0.are_levels
     (levels_stand texts g.0.circuit cause g.0.is_sound (net_stands texts g.0.circuit cause g.0.is_circuit m))
 

@@ -19,6 +19,7 @@ use Rattle.ice_answer.specs.Commands.{Command, command_of, Aloud, IsDone, stands
 use Rattle.ice_answer.specs.Reading.{Files}
 use Rattle.ice_answer.specs.Refusals.{IsNetCause}
 use Rattle.ice_answer.specs.Texts.{text_at}
+use Rattle.ice_words.specs.Grips.{Shut}
 
 -- the words of `play-net BLIF LEVELS`: names of files
 pub record PlayNet : Type 0 where
@@ -66,9 +67,9 @@ pub record IsPlayed (texts : List (List ℕ)) (text : List ℕ) : Type 0 where
   pub are_levels : levels_of (length circuit.ports) (text_at texts 2) ≡ Ok levels
   pub is_text : text ≡ drives_text (shows circuit levels)
 
--- what is made of the texts; nothing is placed
-abbrev pub IsMade : List (List ℕ) → List ℕ → List TileAt → Type 0
-IsMade texts text placement = IsPlayed texts text × (placement ≡ no_places)
+-- what is made of the texts; nothing is placed or routed
+abbrev pub IsMade : List (List ℕ) → List ℕ → List TileAt → List Shut → Type 0
+IsMade texts text placement tallies = IsPlayed texts text × (placement ≡ no_places) × (tallies ≡ [])
 
 abbrev pub play_net : PlayNet → Command
 play_net p = command_of (files_of p) Stands IsMade Aloud

@@ -9,7 +9,7 @@ ghost use Rattle.ice_play.specs.Requests.{request_view};
 
 use ice_answer::{
     Cause, Done, FileRole, InputFile, Made, Making, Texts, blif_refusal, net_refusal, no_placement,
-    say_made,
+    no_tallies, say_made,
 };
 use ice_base::NoMemory;
 use ice_blif::read_blif;
@@ -30,7 +30,7 @@ pub struct NetRequest<'a> {
 impl<'a> Making for NetRequest<'a> {
     ghost stands = { λ request texts cause. Stands texts cause };
 
-    ghost gives = { λ request texts text placement. IsMade texts text placement };
+    ghost gives = { λ request texts text placement tallies. IsMade texts text placement tallies };
 
     fn make(&self, alloc: Global, texts: &Texts) -> Result<Made, Cause> {
         let netlist = match read_blif(alloc, texts.at(1)) {
@@ -50,6 +50,7 @@ impl<'a> Making for NetRequest<'a> {
             Ok(text) => Ok(Made {
                 text,
                 placement: no_placement(alloc),
+                tallies: no_tallies(alloc),
             }),
             Err(NoMemory) => Err(Cause::NoMemory),
         }

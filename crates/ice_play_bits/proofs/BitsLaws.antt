@@ -25,7 +25,7 @@ use Rattle.ice_play_bits.proofs.Standing.{none_of, asc_stands, package_stands, b
 
 -- what a refusal tells of the texts
 Told : List ℕ → List (List ℕ) → Cause → Type 0
-Told name t (Good placement) = Unit {0}
+Told name t (Good placement tallies) = Unit {0}
 Told name t (WriteFault role put) = Unit {0}
 Told name t (BadChip fault) = HasChipFault fault t
 Told name t (BadAsc fault) = HasAscFault fault t
@@ -41,7 +41,7 @@ told_levels name t parts k bonded (Err line) cause packed faultless is m =
     subst (Told name t) (sym (fault_alone (levels_of (length bonded.pads) (text_at t 3)) BadLevels (λ levels. IsDone) line cause is m))
     (record { parts = parts; configuration = k; bonded = bonded; is_packed = packed; faultless = faultless; is_line = is })
 told_levels name t parts k bonded (Ok levels) cause packed faultless is m =
-    of_done (Told name t) (λ p. tt) (λ r n. tt) cause (then_stands (levels_of (length bonded.pads) (text_at t 3)) BadLevels (λ ls. IsDone) levels cause is m)
+    of_done (Told name t) (λ p s. tt) (λ r n. tt) cause (then_stands (levels_of (length bonded.pads) (text_at t 3)) BadLevels (λ ls. IsDone) levels cause is m)
 
 told_bits : (name : List ℕ) (t : List (List ℕ)) (parts : Parts) (k : Configuration) (bonded : PackageRows) (cause : Cause) → IsPacked name t parts k bonded
     → BitsStand (text_at t 3) parts k bonded cause → Told name t cause
@@ -80,14 +80,14 @@ told name t cause m = told_chip name t (chip_says (text_at t 1)) cause refl m
 pub lawful : (p : PlayBits) → Lawful (play_bits p)
 unfolding Told
 lawful p = record {
-  done = λ t text on cause g done.
+  done = λ t text on counted cause g done.
       packed_so p.package_name t g.0.parts g.0.configuration g.0.bonded cause g.0.is_packed
       (inr (g.0.faultless, behind (levels_of (length g.0.bonded.pads) (text_at t 3)) BadLevels (λ levels. IsDone) g.0.levels cause g.0.levels_are done));
   never = λ t m. told p.package_name t Usage m;
 }
 
 pub alone : (p : PlayBits) → StandsAlone (play_bits p)
-alone p t text on cause g m =
+alone p t text on counted cause g m =
     then_stands (levels_of (length g.0.bonded.pads) (text_at t 3)) BadLevels (λ levels. IsDone) g.0.levels cause g.0.levels_are
     (levels_stand p.package_name t g.0.parts g.0.configuration g.0.bonded cause g.0.is_packed g.0.faultless m)
 

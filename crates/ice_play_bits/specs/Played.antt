@@ -21,6 +21,7 @@ use Rattle.ice_answer.specs.Causes.{no_places}
 use Rattle.ice_answer.specs.Commands.{Command, command_of, Aloud, IsDone, stands_by, stands_with, stands_if}
 use Rattle.ice_answer.specs.Reading.{Files}
 use Rattle.ice_answer.specs.Texts.{text_at}
+use Rattle.ice_words.specs.Grips.{Shut}
 
 -- the words of `play-bits CHIP PACKAGE ASC LEVELS`: names of files, and the name of a package
 pub record PlayBits : Type 0 where
@@ -105,9 +106,9 @@ pub record IsPlayed (name : List ℕ) (texts : List (List ℕ)) (text : List ℕ
   pub levels_are : levels_of (length bonded.pads) (text_at texts 3) ≡ Ok levels
   pub is_text : text ≡ drives_text (shows parts (bits_of configuration) bonded.pads bonded.pads levels)
 
--- what is made of the texts; nothing is placed
-abbrev pub IsMade : List ℕ → List (List ℕ) → List ℕ → List TileAt → Type 0
-IsMade name texts text placement = IsPlayed name texts text × (placement ≡ no_places)
+-- what is made of the texts; nothing is placed or routed
+abbrev pub IsMade : List ℕ → List (List ℕ) → List ℕ → List TileAt → List Shut → Type 0
+IsMade name texts text placement tallies = IsPlayed name texts text × (placement ≡ no_places) × (tallies ≡ [])
 
 abbrev pub play_bits : PlayBits → Command
 play_bits p = command_of (files_of p) (Stands p.package_name) (IsMade p.package_name) Aloud

@@ -12,7 +12,7 @@ ghost use Rattle.ice_play_bits.specs.Requests.{request_view};
 
 use ice_answer::{
     Cause, Done, FileRole, InputFile, Made, Making, Texts, asc_refusal, bits_refusal, chip_refusal,
-    no_placement, say_made,
+    no_placement, no_tallies, say_made,
 };
 use ice_asc::read_asc;
 use ice_base::NoMemory;
@@ -48,7 +48,7 @@ fn play_read(
 ) -> Result<Made, Cause>
     requires chip { chip_says (text_at texts.now 1) ≡ Ok chip.now }
     requires bits { asc_in chip.now (text_at texts.now 2) ≡ Ok bits.now }
-    ensures played { IfOk result (λ made. IsMade package_name.now texts.now made.text.items made.placement) }
+    ensures played { IfOk result (λ made. IsMade package_name.now texts.now made.text.items made.placement made.tallies.items) }
     ensures refused { IfErr result (λ cause. IsRefusal (Stands package_name.now texts.now) cause) }
 {
     let Some(bonded) = chip.package(package_name.as_bytes()) else {
@@ -67,6 +67,7 @@ fn play_read(
         Ok(text) => Ok(Made {
             text,
             placement: no_placement(alloc),
+            tallies: no_tallies(alloc),
         }),
         Err(NoMemory) => Err(Cause::NoMemory),
     }
@@ -75,7 +76,7 @@ fn play_read(
 // The text of what the bits of the second text drive on a chip, for all steps.
 fn play_on(alloc: Global, package_name: &str, texts: &Texts, chip: &Chip) -> Result<Made, Cause>
     requires { chip_says (text_at texts.now 1) ≡ Ok chip.now }
-    ensures played { IfOk result (λ made. IsMade package_name.now texts.now made.text.items made.placement) }
+    ensures played { IfOk result (λ made. IsMade package_name.now texts.now made.text.items made.placement made.tallies.items) }
     ensures refused { IfErr result (λ cause. IsRefusal (Stands package_name.now texts.now) cause) }
 {
     match read_asc(alloc, texts.at(2), chip) {
@@ -87,7 +88,7 @@ fn play_on(alloc: Global, package_name: &str, texts: &Texts, chip: &Chip) -> Res
 impl<'a> Making for BitsRequest<'a> {
     ghost stands = { λ request texts cause. Stands request.package_name.now texts cause };
 
-    ghost gives = { λ request texts text placement. IsMade request.package_name.now texts text placement };
+    ghost gives = { λ request texts text placement tallies. IsMade request.package_name.now texts text placement tallies };
 
     fn make(&self, alloc: Global, texts: &Texts) -> Result<Made, Cause> {
         match read_chip(alloc, texts.at(1)) {

@@ -8,6 +8,7 @@ use ice_graph::Graph;
 use ice_small_chips::{Change, Sample, text_with};
 use std::alloc::{AllocError, Global};
 use std::process::Abort;
+use std::thread::Threads;
 
 /// What is asked of the usable rows of a chip.
 #[derive(Clone, Copy)]
@@ -19,7 +20,7 @@ pub enum Asked {
 }
 
 // Fails unless this is answered of a graph.
-fn expect_asked(rt: &impl Abort, alloc: Global, graph: &Graph, asked: Asked) {
+fn expect_asked(rt: &(impl Abort + Threads + Sync), alloc: Global, graph: &Graph, asked: Asked) {
     match asked {
         Asked::Usable(wires, rows) => expect_graph(rt, graph, wires, rows),
         Asked::Routed(wanted) => expect_answer(rt, alloc, graph, wanted),
@@ -27,7 +28,7 @@ fn expect_asked(rt: &impl Abort, alloc: Global, graph: &Graph, asked: Asked) {
 }
 
 // Fails unless this is answered of the usable rows of a chip.
-fn expect_chip(rt: &impl Abort, alloc: Global, chip: &Chip, asked: Asked) {
+fn expect_chip(rt: &(impl Abort + Threads + Sync), alloc: Global, chip: &Chip, asked: Asked) {
     match fabric(alloc, chip) {
         Ok(graph) => expect_asked(rt, alloc, &graph, asked),
         Err(_) => panic!(rt; "want of memory"),
@@ -35,7 +36,7 @@ fn expect_chip(rt: &impl Abort, alloc: Global, chip: &Chip, asked: Asked) {
 }
 
 // Fails unless this is answered of the usable rows of the chip of a text.
-fn expect_text(rt: &impl Abort, alloc: Global, text: &[u8], asked: Asked) {
+fn expect_text(rt: &(impl Abort + Threads + Sync), alloc: Global, text: &[u8], asked: Asked) {
     match read_chip(alloc, text) {
         Ok(chip) => expect_chip(rt, alloc, &chip, asked),
         Err(fault) => panic!(rt; "{fault}"),
@@ -44,7 +45,7 @@ fn expect_text(rt: &impl Abort, alloc: Global, text: &[u8], asked: Asked) {
 
 /// Fails unless this is answered of the usable rows of the chip of a text with these changes.
 pub fn expect(
-    rt: &impl Abort,
+    rt: &(impl Abort + Threads + Sync),
     alloc: Global,
     sample: Sample,
     changes: &[Change],

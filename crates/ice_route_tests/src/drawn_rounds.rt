@@ -10,10 +10,12 @@ use ice_base::{NetNo, WireNo};
 use ice_core::{Net, RoundLog};
 use ice_desk::OpenGate;
 use ice_graph::{Edge, Graph, Tree};
-use ice_negotiate::{RouteFault, Routed, negotiate};
+use ice_negotiate::{RouteFault, Routed};
+use ice_rounds::negotiate;
 use std::alloc::Global;
 use std::process::Abort;
 use std::test::Fail;
+use std::thread::Threads;
 
 // Fails unless the plain program has the tree.
 fn expect_tree(rt: &impl Abort, found: &Tree, tree: &PlainTree) {
@@ -152,7 +154,7 @@ fn expect_fault(rt: &impl Abort, fault: &RouteFault, rounds: u32, answer: &Answe
         (RouteFault::Unreachable { net, sink }, Answer::Cut(wanted, target)) => {
             expect_that(rt, (net.0, sink.0) == (wanted.0, target.0), b"fault");
         }
-        (RouteFault::GaveUp { logs }, Answer::Shared) => {
+        (RouteFault::GaveUp { logs, tallies: _ }, Answer::Shared) => {
             expect_that(rt, logs.len() == rounds as usize, b"fault");
         }
         _ => panic!(rt; "{fault}"),
@@ -189,7 +191,7 @@ fn expect_routed(rt: &impl Abort, edges: &[Edge], nets: &[Net], rounds: u32, rou
 // The logs that a fault tells.
 fn logs_of(fault: &RouteFault) -> &[RoundLog] {
     match fault {
-        RouteFault::GaveUp { logs } => logs,
+        RouteFault::GaveUp { logs, tallies: _ } => logs,
         _ => &[],
     }
 }
@@ -202,7 +204,7 @@ fn expect_stopped(rt: &impl Abort, edges: &[Edge], nets: &[Net], rounds: u32, fa
 
 // Fails unless both programs answer the same for these nets.
 fn compare_nets(
-    rt: &impl Abort,
+    rt: &(impl Abort + Threads + Sync),
     alloc: Global,
     graph: &Graph,
     nets: &[Net],
@@ -214,7 +216,8 @@ fn compare_nets(
     requires few { length nets.now ≤ 65536 }
     requires rounds { (1 ≤ rounds) × (rounds ≤ 64) }
 {
-    match negotiate(alloc, graph, nets, rounds, 1, &OpenGate) {
+    let workers = 1 + rounds % 8;
+    match negotiate(rt, alloc, graph, nets, rounds, workers, &OpenGate) {
         Ok(routed) => {
             expect_routed(rt, graph.edges(), nets, rounds, &routed);
             tally_with(tally, &routed)
@@ -227,7 +230,13 @@ fn compare_nets(
 }
 
 // Draws three nets of a graph, and fails unless both programs answer the same.
-fn compare_in(rt: &impl Abort, alloc: Global, seed: &mut u64, graph: &Graph, tally: Tally) -> Tally
+fn compare_in(
+    rt: &(impl Abort + Threads + Sync),
+    alloc: Global,
+    seed: &mut u64,
+    graph: &Graph,
+    tally: Tally,
+) -> Tally
     requires { graph.now.wires ≡ 12 }
 {
     let nets = drawn_nets(alloc, seed, graph).expect(rt, "memory");
@@ -237,7 +246,7 @@ fn compare_in(rt: &impl Abort, alloc: Global, seed: &mut u64, graph: &Graph, tal
 
 // Draws a graph with this many edges and three nets, and fails unless both programs answer the same.
 fn compare_drawn(
-    rt: &impl Abort,
+    rt: &(impl Abort + Threads + Sync),
     alloc: Global,
     seed: &mut u64,
     count: u32,

@@ -5,6 +5,7 @@ use ice_small_chips::Sample;
 use std::alloc::{AllocError, Global};
 use std::process::Abort;
 use std::test::Fail;
+use std::thread::Threads;
 
 const UNSOUND: [Case; 5] = [
     // A bit of two wires' groups in one tile, and the same bit in another tile.
@@ -121,7 +122,10 @@ const MEMORIES: [Case; 7] = [
     (b"3 0 lutff_0/lout\n", b""),
 ];
 
-fn small_chips_have_their_usable_rows(rt: &impl Abort, alloc: Global) -> Result<(), AllocError> {
+fn small_chips_have_their_usable_rows(
+    rt: &(impl Abort + Threads + Sync),
+    alloc: Global,
+) -> Result<(), AllocError> {
     let rows = b"0 0 1  1 1 2  2 3 1";
     expect(rt, alloc, Sample::TwoTiles, &[], Asked::Usable(4, rows))?;
     let rows = b"0 0 2  1 1 2  2 0 3  3 1 3  4 3 4  5 2 5  6 4 5  7 2 6  8 4 6";
@@ -131,14 +135,17 @@ fn small_chips_have_their_usable_rows(rt: &impl Abort, alloc: Global) -> Result<
     Ok(())
 }
 
-fn rows_that_are_not_sound_are_left_out(rt: &impl Abort, alloc: Global) -> Result<(), AllocError> {
+fn rows_that_are_not_sound_are_left_out(
+    rt: &(impl Abort + Threads + Sync),
+    alloc: Global,
+) -> Result<(), AllocError> {
     expect_cases(rt, alloc, Sample::Pads, 21, 6, &UNSOUND)?;
     expect_cases(rt, alloc, Sample::Pads, 21, 6, &APART)?;
     Ok(())
 }
 
 fn no_route_leaves_an_input_or_enters_an_output(
-    rt: &impl Abort,
+    rt: &(impl Abort + Threads + Sync),
     alloc: Global,
 ) -> Result<(), AllocError> {
     expect_cases(rt, alloc, Sample::Named, 35, 3, &PADS)?;

@@ -8,13 +8,16 @@ use crate::trees::{expect_rows, expect_wires};
 use crate::usable::next_number;
 use ice_base::{NetNo, WireNo, WordIter, lines_of, words_of};
 use ice_core::RoundLog;
-use ice_desk::OpenGate;
+use ice_desk::{Gate, MeetGate, OpenGate};
 use ice_graph::{Graph, Tree};
-use ice_negotiate::{RouteFault, Routed, negotiate};
+use ice_negotiate::{RouteFault, Routed};
+use ice_rounds::negotiate;
 use ice_small_chips::Sample;
+use ice_words::Tally;
 use std::alloc::Global;
 use std::process::Abort;
 use std::test::Fail;
+use std::thread::Threads;
 
 // What is kept of a round, as numbers: wires with their histories; on a line for each net that moves its number and its rows; and
 // overused wires with their nets.
@@ -86,20 +89,28 @@ fn expect_tree(rt: &impl Abort, trees: &[Tree], number: usize, wires: &[u8], row
 }
 
 // What is answered for nets, of which that of each number goes from the wire of that number to these sinks.
-fn route(
-    rt: &impl Abort,
+fn route<G: Gate + Sync>(
+    rt: &(impl Abort + Threads + Sync),
     alloc: Global,
     graph: &Graph,
     sinks: &[&[u8]],
     rounds: u32,
     workers: u32,
+    gate: &G,
 ) -> Result<Routed, RouteFault>
     requires rounds { (1 ≤ rounds) × (rounds ≤ 64) }
     requires workers { (1 ≤ workers) × (workers ≤ 8) }
 {
     let nets = nets_of(rt, alloc, graph, sinks).expect(rt, "memory");
     assert!(rt; graph.wires() <= 1_048_576 && nets.len() <= 65_536);
-    negotiate(alloc, graph, &nets, rounds, workers, &OpenGate)
+    negotiate(rt, alloc, graph, &nets, rounds, workers, gate)
+}
+
+// Fails unless so many nets were claimed in this round, and so many wires released and held.
+fn expect_tally(rt: &impl Abort, tallies: &[Tally], round: usize, wanted: (u32, u64, u64)) {
+    let tally = tallies.get(round).expect(rt, "a tally");
+    let found = (tally.claims(), tally.releases(), tally.holds());
+    expect_that(rt, found == wanted, b"tally");
 }
 
 // Both nets take the short wire 2, and then the first takes the long way over wires 3 and 4.
@@ -111,16 +122,28 @@ fn expect_long_way(rt: &impl Abort, routed: &Routed) {
     expect_that(rt, routed.trees.len() == 2, b"long way");
     expect_tree(rt, &routed.trees, 0, b"0 3 4 5", b"2 4 6");
     expect_tree(rt, &routed.trees, 1, b"1 2 6", b"1 7");
+    expect_tally(rt, &routed.tallies, 0, (2, 0, 6));
+    expect_tally(rt, &routed.tallies, 1, (1, 3, 4));
 }
 
 // Fails unless so many workers route two nets over the short way and the long way.
-fn expect_routed(rt: &impl Abort, alloc: Global, graph: &Graph, workers: u32)
+fn expect_routed(rt: &(impl Abort + Threads + Sync), alloc: Global, graph: &Graph, workers: u32)
     requires { (1 ≤ workers) × (workers ≤ 8) }
 {
-    match route(rt, alloc, graph, &[b"5", b"6"], 64, workers) {
+    match route(rt, alloc, graph, &[b"5", b"6"], 64, workers, &OpenGate) {
         Ok(routed) => expect_long_way(rt, &routed),
         Err(fault) => panic!(rt; "{fault}"),
     }
+}
+
+// Fails unless two workers route two nets and meet at a gate, which is passed with each net that moves.
+fn expect_met(rt: &(impl Abort + Threads + Sync), alloc: Global, graph: &Graph) {
+    let gate = MeetGate::new();
+    match route(rt, alloc, graph, &[b"5", b"6"], 64, 2, &gate) {
+        Ok(routed) => expect_long_way(rt, &routed),
+        Err(fault) => panic!(rt; "{fault}"),
+    }
+    expect_that(rt, gate.met() && gate.passes() == 3, b"met");
 }
 
 // Both nets need wire 2, and move over it again and again.
@@ -133,14 +156,17 @@ const NO_WAY_ROUND: [Round; 3] = [
 // Fails unless routing gave up after these rounds.
 fn expect_given_up(rt: &impl Abort, fault: &RouteFault, rounds: &[Round]) {
     match fault {
-        RouteFault::GaveUp { logs } => expect_logs(rt, logs, rounds),
+        RouteFault::GaveUp { logs, tallies } => {
+            expect_logs(rt, logs, rounds);
+            expect_that(rt, tallies.len() == rounds.len(), b"tallies");
+        }
         _ => panic!(rt; "{fault}"),
     }
 }
 
 // Fails unless two nets are not routed in three rounds.
-fn expect_no_way_round(rt: &impl Abort, alloc: Global, graph: &Graph) {
-    match route(rt, alloc, graph, &[b"3", b"4"], 3, 1) {
+fn expect_no_way_round(rt: &(impl Abort + Threads + Sync), alloc: Global, graph: &Graph) {
+    match route(rt, alloc, graph, &[b"3", b"4"], 3, 1, &OpenGate) {
         Ok(_) => panic!(rt; "routed"),
         Err(fault) => expect_given_up(rt, &fault, &NO_WAY_ROUND),
     }
@@ -160,13 +186,13 @@ fn expect_unreachable(rt: &impl Abort, fault: &RouteFault, wanted: (NetNo, WireN
 
 // Fails unless of these nets this one doesn't reach this sink.
 fn expect_cut(
-    rt: &impl Abort,
+    rt: &(impl Abort + Threads + Sync),
     alloc: Global,
     graph: &Graph,
     sinks: &[&[u8]],
     wanted: (NetNo, WireNo),
 ) {
-    match route(rt, alloc, graph, sinks, 64, 1) {
+    match route(rt, alloc, graph, sinks, 64, 1, &OpenGate) {
         Ok(_) => panic!(rt; "routed"),
         Err(fault) => expect_unreachable(rt, &fault, wanted),
     }
@@ -184,12 +210,18 @@ pub enum Wanted {
 }
 
 /// Fails unless this is answered, by 1, 2 and 8 workers where nets are routed.
-pub fn expect_answer(rt: &impl Abort, alloc: Global, graph: &Graph, wanted: Wanted) {
+pub fn expect_answer(
+    rt: &(impl Abort + Threads + Sync),
+    alloc: Global,
+    graph: &Graph,
+    wanted: Wanted,
+) {
     match wanted {
         Wanted::LongWay => {
             expect_routed(rt, alloc, graph, 1);
             expect_routed(rt, alloc, graph, 2);
             expect_routed(rt, alloc, graph, 8);
+            expect_met(rt, alloc, graph);
         }
         Wanted::NoWayRound => expect_no_way_round(rt, alloc, graph),
         Wanted::Cut => expect_cut(rt, alloc, graph, &[b"2"], (NetNo(0), WireNo(2))),
@@ -197,7 +229,7 @@ pub fn expect_answer(rt: &impl Abort, alloc: Global, graph: &Graph, wanted: Want
 }
 
 // Fails unless the net of the least number is named, and of it the first target of the first sink.
-fn expect_least_cut(rt: &impl Abort, alloc: Global) {
+fn expect_least_cut(rt: &(impl Abort + Threads + Sync), alloc: Global) {
     let graph = graph_of(rt, alloc, 5, b"0 0 2");
     expect_cut(rt, alloc, &graph, &[b"2", b"4 3\n3"], (NetNo(1), WireNo(4)));
     expect_cut(

@@ -6,6 +6,7 @@ use ice_graph::{Edge, Graph};
 use ice_small_chips::Sample;
 use std::alloc::{AllocError, Global};
 use std::process::Abort;
+use std::thread::Threads;
 
 /// What stands in place of a line of a text, and the usable rows of its chip: the number, the source and the target of each.
 pub type Case = (&'static [u8], &'static [u8]);
@@ -37,7 +38,7 @@ pub fn expect_graph(rt: &impl Abort, graph: &Graph, wires: u32, rows: &[u8]) {
 
 /// Fails unless the chip of a text has this many wires, and the usable rows of each case with its lines in place of this line.
 pub fn expect_cases(
-    rt: &impl Abort,
+    rt: &(impl Abort + Threads + Sync),
     alloc: Global,
     sample: Sample,
     line: u32,

@@ -1,5 +1,5 @@
 //! The counts at the end of a round, and its tally.
-ghost use Rattle.std.specs.Prelude.{◌≡◌, ◌+◌, ◌<◌, ◌≤◌, ◌^◌, ℕ, false, length, drop, slice_index};
+ghost use Rattle.std.specs.Prelude.{◌≡◌, ◌+◌, ◌<◌, ◌≤◌, ◌^◌, [], ℕ, length, drop, slice_index, vec_capacity};
 ghost use Rattle.ice_core.specs.Routes.{overuse};
 ghost use Rattle.std.specs.Mem.Slots.{slots_items, slots_len, IsFull};
 ghost use Rattle.ice_words.specs.Grips.{Shut, shut_of};
@@ -11,10 +11,13 @@ use std::marker::Model;
 
 /// The counts at the end of a round, beside those that it began with. Contracts see both lists, what was posted, and how many tasks, releases and holds
 /// there were.
+#[derive(Debug, Drop)]
 pub struct Counts {
-    pub(crate) closed: Closed<u64, Global>,
+    pub(crate) closed: Vec<u32>,
     pub(crate) opened: Vec<u32>,
     pub(crate) over_opened: u64,
+    pub(crate) up: u64,
+    pub(crate) down: u64,
     pub(crate) claims: u32,
     pub(crate) releases: u64,
     pub(crate) holds: u64,
@@ -23,23 +26,24 @@ pub struct Counts {
 impl Model for Counts {
     ghost Value = { Shut };
 
-    ghost view = { λ c. shut_of c.opened.items (drop 3 (slots_items c.closed.words)) (slice_index (slots_items c.closed.words) 1) (slice_index (slots_items c.closed.words) 2) c.claims c.releases c.holds };
+    ghost view = { λ c. shut_of c.opened.items c.closed.items c.up c.down c.claims c.releases c.holds };
 
-    ghost invariant = { λ c. (slots_len c.closed.words ≡ length c.opened.items + 3) × IsFull c.closed.words × (slots_len c.closed.slots ≡ 0) × ((w : ℕ) → w < length c.opened.items → slice_index (slots_items c.closed.words) (w + 3) ≤ 131072) × (c.over_opened ≤ 2 ^ 48) × (slice_index (slots_items c.closed.words) 1 ≤ 2 ^ 48) × (c.over_opened + slice_index (slots_items c.closed.words) 1 ≡ overuse (drop 3 (slots_items c.closed.words)) + slice_index (slots_items c.closed.words) 2) };
+    ghost invariant = { λ c. (length c.closed.items ≡ length c.opened.items) × (c.over_opened ≤ 2 ^ 48) × (c.up ≤ 2 ^ 48) × (c.over_opened + c.up ≡ overuse c.closed.items + c.down) };
 }
 
-impl Drop for Counts {
-    fn drop(self) {
-        let Counts {
-            closed,
-            opened: _,
-            over_opened: _,
-            claims: _,
-            releases: _,
-            holds: _,
-        } = self;
-        closed.free();
+// The counts of so many wires in a table that no thread shares any more, in a list that has room for them.
+pub fn counts_in(shut: &Closed<u64, Global>, wires: usize, mut room: Vec<u32>) -> Vec<u32>
+    requires full { IsFull shut.now.words }
+    requires wires { (slots_len shut.now.words ≡ wires + 3) × (length (drop 3 (slots_items shut.now.words)) ≡ wires) }
+    requires low { (w : ℕ) → w < wires → slice_index (slots_items shut.now.words) (w + 3) ≤ 131072 }
+    requires none { room.items ≡ [] }
+    requires room { wires ≤ vec_capacity room }
+    ensures { result.items ≡ drop 3 (slots_items shut.now.words) }
+{
+    for wire in 0..wires {
+        room.push_reserved(shut.word(wire + 3) as u32);
     }
+    room
 }
 
 impl Counts {
@@ -48,14 +52,21 @@ impl Counts {
         requires { wire.0 < length self.now.opened }
         ensures { result ≡ slice_index self.now.closed wire.0 }
     {
-        self.closed.word(wire.0 as usize + 3) as u32
+        self.closed[wire.0 as usize]
+    }
+
+    /// The counts of all wires, by number. Takes no memory.
+    pub fn all(&self) -> &[u32]
+        ensures { result.now ≡ self.now.closed }
+    {
+        &self.closed
     }
 
     /// The overuses that came and that went, as they were posted. Takes no memory.
     pub fn posted(&self) -> (u64, u64)
         ensures { (result.0 ≡ self.now.up) × (result.1 ≡ self.now.down) }
     {
-        (self.closed.word(1), self.closed.word(2))
+        (self.up, self.down)
     }
 
     /// How much the counts are above 1, over all wires: 0 exactly where no wire is held twice. Takes no memory.
@@ -75,7 +86,7 @@ impl Counts {
 }
 
 /// What is kept of a round: the counts that it began and ended with, and how many tasks, releases and holds there were.
-#[derive(Drop)]
+#[derive(Debug, Drop)]
 pub struct Tally {
     counts: Counts,
 }

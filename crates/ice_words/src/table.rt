@@ -1,12 +1,12 @@
 //! The words, and hands on them.
-ghost use Rattle.std.specs.Prelude.{◌≡◌, ◌+◌, ◌-◌, ◌<◌, ◌≤◌, ◌^◌, [], ◌∷◌, ℕ, false, length, map, min, slice_index, IfOk, IfSome, IfNone};
+ghost use Rattle.std.specs.Prelude.{◌≡◌, ◌+◌, ◌-◌, ◌<◌, ◌≤◌, ◌^◌, [], ◌∷◌, ℕ, false, length, map, min, slice_index, vec_capacity, IfOk, IfSome, IfNone};
 ghost use Rattle.std.specs.List.{AllByRecursion};
 ghost use Rattle.ice_core.specs.Routes.{overuse, old_wires, IsOpening};
 ghost use Rattle.ice_words.specs.Views.{total, one, task_by, released_on, held_on, releases_of, holds_of, ends, claiming, ending, with_own, released_at, held_at, posted_up, posted_down, posted, own, first_view, worker_view, with_worker, with_parts, spent_view};
 ghost use Rattle.ice_words.specs.Rule.{IsNewestReleased, IsAfter, MayRelease, MayHold, Holds, Draws, AreFew, Looks, IsClosing, IsPosted};
 ghost use Rattle.ice_words.specs.Grips.{Grip, Board, IsHandOf, grip_of, board_of, olds_of};
 
-use crate::counts::Counts;
+use crate::counts::{Counts, counts_in};
 use crate::view::{Opening, View};
 use atomic_table::{Join, Play, Seat, Split, Table, TableRule};
 use ice_base::{NoMemory, WireNo};
@@ -114,6 +114,7 @@ impl Model for Hand {
 pub struct Words {
     table: Table<u64, View, Opening, Counted, Global>,
     opened: Vec<u32>,
+    closed: Vec<u32>,
     over_opened: u64,
     tasks: u32,
 }
@@ -123,7 +124,7 @@ impl Model for Words {
 
     ghost view = { λ w. board_of w.table.shared.table_id (olds_of w.table.shared.key) w.table.shared.key.counts.items };
 
-    ghost invariant = { λ w. (w.table.shared.table_id.words ≡ length w.table.shared.key.counts.items + 3) × (w.table.shared.table_id.slots ≡ 0) × (w.tasks ≡ length (olds_of w.table.shared.key)) × (w.opened.items ≡ w.table.shared.key.counts.items) × (w.over_opened ≡ overuse w.opened.items) × (w.over_opened ≤ 2 ^ 48) };
+    ghost invariant = { λ w. (w.table.shared.table_id.words ≡ length w.table.shared.key.counts.items + 3) × (w.table.shared.table_id.slots ≡ 0) × (w.tasks ≡ length (olds_of w.table.shared.key)) × (w.opened.items ≡ w.table.shared.key.counts.items) × (w.over_opened ≡ overuse w.opened.items) × (w.over_opened ≤ 2 ^ 48) × (w.closed.items ≡ []) × (length w.opened.items ≤ vec_capacity w.closed) };
 }
 
 // A copy of the old wires of each task, and of the counts.
@@ -182,6 +183,7 @@ impl Words {
         let words = words_of(alloc, wires, counts)?;
         let over_opened = overuse_of(counts);
         let opening = opening_of(alloc, tasks, counts)?;
+        let closed = Vec::with_capacity(alloc, wires as usize)?;
         let (table, seat) = Table::of_words(alloc, &words, &opening)?;
         let Opening {
             olds: _,
@@ -190,6 +192,7 @@ impl Words {
         let words = Words {
             table,
             opened,
+            closed,
             over_opened,
             tasks: tasks.len() as u32,
         };
@@ -219,6 +222,7 @@ impl Words {
         let Words {
             table,
             opened,
+            closed,
             over_opened,
             tasks: _,
         } = self;
@@ -230,10 +234,17 @@ impl Words {
             up: _,
             down: _,
         } = hand;
+        let shut = table.close_with(seat);
+        let up = shut.word(1);
+        let down = shut.word(2);
+        let closed = counts_in(&shut, opened.len(), closed);
+        shut.free();
         Counts {
-            closed: table.close_with(seat),
+            closed,
             opened,
             over_opened,
+            up,
+            down,
             claims,
             releases,
             holds,

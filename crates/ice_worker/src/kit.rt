@@ -1,5 +1,6 @@
 //! What one worker needs, and what it made.
 ghost use Rattle.std.specs.Prelude.{◌≡◌, [], IfOk};
+ghost use Rattle.ice_graph.specs.Network.{Network};
 ghost use Rattle.ice_worker.specs.Kits.{IsKitOf, made_by};
 
 use ice_base::NoMemory;
@@ -7,6 +8,7 @@ use ice_core::Prices;
 use ice_graph::{Graph, Tree};
 use ice_path::Scratch;
 use std::alloc::Global;
+use std::mem;
 
 /// What one worker needs: room for searches in one graph, and prices of its own. It keeps the trees that the worker made, each with the number of its
 /// task, by rising number. It serves in any number of rounds.
@@ -41,5 +43,14 @@ impl Kit {
         ensures { result.now ≡ made_by self.now }
     {
         &self.trees
+    }
+
+    /// Takes these trees out of the kit, which has none then, and serves in further rounds. Takes no memory.
+    pub fn take_trees(&mut self, alloc: Global) -> Vec<(u32, Tree)>
+        ensures trees { result.items ≡ made_by self.old }
+        ensures none { made_by self.new ≡ [] }
+        ensures kit { (graph : Network) → IsKitOf graph self.old → IsKitOf graph self.new }
+    {
+        mem::replace(&mut self.trees, Vec::new(alloc))
     }
 }

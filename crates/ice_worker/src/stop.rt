@@ -40,6 +40,14 @@ impl<T: Drop> From<AllocFailed<T>> for WorkStop {
     }
 }
 
+impl From<ice_base::NoMemory> for WorkStop {
+    ghost from_gives = { λ _ e. e ≡ NoMemory };
+
+    fn from(_: ice_base::NoMemory) -> Self {
+        WorkStop::NoMemory
+    }
+}
+
 // Why the task of this number isn't done.
 pub fn stop_of(number: u32, stop: TreeStop) -> WorkStop
     ensures { result ≡ stop_as number stop }

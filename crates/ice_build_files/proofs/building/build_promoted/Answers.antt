@@ -16,4 +16,4 @@ returns-in-Ok-clause-made g c =
     let e = c.made_of.ensures in
     made_of_built b c.args.texts.now task c.in-Ok.built c.requires.asked (c.requires.formed c.requires.asked.circuit c.requires.asked.is_circuit)
     (record { pins = c.pins_stay.ensures; shows = c.promoted_show_the_same.ensures }) (rw c.as_bytes-name.ensures.value at c.in-Ok.ensures.built)
-    c.made_of.result c.in-Ok.ensures.circuit e.text e.placement e.read_back
+    c.made_of.result c.in-Ok.ensures.circuit e.text e.placement e.tallies e.read_back

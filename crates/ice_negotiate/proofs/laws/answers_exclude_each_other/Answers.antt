@@ -5,7 +5,7 @@ pub returns-clause-routed_are_reached : goal.returns-clause-routed_are_reached
 returns-clause-routed_are_reached c graph nets permitted routed net sink h s = reached_all graph nets net sink h.reached s
 
 pub returns-clause-routed_end_free : goal.returns-clause-routed_end_free
-returns-clause-routed_end_free c graph nets permitted routed logs h k = routed_free graph nets permitted routed logs h k
+returns-clause-routed_end_free c graph nets permitted routed logs tallies h k = routed_free graph nets permitted routed logs tallies h k
 
 pub returns-clause-overused_are_reached : goal.returns-clause-overused_are_reached
-returns-clause-overused_are_reached c graph nets permitted logs net sink k s = reached_all graph nets net sink k.reached s
+returns-clause-overused_are_reached c graph nets permitted logs tallies net sink k s = reached_all graph nets net sink k.reached s

@@ -1,4 +1,4 @@
-use Rattle.std.proofs.Common.{◌≡◌, ◌<◌, ◌∙◌, List, Some, get_or, length, sym, subst, arith}
+use Rattle.std.proofs.Common.{◌<◌, ◌∙◌, List, get_or, length, sym, subst, arith}
 use Rattle.std.proofs.lemmas.Option.{slice_get-get_or, slice_get_within}
 use Rattle.std.proofs.lemmas.Result.{err_from_is_err_and}
 use Rattle.ice_base.specs.declared.number.WireNo.{WireNo}

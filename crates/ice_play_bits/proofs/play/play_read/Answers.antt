@@ -11,4 +11,5 @@ returns-in-Ok-play_chip-clause-played c =
           (record { is_read = record { is_chip = c.requires.chip; are_bits = c.requires.bits }; is_package = there }) c.in-Ok.ensures.circuit.faultless (rw (c.at.ensures, c.len.ensures.len) at c.in-Ok-read_levels.ensures.gives) c.in-Ok.ensures.circuit.same
           c.in-Ok-play_chip.ensures,
       c.no_placement.ensures,
+      c.no_tallies.ensures,
     )

@@ -1,5 +1,0 @@
-use Rattle.ice_back.proofs.Loopless.{loopless}
-use Rattle.ice_back.proofs.laws.netlist_has_no_loop.Goals as goal
-
-pub returns : goal.returns
-returns c = loopless

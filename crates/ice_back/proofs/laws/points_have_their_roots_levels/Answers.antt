@@ -1,5 +1,0 @@
-use Rattle.ice_back.proofs.RootLevels.{points_rooted}
-use Rattle.ice_back.proofs.laws.points_have_their_roots_levels.Goals as goal
-
-pub returns : goal.returns
-returns c = points_rooted

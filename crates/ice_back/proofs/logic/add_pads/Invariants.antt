@@ -1,0 +1,12 @@
+use Rattle.std.proofs.Common.{◌≡◌, map}
+use Rattle.ice_bits.specs.Configuration.{bits_of}
+use Rattle.ice_back_laws.specs.Back.{pad_cell, numbered_pads}
+use Rattle.ice_back.specs.Adding.{with_cells, HasRoomForCells}
+use Rattle.ice_back.proofs.PadCells.{from}
+use Rattle.ice_back.proofs.logic.add_pads.Given as goal
+
+abbrev pub invariant-loop-number : goal.invariant-loop-number
+invariant-loop-number l =
+    HasRoomForCells l.netlist (map (pad_cell l.site.parts (bits_of l.site.configuration) l.site.bonded.pads) (from l.number l.pads))
+    × (with_cells l.fn.netlist (map (pad_cell l.site.parts (bits_of l.site.configuration) l.site.bonded.pads) (numbered_pads l.pads))
+    ≡ with_cells l.netlist (map (pad_cell l.site.parts (bits_of l.site.configuration) l.site.bonded.pads) (from l.number l.pads)))

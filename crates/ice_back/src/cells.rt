@@ -1,0 +1,200 @@
+//! The cells of the netlist of a configured chip.
+ghost use Rattle.std.specs.Prelude.{◌≡◌, ◌<◌, ◌^◌, ◌∷◌, [], true, false, codes, if◌then◌else◌, IfOk};
+ghost use Rattle.ice_bits.specs.Configuration.{bits_of};
+ghost use Rattle.ice_bits.specs.Settings.{set_at};
+ghost use Rattle.ice_chip.specs.WireNames.{input_name};
+ghost use Rattle.ice_net.specs.declared.kind.CellKind.TheVariants.{Cover, Flop};
+ghost use Rattle.ice_decode.specs.Cells.{reset_by, reset_of};
+ghost use Rattle.ice_decode.specs.Reads.{carry_into};
+ghost use Rattle.ice_back_laws.specs.Back.{reader, pin_reader, buffer_type, cell, signal_at, pad_cell, table_cell, carry_cell, flop_cell};
+ghost use Rattle.ice_back_laws.specs.Numbers.{reader_of};
+ghost use Rattle.ice_back_laws.specs.Roots.{StandsAt, cell_table, table_root};
+
+use crate::roots::table_root;
+use crate::site::Site;
+use ice_base::{NoMemory, SignalNo, TileAt};
+use ice_chip::{Pad, input_name, output_enable_name, pad_output_name};
+use ice_decode::{cell_bit, pin_type, setting};
+use ice_net::{Cell, CellKind, Reset, Signals};
+use std::alloc::Global;
+
+// These signals.
+fn signals(alloc: Global, list: &[Option<SignalNo>]) -> Result<Signals, NoMemory>
+    ensures { IfOk result (λ signals. signals ≡ list.now) }
+{
+    let mut items = Vec::new(alloc);
+    items.extend_from_slice(list)?;
+    Ok(Signals::from_vec(items))
+}
+
+// A cell without a line.
+fn made(
+    alloc: Global,
+    kind: CellKind,
+    ins: &[Option<SignalNo>],
+    outs: &[Option<SignalNo>],
+) -> Result<Cell, NoMemory>
+    ensures { IfOk result (λ made. made ≡ cell kind ins.now outs.now) }
+{
+    let ins = signals(alloc, ins)?;
+    let outs = signals(alloc, outs)?;
+    Ok(Cell {
+        kind,
+        line: 0,
+        ins,
+        outs,
+    })
+}
+
+/// A cover without inputs that gives a level.
+pub(crate) fn fixed_cell(alloc: Global, level: bool) -> Result<Cell, NoMemory>
+    ensures { IfOk result (λ made. made ≡ cell (Cover (if level then 1 else 0) 0) [] (signal_at (if level then 1 else 0) ∷ [])) }
+{
+    let number = u8::from(level);
+    let kind = CellKind::Cover {
+        table: u16::from(number),
+        width: 0,
+    };
+    made(alloc, kind, &[], &[Some(SignalNo(u32::from(number)))])
+}
+
+// The PIN_TYPE of a pad's SB_IO: the pad's output part, and the input part of a plain input.
+fn buffer_type(site: &Site<'_>, pad: Pad) -> u8
+    ensures { result ≡ buffer_type site.now.parts (bits_of site.now.configuration) pad }
+{
+    4 * (pin_type(site.chip(), site.bits(), pad) / 4) + 1
+}
+
+/// The SB_IO of the pad of a number.
+pub(crate) fn pad_cell(
+    alloc: Global,
+    site: &Site<'_>,
+    number: u32,
+    pad: Pad,
+) -> Result<Cell, NoMemory>
+    requires { number < 2 ^ 30 }
+    ensures { IfOk result (λ made. made ≡ pad_cell site.now.parts (bits_of site.now.configuration) site.now.bonded.pads (number, pad)) }
+{
+    let kind = CellKind::PadCell {
+        pin_type: buffer_type(site, pad),
+        pullup: false,
+    };
+    let port = Some(SignalNo(2 + 2 * number));
+    let level = site.pin_reader(false, pad.tile, &pad_output_name(pad.pio));
+    let enable = site.pin_reader(false, pad.tile, &output_enable_name(pad.pio));
+    let ins = [port, level, enable, None, None, None, None, None];
+    made(alloc, kind, &ins, &[Some(SignalNo(3 + 2 * number)), None])
+}
+
+// What reads an input of a cell.
+fn input(site: &Site<'_>, tile: TileAt, cell: u8, number: u8) -> Option<SignalNo>
+    ensures { result ≡ pin_reader site.now.parts (bits_of site.now.configuration) site.now.bonded.pads false tile (input_name cell number) }
+{
+    site.pin_reader(false, tile, &input_name(cell, number))
+}
+
+/// The look-up table of a cell, where `table` is its table.
+pub(crate) fn table_cell(
+    alloc: Global,
+    site: &Site<'_>,
+    table: u16,
+    tile: TileAt,
+    cell: u8,
+) -> Result<Cell, NoMemory>
+    requires stands { StandsAt site.now.parts tile cell }
+    requires table { table ≡ cell_table site.now.parts (bits_of site.now.configuration) tile cell }
+    ensures { IfOk result (λ made. made ≡ table_cell site.now.parts (bits_of site.now.configuration) site.now.bonded.pads (tile, cell)) }
+{
+    let ins = [
+        input(site, tile, cell, 0),
+        input(site, tile, cell, 1),
+        input(site, tile, cell, 2),
+        input(site, tile, cell, 3),
+    ];
+    let out = Some(SignalNo(site.cell_number(tile, cell)));
+    made(alloc, CellKind::Lut { table }, &ins, &[out])
+}
+
+// What reads the carry into a cell.
+fn carry_into(site: &Site<'_>, tile: TileAt, cell: u8) -> Option<SignalNo>
+    requires { StandsAt site.now.parts tile cell }
+    ensures { result ≡ reader site.now.parts (bits_of site.now.configuration) site.now.bonded.pads false (carry_into site.now.parts tile cell) }
+{
+    if cell == 0 {
+        return site.pin_reader(false, tile, b"carry_in_mux");
+    }
+    site.carry_reader(tile, cell - 1)
+}
+
+/// The carry of a cell.
+pub(crate) fn carry_cell(
+    alloc: Global,
+    site: &Site<'_>,
+    tile: TileAt,
+    cell: u8,
+) -> Result<Cell, NoMemory>
+    requires { StandsAt site.now.parts tile cell }
+    ensures { IfOk result (λ made. made ≡ carry_cell site.now.parts (bits_of site.now.configuration) site.now.bonded.pads (tile, cell)) }
+{
+    let ins = [
+        input(site, tile, cell, 1),
+        input(site, tile, cell, 2),
+        carry_into(site, tile, cell),
+    ];
+    let out = Some(SignalNo(site.cell_number(tile, cell) + 2));
+    made(alloc, CellKind::Carry, &ins, &[out])
+}
+
+// Which way a flip-flop is set or reset.
+fn reset_by(set: bool, at_once: bool) -> Reset
+    ensures { result ≡ reset_by set at_once }
+{
+    match (set, at_once) {
+        (false, false) => Reset::SyncReset,
+        (false, true) => Reset::AsyncReset,
+        (true, false) => Reset::SyncSet,
+        (true, true) => Reset::AsyncSet,
+    }
+}
+
+// The flip-flop of a cell as a kind.
+fn flop_kind(site: &Site<'_>, tile: TileAt, cell: u8) -> CellKind
+    ensures { result ≡ Flop (set_at site.now.parts (bits_of site.now.configuration) tile (codes "NegClk") 0) true (reset_of site.now.parts (bits_of site.now.configuration) tile cell) }
+{
+    let (chip, bits) = (site.chip(), site.bits());
+    let set = cell_bit(chip, bits, tile, cell, 18);
+    let at_once = cell_bit(chip, bits, tile, cell, 19);
+    CellKind::Flop {
+        falling: setting(chip, bits, tile, b"NegClk", 0),
+        enable: true,
+        reset: reset_by(set, at_once),
+    }
+}
+
+// What reads the table of a cell.
+fn datum(site: &Site<'_>, tile: TileAt, cell: u8) -> Option<SignalNo>
+    requires { StandsAt site.now.parts tile cell }
+    ensures { result ≡ reader_of site.now.parts site.now.bonded.pads false (table_root site.now.parts (bits_of site.now.configuration) tile cell) }
+{
+    site.reader_of(false, table_root(site.chip(), site.bits(), tile, cell))
+}
+
+/// The flip-flop of a cell.
+pub(crate) fn flop_cell(
+    alloc: Global,
+    site: &Site<'_>,
+    tile: TileAt,
+    cell: u8,
+) -> Result<Cell, NoMemory>
+    requires { StandsAt site.now.parts tile cell }
+    ensures { IfOk result (λ made. made ≡ flop_cell site.now.parts (bits_of site.now.configuration) site.now.bonded.pads (tile, cell)) }
+{
+    let ins = [
+        site.pin_reader(false, tile, b"lutff_global/clk"),
+        datum(site, tile, cell),
+        site.pin_reader(true, tile, b"lutff_global/cen"),
+        site.pin_reader(false, tile, b"lutff_global/s_r"),
+    ];
+    let out = Some(SignalNo(site.cell_number(tile, cell) + 1));
+    made(alloc, flop_kind(site, tile, cell), &ins, &[out])
+}

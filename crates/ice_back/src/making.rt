@@ -1,0 +1,74 @@
+//! The netlist of a configured chip in a package.
+ghost use Rattle.std.specs.Prelude.{◌≡◌, Bool, List, [], IfOk};
+ghost use Rattle.ice_value.specs.Order.{Has};
+ghost use Rattle.ice_chip.specs.Views.{package_view};
+ghost use Rattle.ice_bits.specs.Configuration.{bits_of};
+ghost use Rattle.ice_net.specs.Meaning as nets;
+ghost use Rattle.ice_check.specs.Sound.{IsSound};
+ghost use Rattle.ice_decode.specs.Cells.{cells};
+ghost use Rattle.ice_decode.specs.Meaning as chips;
+ghost use Rattle.ice_decode.specs.Refusals.{IsCircuitOf};
+ghost use Rattle.ice_back_laws.specs.Back.{back_netlist};
+
+use crate::logic::{add_all_logic, add_fixed, add_pads, add_ports, cells_of};
+use crate::names::{add_cell_names, add_name, add_pad_names};
+use crate::site::Site;
+use ice_back_laws::{netlist_is_sound, netlist_shows_what_bits_show};
+use ice_base::{NoMemory, TileAt};
+use ice_chip::{Chip, Package};
+use ice_decode::Circuit;
+use ice_net::Netlist;
+use std::alloc::Global;
+
+// The names of the signals, and the ports.
+fn named(alloc: Global, site: &Site<'_>, all_cells: &[(TileAt, u8)]) -> Result<Netlist, NoMemory>
+    requires { all_cells.now ≡ cells site.now.parts }
+    ensures { IfOk result (λ netlist. netlist ≡ record (back_netlist site.now.parts (bits_of site.now.configuration) site.now.bonded) { cells = [] }) }
+{
+    let pads = site.pads();
+    let mut netlist = Netlist::new(alloc);
+    add_name(&mut netlist, b"zero")?;
+    add_name(&mut netlist, b"one")?;
+    add_pad_names(alloc, &mut netlist, site.package())?;
+    add_cell_names(alloc, &mut netlist, all_cells)?;
+    add_ports(&mut netlist, pads.len() as u32)?;
+    Ok(netlist)
+}
+
+// The whole netlist.
+fn filled(alloc: Global, site: &Site<'_>, all_cells: &[(TileAt, u8)]) -> Result<Netlist, NoMemory>
+    requires { all_cells.now ≡ cells site.now.parts }
+    ensures { IfOk result (λ netlist. netlist ≡ back_netlist site.now.parts (bits_of site.now.configuration) site.now.bonded) }
+{
+    let pads = site.pads();
+    let mut netlist = named(alloc, site, all_cells)?;
+    add_fixed(alloc, &mut netlist)?;
+    add_pads(alloc, site, &mut netlist, pads)?;
+    add_all_logic(alloc, site, &mut netlist, all_cells)?;
+    Ok(netlist)
+}
+
+/// The netlist of a configured chip in a package of it: a port and an SB_IO for each pad of the package in order, and cell by cell a
+/// look-up table, a carry and a flip-flop, where the bits make them. It is sound, and for every list of levels it shows at its ports what
+/// the chip shows at the pads. Each wire is passed once.
+///
+/// # Errors
+/// Want of memory alone.
+pub fn back(
+    alloc: Global,
+    chip: &Chip,
+    circuit: &Circuit,
+    package: &Package,
+) -> Result<Netlist, NoMemory>
+    requires circuit { IsCircuitOf chip.now circuit.now.configuration circuit.now }
+    requires listed { Has chip.now.packages (package_view «package».now) }
+    ensures netlist { IfOk result (λ netlist. netlist ≡ back_netlist chip.now (bits_of circuit.now.configuration) (package_view «package».now)) }
+    ensures sound { IfOk result (λ netlist. IsSound netlist) }
+    ensures shows { IfOk result (λ netlist. (levels : List (List Bool)) → nets.shows netlist levels ≡ chips.shows chip.now (bits_of circuit.now.configuration) «package».now.pads.keys «package».now.pads.keys levels) }
+{
+    netlist_is_sound();
+    netlist_shows_what_bits_show();
+    let site = Site::new(alloc, chip, circuit, package)?;
+    let cells = cells_of(alloc, site.tiles())?;
+    filled(alloc, &site, &cells)
+}

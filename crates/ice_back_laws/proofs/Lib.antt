@@ -1,0 +1,17 @@
+pub mod RootLevels
+pub mod CellRoles
+pub mod Ranks
+pub mod Inputs
+pub mod Standing
+pub mod Levels
+pub mod Steps
+pub mod Loopless
+pub mod Driving
+pub mod Counting
+pub mod TilesOnce
+pub mod Twice
+pub mod PinTypes
+pub mod Bounds
+pub mod Sound
+pub mod Once
+pub mod Names

@@ -1,0 +1,4 @@
+pub mod Roots
+pub mod Numbers
+pub mod Back
+pub mod Law

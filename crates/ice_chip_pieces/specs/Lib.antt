@@ -1,0 +1,4 @@
+pub mod Cut
+pub mod SoFar
+pub mod Held
+pub mod Stands

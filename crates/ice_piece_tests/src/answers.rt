@@ -1,0 +1,105 @@
+//! Chip texts whole and in pieces. The faults that are expected were worked out by hand.
+use ice_chip::{Chip, ChipFault};
+use ice_chip_pieces::ChipReader;
+use ice_chip_read::read_chip;
+use ice_small_chips::{Change, Sample, text_with};
+use std::alloc::{AllocError, Global};
+use std::process::Abort;
+use std::test::Fail;
+
+/// What is compared of a chip: the numbers of its wires, switch rows, tiles and functions.
+pub type Counts = (u32, u32, usize, usize);
+
+/// What is compared of an answer.
+pub fn counted(answer: Result<Chip, ChipFault>) -> Result<Counts, ChipFault> {
+    match answer {
+        Ok(chip) => Ok((
+            chip.wires(),
+            chip.rows(),
+            chip.tiles().len(),
+            chip.functions().len(),
+        )),
+        Err(fault) => Err(fault),
+    }
+}
+
+// The answer of a text in pieces of this size, at least 1.
+fn by_pieces(alloc: Global, text: &[u8], size: usize) -> Result<Counts, ChipFault> {
+    let Ok(mut reader) = ChipReader::new(alloc) else {
+        return Err(ChipFault::NoMemory);
+    };
+    for piece in text.chunks(size.max(1)) {
+        if reader.feed(piece).is_err() {
+            return Err(ChipFault::NoMemory);
+        }
+    }
+    counted(reader.finish())
+}
+
+// Fails unless an answer is as expected.
+fn expect_same(
+    rt: &impl Abort,
+    found: Result<Counts, ChipFault>,
+    expected: Result<Counts, ChipFault>,
+) {
+    assert!(rt; found == expected);
+}
+
+// Fails unless this is the answer of a text, whole and in pieces.
+fn expect_answer(rt: &impl Abort, alloc: Global, text: &[u8], expected: Result<Counts, ChipFault>) {
+    expect_same(rt, counted(read_chip(alloc, text)), expected);
+    for size in [1, 7, 4096] {
+        expect_same(rt, by_pieces(alloc, text, size), expected);
+    }
+}
+
+// A line of the text of two tiles, what stands in its place, and the fault then.
+const FAULTS: [(Change, ChipFault); 9] = [
+    ((1, b"# none\n"), ChipFault::NoDevice { line: 2 }),
+    ((1, b".device 1k 2 1 x\n"), ChipFault::BadNumber { line: 1 }),
+    ((1, b".device 5k 2 1 4\n"), ChipFault::BadName { line: 1 }),
+    (
+        (8, b"\n\n.io_tile 2 0\n"),
+        ChipFault::OutOfRange { line: 10 },
+    ),
+    (
+        (9, b".io_tile 0 0\n"),
+        ChipFault::Twice { line: 9, other: 8 },
+    ),
+    (
+        (11, b"IOB_0.PINTYPE_0 B16[17]\n"),
+        ChipFault::BadBit { line: 11 },
+    ),
+    ((37, b"11 0\n"), ChipFault::BadValues { line: 37 }),
+    (
+        (12, b"IOB_0.PINTYPE_1 B0[17]\n"),
+        ChipFault::SharedFunction {
+            line: 12,
+            other: 11,
+        },
+    ),
+    ((11, b""), ChipFault::LacksFunction { line: 0 }),
+];
+
+// Fails unless each change makes its fault.
+fn expect_faults(
+    rt: &impl Abort,
+    alloc: Global,
+    cases: &[(Change, ChipFault)],
+) -> Result<(), AllocError> {
+    for (change, fault) in cases {
+        let text = text_with(alloc, Sample::TwoTiles, &[*change])?;
+        expect_answer(rt, alloc, &text, Err(*fault));
+    }
+    Ok(())
+}
+
+#[test]
+fn pieces_give_the_answer_of_the_whole_text(rt: HostRuntime) -> Result<(), Fail> {
+    let alloc = rt.alloc();
+    let text = text_with(alloc, Sample::TwoTiles, &[])?;
+    expect_answer(&rt, alloc, &text, Ok((4, 3, 2, 16)));
+    expect_answer(&rt, alloc, b"", Err(ChipFault::NoDevice { line: 0 }));
+    expect_faults(&rt, alloc, &FAULTS)?;
+    Ok(())
+}

@@ -1,0 +1,5 @@
+pub mod Kept
+pub mod Numbers
+pub mod Provided
+pub mod Taking
+pub mod Worked

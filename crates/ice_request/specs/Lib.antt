@@ -1,0 +1,4 @@
+pub mod Command
+pub mod Requests
+pub mod Views
+pub mod Examples

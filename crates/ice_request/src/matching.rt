@@ -1,0 +1,54 @@
+//! The words, matched by `clap`.
+ghost use Rattle.std.specs.Prelude.{◌≡◌, Some, true, false, IfOk, IfErr, IsErrOf, map, string_bytes};
+ghost use Rattle.clap.specs.Words.{subcommand_of, subcommand_rows_of, takes};
+ghost use Rattle.ice_request.specs.Command.{command};
+ghost use Rattle.ice_request.specs.Requests.{is_taken, request_of};
+ghost use Rattle.ice_request.specs.Views.{request_view, IsInLimits};
+
+use crate::command::tool_command;
+use crate::fault::WordsFault;
+use crate::found::request_in;
+use crate::request::Request;
+use clap::ArgMatches;
+use clap::error::ErrorKind;
+use std::alloc::Global;
+
+// What was found in the words, where the command takes them.
+fn matches_in<'a>(alloc: Global, words: &'a [String]) -> Result<ArgMatches<'a>, WordsFault>
+    ensures ok { IfOk result (λ m. (is_taken (map string_bytes words.now) ≡ true) × (subcommand_rows_of m ≡ subcommand_of command (map string_bytes words.now))) }
+    ensures usage { IsErrOf result WordsFault.Usage → is_taken (map string_bytes words.now) ≡ false }
+    ensures takes { takes command (map string_bytes words.now) ≡ true → IfErr result (λ e. e ≡ WordsFault.NoMemory) }
+{
+    let Ok(mut command) = tool_command(alloc) else {
+        return Err(WordsFault::NoMemory);
+    };
+    match command.try_get_matches_from_mut(words) {
+        Ok(found) => Ok(found),
+        Err(e) => {
+            if e.kind() == ErrorKind::OutOfMemory {
+                Err(WordsFault::NoMemory)
+            } else {
+                Err(WordsFault::Usage)
+            }
+        }
+    }
+}
+
+/// The request of the words after the program's name. What the words mean is what `clap` promises for this command, and a call
+/// for help is no request.
+///
+/// # Errors
+///
+/// `Usage` exactly where `clap` refuses the words for another cause than want of memory, and `NoMemory`, which may come at any words.
+pub fn read_request<'a>(alloc: Global, words: &'a [String]) -> Result<Request<'a>, WordsFault>
+    ensures ok { IfOk result (λ r. request_of (map string_bytes words.now) ≡ Some (request_view r)) }
+    ensures limits { IfOk result IsInLimits }
+    ensures usage { IsErrOf result WordsFault.Usage → is_taken (map string_bytes words.now) ≡ false }
+    ensures takes { takes command (map string_bytes words.now) ≡ true → IfErr result (λ e. e ≡ WordsFault.NoMemory) }
+{
+    let found = matches_in(alloc, words)?;
+    match request_in(&found) {
+        Some(request) => Ok(request),
+        None => Err(WordsFault::Usage),
+    }
+}
