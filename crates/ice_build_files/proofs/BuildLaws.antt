@@ -271,14 +271,14 @@ made_shown : (b : Build) (t : List (List ℕ)) (text : List ℕ) (on : List Tile
 made_shown b t text on counted g = record {
   parts = g.task.parts;
   constraints = g.task.constraints;
-  circuit = g.task.circuit;
+  circuit = g.is_asked.circuit;
   pads = g.built.layout.pads;
   configuration = g.built.bits;
   is_chip = g.is_asked.is_chip;
   are_constraints = g.is_asked.are_constraints;
   is_circuit = g.is_asked.is_circuit;
   is_sound = g.is_asked.is_sound;
-  are_pads = subst (λ name. assign_of g.task.parts name g.task.constraints g.task.circuit (design_of g.task.circuit) ≡ Ok g.built.layout.pads) g.is_asked.is_name (pins_good g.task g.built.layout g.is_built.laid);
+  are_pads = subst (λ (n : NetlistData). assign_of g.task.parts b.package_name g.task.constraints g.is_asked.circuit (design_of n) ≡ Ok g.built.layout.pads) g.is_asked.is_promoted g.are_pads;
   decodes = g.is_read_back;
   shows = g.is_shown;
 }

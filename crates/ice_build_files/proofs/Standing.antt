@@ -1,5 +1,5 @@
 -- How the texts of `build` stand, by what was read of them.
-use Rattle.std.proofs.Common.{◌≡◌, ℕ, List, Result, Ok, inl, inr, sym, ap, subst}
+use Rattle.std.proofs.Common.{◌≡◌, ◌∙◌, ℕ, List, Result, Ok, inl, inr, sym, ap, subst}
 use Rattle.ice_base.specs.declared.number.TileAt.{TileAt}
 use Rattle.ice_net.specs.NetlistData.{NetlistData}
 use Rattle.ice_blif.specs.Grammar.{netlist_of}
@@ -10,6 +10,7 @@ use Rattle.ice_chip_read.specs.Whole.{chip_says}
 use Rattle.ice_pads.specs.Assign.{PadsData}
 use Rattle.ice_pcf.specs.Grammar.{text_says}
 use Rattle.ice_pcf.specs.declared.constraint.Constraint.{Constraint}
+use Rattle.ice_clocks.specs.Clocks.{promoted_on}
 use Rattle.ice_build.specs.Answers.{pins_said, places_said}
 use Rattle.ice_build.specs.Laid.{Task, task_of}
 use Rattle.ice_answer.specs.declared.cause.Cause.{Cause}
@@ -36,19 +37,21 @@ net_stands name rounds t parts constraints circuit cause read e m =
     then_stands (netlist_of (text_at t 3)) BadBlif (NetStands name rounds parts constraints) circuit cause e (blif_stands name rounds t parts constraints cause read m)
 
 sound_stands : (name : List ℕ) (rounds : ℕ) (parts : Parts) (constraints : List Constraint) (circuit : NetlistData) (cause : Cause) → IsSound circuit
-    → NetStands name rounds parts constraints circuit cause → TaskStands (task_of parts name constraints circuit) rounds cause
+    → NetStands name rounds parts constraints circuit cause → TaskStands (task_of parts name constraints (promoted_on parts circuit)) rounds cause
 sound_stands name rounds parts constraints circuit cause sound (inl bad) = absurd (faulty circuit bad.0 bad.3 bad.2 sound)
 sound_stands name rounds parts constraints circuit cause sound (inr good) = good.1
 
 -- a task is made of what was read
-parts_of : (name : List ℕ) (t : List (List ℕ)) (task : Task) → IsAsked name t task → task_of task.parts name task.constraints task.circuit ≡ task
-parts_of name t task asked = ap (λ (x : List ℕ). task_of task.parts x task.constraints task.circuit) (sym asked.is_name)
+parts_of : (name : List ℕ) (t : List (List ℕ)) (task : Task) (asked : IsAsked name t task) → task_of task.parts name task.constraints (promoted_on task.parts asked.circuit) ≡ task
+parts_of name t task asked =
+    ap (λ (x : List ℕ). task_of task.parts x task.constraints (promoted_on task.parts asked.circuit)) (sym asked.is_name)
+    ∙ ap (λ (n : NetlistData). task_of task.parts task.name task.constraints n) (sym asked.is_promoted)
 
 pub task_stands : (name : List ℕ) (rounds : ℕ) (t : List (List ℕ)) (task : Task) (cause : Cause) → IsAsked name t task → Stands name rounds t cause → TaskStands task rounds cause
 task_stands name rounds t task cause asked m =
     subst (λ (x : Task). TaskStands x rounds cause) (parts_of name t task asked)
-    (sound_stands name rounds task.parts task.constraints task.circuit cause asked.is_sound
-    (net_stands name rounds t task.parts task.constraints task.circuit cause (record { is_chip = asked.is_chip; are_constraints = asked.are_constraints }) asked.is_circuit m))
+    (sound_stands name rounds task.parts task.constraints asked.circuit cause asked.is_sound
+    (net_stands name rounds t task.parts task.constraints asked.circuit cause (record { is_chip = asked.is_chip; are_constraints = asked.are_constraints }) asked.is_circuit m))
 
 pub places_stand : (name : List ℕ) (rounds : ℕ) (t : List (List ℕ)) (task : Task) (pads : PadsData) (cause : Cause) → IsAsked name t task → pins_said task ≡ Ok pads → Stands name rounds t cause
     → PlacesStand task rounds cause
@@ -73,7 +76,7 @@ net_so name rounds t parts constraints circuit cause read e m =
 
 pub asked_so : (name : List ℕ) (rounds : ℕ) (t : List (List ℕ)) (task : Task) (cause : Cause) → IsAsked name t task → TaskStands task rounds cause → Stands name rounds t cause
 asked_so name rounds t task cause asked m =
-    net_so name rounds t task.parts task.constraints task.circuit cause (record { is_chip = asked.is_chip; are_constraints = asked.are_constraints }) asked.is_circuit
+    net_so name rounds t task.parts task.constraints asked.circuit cause (record { is_chip = asked.is_chip; are_constraints = asked.are_constraints }) asked.is_circuit
     (inr (asked.is_sound, subst (λ (x : Task). TaskStands x rounds cause) (sym (parts_of name t task asked)) m))
 
 pub pins_so : (name : List ℕ) (rounds : ℕ) (t : List (List ℕ)) (task : Task) (pads : PadsData) (cause : Cause) → IsAsked name t task → pins_said task ≡ Ok pads → PlacesStand task rounds cause
@@ -93,8 +96,12 @@ pub one_task : (name : List ℕ) (t : List (List ℕ)) (a b : Task) → IsAsked 
 one_task name t a b one other =
     let parts = one_value (chip_says (text_at t 1)) a.parts b.parts one.is_chip other.is_chip in
     let constraints = one_value (text_says (text_at t 2)) a.constraints b.constraints one.are_constraints other.are_constraints in
-    let circuit = one_value (netlist_of (text_at t 3)) a.circuit b.circuit one.is_circuit other.is_circuit in
+    let read = one_value (netlist_of (text_at t 3)) one.circuit other.circuit one.is_circuit other.is_circuit in
+    let circuit = one.is_promoted ∙ promoted_same a.parts b.parts one.circuit other.circuit parts read ∙ sym other.is_promoted in
     same a.parts b.parts a.name b.name a.constraints b.constraints a.circuit b.circuit parts (let named : name ≡ b.name = sym other.is_name in rw one.is_name named) constraints circuit
   where
+    promoted_same : (p p' : Parts) (n n' : NetlistData) → p ≡ p' → n ≡ n' → promoted_on p n ≡ promoted_on p' n'
+    promoted_same p p' n n' e f = ap (λ (x : Parts). promoted_on x n) e ∙ ap (promoted_on p') f
+
     same : (p p' : Parts) (x x' : List ℕ) (c c' : List Constraint) (n n' : NetlistData) → p ≡ p' → x ≡ x' → c ≡ c' → n ≡ n' → task_of p x c n ≡ task_of p' x' c' n'
     same p p' x x' c c' n n' e f g h = cc

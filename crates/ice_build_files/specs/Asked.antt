@@ -1,9 +1,11 @@
 -- What `build` is asked for, and the task that its three texts say.
 use Rattle.std.specs.Prelude.{◌≡◌, ℕ, List, [], ◌∷◌, Ok}
+use Rattle.ice_net.specs.NetlistData.{NetlistData}
 use Rattle.ice_blif.specs.Grammar.{netlist_of}
 use Rattle.ice_check.specs.Sound.{IsSound}
 use Rattle.ice_chip_read.specs.Whole.{chip_says}
 use Rattle.ice_pcf.specs.Grammar.{text_says}
+use Rattle.ice_clocks.specs.Clocks.{promoted_on}
 use Rattle.ice_build.specs.Laid.{Task}
 use Rattle.ice_build.specs.declared.answer.Effort.{Effort}
 use Rattle.ice_answer.specs.declared.cause.FileRole.TheVariants.{Chip, Pcf, Blif}
@@ -23,14 +25,16 @@ pub record Build : Type 0 where
 abbrev pub files_of : Build → Files
 files_of b = record { role = Chip; name = b.chip } ∷ record { role = Pcf; name = b.pcf } ∷ record { role = Blif; name = b.blif } ∷ []
 
--- The texts say this task: the first says the chip, the second the constraints, and the third a sound netlist, which is to be built in
--- the package of this name.
+-- The texts say this task: the first says the chip, the second the constraints, and the third a sound netlist. With its clocks promoted,
+-- that is to be built in the package of this name.
 pub record IsAsked (name : List ℕ) (texts : List (List ℕ)) (task : Task) : Type 0 where
+  pub circuit : NetlistData
   pub is_chip : chip_says (text_at texts 1) ≡ Ok task.parts
   pub is_name : task.name ≡ name
   pub are_constraints : text_says (text_at texts 2) ≡ Ok task.constraints
-  pub is_circuit : netlist_of (text_at texts 3) ≡ Ok task.circuit
-  pub is_sound : IsSound task.circuit
+  pub is_circuit : netlist_of (text_at texts 3) ≡ Ok circuit
+  pub is_sound : IsSound circuit
+  pub is_promoted : task.circuit ≡ promoted_on task.parts circuit
 
 -- the texts say a task of which this is true
 pub record Asks (name : List ℕ) (IsSo : Task → Type 0) (texts : List (List ℕ)) : Type 0 where

@@ -5,8 +5,10 @@ use Rattle.ice_base.specs.declared.number.TileAt.{TileAt}
 use Rattle.ice_base.specs.declared.number.WireNo.{WireNo}
 use Rattle.ice_asc.specs.Grammar.{asc_in}
 use Rattle.ice_asc.specs.Text.{asc_text}
+use Rattle.ice_cells.specs.Runs.{design_of}
 use Rattle.ice_core.specs.declared.log.RoundLog.{RoundLog}
 use Rattle.ice_decode.specs.declared.fault.DecodeFault.{DecodeFault}
+use Rattle.ice_pads.specs.Assign.{assign_of}
 use Rattle.ice_words.specs.Grips.{Shut}
 use Rattle.ice_build.specs.Answers.{IsBuilt, IsStuck, IsGivenUp, IsUndecoded}
 use Rattle.ice_build.specs.Laid.{Task, IsLaidOut, plan_in}
@@ -15,8 +17,8 @@ use Rattle.ice_build.specs.declared.answer.Built.{Built}
 use Rattle.ice_build.specs.declared.answer.Layout.{Layout}
 use Rattle.ice_build_files.specs.Asked.{Build, IsAsked}
 
--- The netlist that the texts say is built with this placement and in rounds of these tallies, and this is the text of the bits. The text says these bits, and they are
--- a circuit that shows what the netlist shows.
+-- The netlist that the texts say is built with this placement and in rounds of these tallies, and this is the text of the bits. The text
+-- says these bits, and they are a circuit that shows what the netlist read shows, at the pads of its ports.
 pub record IsMade (b : Build) (texts : List (List ℕ)) (text : List ℕ) (placement : List TileAt) (tallies : List Shut) : Type 0 where
   pub task : Task
   pub built : Built
@@ -26,7 +28,8 @@ pub record IsMade (b : Build) (texts : List (List ℕ)) (text : List ℕ) (place
   pub are_tallies : tallies ≡ built.routed.tallies.items
   pub is_text : text ≡ asc_text task.parts built.bits
   pub is_read_back : asc_in task.parts text ≡ Ok built.bits
-  pub is_shown : IsCircuitOf task.circuit built.layout.pads.ports task.parts built.bits
+  pub are_pads : assign_of task.parts b.package_name task.constraints is_asked.circuit (design_of task.circuit) ≡ Ok built.layout.pads
+  pub is_shown : IsCircuitOf is_asked.circuit built.layout.pads.ports task.parts built.bits
 
 -- ---- of a placement
 -- the task is laid out with this placement, and this is true of the layout

@@ -7,11 +7,15 @@ ghost use Rattle.ice_answer.specs.Ends.{IsMadeOf, IsToldLong};
 ghost use Rattle.ice_answer.specs.Reading.{TellsLong};
 ghost use Rattle.ice_answer.specs.Rows.{SaidBy, KeptRow, MadeRow, SilentRow};
 ghost use Rattle.ice_answer.specs.Texts.{text_at};
+ghost use Rattle.ice_blif.specs.Cells.{IsWithinLimits};
 ghost use Rattle.ice_blif.specs.Grammar.{netlist_of};
 ghost use Rattle.ice_build.specs.Laid.{task_of};
 ghost use Rattle.ice_build.specs.Stages.{IsPermitted};
+ghost use Rattle.ice_check.specs.Sound.{IsSound};
 ghost use Rattle.ice_chip_read.specs.Whole.{chip_says};
 ghost use Rattle.ice_desk.specs.Desk.{SameButReading, SameTest};
+ghost use Rattle.ice_net.specs.Formed.{IsFormed};
+ghost use Rattle.ice_net.specs.NetlistData.{NetlistData};
 ghost use Rattle.ice_build_files.specs.Asked.{IsAsked};
 ghost use Rattle.ice_build_files.specs.BuildRows.{IsRead, IsBuildAnswer};
 ghost use Rattle.ice_build_files.specs.Command.{build_files};
@@ -25,19 +29,33 @@ use ice_answer::{
     Cause, Done, FileRole, InputFile, Made, Texts, blif_refusal, chip_refusal, end_in_file,
     net_refusal, pcf_refusal, read_texts,
 };
+use ice_base::NoMemory;
 use ice_blif::read_blif;
+use ice_blif_laws::read_names_are_words;
 use ice_build::build;
 use ice_check::{Sound, check};
 use ice_chip::Chip;
 use ice_chip_read::read_chip;
+use ice_clocks::laws::pins_stay;
+use ice_clocks::promote_clocks;
 use ice_desk::{Desk, Gate};
 use ice_net::Netlist;
 use ice_pcf::{Pcf, read_pcf};
+use ice_promote::laws::{netlists_of_words_can_be_promoted, promoted_show_the_same};
 use std::alloc::Global;
 use std::thread::Threads;
 
-// What is made of a task that the texts say.
-fn build_sound<G: Gate + Sync, R: Threads + Sync>(
+// A sound netlist is well formed.
+fn is_formed(sound: &Sound)
+    ensures formed { IsFormed sound.now }
+    ensures sound { IsSound sound.now }
+{
+    let netlist = sound.netlist();
+    let _cells = netlist.cells();
+}
+
+// What is made of a task that the texts say. The netlist's clocks are promoted.
+fn build_promoted<G: Gate + Sync, R: Threads + Sync>(
     rt: &R,
     alloc: Global,
     gate: &G,
@@ -48,14 +66,44 @@ fn build_sound<G: Gate + Sync, R: Threads + Sync>(
     sound: &Sound,
 ) -> Result<Made, Cause>
     requires asked { IsAsked request.now.package_name.now texts.now (task_of chip.now request.now.package_name.now pcf.now sound.now) }
+    requires formed { (n : NetlistData) → netlist_of (text_at texts.now 3) ≡ Ok n → IsFormed n }
     requires effort { IsPermitted request.now.effort }
     ensures made { IfOk result (λ made. IsMade (request_view request.now) texts.now made.text.items made.placement made.tallies.items) }
     ensures refused { IfErr result (λ cause. IsRefusal (Stands request.now.package_name.now request.now.effort.rounds texts.now) cause) }
 {
+    pins_stay();
+    promoted_show_the_same();
     let name = request.package_name.as_bytes();
     match build(rt, alloc, chip, name, pcf, sound, request.effort, gate) {
         Ok(built) => made_of(alloc, chip, built),
         Err(fault) => Err(build_refusal(fault)),
+    }
+}
+
+// What is made of a sound netlist that the third text says.
+fn build_sound<G: Gate + Sync, R: Threads + Sync>(
+    rt: &R,
+    alloc: Global,
+    gate: &G,
+    request: &BuildRequest<'_>,
+    texts: &Texts,
+    chip: &Chip,
+    pcf: &Pcf,
+    sound: Sound,
+) -> Result<Made, Cause>
+    requires read { IsRead texts.now chip.now pcf.now }
+    requires netlist { netlist_of (text_at texts.now 3) ≡ Ok sound }
+    requires limits { IsWithinLimits sound }
+    requires effort { IsPermitted request.now.effort }
+    ensures made { IfOk result (λ made. IsMade (request_view request.now) texts.now made.text.items made.placement made.tallies.items) }
+    ensures refused { IfErr result (λ cause. IsRefusal (Stands request.now.package_name.now request.now.effort.rounds texts.now) cause) }
+{
+    read_names_are_words();
+    netlists_of_words_can_be_promoted();
+    is_formed(&sound);
+    match promote_clocks(alloc, chip, sound) {
+        Ok(promoted) => build_promoted(rt, alloc, gate, request, texts, chip, pcf, &promoted),
+        Err(NoMemory) => Err(Cause::NoMemory),
     }
 }
 
@@ -72,12 +120,13 @@ fn build_net<G: Gate + Sync, R: Threads + Sync>(
 ) -> Result<Made, Cause>
     requires read { IsRead texts.now chip.now pcf.now }
     requires netlist { netlist_of (text_at texts.now 3) ≡ Ok netlist }
+    requires limits { IsWithinLimits netlist }
     requires effort { IsPermitted request.now.effort }
     ensures made { IfOk result (λ made. IsMade (request_view request.now) texts.now made.text.items made.placement made.tallies.items) }
     ensures refused { IfErr result (λ cause. IsRefusal (Stands request.now.package_name.now request.now.effort.rounds texts.now) cause) }
 {
     match check(alloc, netlist) {
-        Ok(sound) => build_sound(rt, alloc, gate, request, texts, chip, pcf, &sound),
+        Ok(sound) => build_sound(rt, alloc, gate, request, texts, chip, pcf, sound),
         Err(fault) => Err(net_refusal(fault)),
     }
 }

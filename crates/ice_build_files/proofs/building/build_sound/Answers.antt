@@ -1,17 +1,12 @@
-use Rattle.ice_build.specs.Laid.{task_of}
-use Rattle.ice_build_files.specs.Requests.{request_view}
-use Rattle.ice_build_files.proofs.Refusing.{refused, made_of_built}
+use Rattle.std.proofs.Common.{◌≡◌, ◌<◌, Ok, Result, List, ℕ, length, arith, subst}
+use Rattle.ice_blif.specs.Grammar.{netlist_of}
+use Rattle.ice_blif.specs.declared.fault.BlifFault.{BlifFault}
+use Rattle.ice_net.specs.Formed.{IsFormed}
+use Rattle.ice_net.specs.NetlistData.{NetlistData}
+use Rattle.ice_answer.specs.Texts.{text_at}
 use Rattle.ice_build_files.proofs.building.build_sound.Goals as goal
 
-pub returns-in-Err-clause-refused : goal.returns-in-Err-clause-refused
-returns-in-Err-clause-refused g c =
-    let b = request_view c.args.request.now in
-    let task = task_of c.args.chip.now b.package_name c.args.pcf.now c.args.sound.now in
-    refused b.package_name b.effort.rounds c.args.texts.now task c.in-Err.fault c.build_refusal.result c.requires.asked (rw c.as_bytes-name.ensures.value at c.in-Err.ensures.fault) c.build_refusal.ensures
-
-pub returns-in-Ok-clause-made : goal.returns-in-Ok-clause-made
-returns-in-Ok-clause-made g c =
-    let b = request_view c.args.request.now in
-    let task = task_of c.args.chip.now b.package_name c.args.pcf.now c.args.sound.now in
-    let e = c.made_of.ensures in
-    made_of_built b c.args.texts.now task c.in-Ok.built c.made_of.result c.requires.asked (rw c.as_bytes-name.ensures.value at c.in-Ok.ensures.built) c.in-Ok.ensures.circuit e.text e.placement e.tallies e.read_back
+pub promote_clocks-requires : goal.promote_clocks-requires
+promote_clocks-requires g c =
+    let few = c.requires.limits.cells in
+    c.netlists_of_words_can_be_promoted.ensures c.args.sound (c.read_names_are_words.ensures (text_at c.args.texts.now 3) c.args.sound c.requires.netlist) (omega (arith, few))
