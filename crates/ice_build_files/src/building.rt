@@ -16,6 +16,7 @@ ghost use Rattle.ice_chip_read.specs.Whole.{chip_says};
 ghost use Rattle.ice_desk.specs.Desk.{SameButReading, SameTest};
 ghost use Rattle.ice_net.specs.Formed.{IsFormed};
 ghost use Rattle.ice_net.specs.NetlistData.{NetlistData};
+ghost use Rattle.ice_promote.specs.Promotable.{CanBePromoted};
 ghost use Rattle.ice_build_files.specs.Asked.{IsAsked};
 ghost use Rattle.ice_build_files.specs.BuildRows.{IsRead, IsBuildAnswer};
 ghost use Rattle.ice_build_files.specs.Command.{build_files};
@@ -45,11 +46,16 @@ use ice_promote::laws::{netlists_of_words_can_be_promoted, promoted_show_the_sam
 use std::alloc::Global;
 use std::thread::Threads;
 
-// A sound netlist is well formed.
-fn is_formed(sound: &Sound)
+// The clocks of a sound netlist that the third text says can be promoted.
+fn can_be_promoted(texts: &Texts, sound: &Sound)
+    requires netlist { netlist_of (text_at texts.now 3) ≡ Ok sound.now }
+    requires limits { IsWithinLimits sound.now }
     ensures formed { IsFormed sound.now }
     ensures sound { IsSound sound.now }
+    ensures promotable { CanBePromoted sound.now }
 {
+    read_names_are_words();
+    netlists_of_words_can_be_promoted();
     let netlist = sound.netlist();
     let _cells = netlist.cells();
 }
@@ -98,9 +104,7 @@ fn build_sound<G: Gate + Sync, R: Threads + Sync>(
     ensures made { IfOk result (λ made. IsMade (request_view request.now) texts.now made.text.items made.placement made.tallies.items) }
     ensures refused { IfErr result (λ cause. IsRefusal (Stands request.now.package_name.now request.now.effort.rounds texts.now) cause) }
 {
-    read_names_are_words();
-    netlists_of_words_can_be_promoted();
-    is_formed(&sound);
+    can_be_promoted(texts, &sound);
     match promote_clocks(alloc, chip, sound) {
         Ok(promoted) => build_promoted(rt, alloc, gate, request, texts, chip, pcf, &promoted),
         Err(NoMemory) => Err(Cause::NoMemory),
