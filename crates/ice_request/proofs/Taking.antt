@@ -1,5 +1,5 @@
 -- The command as `clap` builds it, and what its promises say of it.
-use Rattle.std.proofs.Common.{◌≡◌, ◌≢◌, ◌⊎◌, true, false, refl, sym, ap, subst, inl, inr, List, [], ◌∷◌, ℕ}
+use Rattle.std.proofs.Common.{Bool, ◌≡◌, ◌≢◌, ◌⊎◌, true, false, refl, sym, ap, subst, inl, inr, List, [], ◌∷◌, ℕ}
 use Rattle.clap.specs.Words.{App, HasMatchesOf, IsAmong, Kinds, fault_of, is_simple, is_simple_and_free, subcommand_of, subcommand_rows_of, takes}
 use Rattle.clap.specs.declared.error.kind.ErrorKind.{ErrorKind}
 use Rattle.clap.specs.declared.error.kind.ErrorKind.TheVariants.{OutOfMemory}
@@ -38,6 +38,10 @@ taken a words m same kinds has =
     let simple : is_simple a ≡ true = subst (λ b. is_simple b ≡ true) (sym same) is_plain in
     (ap is_empty (subst (λ b. fault_of b words ≡ []) same (kinds free)), subst (λ b. subcommand_rows_of m ≡ subcommand_of b words) same (has simple).1)
 
--- words that pass every test of the command fail for want of memory alone
-pub never_refused : (a : App) (words : List (List ℕ)) (k : ErrorKind) → a ≡ command → (takes a words ≡ true → k ≡ OutOfMemory) → k ≢ OutOfMemory → takes command words ≡ true → ⊥
-never_refused a words k same passes other takes_them = other (passes (subst (λ b. takes b words ≡ true) (sym same) takes_them))
+-- nor does it take them
+pub never_taken : (a : App) (words : List (List ℕ)) (k : ErrorKind) → a ≡ command → (takes a words ≡ true → k ≡ OutOfMemory) → k ≢ OutOfMemory → takes command words ≡ false
+never_taken a words k same passes other = go (takes command words) refl
+  where
+    go : (b : Bool) → takes command words ≡ b → b ≡ false
+    go true e = absurd (other (passes (subst (λ b. takes b words ≡ true) (sym same) e)))
+    go false e = refl

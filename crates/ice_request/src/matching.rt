@@ -1,5 +1,5 @@
 //! The words, matched by `clap`.
-ghost use Rattle.std.specs.Prelude.{◌≡◌, Some, true, false, IfOk, IfErr, IsErrOf, map, string_bytes};
+ghost use Rattle.std.specs.Prelude.{◌≡◌, Some, true, false, IfOk, IsErrOf, map, string_bytes};
 ghost use Rattle.clap.specs.Words.{subcommand_of, subcommand_rows_of, takes};
 ghost use Rattle.ice_request.specs.Command.{command};
 ghost use Rattle.ice_request.specs.Requests.{is_taken, request_of};
@@ -16,8 +16,7 @@ use std::alloc::Global;
 // What was found in the words, where the command takes them.
 fn matches_in<'a>(alloc: Global, words: &'a [String]) -> Result<ArgMatches<'a>, WordsFault>
     ensures ok { IfOk result (λ m. (is_taken (map string_bytes words.now) ≡ true) × (subcommand_rows_of m ≡ subcommand_of command (map string_bytes words.now))) }
-    ensures usage { IsErrOf result WordsFault.Usage → is_taken (map string_bytes words.now) ≡ false }
-    ensures takes { takes command (map string_bytes words.now) ≡ true → IfErr result (λ e. e ≡ WordsFault.NoMemory) }
+    ensures usage { IsErrOf result WordsFault.Usage → (is_taken (map string_bytes words.now) ≡ false) × (takes command (map string_bytes words.now) ≡ false) }
 {
     let Ok(mut command) = tool_command(alloc) else {
         return Err(WordsFault::NoMemory);
@@ -43,8 +42,7 @@ fn matches_in<'a>(alloc: Global, words: &'a [String]) -> Result<ArgMatches<'a>, 
 pub fn read_request<'a>(alloc: Global, words: &'a [String]) -> Result<Request<'a>, WordsFault>
     ensures ok { IfOk result (λ r. request_of (map string_bytes words.now) ≡ Some (request_view r)) }
     ensures limits { IfOk result IsInLimits }
-    ensures usage { IsErrOf result WordsFault.Usage → is_taken (map string_bytes words.now) ≡ false }
-    ensures takes { takes command (map string_bytes words.now) ≡ true → IfErr result (λ e. e ≡ WordsFault.NoMemory) }
+    ensures usage { IsErrOf result WordsFault.Usage → (is_taken (map string_bytes words.now) ≡ false) × (takes command (map string_bytes words.now) ≡ false) }
 {
     let found = matches_in(alloc, words)?;
     match request_in(&found) {

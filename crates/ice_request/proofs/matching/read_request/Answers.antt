@@ -5,6 +5,3 @@ use Rattle.ice_request.proofs.matching.read_request.Goals as goal
 
 pub returns-clause-usage : goal.returns-clause-usage
 returns-clause-usage c = λ _. absurd (none_lost (map string_bytes c.args.words.now) (subcommand_rows_of c.in_ok-found.found) c.in_ok-found.ensures.ok c.in-None.ensures.value)
-
-pub returns-clause-takes : goal.returns-clause-takes
-returns-clause-takes c = λ _. absurd (none_lost (map string_bytes c.args.words.now) (subcommand_rows_of c.in_ok-found.found) c.in_ok-found.ensures.ok c.in-None.ensures.value)
