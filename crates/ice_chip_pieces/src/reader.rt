@@ -18,8 +18,8 @@ use std::marker::Model;
 // Room for a line of usual length, in bytes.
 const LINE: usize = 256;
 
-/// A reader of the text of a chip database, which stands for the text that it was given so far. Of that text it holds no
-/// more than the bytes of the line that is not ended.
+/// A reader of the text of a chip database, which stands for the text that it was given so far. Beside the rows of the lines
+/// that are ended it holds only the bytes of the line that isn't.
 #[derive(Drop)]
 pub struct ChipReader {
     alloc: Global,
