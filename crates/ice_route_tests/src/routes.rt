@@ -1,5 +1,6 @@
 //! Nets of small chips that are routed over the usable rows: the short way, the long way, and no way.
 ghost use Rattle.std.specs.Prelude.{◌≡◌, ◌≤◌};
+ghost use Rattle.ice_negotiate.specs.Rounds.{AreNets};
 
 use crate::asked::{Asked, expect};
 use crate::built::{graph_of, nets_of};
@@ -7,7 +8,7 @@ use crate::claims::expect_that;
 use crate::trees::{expect_rows, expect_wires};
 use crate::usable::next_number;
 use ice_base::{NetNo, WireNo, WordIter, lines_of, words_of};
-use ice_core::RoundLog;
+use ice_core::{Net, RoundLog};
 use ice_desk::{Gate, MeetGate, OpenGate};
 use ice_graph::{Graph, Tree};
 use ice_negotiate::{RouteFault, Routed};
@@ -88,6 +89,31 @@ fn expect_tree(rt: &impl Abort, trees: &[Tree], number: usize, wires: &[u8], row
     expect_rows(rt, &tree.rows, rows);
 }
 
+// Nets, of which that of each number goes from the wire of that number to these sinks.
+fn some_nets(rt: &impl Abort, alloc: Global, graph: &Graph, sinks: &[&[u8]]) -> Vec<Net>
+    ensures { AreNets graph.now result.items }
+{
+    nets_of(rt, alloc, graph, sinks).expect(rt, "memory")
+}
+
+// What the nets are answered.
+fn negotiated<G: Gate + Sync>(
+    rt: &(impl Abort + Threads + Sync),
+    alloc: Global,
+    graph: &Graph,
+    nets: &[Net],
+    rounds: u32,
+    workers: u32,
+    gate: &G,
+) -> Result<Routed, RouteFault>
+    requires rounds { (1 ≤ rounds) × (rounds ≤ 64) }
+    requires workers { (1 ≤ workers) × (workers ≤ 8) }
+    requires nets { AreNets graph.now nets.now }
+{
+    assert!(rt; graph.wires() <= 1_048_576 && nets.len() <= 65_536);
+    negotiate(rt, alloc, graph, nets, rounds, workers, gate)
+}
+
 // What is answered for nets, of which that of each number goes from the wire of that number to these sinks.
 fn route<G: Gate + Sync>(
     rt: &(impl Abort + Threads + Sync),
@@ -101,9 +127,8 @@ fn route<G: Gate + Sync>(
     requires rounds { (1 ≤ rounds) × (rounds ≤ 64) }
     requires workers { (1 ≤ workers) × (workers ≤ 8) }
 {
-    let nets = nets_of(rt, alloc, graph, sinks).expect(rt, "memory");
-    assert!(rt; graph.wires() <= 1_048_576 && nets.len() <= 65_536);
-    negotiate(rt, alloc, graph, &nets, rounds, workers, gate)
+    let nets = some_nets(rt, alloc, graph, sinks);
+    negotiated(rt, alloc, graph, nets.as_slice(), rounds, workers, gate)
 }
 
 // Fails unless so many nets were claimed in this round, and so many wires released and held.
