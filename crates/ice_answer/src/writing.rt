@@ -10,6 +10,7 @@ use crate::files::{CommandFile, Texts};
 use ice_desk::{Desk, WriteStop, write_whole};
 
 // Why files were not all written: at which the writing stopped, and at which put, from 1, or at its make, which is 0.
+#[derive(Clone, Copy)]
 pub(crate) struct FileStop {
     pub(crate) role: FileRole,
     pub(crate) put: u64,
