@@ -3,7 +3,7 @@ use Rattle.std.specs.Prelude.{◌≡◌, ◌≢◌, ℕ, zero, suc, ◌+◌, ◌
 use Rattle.std.specs.Str.{bytes_eq}
 use Rattle.ice_desk.specs.Desk.{Meaning, Rose, after_more, HoldsAfter}
 use Rattle.ice_answer.specs.declared.cause.FileRole.{FileRole}
-use Rattle.ice_answer.specs.Reading.{Files, role_behind, name_behind}
+use Rattle.ice_answer.specs.Reading.{File, Files, role_behind, name_behind}
 use Rattle.ice_answer.specs.Texts.{text_behind, text_at}
 
 -- so many files were made
@@ -33,6 +33,14 @@ after_writing (suc before) files texts held = once_written (name_behind files be
 abbrev pub HoldFrom : ℕ → Files → List (List ℕ) → Meaning → Type 0
 HoldFrom place [] texts desk = Unit {0}
 HoldFrom place (file ∷ files) texts desk = (IsOther file.name files → desk.files file.name ≡ Some (text_at texts place)) × HoldFrom (place + 1) files texts desk
+
+-- Why one file was not written whole: the count of write faults rose in this call, at this put of the file, or at its make, which is 0.
+-- It holds a front of the text, or is as before or empty.
+pub record IsWriteStop (file : File) (text : List ℕ) (old new : Meaning) (role : FileRole) (put : ℕ) : Type 0 where
+  pub is_role : role ≡ file.role
+  pub rose : Rose old.write_faults new.write_faults
+  pub puts : new.puts ≡ put
+  pub holds : old.tells ≡ true → HoldsAfter text put (old.files file.name) (new.files file.name)
 
 -- all files were written
 pub record AreWritten (files : Files) (texts : List (List ℕ)) (old new : Meaning) : Type 0 where

@@ -93,7 +93,7 @@ pub fn end_in_files<D: Desk>(
     requires outputs { ArePermitted (D.may_write desk.old) (files_view outputs.now) }
     requires parting { IsPermitted (D.may_write desk.old) (parting_view parting) }
     ensures status { result.status ≡ status_of result.cause }
-    ensures end { IsEndInFiles (files_view outputs.now) (parting_view parting) made (D.seen desk.old) (D.seen desk.new) result.cause }
+    ensures end { IsEndInFiles (files_view outputs.now) (parting_view parting.entry) made (D.seen desk.old) (D.seen desk.new) result.cause }
 {
     match made {
         Ok(made) => {

@@ -1,9 +1,9 @@
 //! Writing texts to files, one after another.
-ghost use Rattle.std.specs.Prelude.{◌≡◌, IfErr, OnOk};
-ghost use Rattle.ice_desk.specs.Desk.{SameButWriting};
+ghost use Rattle.std.specs.Prelude.{◌≡◌, true, Some, IfErr, OnOk};
+ghost use Rattle.ice_desk.specs.Desk.{SameButWriting, SameTest, after_one};
 ghost use Rattle.ice_answer.specs.Ends.{SameButFiles, IsLeft, text_of};
-ghost use Rattle.ice_answer.specs.Texts.{files_view, parting_view, ArePermitted, IsPermitted};
-ghost use Rattle.ice_answer.specs.Writing.{AreWritten, AreWrittenInPart};
+ghost use Rattle.ice_answer.specs.Texts.{file_view, files_view, parting_view, ArePermitted, IsPermitted};
+ghost use Rattle.ice_answer.specs.Writing.{IsWriteStop, AreWritten, AreWrittenInPart};
 
 use crate::cause::FileRole;
 use crate::files::{CommandFile, Texts};
@@ -14,6 +14,28 @@ use ice_desk::{Desk, WriteStop, write_whole};
 pub(crate) struct FileStop {
     pub(crate) role: FileRole,
     pub(crate) put: u64,
+}
+
+// Writes a text to a file. It takes no memory.
+fn write_text<D: Desk>(
+    desk: &mut D,
+    file: &CommandFile<'_>,
+    text: &[u8],
+) -> Result<(), FileStop>
+    requires { D.may_write desk.old file.now.name.now }
+    ensures same { SameButWriting file.now.name.now (D.seen desk.old) (D.seen desk.new) }
+    ensures names { SameTest (D.may_write desk.old) (D.may_write desk.new) }
+    ensures made { (D.seen desk.new).makes ≡ after_one (D.seen desk.old).makes }
+    ensures written { OnOk result ((D.seen desk.old).tells ≡ true → (D.seen desk.new).files file.now.name.now ≡ Some text.now) }
+    ensures stop { IfErr result (λ stop. IsWriteStop (file_view file.now) text.now (D.seen desk.old) (D.seen desk.new) stop.role stop.put) }
+{
+    match write_whole(desk, file.name, text) {
+        Ok(()) => Ok(()),
+        Err(WriteStop::Failed { put }) => Err(FileStop {
+            role: file.role,
+            put,
+        }),
+    }
 }
 
 // Writes texts to files, one after another, each with the text of its place. It takes no memory.
@@ -29,15 +51,9 @@ pub(crate) fn write_texts<D: Desk>(
 {
     let mut written = 0;
     while written < files.len() {
-        let file = files[written];
-        match write_whole(desk, file.name, texts.at(written + 1)) {
+        match write_text(desk, &files[written], texts.at(written + 1)) {
             Ok(()) => written += 1,
-            Err(WriteStop::Failed { put }) => {
-                return Err(FileStop {
-                    role: file.role,
-                    put,
-                });
-            }
+            Err(stop) => return Err(stop),
         }
     }
     Ok(())
@@ -50,11 +66,11 @@ pub(crate) fn leave_report<D: Desk>(
     parting: Option<CommandFile<'_>>,
 )
     requires { IsPermitted (D.may_write desk.old) (parting_view parting) }
-    ensures { IsLeft (parting_view parting) (text_of report.now) (D.seen desk.old) (D.seen desk.new) }
+    ensures { IsLeft (parting_view parting.entry) (text_of report.now) (D.seen desk.old) (D.seen desk.new) }
 {
     if let Some(file) = parting {
         if let Some(text) = report {
-            let _written = write_whole(desk, file.name, text);
+            let _written = write_text(desk, &file, text);
         }
     }
 }
