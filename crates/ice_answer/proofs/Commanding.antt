@@ -1,5 +1,5 @@
 -- What each step of a command comes to, by its causes.
-use Rattle.std.proofs.Common.{◌≡◌, ◌∙◌, ◌+◌, ◌<◌, ◌≤◌, ◌++◌, ℕ, Option, None, Some, List, true, sym, ap, subst, take, length, arith}
+use Rattle.std.proofs.Common.{◌≡◌, ◌∙◌, ◌+◌, ◌≤◌, ◌++◌, ℕ, Option, None, Some, List, true, sym, ap, subst, take, length, arith}
 use Rattle.std.specs.Global.{Vec}
 use Rattle.ice_base.specs.declared.number.TileAt.{TileAt}
 use Rattle.ice_desk.specs.Desk.{Meaning, SameButReading, SameButSaying, Rose, after_more, HoldsAfter}

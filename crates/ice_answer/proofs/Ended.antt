@@ -1,5 +1,5 @@
 -- From what came of the making, and how the command ended, to what is true of the command.
-use Rattle.std.proofs.Common.{◌≡◌, ◌≢◌, ◌⊎◌, ◌∙◌, ◌≤◌, ◌<◌, ℕ, true, List, [], ◌∷◌, Option, None, Some, Result, Ok, Err, IfOk, IfErr, inl, inr, sym, ap, subst, arith}
+use Rattle.std.proofs.Common.{◌≡◌, ◌≢◌, ◌∙◌, ◌≤◌, ◌<◌, ℕ, List, Option, None, Some, Result, Ok, Err, IfOk, IfErr, inl, inr, sym, ap, subst, arith}
 use Rattle.ice_desk.specs.Desk.{Meaning, SameButReading, SameButSaying, SameButWriting, Rose, after_one, HoldsAfter}
 use Rattle.ice_desk.specs.Said.{IsSilent}
 use Rattle.ice_desk.proofs.Saying.{after_silence}
@@ -8,9 +8,9 @@ use Rattle.ice_answer.specs.declared.giving.Made.{Made}
 use Rattle.ice_answer.specs.declared.giving.Refused.{Refused}
 use Rattle.ice_answer.specs.Causes.{line_of}
 use Rattle.ice_answer.specs.Commands.{Command, Aloud, InFiles, IsRefusal, IsRefused, HasGivenUp, IsParting, IsTrueOf}
-use Rattle.ice_answer.specs.Ends.{IsLineSaid, IsRefusalSaid, SameButFiles, AreFilesGiven, IsTextLeft, IsLeft, IsLeftAndSaid, IsEndAloud, IsEndInFiles, text_of, unreported, IsMadeOf, IsToldLong, IsReport, IsReported, IsEndOf}
+use Rattle.ice_answer.specs.Ends.{IsLineSaid, SameButFiles, AreFilesGiven, IsTextLeft, IsLeft, IsEndAloud, IsEndInFiles, text_of, unreported, IsMadeOf, IsToldLong, IsReport, IsReported, IsEndOf}
 use Rattle.ice_answer.specs.Reading.{most_bytes, File, Files, IsLong, TellsLong}
-use Rattle.ice_answer.specs.Rows.{changed_by, MadeRow, IsLeftIn, IsParted, PartingRow}
+use Rattle.ice_answer.specs.Rows.{changed_by, MadeRow, IsLeftIn, IsParted}
 use Rattle.ice_answer.specs.Texts.{AreTexts, OfTexts}
 use Rattle.ice_answer.specs.Writing.{Contents, IsOther}
 use Rattle.ice_answer.proofs.Commanding.{refusal_is_true, put_behind, put_is_true, true_while_said, refused_said, refused_made, of_given_up, put_said, put_made, put_kept, put_stays, put_not_given_up, silent_behind}
@@ -88,9 +88,9 @@ left_stays : (name text : List ℕ) (old mid written new : Meaning) → SameButR
 left_stays name text old mid written new read same (inl holds) = inl (files_same written new name same.files ∙ holds)
 left_stays name text old mid written new read same (inr part) = inr (
   (let r : Rose mid.write_faults written.write_faults = part.0 in
-   let e : mid.write_faults ≡ old.write_faults = read.write_faults in
-   let le : written.write_faults ≤ new.write_faults = same.write_faults in
-   omega arith),
+      let e : mid.write_faults ≡ old.write_faults = read.write_faults in
+      let le : written.write_faults ≤ new.write_faults = same.write_faults in
+      omega arith),
   subst (λ (held : Contents). HoldsAfter text new.puts (held name) (new.files name)) read.files
       (subst (λ (held : Contents). HoldsAfter text new.puts (mid.files name) (held name)) (sym same.files)
       (subst (λ n. HoldsAfter text n (mid.files name) (written.files name)) (sym same.puts) part.1)),
@@ -158,7 +158,7 @@ given_end : (k : Command) (files : Files) (made : Made) (old mid new : Meaning) 
     → AreFilesGiven files made.texts made.placement made.tallies.items mid new cause → IsEndOf (in_files k files) old new cause
 given_end k files made old mid new cause read of end =
     let put = put_stays files made.texts made.placement made.tallies.items old end.written new cause end.line.same
-        (put_behind (InFiles files) made.texts made.placement made.tallies.items old mid end.written cause read end.put) in
+    (put_behind (InFiles files) made.texts made.placement made.tallies.items old mid end.written cause read end.put) in
     let silent = silent_written old mid end.written read end.same in
     record {
       is_true = put_is_true (in_files k files) old new made.texts made.placement made.tallies.items cause of put;

@@ -5,7 +5,7 @@ use Rattle.std.proofs.lemmas.Slice.Eq.{bytes_eq-Decides}
 use Rattle.ice_desk.specs.Desk.{Meaning, SameButWriting, Rose, after_one, after_more, HoldsAfter}
 use Rattle.ice_answer.specs.declared.cause.FileRole.{FileRole}
 use Rattle.ice_answer.specs.Ends.{SameButFiles}
-use Rattle.ice_answer.specs.Reading.{Files, role_behind, name_behind}
+use Rattle.ice_answer.specs.Reading.{Files, name_behind}
 use Rattle.ice_answer.specs.declared.files.CommandFile.{CommandFile}
 use Rattle.ice_answer.specs.Texts.{text_behind, text_at, file_view, files_view}
 use Rattle.ice_answer.specs.Writing.{MadeMore, IsOther, Contents, once_written, after_writing, HoldFrom, IsWriteStop, AreWritten, AreWrittenInPart}

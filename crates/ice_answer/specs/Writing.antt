@@ -1,5 +1,5 @@
 -- The writing of texts to files, one after another: each file gets the text of its place.
-use Rattle.std.specs.Prelude.{◌≡◌, ◌≢◌, ℕ, zero, suc, ◌+◌, ◌<◌, ◌≤◌, true, Option, Some, List, [], ◌∷◌, length, if◌then◌else◌}
+use Rattle.std.specs.Prelude.{◌≡◌, ◌≢◌, ℕ, zero, suc, ◌+◌, ◌<◌, true, Option, Some, List, [], ◌∷◌, length, if◌then◌else◌}
 use Rattle.std.specs.Str.{bytes_eq}
 use Rattle.ice_desk.specs.Desk.{Meaning, Rose, after_more, HoldsAfter}
 use Rattle.ice_answer.specs.declared.cause.FileRole.{FileRole}

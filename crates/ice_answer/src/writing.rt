@@ -17,11 +17,7 @@ pub(crate) struct FileStop {
 }
 
 // Writes a text to a file. It takes no memory.
-fn write_text<D: Desk>(
-    desk: &mut D,
-    file: &CommandFile<'_>,
-    text: &[u8],
-) -> Result<(), FileStop>
+fn write_text<D: Desk>(desk: &mut D, file: &CommandFile<'_>, text: &[u8]) -> Result<(), FileStop>
     requires { D.may_write desk.old file.now.name.now }
     ensures same { SameButWriting file.now.name.now (D.seen desk.old) (D.seen desk.new) }
     ensures names { SameTest (D.may_write desk.old) (D.may_write desk.new) }
