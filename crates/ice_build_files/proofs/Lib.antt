@@ -2,4 +2,5 @@ pub mod Standing
 pub mod Excluding
 pub mod Telling
 pub mod Refusing
+pub mod Holding
 pub mod BuildLaws

@@ -108,7 +108,7 @@ pub refused_for_memory : (b : Build) (t : List (List ℕ)) (refused : Refused) �
 refused_for_memory b t refused e none = refused_by b t NoMemory refused tt (λ never. never) e none
 
 -- ---- rounds that gave up
-not_none : (o : Option (List ℕ)) (name : List ℕ) → o ≡ Some name → o ≡ None → ⊥
+pub not_none : (o : Option (List ℕ)) (name : List ℕ) → o ≡ Some name → o ≡ None → ⊥
 not_none o name e none = cc
 
 has_report : (b : Build) (t : List (List ℕ)) (placement : List TileAt) (logs : Vec RoundLog) (tallies : Vec Shut) (report : List ℕ) (asked : Option (List ℕ)) → b.report ≡ asked

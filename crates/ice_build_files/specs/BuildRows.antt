@@ -191,7 +191,7 @@ WrittenRow b old new cause = (placement : List TileAt) (tallies : Vec Shut) → 
 
 -- Of the texts that the files hold this is the report on the rounds that gave up with this placement, these logs and these tallies. The
 -- file of this name holds it; or the count of write faults rose, and the file holds a front of it, or is as before or empty.
-pub record IsReported (b : Build) (old new : Meaning) (name : List ℕ) (placement : List TileAt) (logs : List RoundLog) (tallies : List Shut) : Type 0 where
+pub record HoldsReport (b : Build) (old new : Meaning) (name : List ℕ) (placement : List TileAt) (logs : List RoundLog) (tallies : List Shut) : Type 0 where
   pub texts : List (List ℕ)
   pub report : List ℕ
   pub hold : HoldsTexts (files_of b) old texts
@@ -202,7 +202,7 @@ pub record IsReported (b : Build) (old new : Meaning) (name : List ℕ) (placeme
 abbrev pub ReportedRow : Build → Meaning → Meaning → Cause → Type 0
 ReportedRow b old new cause =
     (placement : List TileAt) (logs : Vec RoundLog) (tallies : Vec Shut) (name : List ℕ) → cause ≡ GaveUp placement logs tallies → b.report ≡ Some name → old.tells ≡ true
-    → IsReported b old new name placement logs.items tallies.items
+    → HoldsReport b old new name placement logs.items tallies.items
 
 -- ---- all of them
 -- The end of `build`, where the desk was seen as `old` before and is seen as `new` after.
