@@ -1,5 +1,5 @@
 -- From what building answers to what the texts give, or why they are refused.
-use Rattle.std.proofs.Common.{◌≡◌, ◌∙◌, ℕ, Bool, true, false, Option, Some, None, List, length, map, Result, Ok, Err, IfOk, inl, inr, refl, sym, ap, subst}
+use Rattle.std.proofs.Common.{◌≡◌, ◌∙◌, ℕ, Bool, true, false, Option, Some, None, List, length, map, Result, Ok, Err, IfOk, IfErr, inl, inr, refl, sym, ap, subst}
 use Rattle.std.specs.Prelude.{option_map}
 use Rattle.std.specs.Global.{Vec}
 use Rattle.std.specs.declared.alloc.Global.{Global}
@@ -99,7 +99,7 @@ refused_alone b t refused is alone none = record {
   report = subst (λ (o : Option (Vec ℕ Global)). HasReport b t refused.cause (text_of o)) (sym none) (λ gave. absurd (alone gave));
 }
 
-refused_by : (b : Build) (t : List (List ℕ)) (this : Cause) (refused : Refused) → IsRefusal (Stands b.package_name b.effort.rounds t) this → IsOfNoRounds this → refused.cause ≡ this → refused.report ≡ None
+pub refused_by : (b : Build) (t : List (List ℕ)) (this : Cause) (refused : Refused) → IsRefusal (Stands b.package_name b.effort.rounds t) this → IsOfNoRounds this → refused.cause ≡ this → refused.report ≡ None
     → IsRefusedWith b t refused
 refused_by b t this refused is alone e none =
     refused_alone b t refused (subst (IsRefusal (Stands b.package_name b.effort.rounds t)) (sym e) is) (of_no_rounds refused.cause this e alone) none
@@ -248,3 +248,9 @@ module _ (b : Build) (t : List (List ℕ)) (task : Task) (built : Built) (asked 
       → IfOk result (λ made. IsMade b t made.texts made.placement made.tallies.items)
   made_of_built (Ok made) shown texts here tallied read_back = made_is made.texts made.placement made.tallies.items shown texts here tallied read_back
   made_of_built (Err refused) shown texts here tallied read_back = tt
+
+-- there was no memory for what is made
+pub made_refused : (b : Build) (t : List (List ℕ)) (result : Result Made Refused) → IfErr result (λ refused. refused.cause ≡ NoMemory) → IfErr result (λ refused. refused.report ≡ None)
+    → IfErr result (IsRefusedWith b t)
+made_refused b t (Ok made) memory none = tt
+made_refused b t (Err refused) memory none = refused_for_memory b t refused memory none
