@@ -1,3 +1,4 @@
+mod Counting
 mod Standing
 mod Showing
 pub mod Answering
