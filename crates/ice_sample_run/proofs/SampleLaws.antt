@@ -61,7 +61,7 @@ lawful s = record {
 
 -- no file is read, so none was read last
 none_last : (old new : Meaning) (role : FileRole) → IsLastRead [] old new role → ⊥
-none_last old new role last = let some = last.some in let few = last.few in omega (arith, some, few)
+none_last old new role last = let some : 0 < last.place = last.some in let few : last.place ≤ 0 = last.few in omega (arith, some, few)
 
 says : (s : Sample) (old new : Meaning) (cause : Cause) → IsTrueOf (sample s) old new cause → Stands s.number cause ⊎ (cause ≡ NoMemory)
 says s old new (Good placement tallies) is = inl (done_so s.number (text_at is.made 1) placement tallies.items (Good placement tallies) is.texts.2 tt)
@@ -84,14 +84,11 @@ says s old new (BadLevels line) is = inl is.0.2
 
 -- ---- the rows
 module _ (s : Sample) (old new : Meaning) (cause : Cause) (is : IsTrueOf (sample s) old new cause) where
-  abbrev number : ℕ
-  number = s.number
-
   -- what a refusal by this cause tells
-  told_of : (fault : Cause) → cause ≡ fault → (IsTrueOf (sample s) old new fault → Stands number fault) → Told number fault
-  told_of fault e stands = told number fault (stands (subst (λ (x : Cause). IsTrueOf (sample s) old new x) e is))
+  told_of : (fault : Cause) → cause ≡ fault → (IsTrueOf (sample s) old new fault → Stands s.number fault) → Told s.number fault
+  told_of fault e stands = told s.number fault (stands (subst (λ (x : Cause). IsTrueOf (sample s) old new x) e is))
 
-  comes : (IsSuch : Cause → Type 0) (IsSo : Type 0) → (IsSuch cause → IsSo) → (IsSo → Stands number cause → IsSuch cause) → Comes IsSuch IsSo cause
+  comes : (IsSuch : Cause → Type 0) (IsSo : Type 0) → (IsSuch cause → IsSo) → (IsSo → Stands s.number cause → IsSuch cause) → Comes IsSuch IsSo cause
   comes IsSuch IsSo only always = record {
     only = only;
     always = λ so. elim (says s old new cause is) [
@@ -104,104 +101,104 @@ module _ (s : Sample) (old new : Meaning) (cause : Cause) (is : IsTrueOf (sample
   chip_row : ChipRow cause
   chip_row fault =
       comes (λ c. c ≡ BadChip fault) (chip_says chip_text ≡ Err fault) (λ e. told_of (BadChip fault) e (λ i. i.0.2))
-      (λ h m. fault_alone (chip_says chip_text) BadChip (BlifStands number) fault cause h m)
+      (λ h m. fault_alone (chip_says chip_text) BadChip (BlifStands s.number) fault cause h m)
 
-  blif_row : BlifRow number cause
+  blif_row : BlifRow s.number cause
   blif_row fault =
-      comes (λ c. c ≡ BadBlif fault) (HasBlifFault number fault) (λ e. told_of (BadBlif fault) e (λ i. i.0.2))
-      (λ h m. fault_alone (netlist_of (net_text number)) BadBlif (NetStands h.0) fault cause h.2 (blif_stands number h.0 cause h.1 m))
+      comes (λ c. c ≡ BadBlif fault) (HasBlifFault s.number fault) (λ e. told_of (BadBlif fault) e (λ i. i.0.2))
+      (λ h m. fault_alone (netlist_of (net_text s.number)) BadBlif (NetStands h.0) fault cause h.2 (blif_stands s.number h.0 cause h.1 m))
 
   -- ---- the netlist
   unsound_alone : (parts : Parts) (circuit : NetlistData) → (IsSound circuit → ⊥) → NetStands parts circuit cause → IsNetFault cause
   unsound_alone parts circuit unsound (inl bad) = (bad.0, bad.1)
   unsound_alone parts circuit unsound (inr good) = absurd (unsound good.0)
 
-  netlist_weaker : (P Q : NetlistData → Type 0) → ((circuit : NetlistData) → P circuit → Q circuit) → SaysNetlist number P → SaysNetlist number Q
+  netlist_weaker : (P Q : NetlistData → Type 0) → ((circuit : NetlistData) → P circuit → Q circuit) → SaysNetlist s.number P → SaysNetlist s.number Q
   netlist_weaker P Q weaker h = record { parts = h.parts; circuit = h.circuit; is_chip = h.is_chip; is_circuit = h.is_circuit; is_so = weaker h.circuit h.is_so }
 
-  net_row : NetRow number cause
+  net_row : NetRow s.number cause
   net_row = record {
-    comes = comes IsNetFault (SaysNetlist number (λ circuit. IsSound circuit → ⊥))
+    comes = comes IsNetFault (SaysNetlist s.number (λ circuit. IsSound circuit → ⊥))
         (λ f. netlist_weaker (λ circuit. IsFaultOf circuit f.0 × (f.0 ≢ net_fault.NoMemory)) (λ circuit. IsSound circuit → ⊥) (λ circuit bad. faulty circuit f.0 bad.1 bad.0)
         (told_of (BadNet f.0) f.1 (λ i. i.0.2)))
-        (λ h m. unsound_alone h.parts h.circuit h.is_so (net_stands number h.parts h.circuit cause h.is_chip h.is_circuit m));
+        (λ h m. unsound_alone h.parts h.circuit h.is_so (net_stands s.number h.parts h.circuit cause h.is_chip h.is_circuit m));
     fault_is = λ fault e.
         netlist_weaker (λ circuit. IsFaultOf circuit fault × (fault ≢ net_fault.NoMemory)) (λ circuit. IsFaultOf circuit fault) (λ circuit bad. bad.0)
         (told_of (BadNet fault) e (λ i. i.0.2));
   }
 
   -- ---- pins and places
-  pin_row : PinRow number cause
+  pin_row : PinRow s.number cause
   pin_row fault =
-      comes (λ c. c ≡ BadPin fault) (Asks number (λ task. pins_said task ≡ Err fault)) (λ e. told_of (BadPin fault) e (λ i. i.0.2))
-      (λ h m. fault_alone (pins_said h.task) BadPin (λ pads. PlacesStand h.task) fault cause h.is_so (task_stands number h.task cause h.is_asked m))
+      comes (λ c. c ≡ BadPin fault) (Asks s.number (λ task. pins_said task ≡ Err fault)) (λ e. told_of (BadPin fault) e (λ i. i.0.2))
+      (λ h m. fault_alone (pins_said h.task) BadPin (λ pads. PlacesStand h.task) fault cause h.is_so (task_stands s.number h.task cause h.is_asked m))
 
-  place_row : PlaceRow number cause
+  place_row : PlaceRow s.number cause
   place_row fault =
-      comes (λ c. c ≡ Overfull fault) (Asks number (HasPlaceFault fault)) (λ e. told_of (Overfull fault) e (λ i. i.0.2))
-      (λ h m. fault_alone (places_said h.task) Overfull (λ first. IsEnd h.task) fault cause h.is_so.2 (places_stand number h.task h.is_so.0 cause h.is_asked h.is_so.1 m))
+      comes (λ c. c ≡ Overfull fault) (Asks s.number (HasPlaceFault fault)) (λ e. told_of (Overfull fault) e (λ i. i.0.2))
+      (λ h m. fault_alone (places_said h.task) Overfull (λ first. IsEnd h.task) fault cause h.is_so.2 (places_stand s.number h.task h.is_so.0 cause h.is_asked h.is_so.1 m))
 
   -- ---- what is routed
   laid_placeable : (task : Task) (layout : Layout) → IsLaidOut task layout → IsPlaceable task
   laid_placeable task layout laid = (layout.pads, laid.placed.first, pins_good task layout laid, places_good task layout laid)
 
-  asks_weaker : (P Q : Task → Type 0) → ((task : Task) → P task → Q task) → Asks number P → Asks number Q
+  asks_weaker : (P Q : Task → Type 0) → ((task : Task) → P task → Q task) → Asks s.number P → Asks s.number Q
   asks_weaker P Q weaker h = record { task = h.task; is_asked = h.is_asked; is_so = weaker h.task h.is_so }
 
-  sampled_placeable : (text : List ℕ) (on : List TileAt) (counted : List Shut) → IsSampled number text on counted → Asks number IsPlaceable
+  sampled_placeable : (text : List ℕ) (on : List TileAt) (counted : List Shut) → IsSampled s.number text on counted → Asks s.number IsPlaceable
   sampled_placeable text on counted g = record { task = g.task; is_asked = g.is_asked; is_so = laid_placeable g.task g.layout g.is_laid }
 
-  tried_only : IsTried cause → Asks number IsPlaceable
+  tried_only : IsTried cause → Asks s.number IsPlaceable
   tried_only tried =
-      of_tried (λ c. IsTrueOf (sample s) old new c → Asks number IsPlaceable)
+      of_tried (λ c. IsTrueOf (sample s) old new c → Asks s.number IsPlaceable)
       (λ placement tallies i. sampled_placeable (text_at i.made 1) placement tallies.items i.texts.2)
       (λ role put i. sampled_placeable (text_at i.made 1) i.placement i.tallies i.texts.2)
-      (λ placement net sink i. asks_weaker (λ task. IsStuckOn task placement net sink) IsPlaceable (λ task stuck. laid_placeable task stuck.0 stuck.1) (told number (Unreachable placement net sink) i.0.2))
+      (λ placement net sink i. asks_weaker (λ task. IsStuckOn task placement net sink) IsPlaceable (λ task stuck. laid_placeable task stuck.0 stuck.1) (told s.number (Unreachable placement net sink) i.0.2))
       (λ placement logs tallies i. asks_weaker (λ task. IsGivenUpOn task most_rounds placement logs.items tallies.items) IsPlaceable (λ task given. laid_placeable task given.0 given.1)
-      (told number (GaveUp placement logs tallies) i.0.2))
+      (told s.number (GaveUp placement logs tallies) i.0.2))
       cause tried is
 
   end_tried : (task : Task) → IsEnd task cause → IsTried cause
   end_tried task end = of_end IsTried task (λ placement tallies. tt) (λ role put. tt) (λ placement net sink stuck. tt) (λ placement logs tallies given. tt) cause end
 
-  tried_row : TriedRow number cause
+  tried_row : TriedRow s.number cause
   tried_row =
-      comes IsTried (Asks number IsPlaceable) tried_only
-      (λ h m. end_tried h.task (end_stands number h.task h.is_so.0 h.is_so.1 cause h.is_asked h.is_so.2 h.is_so.3 m))
+      comes IsTried (Asks s.number IsPlaceable) tried_only
+      (λ h m. end_tried h.task (end_stands s.number h.task h.is_so.0 h.is_so.1 cause h.is_asked h.is_so.2 h.is_so.3 m))
 
   -- ---- the placement that is told
-  tallied : (placement : List TileAt) (tallies : Vec Shut) → IsTrueOf (sample s) old new (Good placement tallies) → Asks number (λ task. IsTalliedOn task placement tallies.items)
+  tallied : (placement : List TileAt) (tallies : Vec Shut) → IsTrueOf (sample s) old new (Good placement tallies) → Asks s.number (λ task. IsTalliedOn task placement tallies.items)
   tallied placement tallies i =
-      let g : IsSampled number (text_at i.made 1) placement tallies.items = i.texts.2 in
+      let g : IsSampled s.number (text_at i.made 1) placement tallies.items = i.texts.2 in
       record { task = g.task; is_asked = g.is_asked; is_so = (g.routed, (g.layout, g.is_laid, sym g.is_placement, g.is_routed), sym g.are_tallies) }
 
   -- what the answer says of the task that the texts say
-  routed_here : (placement : List TileAt) (tallies : Vec Shut) (task : Task) → IsAsked number task → IsTrueOf (sample s) old new (Good placement tallies) → IsRoutedOn task most_rounds placement
+  routed_here : (placement : List TileAt) (tallies : Vec Shut) (task : Task) → IsAsked s.number task → IsTrueOf (sample s) old new (Good placement tallies) → IsRoutedOn task most_rounds placement
   routed_here placement tallies task asked i =
       let h = tallied placement tallies i in
-      subst (λ (x : Task). IsRoutedOn x most_rounds placement) (one_task number h.task task h.is_asked asked) (h.is_so.0, h.is_so.1)
+      subst (λ (x : Task). IsRoutedOn x most_rounds placement) (one_task s.number h.task task h.is_asked asked) (h.is_so.0, h.is_so.1)
 
-  stuck_here : (placement : List TileAt) (net : NetNo) (sink : WireNo) (task : Task) → IsAsked number task → IsTrueOf (sample s) old new (Unreachable placement net sink)
+  stuck_here : (placement : List TileAt) (net : NetNo) (sink : WireNo) (task : Task) → IsAsked s.number task → IsTrueOf (sample s) old new (Unreachable placement net sink)
       → IsStuckOn task placement net sink
   stuck_here placement net sink task asked i =
-      let h = told number (Unreachable placement net sink) i.0.2 in
-      subst (λ (x : Task). IsStuckOn x placement net sink) (one_task number h.task task h.is_asked asked) h.is_so
+      let h = told s.number (Unreachable placement net sink) i.0.2 in
+      subst (λ (x : Task). IsStuckOn x placement net sink) (one_task s.number h.task task h.is_asked asked) h.is_so
 
-  given_up_here : (placement : List TileAt) (logs : Vec RoundLog) (tallies : Vec Shut) (task : Task) → IsAsked number task → IsTrueOf (sample s) old new (GaveUp placement logs tallies)
+  given_up_here : (placement : List TileAt) (logs : Vec RoundLog) (tallies : Vec Shut) (task : Task) → IsAsked s.number task → IsTrueOf (sample s) old new (GaveUp placement logs tallies)
       → IsGivenUpOn task most_rounds placement logs.items tallies.items
   given_up_here placement logs tallies task asked i =
-      let h = told number (GaveUp placement logs tallies) i.0.2 in
-      subst (λ (x : Task). IsGivenUpOn x most_rounds placement logs.items tallies.items) (one_task number h.task task h.is_asked asked) h.is_so
+      let h = told s.number (GaveUp placement logs tallies) i.0.2 in
+      subst (λ (x : Task). IsGivenUpOn x most_rounds placement logs.items tallies.items) (one_task s.number h.task task h.is_asked asked) h.is_so
 
-  tallied_at : (placement : List TileAt) (tallies : Vec Shut) → cause ≡ Good placement tallies → Asks number (λ task. IsTalliedOn task placement tallies.items)
+  tallied_at : (placement : List TileAt) (tallies : Vec Shut) → cause ≡ Good placement tallies → Asks s.number (λ task. IsTalliedOn task placement tallies.items)
   tallied_at placement tallies e = tallied placement tallies (subst (λ (x : Cause). IsTrueOf (sample s) old new x) e is)
 
-  routed_only : (placement on : List TileAt) (tallies : Vec Shut) → cause ≡ Good on tallies → on ≡ placement → Asks number (λ task. IsRoutedOn task most_rounds placement)
+  routed_only : (placement on : List TileAt) (tallies : Vec Shut) → cause ≡ Good on tallies → on ≡ placement → Asks s.number (λ task. IsRoutedOn task most_rounds placement)
   routed_only placement on tallies e same =
       asks_weaker (λ task. IsTalliedOn task placement tallies.items) (λ task. IsRoutedOn task most_rounds placement) (λ task t. (t.0, t.1))
       (tallied_at placement tallies (e ∙ ap (λ (x : List TileAt). Good x tallies) same))
 
-  routed_row : RoutedRow number cause
+  routed_row : RoutedRow s.number cause
   routed_row = record {
     comes = record {
       only = λ placement about good. routed_only placement good.0 good.1 good.2 (subst (IsAbout placement) good.2 about);
@@ -217,10 +214,10 @@ module _ (s : Sample) (old new : Meaning) (cause : Cause) (is : IsTrueOf (sample
   told_same : (placement : List TileAt) (net other : NetNo) (sink last : WireNo) → other ≡ net → last ≡ sink → Unreachable placement other last ≡ Unreachable placement net sink
   told_same placement net other sink last e f = ap (λ (n : NetNo). Unreachable placement n last) e ∙ ap (λ (w : WireNo). Unreachable placement net w) f
 
-  stuck_only : (placement on : List TileAt) (net : NetNo) (sink : WireNo) → cause ≡ Unreachable on net sink → on ≡ placement → Asks number (λ task. IsStuckOn task placement net sink)
+  stuck_only : (placement on : List TileAt) (net : NetNo) (sink : WireNo) → cause ≡ Unreachable on net sink → on ≡ placement → Asks s.number (λ task. IsStuckOn task placement net sink)
   stuck_only placement on net sink e same = told_of (Unreachable placement net sink) (e ∙ ap (λ (x : List TileAt). Unreachable x net sink) same) (λ i. i.0.2)
 
-  unreachable_row : UnreachableRow number cause
+  unreachable_row : UnreachableRow s.number cause
   unreachable_row net sink = record {
     only = λ placement about stuck. stuck_only placement stuck.0 net sink stuck.1 (subst (IsAbout placement) stuck.1 about);
     always = λ placement about h.
@@ -233,16 +230,16 @@ module _ (s : Sample) (old new : Meaning) (cause : Cause) (is : IsTrueOf (sample
   }
 
   given_up_at : (placement : List TileAt) (logs : Vec RoundLog) (tallies : Vec Shut) → cause ≡ GaveUp placement logs tallies
-      → Asks number (λ task. IsGivenUpOn task most_rounds placement logs.items tallies.items)
+      → Asks s.number (λ task. IsGivenUpOn task most_rounds placement logs.items tallies.items)
   given_up_at placement logs tallies e = told_of (GaveUp placement logs tallies) e (λ i. i.0.2)
 
   given_up_only : (placement on : List TileAt) (logs : Vec RoundLog) (tallies : Vec Shut) → cause ≡ GaveUp on logs tallies → on ≡ placement
-      → Asks number (λ task. (all : List RoundLog) × (shuts : List Shut) × IsGivenUpOn task most_rounds placement all shuts)
+      → Asks s.number (λ task. (all : List RoundLog) × (shuts : List Shut) × IsGivenUpOn task most_rounds placement all shuts)
   given_up_only placement on logs tallies e same =
       asks_weaker (λ task. IsGivenUpOn task most_rounds placement logs.items tallies.items) (λ task. (all : List RoundLog) × (shuts : List Shut) × IsGivenUpOn task most_rounds placement all shuts)
       (λ task given. (logs.items, tallies.items, given)) (given_up_at placement logs tallies (e ∙ ap (λ (x : List TileAt). GaveUp x logs tallies) same))
 
-  gave_up_row : GaveUpRow number cause
+  gave_up_row : GaveUpRow s.number cause
   gave_up_row = record {
     comes = record {
       only = λ placement about gave. given_up_only placement gave.0 gave.1 gave.2 gave.3 (subst (IsAbout placement) gave.3 about);
@@ -257,7 +254,7 @@ module _ (s : Sample) (old new : Meaning) (cause : Cause) (is : IsTrueOf (sample
 
   no_others : IsOfSample cause
   no_others = elim (says s old new cause is) [
-    | inl stands ↦ told_sample number cause (told number cause stands)
+    | inl stands ↦ told_sample s.number cause (told s.number cause stands)
     | inr none ↦ subst IsOfSample (sym none) tt
   ]
 

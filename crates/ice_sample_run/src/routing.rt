@@ -5,12 +5,11 @@ ghost use Rattle.ice_answer.specs.Texts.{text_at};
 ghost use Rattle.ice_answer.specs.declared.cause.Cause.TheVariants.{NoMemory as out_of_memory};
 ghost use Rattle.ice_build.specs.Answers.{net_count};
 ghost use Rattle.ice_build.specs.Laid.{IsLaidOut, plan_in, task_of};
-ghost use Rattle.ice_build.specs.Stages.{IsPermitted};
 ghost use Rattle.ice_report.specs.Summary.{summary_text};
 ghost use Rattle.ice_routed_trees.specs.Routing.{AreNetsOf};
 ghost use Rattle.ice_sample_run.specs.Laying.{IsLayRefusal, route_cause};
 ghost use Rattle.ice_sample_run.specs.Made.{IsSampled, summary_of};
-ghost use Rattle.ice_sample_run.specs.Samples.{IsAsked, IsManned, most_rounds, package_name};
+ghost use Rattle.ice_sample_run.specs.Samples.{IsAsked, IsManned, package_name};
 ghost use Rattle.ice_sample_run.specs.Standing.{TaskStands};
 
 use crate::request::SampleRequest;
@@ -35,19 +34,6 @@ fn no_constraints(alloc: Global) -> Result<Pcf, NoMemory>
     match read_pcf(alloc, b"") {
         Ok(pcf) => Ok(pcf),
         Err(_) => Err(NoMemory),
-    }
-}
-
-// How long routing tries, and from where placing begins.
-fn effort(workers: u32) -> Effort
-    requires { IsManned workers }
-    ensures permitted { IsPermitted result }
-    ensures rounds { result.rounds ≡ most_rounds }
-{
-    Effort {
-        seed: 1,
-        rounds: 64,
-        workers,
     }
 }
 
@@ -166,7 +152,11 @@ fn route_nets<G: Gate + Sync, R: Threads + Sync>(
     ensures refused { IfErr result (λ cause. IsRefusal (TaskStands (task_of chip.now package_name [] sound.now)) cause) }
 {
     layouts_stand_on_their_chip(chip, sound);
-    let effort = effort(request.workers);
+    let effort = Effort {
+        seed: 1,
+        rounds: 64,
+        workers: request.workers,
+    };
     match route(rt, alloc, chip, &layout, nets, effort, gate) {
         Ok(routed) => sum_up(alloc, chip, request.number, layout, nets, routed),
         Err(fault) => Err(route_refusal(layout, fault)),
