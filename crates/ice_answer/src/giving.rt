@@ -1,18 +1,21 @@
 //! Giving what a command made: it is said or written; or, where nothing was made, the line of the refusal is said.
-ghost use Rattle.std.specs.Prelude.{◌≡◌};
+ghost use Rattle.std.specs.Prelude.{◌≡◌, ◌∷◌, [], IfOk, IfErr};
 ghost use Rattle.ice_desk.specs.Desk.{SameButSaying};
-ghost use Rattle.ice_answer.specs.Causes.{status_of};
+ghost use Rattle.ice_answer.specs.declared.cause.Cause.TheVariants.{NoMemory as out_of_memory};
+ghost use Rattle.ice_answer.specs.Causes.{no_places, status_of};
 ghost use Rattle.ice_answer.specs.Commands.{Aloud, InFiles, IsPut};
 ghost use Rattle.ice_answer.specs.Ends.{SameButFiles, IsEndAloud, IsEndInFiles};
 ghost use Rattle.ice_answer.specs.Texts.{files_view, parting_view, ArePermitted, IsPermitted};
 
-use crate::cause::{Cause, Done, FileRole};
+use crate::cause::{Cause, Done, FileRole, no_placement, no_tallies};
 use crate::end::{done, finish};
-use crate::files::{CommandFile, Texts};
+use crate::files::{CommandFile, Texts, one_text};
 use crate::writing::{leave_report, write_texts};
+use ice_base::NoMemory;
 use ice_desk::{Desk, say_text};
 use ice_place::Placement;
 use ice_words::Tally;
+use std::alloc::Global;
 
 /// What a command made of its texts.
 #[derive(Drop)]
@@ -23,6 +26,26 @@ pub struct Made {
     pub placement: Placement,
     /// The tallies of its rounds in order; there are none where nothing is routed.
     pub tallies: Vec<Tally>,
+}
+
+/// One text, with the placement of no cluster and the tallies of no round.
+///
+/// # Errors
+/// Want of memory alone.
+pub fn made_text(alloc: Global, text: Vec<u8>) -> Result<Made, Cause>
+    ensures text { IfOk result (λ made. made.texts ≡ text.items ∷ []) }
+    ensures placement { IfOk result (λ made. made.placement ≡ no_places) }
+    ensures tallies { IfOk result (λ made. made.tallies.items ≡ []) }
+    ensures stop { IfErr result (λ cause. cause ≡ out_of_memory) }
+{
+    match one_text(alloc, text) {
+        Ok(texts) => Ok(Made {
+            texts,
+            placement: no_placement(alloc),
+            tallies: no_tallies(alloc),
+        }),
+        Err(NoMemory) => Err(Cause::NoMemory),
+    }
 }
 
 /// Why a command that writes made nothing.

@@ -11,6 +11,7 @@ use Rattle.ice_answer.specs.Causes.{status_of}
 use Rattle.ice_answer.specs.Commands.{IsDone, IsTrueOf}
 use Rattle.ice_answer.specs.Reading.{TellsLong}
 use Rattle.ice_answer.specs.Rows.{GoodRow, IsHeld}
+use Rattle.ice_answer.specs.Texts.{text_at}
 use Rattle.ice_answer.proofs.CommandRows.{Lawful, StandsAlone, done_row, good_row, read_fault_row, write_fault_row, too_long_row}
 use Rattle.ice_answer.proofs.Standings.{of_done}
 use Rattle.ice_bits_files.proofs.Looks.{then_so, configured_so}
@@ -29,14 +30,14 @@ never name t m = elim (told (Then t) name t Usage m) [ inl so ↦ so | inr behin
 
 pub lawful : (b : Back) → Lawful (back_files b)
 lawful b = record {
-  done = λ t text on counted cause g done.
+  done = λ t made on counted cause g done.
       let shown = g.0.is_shown in
       configured_so (Then t) b.package_name t shown.parts shown.configuration shown.bonded cause shown.is_configured done;
   never = never b.package_name;
 }
 
 pub alone : (b : Back) → StandsAlone (back_files b)
-alone b t text on counted cause g m =
+alone b t made on counted cause g m =
     let shown = g.0.is_shown in
     then_so (Then t) b.package_name t shown.parts shown.configuration shown.bonded cause shown.is_configured m
 
@@ -52,7 +53,7 @@ headline_row : (b : Back) (old new : Meaning) (cause : Cause) (status : ℕ) →
 headline_row b old new cause status good zero_status tells =
     let done = good.done zero_status in
     let held : IsHeld (back_files b) old new done.0 done.1.items = good.held done.0 done.1 done.2 tells in
-    (held.texts, held.text, held.hold, held.there, held.gives.0.is_shown)
+    (held.texts, text_at held.made 1, held.hold, held.there.0 tt, held.gives.0.is_shown)
 
 -- ---- all rows
 pub answers : (b : Back) (old new : Meaning) (end : Done) → IsTrueOf (back_files b) old new end.cause → end.status ≡ status_of end.cause → TellsLong new end.cause → IsBackAnswer b old new end

@@ -1,6 +1,6 @@
 -- What `back` is asked for.
 use Rattle.std.specs.Prelude.{ℕ, List, [], ◌∷◌}
-use Rattle.ice_answer.specs.declared.cause.FileRole.TheVariants.{Chip, Asc}
+use Rattle.ice_answer.specs.declared.cause.FileRole.TheVariants.{Chip, Asc, Blif}
 use Rattle.ice_answer.specs.Reading.{Files}
 
 -- the words of `back CHIP PACKAGE ASC BLIF`: names of files, and the name of a package
@@ -13,3 +13,7 @@ pub record Back : Type 0 where
 -- the files that are read, in the order of reading
 abbrev pub files_of : Back → Files
 files_of b = record { role = Chip; name = b.chip } ∷ record { role = Asc; name = b.asc } ∷ []
+
+-- the one file that is written
+abbrev pub outputs_of : Back → Files
+outputs_of b = record { role = Blif; name = b.blif } ∷ []

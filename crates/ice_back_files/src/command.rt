@@ -1,13 +1,13 @@
 //! Going back: two texts are read, and the text of the netlist of the bits is written.
-ghost use Rattle.std.specs.Prelude.{◌≡◌, true, Ok, IfOk, IfErr};
-ghost use Rattle.ice_answer.specs.declared.cause.FileRole.TheVariants.{Blif};
+ghost use Rattle.std.specs.Prelude.{◌≡◌, true, None, Ok, IfOk, IfErr};
 ghost use Rattle.ice_answer.specs.Causes.{status_of};
-ghost use Rattle.ice_answer.specs.Commands.{InFile, IsRefusal, IsTrueOf};
+ghost use Rattle.ice_answer.specs.Commands.{InFiles, IsRefusal, IsTrueOf};
 ghost use Rattle.ice_answer.specs.Reading.{TellsLong};
 ghost use Rattle.ice_answer.specs.Rows.{SaidBy, KeptRow, MadeRow, SilentRow};
 ghost use Rattle.ice_answer.specs.Texts.{text_at};
 ghost use Rattle.ice_chip_read.specs.Whole.{chip_says};
 ghost use Rattle.ice_asc.specs.Grammar.{asc_in};
+ghost use Rattle.ice_back_files.specs.Asked.{outputs_of};
 ghost use Rattle.ice_back_files.specs.BackRows.{IsBackAnswer};
 ghost use Rattle.ice_back_files.specs.Command.{Stands, back_files};
 ghost use Rattle.ice_back_files.specs.Made.{IsMade};
@@ -15,8 +15,8 @@ ghost use Rattle.ice_back_files.specs.Requests.{request_view};
 
 use crate::netlist_text::back_text;
 use ice_answer::{
-    Cause, Done, FileRole, InputFile, Made, Making, Texts, asc_refusal, bits_refusal, chip_refusal,
-    no_placement, no_tallies, write_made,
+    Cause, CommandFile, Done, FileRole, Made, Making, Texts, asc_refusal, bits_refusal,
+    chip_refusal, made_text, write_made,
 };
 use ice_asc::read_asc;
 use ice_base::NoMemory;
@@ -52,7 +52,7 @@ fn back_read(
 ) -> Result<Made, Cause>
     requires chip { chip_says (text_at texts.now 1) ≡ Ok chip.now }
     requires bits { asc_in chip.now (text_at texts.now 2) ≡ Ok bits.now }
-    ensures made { IfOk result (λ made. IsMade package_name.now texts.now made.text.items made.placement made.tallies.items) }
+    ensures made { IfOk result (λ made. IsMade package_name.now texts.now made.texts made.placement made.tallies.items) }
     ensures refused { IfErr result (λ cause. IsRefusal (Stands package_name.now texts.now) cause) }
 {
     pins_are_words();
@@ -64,11 +64,7 @@ fn back_read(
         Err(fault) => return Err(bits_refusal(fault)),
     };
     match back_text(alloc, chip, &circuit, bonded) {
-        Ok(text) => Ok(Made {
-            text,
-            placement: no_placement(alloc),
-            tallies: no_tallies(alloc),
-        }),
+        Ok(text) => made_text(alloc, text),
         Err(NoMemory) => Err(Cause::NoMemory),
     }
 }
@@ -76,7 +72,7 @@ fn back_read(
 // The text of the netlist of the bits of the second text on a chip.
 fn back_on(alloc: Global, package_name: &str, texts: &Texts, chip: &Chip) -> Result<Made, Cause>
     requires { chip_says (text_at texts.now 1) ≡ Ok chip.now }
-    ensures made { IfOk result (λ made. IsMade package_name.now texts.now made.text.items made.placement made.tallies.items) }
+    ensures made { IfOk result (λ made. IsMade package_name.now texts.now made.texts made.placement made.tallies.items) }
     ensures refused { IfErr result (λ cause. IsRefusal (Stands package_name.now texts.now) cause) }
 {
     match read_asc(alloc, texts.at(2), chip) {
@@ -88,7 +84,7 @@ fn back_on(alloc: Global, package_name: &str, texts: &Texts, chip: &Chip) -> Res
 impl<'a> Making for BackRequest<'a> {
     ghost stands = { λ request texts cause. Stands request.package_name.now texts cause };
 
-    ghost gives = { λ request texts text placement tallies. IsMade request.package_name.now texts text placement tallies };
+    ghost gives = { λ request texts made placement tallies. IsMade request.package_name.now texts made placement tallies };
 
     fn make(&self, alloc: Global, texts: &Texts) -> Result<Made, Cause> {
         match read_chip(alloc, texts.at(1)) {
@@ -110,28 +106,25 @@ pub fn back_files<D: Desk>(alloc: Global, desk: &mut D, request: &BackRequest<'_
     ensures status { result.status ≡ status_of result.cause }
     ensures cause { IsTrueOf (back_files (request_view request.now)) (D.seen desk.old) (D.seen desk.new) result.cause }
     ensures rows { IsBackAnswer (request_view request.now) (D.seen desk.old) (D.seen desk.new) result }
-    ensures said { (D.seen desk.old).tells ≡ true → SaidBy (InFile Blif request.now.blif.now) (D.seen desk.old) (D.seen desk.new) result.cause }
-    ensures kept { (D.seen desk.old).tells ≡ true → KeptRow (InFile Blif request.now.blif.now) (D.seen desk.old) (D.seen desk.new) result.cause }
-    ensures made { MadeRow (InFile Blif request.now.blif.now) (D.seen desk.old) (D.seen desk.new) result.cause }
-    ensures silent { SilentRow (InFile Blif request.now.blif.now) (D.seen desk.old) (D.seen desk.new) result.cause }
+    ensures said { (D.seen desk.old).tells ≡ true → SaidBy (InFiles (outputs_of (request_view request.now))) (D.seen desk.old) (D.seen desk.new) result.cause }
+    ensures kept { (D.seen desk.old).tells ≡ true → KeptRow (InFiles (outputs_of (request_view request.now))) None (D.seen desk.old) (D.seen desk.new) result.cause }
+    ensures made { MadeRow (InFiles (outputs_of (request_view request.now))) None (D.seen desk.old) (D.seen desk.new) result.cause }
+    ensures silent { SilentRow (InFiles (outputs_of (request_view request.now))) (D.seen desk.old) (D.seen desk.new) result.cause }
     ensures given { TellsLong (D.seen desk.new) result.cause }
 {
     let files = [
-        InputFile {
+        CommandFile {
             role: FileRole::Chip,
             name: request.chip,
         },
-        InputFile {
+        CommandFile {
             role: FileRole::Asc,
             name: request.asc,
         },
     ];
-    write_made(
-        alloc,
-        desk,
-        &files,
-        request,
-        FileRole::Blif,
-        request.blif,
-    )
+    let outputs = [CommandFile {
+        role: FileRole::Blif,
+        name: request.blif,
+    }];
+    write_made(alloc, desk, &files, request, &outputs)
 }

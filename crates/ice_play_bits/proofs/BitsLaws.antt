@@ -55,14 +55,14 @@ bad_line name t line m = elim (told (Then t) name t (BadLevels line) m) [
 
 pub lawful : (p : PlayBits) → Lawful (play_bits p)
 lawful p = record {
-  done = λ t text on counted cause g done.
+  done = λ t made on counted cause g done.
       configured_so (Then t) p.package_name t g.0.parts g.0.configuration g.0.bonded cause g.0.is_configured
       (behind (levels_of (length g.0.bonded.pads) (text_at t 3)) BadLevels (λ levels. IsDone) g.0.levels cause g.0.levels_are done);
   never = never p.package_name;
 }
 
 pub alone : (p : PlayBits) → StandsAlone (play_bits p)
-alone p t text on counted cause g m =
+alone p t made on counted cause g m =
     then_stands (levels_of (length g.0.bonded.pads) (text_at t 3)) BadLevels (λ levels. IsDone) g.0.levels cause g.0.levels_are
     (then_so (Then t) p.package_name t g.0.parts g.0.configuration g.0.bonded cause g.0.is_configured m)
 
