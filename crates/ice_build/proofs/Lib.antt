@@ -2,3 +2,4 @@ mod Counting
 mod Standing
 mod Showing
 pub mod Answering
+pub mod Excluding

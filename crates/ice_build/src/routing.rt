@@ -30,9 +30,12 @@ use std::thread::Threads;
 // As many nets can be counted on a wire.
 const MOST_NETS: usize = 65_536;
 
-// The nets of a placed design. More nets than are counted are want of memory.
+/// The nets of a placed design.
+///
+/// # Errors
+/// Want of memory alone; more than 65,536 nets count as such.
 #[tactic(auto, using(crate::proofs::Counting::nets_counted))]
-fn nets_in(alloc: Global, chip: &Chip, layout: &Layout) -> Result<Vec<Net>, NoMemory>
+pub fn nets_in(alloc: Global, chip: &Chip, layout: &Layout) -> Result<Vec<Net>, NoMemory>
     ensures nets { IfOk result (λ nets. AreNetsOf chip.now (plan_in layout.now) nets.items) }
     ensures count { IfOk result (λ nets. length nets.items ≡ net_count chip.now (plan_in layout.now)) }
     ensures few { IfOk result (λ nets. length nets.items ≤ 65536) }
@@ -51,8 +54,12 @@ fn nets_in(alloc: Global, chip: &Chip, layout: &Layout) -> Result<Vec<Net>, NoMe
     Ok(nets)
 }
 
-// The trees of the nets of a placed design.
-fn route<G: Gate + Sync, R: Threads + Sync>(
+/// The trees of the nets of a placed design, in at most so many rounds, from 1 to 64, by 1 to 8 workers, each in a thread, on whom
+/// nothing depends. No bits are set.
+///
+/// # Errors
+/// The first sink to which no walk leads; permitted rounds that all end with an overused wire; want of memory.
+pub fn route<G: Gate + Sync, R: Threads + Sync>(
     rt: &R,
     alloc: Global,
     chip: &Chip,
@@ -73,15 +80,7 @@ fn route<G: Gate + Sync, R: Threads + Sync>(
     placed_nets_are_routable();
     routed_nets_are_trees();
     let graph = fabric(alloc, chip)?;
-    negotiate(
-        rt,
-        alloc,
-        &graph,
-        nets,
-        effort.rounds,
-        effort.workers,
-        gate,
-    )
+    negotiate(rt, alloc, &graph, nets, effort.rounds, effort.workers, gate)
 }
 
 // Why nothing is built of a placed design with so many nets that is not routed.
