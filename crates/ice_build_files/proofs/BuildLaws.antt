@@ -1,5 +1,5 @@
 -- When each answer of `build` comes, from how its texts stand.
-use Rattle.std.proofs.Common.{◌≡◌, ◌≢◌, ◌∙◌, ℕ, true, Option, None, Some, List, Result, Ok, Err, IfErr, inl, inr, refl, sym, ap, subst}
+use Rattle.std.proofs.Common.{◌≡◌, ◌≢◌, ◌∙◌, ℕ, true, List, Result, Ok, Err, inl, inr, refl, sym, ap, subst}
 use Rattle.std.specs.Global.{Vec}
 use Rattle.ice_base.specs.declared.number.NetNo.{NetNo}
 use Rattle.ice_base.specs.declared.number.TileAt.{TileAt}
@@ -31,11 +31,11 @@ use Rattle.ice_answer.specs.declared.cause.FileRole.TheVariants.{Report}
 use Rattle.ice_answer.specs.declared.giving.Made.{Made}
 use Rattle.ice_answer.specs.declared.giving.Refused.{Refused}
 use Rattle.ice_answer.specs.Causes.{status_of}
-use Rattle.ice_answer.specs.Commands.{IsDone, IsParting, IsTrueOf}
-use Rattle.ice_answer.specs.Ends.{IsEndInFiles, IsMadeOf, IsEndOf, IsReport, IsReported, text_of, unreported}
+use Rattle.ice_answer.specs.Commands.{IsDone, IsTrueOf}
+use Rattle.ice_answer.specs.Ends.{IsEndInFiles, IsMadeOf, IsEndOf, IsReported, unreported}
 use Rattle.ice_answer.specs.Reading.{File, TellsLong}
 use Rattle.ice_answer.specs.Rows.{IsHeld, GoodRow, IsParted, PartingRow}
-use Rattle.ice_answer.specs.Texts.{AreTexts, OfTexts, HoldsTexts, text_at}
+use Rattle.ice_answer.specs.Texts.{OfTexts, HoldsTexts, text_at}
 use Rattle.ice_answer.specs.Writing.{HoldFrom}
 use Rattle.ice_answer.proofs.CommandRows.{Lawful, comes, good_row, read_fault_row, write_fault_row, too_long_row}
 use Rattle.ice_answer.proofs.Ended.{end_is_in_files}
@@ -48,12 +48,10 @@ use Rattle.ice_pads.specs.Assign.{assign_of}
 use Rattle.ice_build_files.specs.Command.{build_files}
 use Rattle.ice_build_files.specs.Headline.{IsShown}
 use Rattle.ice_build_files.specs.Made.{IsMade, IsBuiltOn, IsTalliedOn, IsStuckOn, IsGivenUpOn, HasBadBits}
-use Rattle.ice_build_files.specs.Parting.{TellsOf, HasReport, IsRefusedWith}
 use Rattle.ice_build_files.specs.Reports.{routes_text}
 use Rattle.ice_build_files.specs.Standing.{IsEnd, PlacesStand, NetStands, BlifStands, PcfStands, Stands}
 use Rattle.ice_build_files.proofs.Excluding.{built_not_stuck, built_not_given_up, given_up_not_stuck_on, stuck_on_one}
 use Rattle.ice_build_files.proofs.Holding.{held_bits, held_pins, held_report}
-use Rattle.ice_build_files.proofs.Refusing.{not_none}
 use Rattle.ice_build_files.proofs.Standing.{pcf_stands, blif_stands, net_stands, task_stands, places_stand, end_stands, end_so, one_task}
 use Rattle.ice_build_files.proofs.Telling.{of_end, of_tried, of_about, Told, told}
 
@@ -153,8 +151,8 @@ end_tried task rounds cause is = of_end IsTried task rounds (λ placement tallie
 tried_only : (b : Build) (old new : Meaning) (cause : Cause) → IsTrueOf (build_files b) old new cause → IsTried cause → OfTexts (files_of b) old (Asks b.package_name IsPlaceable)
 tried_only b old new cause is tried =
     of_tried (λ c. IsTrueOf (build_files b) old new c → OfTexts (files_of b) old (Asks b.package_name IsPlaceable))
-    (λ placement tallies i. of_weaker (files_of b) old (λ t. IsMade b t i.made placement tallies.items) (Asks b.package_name IsPlaceable) (λ t g. made_placeable b t i.made placement tallies.items g) i.mades)
-    (λ role put i. of_weaker (files_of b) old (λ t. IsMade b t i.made i.placement i.tallies) (Asks b.package_name IsPlaceable) (λ t g. made_placeable b t i.made i.placement i.tallies g) i.mades)
+    (λ placement tallies i. of_weaker (files_of b) old (λ t. IsMade b t i.made placement tallies.items) (Asks b.package_name IsPlaceable) (λ t g. made_placeable b t i.made placement tallies.items g) i.texts)
+    (λ role put i. of_weaker (files_of b) old (λ t. IsMade b t i.made i.placement i.tallies) (Asks b.package_name IsPlaceable) (λ t g. made_placeable b t i.made i.placement i.tallies g) i.texts)
     (λ placement net sink i. told_of b old new (Unreachable placement net sink) (Unreachable placement net sink) (Asks b.package_name IsPlaceable) i refl (λ j. j.0)
     (λ t h. asks_weaker b.package_name (λ task. IsStuckOn task placement net sink) IsPlaceable t (λ task stuck. laid_placeable task stuck.0 stuck.1) h))
     (λ placement logs tallies i. told_of b old new (GaveUp placement logs tallies) (GaveUp placement logs tallies) (Asks b.package_name IsPlaceable) i refl (λ j. j.0)
@@ -193,7 +191,7 @@ tallied_at : (b : Build) (old new : Meaning) (cause : Cause) (placement : List T
 tallied_at b old new cause placement tallies is e =
     let i = subst (λ (x : Cause). IsTrueOf (build_files b) old new x) e is in
     of_weaker (files_of b) old (λ t. IsMade b t i.made placement tallies.items) (Asks b.package_name (λ task. IsTalliedOn task b.effort.rounds placement tallies.items))
-    (λ t g. record { task = g.task; is_asked = g.is_asked; is_so = (g.built, g.is_built, sym g.is_placement, sym g.are_tallies) }) i.mades
+    (λ t g. record { task = g.task; is_asked = g.is_asked; is_so = (g.built, g.is_built, sym g.is_placement, sym g.are_tallies) }) i.texts
 
 built_row : (b : Build) (old new : Meaning) (cause : Cause) → IsTrueOf (build_files b) old new cause → BuiltRow b old cause
 built_row b old new cause is = record {
@@ -360,29 +358,6 @@ answers b old new end is status told_long parted =
       write_fault = write_fault_row (build_files b) old new end.cause is;
       too_long = too_long_row (build_files b) old new end.cause is told_long;
     }
-
--- ---- from the texts to the end
--- what is left, where this is the parting file
-abbrev IsReportIn : Build → Meaning → Cause → Option File → Option (List ℕ) → Type 0
-IsReportIn b old cause parting None = IsParting parting cause → ⊥
-IsReportIn b old cause parting (Some report) = IsParting parting cause × OfTexts (files_of b) old (λ texts. TellsOf b texts cause report)
-
-report_left : (b : Build) (old : Meaning) (t : List (List ℕ)) (cause : Cause) (asked : Option (List ℕ)) (report : Option (List ℕ)) → b.report ≡ asked → AreTexts (files_of b) old t
-    → HasReport b t cause report → IsReportIn b old cause (file_asked Report asked) report
-report_left b old t cause None None e are has = λ never. never
-report_left b old t cause (Some name) None e are has = λ gave. absurd (not_none b.report name e (has gave))
-report_left b old t cause None (Some text) e are has = absurd (has.1 e)
-report_left b old t cause (Some name) (Some text) e are has = (has.0, (t, are, has.2))
-
-report_is : (b : Build) (old : Meaning) (cause : Cause) (report : Option (List ℕ)) → IsReportIn b old cause (parting_of b) report → IsReport (build_files b) old cause report
-report_is b old cause None is = is
-report_is b old cause (Some report) is = is
-
-pub reported : (b : Build) (old : Meaning) (t : List (List ℕ)) (result : Result Made Refused) → AreTexts (files_of b) old t → IfErr result (IsRefusedWith b t)
-    → IsReported (build_files b) old result
-reported b old t (Ok made) are refused = tt
-reported b old t (Err refusal) are refused =
-    report_is b old refusal.cause (text_of refusal.report) (report_left b old t refusal.cause b.report (text_of refusal.report) refl are refused.report)
 
 -- how the command ended
 pub ends : (b : Build) (old mid new : Meaning) (result : Result Made Refused) (cause : Cause) → SameButReading old mid → IsMadeOf (build_files b) old mid (unreported result)

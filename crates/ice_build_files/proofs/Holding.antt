@@ -6,7 +6,6 @@ use Rattle.ice_answer.specs.declared.cause.FileRole.TheVariants.{Asc, Pins, Repo
 use Rattle.ice_answer.specs.Reading.{File, Files}
 use Rattle.ice_answer.specs.Texts.{ArePermitted, IsPermitted}
 use Rattle.ice_answer.specs.Writing.{HoldFrom}
-use Rattle.ice_desk.specs.Desk.{SameTest}
 use Rattle.ice_build_files.specs.Asked.{Build, listed, file_asked, outputs_of, parting_of}
 use Rattle.ice_build_files.specs.Reports.{text_asked}
 
@@ -45,10 +44,6 @@ module _ (asc bits pad_lines route_lines : List ℕ) (desk : Meaning) where
   held_report pins report name held e = report_of name pins (subst (λ (o : Option (List ℕ)). Hold pins o) e held)
 
 -- ---- names that pass a test
-pub permitted_still : (P Q : List ℕ → Type 0) (files : Files) → SameTest P Q → ArePermitted P files → ArePermitted Q files
-permitted_still P Q [] same are = tt
-permitted_still P Q (file ∷ files) same are = ((same file.name).0 are.0, permitted_still P Q files same are.1)
-
 parting_in : (P : List ℕ → Type 0) (pins parting : Option File) → ArePermitted P (listed pins ++ listed parting) → IsPermitted P parting
 parting_in P None None are = tt
 parting_in P None (Some file) are = are.0
@@ -56,5 +51,5 @@ parting_in P (Some pins) None are = tt
 parting_in P (Some pins) (Some file) are = are.1.0
 
 -- the file of the report is one of those that are written
-pub parting_permitted : (P : List ℕ → Type 0) (b : Build) → ArePermitted P (outputs_of b) → IsPermitted P (parting_of b)
-parting_permitted P b are = parting_in P (file_asked Pins b.pins) (file_asked Report b.report) are.1
+pub report_permitted : (P : List ℕ → Type 0) (b : Build) → ArePermitted P (outputs_of b) → IsPermitted P (parting_of b)
+report_permitted P b are = parting_in P (file_asked Pins b.pins) (file_asked Report b.report) are.1

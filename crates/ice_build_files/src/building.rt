@@ -2,7 +2,7 @@
 ghost use Rattle.std.specs.Prelude.{◌≡◌, true, Ok, IfOk, IfErr};
 ghost use Rattle.ice_answer.specs.Causes.{status_of};
 ghost use Rattle.ice_answer.specs.Commands.{InFiles, IsTrueOf};
-ghost use Rattle.ice_answer.specs.Ends.{IsMadeOf, IsReported, IsToldLong, unreported};
+ghost use Rattle.ice_answer.specs.Ends.{IsEndInFiles, IsMadeOf, IsReported, IsToldLong, unreported};
 ghost use Rattle.ice_answer.specs.Reading.{TellsLong};
 ghost use Rattle.ice_answer.specs.Rows.{SaidBy, KeptRow, MadeRow, SilentRow, PartingRow};
 ghost use Rattle.ice_answer.specs.Texts.{text_at, ArePermitted};
@@ -233,6 +233,16 @@ fn make<D: Desk, G: Gate + Sync, R: Threads + Sync>(
     }
 }
 
+// Writes what was made to its files, or says the line of the refusal, with the report that it leaves. It takes no memory.
+fn give<D: Desk>(desk: &mut D, made: Result<Made, Refused>, request: &BuildRequest<'_>) -> Done
+    requires { ArePermitted (D.may_write desk.old) (outputs_of (request_view request.now)) }
+    ensures status { result.status ≡ status_of result.cause }
+    ensures end { IsEndInFiles (outputs_of (request_view request.now)) (parting_of (request_view request.now)) made (D.seen desk.old) (D.seen desk.new) result.cause }
+{
+    let (files, count) = outputs(request);
+    end_in_files(desk, made, &files[..count], parting(request))
+}
+
 /// Builds the netlist of one file on the chip of another, with the constraints of a third: reads the texts, makes the text of the bits
 /// and the reports that are asked for, and only then writes them: first the bits, then the report on the pins, then that on the routes. A
 /// refusal says its line, and writes nothing; but where the rounds give up, the report on them is written, if it is asked for. It may try
@@ -263,6 +273,5 @@ pub fn build_files<D: Desk, G: Gate + Sync, R: Threads + Sync>(
     ensures given { TellsLong (D.seen desk.new) result.cause }
 {
     let made = make(rt, alloc, desk, gate, request);
-    let (files, count) = outputs(request);
-    end_in_files(desk, made, &files[..count], parting(request))
+    give(desk, made, request)
 }
