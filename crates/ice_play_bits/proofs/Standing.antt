@@ -1,5 +1,5 @@
 -- How the texts of `play-bits` stand, by what was read of them.
-use Rattle.std.proofs.Common.{◌≡◌, ◌≢◌, ◌∙◌, ℕ, Bool, List, length, None, Some, Ok, Err, Result, inl, inr, refl, sym, ap, subst}
+use Rattle.std.proofs.Common.{◌≡◌, ◌≢◌, ◌∙◌, ℕ, Bool, List, [], ◌∷◌, length, None, Some, Ok, Err, Result, IfOk, inl, inr, refl, sym, ap, subst}
 use Rattle.ice_chip.specs.Answers as chip_answers
 use Rattle.ice_chip.specs.Database.{Parts, PackageRows}
 use Rattle.ice_chip.specs.Lookups.{package_of}
@@ -20,12 +20,14 @@ use Rattle.ice_sim.specs.DriveTexts.{drives_text}
 use Rattle.ice_sim.specs.LevelTexts.{levels_of}
 use Rattle.ice_answer.specs.declared.cause.Cause.{Cause}
 use Rattle.ice_answer.specs.declared.cause.Cause.TheVariants.{BadChip, BadPin, BadAsc}
+use Rattle.ice_answer.specs.declared.giving.Made.{Made}
+use Rattle.ice_answer.specs.Causes.{no_places}
 use Rattle.ice_answer.specs.Commands.{IsRefusal}
 use Rattle.ice_answer.specs.Refusals.{IsChipRefusal, IsAscRefusal}
 use Rattle.ice_answer.specs.Texts.{text_at}
 use Rattle.ice_answer.proofs.Standings.{at_fault, behind, then_stands, behind_some, some_stands}
 use Rattle.ice_answer.proofs.Standings as standings
-use Rattle.ice_play_bits.specs.Played.{LevelsStand, BitsStand, PackageStands, AscStands, Stands, IsRead, IsPacked, IsPlayed}
+use Rattle.ice_play_bits.specs.Played.{LevelsStand, BitsStand, PackageStands, AscStands, Stands, IsRead, IsPacked, IsPlayed, IsMade}
 
 -- bits without a fault have none of the faults
 pub none_of : (parts : Parts) (bits : Bits) (extras : List (ℕ × ℕ × ℕ)) (fault : DecodeFault) → IsFaultOf parts bits extras fault → fault ≢ decode_fault.NoMemory → IsFaultless parts bits extras → ⊥
@@ -109,3 +111,9 @@ played_is name t parts k configuration bonded levels text packed faultless said 
   levels_are = said;
   is_text = subst (λ (c : Configuration). text ≡ drives_text (shows parts (bits_of c) bonded.pads bonded.pads levels)) same is;
 }
+
+-- what is made of such a text alone
+pub made_is : (name : List ℕ) (t : List (List ℕ)) (text : List ℕ) (result : Result Made Cause) → IsPlayed name t text → IfOk result (λ made. made.texts ≡ text ∷ [])
+    → IfOk result (λ made. made.placement ≡ no_places) → IfOk result (λ made. made.tallies.items ≡ []) → IfOk result (λ made. IsMade name t made.texts made.placement made.tallies.items)
+made_is name t text (Ok made) played texts placement tallies = (subst (IsPlayed name t) (sym (ap (λ (xs : List (List ℕ)). text_at xs 1) texts)) played, placement, tallies)
+made_is name t text (Err cause) played texts placement tallies = tt
