@@ -1,5 +1,5 @@
 -- What is made of bits that were read.
-use Rattle.std.proofs.Common.{◌≡◌, ℕ, List, Some, Ok, bytes_eq, subst}
+use Rattle.std.proofs.Common.{◌≡◌, ℕ, List, Some, bytes_eq, subst}
 use Rattle.ice_value.specs.Order.{Has}
 use Rattle.ice_value.proofs.Members.{find_Has}
 use Rattle.ice_chip.specs.Database.{Parts, PackageRows}

@@ -1,4 +1,4 @@
-use Rattle.std.proofs.Common.{◌≡◌, ℕ, List, sym, subst}
+use Rattle.std.proofs.Common.{ℕ, List, sym, subst}
 use Rattle.ice_chip.specs.Views.{package_view}
 use Rattle.ice_blif_laws.specs.SameNames.{SaysTheSame}
 use Rattle.ice_back_files.proofs.Written.{can_be_written, says_bits}
