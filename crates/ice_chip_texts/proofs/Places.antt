@@ -7,25 +7,25 @@ use Rattle.ice_answer.specs.declared.cause.Cause.{Cause}
 use Rattle.ice_answer.specs.declared.cause.Cause.TheVariants.{Good, Usage, BadBlif, BadPcf, BadChip, BadNet, BadPin, Overfull, Unreachable, GaveUp, ReadFault, WriteFault, NoMemory, BadAsc, BadBits, TooLong, BadLevels}
 use Rattle.ice_answer.specs.declared.cause.FileRole.{FileRole}
 use Rattle.ice_answer.specs.declared.cause.FileRole.TheVariants.{Chip}
-use Rattle.ice_answer.specs.Reading.{most_bytes, Input, Files, role_at, name_at, IsTextOf, FitBefore, IsLastRead, IsReadFault, IsTooLong, IsUnread, IsReadStop}
+use Rattle.ice_answer.specs.Reading.{most_bytes, File, Files, role_at, name_at, IsTextOf, FitBefore, IsLastRead, IsReadFault, IsTooLong, IsUnread, IsReadStop}
 use Rattle.ice_answer.specs.Texts.{AreTexts}
 use Rattle.ice_answer.proofs.ReadStops.{reading_refl, none_before, stopped_at}
 use Rattle.ice_chip_pieces.specs.Held.{Held}
 use Rattle.ice_chip_texts.specs.ChipFiles.{with_chip, chip_file, HasRead, AreRead}
 
 -- the first file was read: its text fits, and since then the desk was only read
-pub record IsBehind (file : Input) (text : List ℕ) (old mid : Meaning) : Type 0 where
+pub record IsBehind (file : File) (text : List ℕ) (old mid : Meaning) : Type 0 where
   pub same : SameButReading old mid
   pub begun : mid.begins ≡ after_one old.begins
   pub is_text : IsTextOf old file.name text
   pub fits : length text ≤ most_bytes
 
 -- the role and the name at a place one further
-role_further : (file : Input) (files : Files) (place : ℕ) → 0 < place → role_at (file ∷ files) (suc place) ≡ role_at files place
+role_further : (file : File) (files : Files) (place : ℕ) → 0 < place → role_at (file ∷ files) (suc place) ≡ role_at files place
 role_further file files zero some = absurd (omega arith)
 role_further file files (suc before) some = refl
 
-name_further : (file : Input) (files : Files) (place : ℕ) → 0 < place → name_at (file ∷ files) (suc place) ≡ name_at files place
+name_further : (file : File) (files : Files) (place : ℕ) → 0 < place → name_at (file ∷ files) (suc place) ≡ name_at files place
 name_further file files zero some = absurd (omega arith)
 name_further file files (suc before) some = refl
 
@@ -33,19 +33,19 @@ name_further file files (suc before) some = refl
 holds_before : (old mid : Meaning) (name bytes : List ℕ) → SameButReading old mid → old.files name ≡ Some bytes → mid.files name ≡ Some bytes
 holds_before old mid name bytes same e = subst (λ (f : List ℕ → Option (List ℕ)). f name ≡ Some bytes) (sym same.files) e
 
-first_fits : (file : Input) (text bytes : List ℕ) (old mid : Meaning) → IsBehind file text old mid → old.tells ≡ true → old.files file.name ≡ Some bytes → length bytes ≤ most_bytes
+first_fits : (file : File) (text bytes : List ℕ) (old mid : Meaning) → IsBehind file text old mid → old.tells ≡ true → old.files file.name ≡ Some bytes → length bytes ≤ most_bytes
 first_fits file text bytes old mid is t e =
     let both : Some text ≡ Some bytes = sym (is.is_text t) ∙ e in
     let same : text ≡ bytes = cc in
     subst (λ (xs : List ℕ). length xs ≤ most_bytes) same is.fits
 
-fit_further : (file : Input) (files : Files) (text : List ℕ) (old mid : Meaning) (place : ℕ) → IsBehind file text old mid → FitBefore files mid place → FitBefore (file ∷ files) old (suc place)
+fit_further : (file : File) (files : Files) (text : List ℕ) (old mid : Meaning) (place : ℕ) → IsBehind file text old mid → FitBefore files mid place → FitBefore (file ∷ files) old (suc place)
 fit_further file files text old mid place is fit zero bytes some few t e = absurd (omega arith)
 fit_further file files text old mid place is fit (suc zero) bytes some few t e = first_fits file text bytes old mid is t e
 fit_further file files text old mid place is fit (suc (suc n)) bytes some few t e =
     fit (suc n) bytes (omega arith) (omega arith) (is.same.tells ∙ t) (holds_before old mid (name_at files (suc n)) bytes is.same e)
 
-last_further : (file : Input) (files : Files) (text : List ℕ) (old mid new : Meaning) (role : FileRole) → IsBehind file text old mid → IsLastRead files mid new role → IsLastRead (file ∷ files) old new role
+last_further : (file : File) (files : Files) (text : List ℕ) (old mid new : Meaning) (role : FileRole) → IsBehind file text old mid → IsLastRead files mid new role → IsLastRead (file ∷ files) old new role
 last_further file files text old mid new role is last = record {
   place = suc last.place;
   some = omega arith;
@@ -56,7 +56,7 @@ last_further file files text old mid new role is last = record {
 }
 
 -- where the reading of the files behind the first stopped, that of all files stopped
-pub unread_further : (file : Input) (files : Files) (text : List ℕ) (old mid new : Meaning) (cause : Cause) → IsBehind file text old mid → IsUnread files mid new cause → IsUnread (file ∷ files) old new cause
+pub unread_further : (file : File) (files : Files) (text : List ℕ) (old mid new : Meaning) (cause : Cause) → IsBehind file text old mid → IsUnread files mid new cause → IsUnread (file ∷ files) old new cause
 unfolding last_further
 unread_further file files text old mid new (ReadFault role) is stop = record {
   rose = (let r : Rose mid.read_faults new.read_faults = stop.rose in let g : old.read_faults ≤ mid.read_faults = is.same.read_faults in omega arith);
@@ -85,7 +85,7 @@ unread_further file files text old mid new (BadBits fault) is stop = absurd stop
 unread_further file files text old mid new (BadLevels line) is stop = absurd stop
 
 -- where the reading of the first file stopped, that of all files stopped
-pub unread_first : (file : Input) (files : Files) (old new : Meaning) (cause : Cause) → SameButReading old new → new.begins ≡ after_one old.begins
+pub unread_first : (file : File) (files : Files) (old new : Meaning) (cause : Cause) → SameButReading old new → new.begins ≡ after_one old.begins
     → IsReadStop file.name file.role old new cause → IsUnread (file ∷ files) old new cause
 unread_first file files old new cause same begun stop =
     stopped_at (file ∷ files) old old new 1 cause (reading_refl old) same begun (omega arith) (omega arith) (none_before (file ∷ files) old) stop

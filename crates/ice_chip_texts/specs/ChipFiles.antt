@@ -2,13 +2,13 @@
 use Rattle.std.specs.Prelude.{◌≡◌, ◌≤◌, ℕ, List, ◌∷◌, length}
 use Rattle.ice_desk.specs.Desk.{Meaning}
 use Rattle.ice_answer.specs.declared.cause.FileRole.TheVariants.{Chip}
-use Rattle.ice_answer.specs.Reading.{most_bytes, Input, Files, IsTextOf}
+use Rattle.ice_answer.specs.Reading.{most_bytes, File, Files, IsTextOf}
 use Rattle.ice_answer.specs.Texts.{AreTexts}
 use Rattle.ice_chip_pieces.specs.Held.{Held}
 use Rattle.ice_chip_pieces.specs.Stands.{StandsFor}
 
 -- the file of the chip database
-abbrev pub chip_file : List ℕ → Input
+abbrev pub chip_file : List ℕ → File
 chip_file name = record { role = Chip; name = name }
 
 -- the files of a command, the chip database's first

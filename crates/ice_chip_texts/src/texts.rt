@@ -3,11 +3,11 @@ ghost use Rattle.std.specs.Prelude.{◌≡◌, ◌<◌, ◌≤◌, List, [], len
 ghost use Rattle.ice_desk.specs.Desk.{SameButReading, SameTest, after_one};
 ghost use Rattle.ice_answer.specs.declared.cause.FileRole.TheVariants.{Chip};
 ghost use Rattle.ice_answer.specs.Reading.{Files, most_bytes, IsReadStop, IsUnread, TellsLong};
-ghost use Rattle.ice_answer.specs.Texts.{files_view, AreReadable};
+ghost use Rattle.ice_answer.specs.Texts.{files_view, ArePermitted};
 ghost use Rattle.ice_chip_pieces.specs.Stands.{StandsFor};
 ghost use Rattle.ice_chip_texts.specs.ChipFiles.{with_chip, HasRead, AreRead};
 
-use ice_answer::{Cause, FileRole, InputFile, Texts, read_texts};
+use ice_answer::{Cause, FileRole, CommandFile, Texts, read_texts};
 use ice_chip_pieces::ChipReader;
 use ice_desk::{Desk, ReadStop};
 use ice_pieces::read_pieces;
@@ -60,10 +60,10 @@ pub fn read_chip_and_texts<D: Desk>(
     alloc: Global,
     desk: &mut D,
     chip: &str,
-    files: &[InputFile<'_>],
+    files: &[CommandFile<'_>],
 ) -> Result<ChipTexts, Cause>
     requires chip { D.may_read desk.old chip.now }
-    requires files { AreReadable (D.may_read desk.old) (files_view files.now) }
+    requires files { ArePermitted (D.may_read desk.old) (files_view files.now) }
     ensures same { SameButReading (D.seen desk.old) (D.seen desk.new) }
     ensures names_read { SameTest (D.may_read desk.old) (D.may_read desk.new) }
     ensures names_written { SameTest (D.may_write desk.old) (D.may_write desk.new) }
