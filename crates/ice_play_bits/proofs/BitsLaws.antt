@@ -80,14 +80,14 @@ told name t cause m = told_chip name t (chip_says (text_at t 1)) cause refl m
 pub lawful : (p : PlayBits) → Lawful (play_bits p)
 unfolding Told
 lawful p = record {
-  done = λ t text on counted cause g done.
+  done = λ t made on counted cause g done.
       packed_so p.package_name t g.0.parts g.0.configuration g.0.bonded cause g.0.is_packed
       (inr (g.0.faultless, behind (levels_of (length g.0.bonded.pads) (text_at t 3)) BadLevels (λ levels. IsDone) g.0.levels cause g.0.levels_are done));
   never = λ t m. told p.package_name t Usage m;
 }
 
 pub alone : (p : PlayBits) → StandsAlone (play_bits p)
-alone p t text on counted cause g m =
+alone p t made on counted cause g m =
     then_stands (levels_of (length g.0.bonded.pads) (text_at t 3)) BadLevels (λ levels. IsDone) g.0.levels cause g.0.levels_are
     (levels_stand p.package_name t g.0.parts g.0.configuration g.0.bonded cause g.0.is_packed g.0.faultless m)
 

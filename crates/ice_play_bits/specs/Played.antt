@@ -107,8 +107,8 @@ pub record IsPlayed (name : List ℕ) (texts : List (List ℕ)) (text : List ℕ
   pub is_text : text ≡ drives_text (shows parts (bits_of configuration) bonded.pads bonded.pads levels)
 
 -- what is made of the texts; nothing is placed or routed
-abbrev pub IsMade : List ℕ → List (List ℕ) → List ℕ → List TileAt → List Shut → Type 0
-IsMade name texts text placement tallies = IsPlayed name texts text × (placement ≡ no_places) × (tallies ≡ [])
+abbrev pub IsMade : List ℕ → List (List ℕ) → List (List ℕ) → List TileAt → List Shut → Type 0
+IsMade name texts made placement tallies = IsPlayed name texts (text_at made 1) × (placement ≡ no_places) × (tallies ≡ [])
 
 abbrev pub play_bits : PlayBits → Command
 play_bits p = command_of (files_of p) (Stands p.package_name) (IsMade p.package_name) Aloud

@@ -1,5 +1,5 @@
 //! Playing bits: three texts are read, and the text of drives is said.
-ghost use Rattle.std.specs.Prelude.{◌≡◌, ◌∷◌, ℕ, List, true, Ok, IfOk, IfErr};
+ghost use Rattle.std.specs.Prelude.{◌≡◌, ◌∷◌, ℕ, List, true, None, Ok, IfOk, IfErr};
 ghost use Rattle.ice_answer.specs.Causes.{status_of};
 ghost use Rattle.ice_answer.specs.Commands.{Aloud, IsRefusal, IsTrueOf};
 ghost use Rattle.ice_answer.specs.Reading.{TellsLong};
@@ -9,8 +9,8 @@ ghost use Rattle.ice_play_bits.specs.Played.{Stands, IsRead, IsMade, play_bits};
 ghost use Rattle.ice_play_bits.specs.Requests.{request_view};
 
 use ice_answer::{
-    Cause, Done, FileRole, InputFile, Made, Texts, asc_refusal, bits_refusal, chip_refusal,
-    no_placement, no_tallies,
+    Cause, CommandFile, Done, FileRole, Made, Texts, asc_refusal, bits_refusal, chip_refusal,
+    made_text,
 };
 use ice_asc::read_asc;
 use ice_base::NoMemory;
@@ -45,7 +45,7 @@ fn play_read(
     chip: &Chip,
     bits: &Bits,
 ) -> Result<Made, Cause>
-    ensures played { (chip_text : List ℕ) → IsRead (chip_text ∷ texts.now) chip.now bits.now → IfOk result (λ made. IsMade package_name.now (chip_text ∷ texts.now) made.text.items made.placement made.tallies.items) }
+    ensures played { (chip_text : List ℕ) → IsRead (chip_text ∷ texts.now) chip.now bits.now → IfOk result (λ made. IsMade package_name.now (chip_text ∷ texts.now) made.texts made.placement made.tallies.items) }
     ensures refused { (chip_text : List ℕ) → IsRead (chip_text ∷ texts.now) chip.now bits.now → IfErr result (λ cause. IsRefusal (Stands package_name.now (chip_text ∷ texts.now)) cause) }
 {
     let Some(bonded) = chip.package(package_name.as_bytes()) else {
@@ -61,18 +61,14 @@ fn play_read(
         Err(LevelFault::NoMemory) => return Err(Cause::NoMemory),
     };
     match play_chip(alloc, chip, &circuit, bonded, &levels) {
-        Ok(text) => Ok(Made {
-            text,
-            placement: no_placement(alloc),
-            tallies: no_tallies(alloc),
-        }),
+        Ok(text) => made_text(alloc, text),
         Err(NoMemory) => Err(Cause::NoMemory),
     }
 }
 
 // The text of what the bits of the text behind the chip's drive on the chip, for all steps.
 fn play_on(alloc: Global, package_name: &str, texts: &Texts, chip: &Chip) -> Result<Made, Cause>
-    ensures played { (chip_text : List ℕ) → chip_says chip_text ≡ Ok chip.now → IfOk result (λ made. IsMade package_name.now (chip_text ∷ texts.now) made.text.items made.placement made.tallies.items) }
+    ensures played { (chip_text : List ℕ) → chip_says chip_text ≡ Ok chip.now → IfOk result (λ made. IsMade package_name.now (chip_text ∷ texts.now) made.texts made.placement made.tallies.items) }
     ensures refused { (chip_text : List ℕ) → chip_says chip_text ≡ Ok chip.now → IfErr result (λ cause. IsRefusal (Stands package_name.now (chip_text ∷ texts.now)) cause) }
 {
     match read_asc(alloc, texts.at(1), chip) {
@@ -84,7 +80,7 @@ fn play_on(alloc: Global, package_name: &str, texts: &Texts, chip: &Chip) -> Res
 impl<'a> ChipMaking for BitsRequest<'a> {
     ghost stands = { λ request texts cause. Stands request.package_name.now texts cause };
 
-    ghost gives = { λ request texts text placement tallies. IsMade request.package_name.now texts text placement tallies };
+    ghost gives = { λ request texts made placement tallies. IsMade request.package_name.now texts made placement tallies };
 
     fn make(&self, alloc: Global, reader: ChipReader, texts: &Texts) -> Result<Made, Cause> {
         match reader.finish() {
@@ -104,16 +100,16 @@ pub fn play_bits<D: Desk>(alloc: Global, desk: &mut D, request: &BitsRequest<'_>
     ensures status { result.status ≡ status_of result.cause }
     ensures cause { IsTrueOf (play_bits (request_view request.now)) (D.seen desk.old) (D.seen desk.new) result.cause }
     ensures said { (D.seen desk.old).tells ≡ true → SaidBy Aloud (D.seen desk.old) (D.seen desk.new) result.cause }
-    ensures kept { (D.seen desk.old).tells ≡ true → KeptRow Aloud (D.seen desk.old) (D.seen desk.new) result.cause }
+    ensures kept { (D.seen desk.old).tells ≡ true → KeptRow Aloud None (D.seen desk.old) (D.seen desk.new) result.cause }
     ensures made { (D.seen desk.new).makes ≡ (D.seen desk.old).makes }
     ensures given { TellsLong (D.seen desk.new) result.cause }
 {
     let files = [
-        InputFile {
+        CommandFile {
             role: FileRole::Asc,
             name: request.asc,
         },
-        InputFile {
+        CommandFile {
             role: FileRole::Levels,
             name: request.levels,
         },
