@@ -1,8 +1,7 @@
 -- From the files behind the first one to all files: each place is one further.
-use Rattle.std.proofs.Common.{◌≡◌, ◌∙◌, ◌≤◌, ◌<◌, ◌+◌, ℕ, zero, suc, Option, Some, List, [], ◌∷◌, length, true, refl, sym, ap, subst, arith}
-use Rattle.std.specs.Global.{Vec}
+use Rattle.std.proofs.Common.{◌≡◌, ◌∙◌, ◌≤◌, ◌<◌, ◌+◌, ℕ, zero, suc, Option, Some, List, [], ◌∷◌, length, true, false, inl, inr, refl, sym, ap, subst, arith}
+use Rattle.std.proofs.lemmas.Bool.{cases_lt}
 use Rattle.ice_desk.specs.Desk.{Meaning, SameButReading, Rose, after_one, after_more}
-use Rattle.ice_desk.proofs.Desks.{reading_trans}
 use Rattle.ice_answer.specs.declared.cause.Cause.{Cause}
 use Rattle.ice_answer.specs.declared.cause.Cause.TheVariants.{Good, Usage, BadBlif, BadPcf, BadChip, BadNet, BadPin, Overfull, Unreachable, GaveUp, ReadFault, WriteFault, NoMemory, BadAsc, BadBits, TooLong, BadLevels}
 use Rattle.ice_answer.specs.declared.cause.FileRole.{FileRole}
@@ -12,6 +11,13 @@ use Rattle.ice_answer.specs.Texts.{AreTexts}
 use Rattle.ice_answer.proofs.ReadStops.{reading_refl, none_before, stopped_at}
 use Rattle.ice_chip_pieces.specs.Held.{Held}
 use Rattle.ice_chip_texts.specs.ChipFiles.{with_chip, chip_file, HasRead, AreRead}
+
+-- where more than the limit would be told, no more was given
+pub within : (new : Meaning) (bytes : List ℕ) → new.given ≡ length bytes → (most_bytes < new.given → false ≡ true) → length bytes ≤ most_bytes
+within new bytes given told = elim (cases_lt most_bytes new.given) [
+  | inl more ↦ let never : false ≡ true = told more in absurd (cc)
+  | inr few ↦ omega (arith, given, few)
+]
 
 -- the first file was read: its text fits, and since then the desk was only read
 pub record IsBehind (file : File) (text : List ℕ) (old mid : Meaning) : Type 0 where
