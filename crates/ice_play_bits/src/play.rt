@@ -5,7 +5,8 @@ ghost use Rattle.ice_answer.specs.Commands.{Aloud, IsRefusal, IsTrueOf};
 ghost use Rattle.ice_answer.specs.Reading.{TellsLong};
 ghost use Rattle.ice_answer.specs.Rows.{SaidBy, KeptRow};
 ghost use Rattle.ice_chip_read.specs.Whole.{chip_says};
-ghost use Rattle.ice_play_bits.specs.Played.{Stands, IsRead, IsMade, play_bits};
+ghost use Rattle.ice_bits_files.specs.Standing.{IsRead};
+ghost use Rattle.ice_play_bits.specs.Played.{Stands, IsMade, play_bits};
 ghost use Rattle.ice_play_bits.specs.Requests.{request_view};
 
 use ice_answer::{
