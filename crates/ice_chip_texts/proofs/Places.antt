@@ -1,5 +1,5 @@
 -- From the files behind the first one to all files: each place is one further.
-use Rattle.std.proofs.Common.{◌≡◌, ◌∙◌, ◌≤◌, ◌<◌, ◌+◌, ℕ, zero, suc, Option, Some, List, [], ◌∷◌, length, true, false, inl, inr, refl, sym, ap, subst, arith}
+use Rattle.std.proofs.Common.{◌≡◌, ◌∙◌, ◌≤◌, ◌<◌, ◌+◌, ℕ, zero, suc, Option, Some, List, [], ◌∷◌, length, true, inl, inr, Ok, Err, refl, sym, ap, subst, arith}
 use Rattle.std.proofs.lemmas.Bool.{cases_lt}
 use Rattle.ice_desk.specs.Desk.{Meaning, SameButReading, Rose, after_one, after_more}
 use Rattle.ice_answer.specs.declared.cause.Cause.{Cause}
@@ -13,9 +13,9 @@ use Rattle.ice_chip_pieces.specs.Held.{Held}
 use Rattle.ice_chip_texts.specs.ChipFiles.{with_chip, chip_file, HasRead, AreRead}
 
 -- where more than the limit would be told, no more was given
-pub within : (new : Meaning) (bytes : List ℕ) → new.given ≡ length bytes → (most_bytes < new.given → false ≡ true) → length bytes ≤ most_bytes
-within new bytes given told = elim (cases_lt most_bytes new.given) [
-  | inl more ↦ let never : false ≡ true = told more in absurd (cc)
+pub within : {V E : Type 0} (value : V) (stop : E) (new : Meaning) (bytes : List ℕ) → new.given ≡ length bytes → (most_bytes < new.given → Ok value ≡ Err stop) → length bytes ≤ most_bytes
+within value stop new bytes given told = elim (cases_lt most_bytes new.given) [
+  | inl more ↦ let never : Ok value ≡ Err stop = told more in absurd (cc)
   | inr few ↦ omega (arith, given, few)
 ]
 
