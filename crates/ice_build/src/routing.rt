@@ -73,15 +73,7 @@ fn route<G: Gate + Sync, R: Threads + Sync>(
     placed_nets_are_routable();
     routed_nets_are_trees();
     let graph = fabric(alloc, chip)?;
-    negotiate(
-        rt,
-        alloc,
-        &graph,
-        nets,
-        effort.rounds,
-        effort.workers,
-        gate,
-    )
+    negotiate(rt, alloc, &graph, nets, effort.rounds, effort.workers, gate)
 }
 
 // Why nothing is built of a placed design with so many nets that is not routed.
