@@ -60,7 +60,7 @@ IsStuckOn task placement net sink = IsLaidOn task placement (λ layout. IsStuck 
 abbrev pub IsGivenUpOn : Task → ℕ → List TileAt → List RoundLog → List Shut → Type 0
 IsGivenUpOn task rounds placement logs tallies = IsLaidOn task placement (λ layout. IsGivenUp task.parts (plan_in layout) rounds logs tallies)
 
--- ... and this is the report on them
+-- the same, and this is the report on the rounds, which gave up
 abbrev pub IsGivenUpIn : Task → ℕ → List TileAt → List RoundLog → List Shut → List ℕ → Type 0
 IsGivenUpIn task rounds placement logs tallies report =
     IsLaidOn task placement (λ layout. IsGivenUp task.parts (plan_in layout) rounds logs tallies × (report ≡ routes_text task.parts layout logs false))
