@@ -24,9 +24,6 @@ pub made_so : (b : Build) (old new : Meaning) (t : List (List ℕ)) (result : Re
 made_so b old new t (Ok made) are same gives refused = made_of_texts (build_files b) old new t (Ok made) are same gives tt
 made_so b old new t (Err refusal) are same gives refused = made_of_texts (build_files b) old new t (Err refusal.cause) are same tt refused.refusal
 
-pub told_so : (new : Meaning) (result : Result Made Refused) → new.given ≤ most_bytes → IsToldLong new (unreported result)
-told_so new result fits = told_of_texts new (unreported result) fits
-
 -- what is left, where this is the parting file
 abbrev IsReportIn : Build → Meaning → Cause → Option File → Option (List ℕ) → Type 0
 IsReportIn b old cause parting None = IsParting parting cause → ⊥
@@ -48,24 +45,3 @@ pub reported_so : (b : Build) (old : Meaning) (t : List (List ℕ)) (result : Re
 reported_so b old t (Ok made) are refused = tt
 reported_so b old t (Err refusal) are refused =
     report_is b old refusal.cause (text_of refusal.report) (report_left b old t refusal.cause b.report (text_of refusal.report) refl are refused.report)
-
--- ---- texts that were not all read
-unread_gave : (b : Build) (old new : Meaning) (cause : Cause) → IsUnread (files_of b) old new cause → HasGivenUp cause → ⊥
-unread_gave b old new cause is gave = of_given_up (λ c. IsUnread (files_of b) old new c → ⊥) (λ placement logs tallies never. never) cause gave is
-
-parting_gave : (asked : Option (List ℕ)) (cause : Cause) → IsParting (file_asked Report asked) cause → HasGivenUp cause
-parting_gave None cause never = absurd never
-parting_gave (Some name) cause gave = gave
-
-pub unread_so : (b : Build) (old new : Meaning) (cause : Cause) (refused : Refused) → refused.cause ≡ cause → IsUnread (files_of b) old new cause
-    → IsRefused refused.cause × IsTrueOf (build_files b) old new refused.cause
-unread_so b old new cause refused e is = subst (λ (c : Cause). IsRefused c × IsTrueOf (build_files b) old new c) (sym e) (unread_is_true (build_files b) old new cause is)
-
-pub unread_reported : (b : Build) (old new : Meaning) (cause : Cause) (refused : Refused) → refused.cause ≡ cause → refused.report ≡ None → IsUnread (files_of b) old new cause
-    → IsReport (build_files b) old refused.cause (text_of refused.report)
-unread_reported b old new cause refused e none is =
-    subst (λ (c : Cause). IsReport (build_files b) old c (text_of refused.report)) (sym e)
-    (subst (λ (o : Option (Vec ℕ)). IsReport (build_files b) old cause (text_of o)) (sym none) (λ parts. unread_gave b old new cause is (parting_gave b.report cause parts)))
-
-pub unread_told : (new : Meaning) (cause : Cause) (refused : Refused) → refused.cause ≡ cause → TellsLong new cause → TellsLong new refused.cause
-unread_told new cause refused e told = subst (TellsLong new) (sym e) told

@@ -74,31 +74,15 @@ bits_alone : (fault : DecodeFault) (cause : Cause) → IsBitsRefusal fault cause
 bits_alone fault cause (inl memory) = of_no_rounds cause NoMemory memory.0 (λ never. never)
 bits_alone fault cause (inr told) = of_no_rounds cause (BadBits fault) told.0 (λ never. never)
 
-pub net_alone : (fault : NetFault) (cause : Cause) → IsNetRefusal fault cause → IsOfNoRounds cause
-net_alone fault cause (inl memory) = of_no_rounds cause NoMemory memory.0 (λ never. never)
-net_alone fault cause (inr told) = of_no_rounds cause (BadNet fault) told.0 (λ never. never)
-
-pub blif_alone : (fault : BlifFault) (cause : Cause) → IsBlifRefusal fault cause → IsOfNoRounds cause
-blif_alone fault cause (inl memory) = of_no_rounds cause NoMemory memory.0 (λ never. never)
-blif_alone fault cause (inr told) = of_no_rounds cause (BadBlif fault) told.0 (λ never. never)
-
-pub pcf_alone : (fault : PcfFault) (cause : Cause) → IsPcfRefusal fault cause → IsOfNoRounds cause
-pcf_alone fault cause (inl memory) = of_no_rounds cause NoMemory memory.0 (λ never. never)
-pcf_alone fault cause (inr told) = of_no_rounds cause (BadPcf fault) told.0 (λ never. never)
-
-pub chip_alone : (fault : ChipFault) (cause : Cause) → IsChipRefusal fault cause → IsOfNoRounds cause
-chip_alone fault cause (inl memory) = of_no_rounds cause NoMemory memory.0 (λ never. never)
-chip_alone fault cause (inr told) = of_no_rounds cause (BadChip fault) told.0 (λ never. never)
-
 -- such a refusal without a report
-pub refused_alone : (b : Build) (t : List (List ℕ)) (refused : Refused) → IsRefusal (Stands b.package_name b.effort.rounds t) refused.cause → IsOfNoRounds refused.cause → refused.report ≡ None
+refused_alone : (b : Build) (t : List (List ℕ)) (refused : Refused) → IsRefusal (Stands b.package_name b.effort.rounds t) refused.cause → IsOfNoRounds refused.cause → refused.report ≡ None
     → IsRefusedWith b t refused
 refused_alone b t refused is alone none = record {
   refusal = is;
   report = subst (λ (o : Option (Vec ℕ)). HasReport b t refused.cause (text_of o)) (sym none) (λ gave. absurd (alone gave));
 }
 
-pub refused_by : (b : Build) (t : List (List ℕ)) (this : Cause) (refused : Refused) → IsRefusal (Stands b.package_name b.effort.rounds t) this → IsOfNoRounds this → refused.cause ≡ this → refused.report ≡ None
+refused_by : (b : Build) (t : List (List ℕ)) (this : Cause) (refused : Refused) → IsRefusal (Stands b.package_name b.effort.rounds t) this → IsOfNoRounds this → refused.cause ≡ this → refused.report ≡ None
     → IsRefusedWith b t refused
 refused_by b t this refused is alone e none =
     refused_alone b t refused (subst (IsRefusal (Stands b.package_name b.effort.rounds t)) (sym e) is) (of_no_rounds refused.cause this e alone) none
