@@ -1,28 +1,18 @@
--- From what comes of the texts to what comes of the making.
-use Rattle.std.proofs.Common.{◌≡◌, ◌≤◌, ℕ, Option, None, Some, List, Result, Ok, Err, IfOk, IfErr, refl, sym, subst}
-use Rattle.std.specs.Global.{Vec}
+-- From the report that comes of the texts to what is left.
+use Rattle.std.proofs.Common.{◌≡◌, ℕ, Option, None, Some, List, Result, Ok, Err, IfErr, refl}
 use Rattle.ice_desk.specs.Desk.{Meaning}
 use Rattle.ice_answer.specs.declared.cause.Cause.{Cause}
 use Rattle.ice_answer.specs.declared.cause.FileRole.TheVariants.{Report}
 use Rattle.ice_answer.specs.declared.giving.Made.{Made}
 use Rattle.ice_answer.specs.declared.giving.Refused.{Refused}
-use Rattle.ice_answer.specs.Commands.{HasGivenUp, IsParting, IsRefused, IsTrueOf}
-use Rattle.ice_answer.specs.Ends.{IsMadeOf, IsReport, IsReported, IsToldLong, text_of, unreported}
-use Rattle.ice_answer.specs.Reading.{most_bytes, File, IsUnread, TellsLong}
+use Rattle.ice_answer.specs.Commands.{IsParting}
+use Rattle.ice_answer.specs.Ends.{IsReport, IsReported, text_of}
+use Rattle.ice_answer.specs.Reading.{File}
 use Rattle.ice_answer.specs.Texts.{AreTexts, OfTexts}
-use Rattle.ice_answer.proofs.Commanding.{of_given_up, unread_is_true}
-use Rattle.ice_answer.proofs.Ended.{made_of_texts, told_of_texts}
 use Rattle.ice_build_files.specs.Asked.{Build, files_of, file_asked, parting_of}
 use Rattle.ice_build_files.specs.Command.{build_files}
-use Rattle.ice_build_files.specs.Made.{IsMade}
 use Rattle.ice_build_files.specs.Parting.{TellsOf, HasReport, IsRefusedWith}
 use Rattle.ice_build_files.proofs.Refusing.{not_none}
-
--- ---- what was made of texts that were read
-pub made_so : (b : Build) (old new : Meaning) (t : List (List ℕ)) (result : Result Made Refused) → AreTexts (files_of b) old t → new.makes ≡ old.makes
-    → IfOk result (λ made. IsMade b t made.texts made.placement made.tallies.items) → IfErr result (IsRefusedWith b t) → IsMadeOf (build_files b) old new (unreported result)
-made_so b old new t (Ok made) are same gives refused = made_of_texts (build_files b) old new t (Ok made) are same gives tt
-made_so b old new t (Err refusal) are same gives refused = made_of_texts (build_files b) old new t (Err refusal.cause) are same tt refused.refusal
 
 -- what is left, where this is the parting file
 abbrev IsReportIn : Build → Meaning → Cause → Option File → Option (List ℕ) → Type 0
