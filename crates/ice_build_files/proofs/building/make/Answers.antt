@@ -1,5 +1,5 @@
 use Rattle.ice_build_files.specs.Requests.{request_view}
-use Rattle.ice_build_files.proofs.Making.{reported_so}
+use Rattle.ice_build_files.proofs.Leaving.{reported_so}
 use Rattle.ice_build_files.proofs.building.make.Goals as goal
 
 pub returns-in-Ok-clause-reported : goal.returns-in-Ok-clause-reported
