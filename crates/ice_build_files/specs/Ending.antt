@@ -7,7 +7,6 @@ use Rattle.ice_words.specs.Grips.{Shut}
 use Rattle.ice_build.specs.declared.answer.BuildFault.{BuildFault}
 use Rattle.ice_build.specs.declared.answer.BuildFault.TheVariants as build
 use Rattle.ice_build.specs.declared.answer.Layout.{Layout}
-use Rattle.ice_answer.specs.declared.cause.Cause.{Cause}
 use Rattle.ice_answer.specs.declared.cause.Cause.TheVariants.{Unreachable, GaveUp, NoMemory}
 use Rattle.ice_answer.specs.declared.giving.Refused.{Refused}
 use Rattle.ice_answer.specs.Ends.{text_of}
