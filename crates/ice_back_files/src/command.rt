@@ -1,12 +1,11 @@
 //! Going back: two texts are read, and the text of the netlist of the bits is written.
-ghost use Rattle.std.specs.Prelude.{◌≡◌, true, None, Ok, IfOk, IfErr};
+ghost use Rattle.std.specs.Prelude.{◌≡◌, ◌∷◌, ℕ, List, true, None, Ok, IfOk, IfErr};
 ghost use Rattle.ice_answer.specs.Causes.{status_of};
 ghost use Rattle.ice_answer.specs.Commands.{InFiles, IsRefusal, IsTrueOf};
 ghost use Rattle.ice_answer.specs.Reading.{TellsLong};
 ghost use Rattle.ice_answer.specs.Rows.{SaidBy, KeptRow, MadeRow, SilentRow};
-ghost use Rattle.ice_answer.specs.Texts.{text_at};
 ghost use Rattle.ice_chip_read.specs.Whole.{chip_says};
-ghost use Rattle.ice_asc.specs.Grammar.{asc_in};
+ghost use Rattle.ice_bits_files.specs.Standing.{IsRead};
 ghost use Rattle.ice_back_files.specs.Asked.{outputs_of};
 ghost use Rattle.ice_back_files.specs.BackRows.{IsBackAnswer};
 ghost use Rattle.ice_back_files.specs.Command.{Stands, back_files};
@@ -15,14 +14,15 @@ ghost use Rattle.ice_back_files.specs.Requests.{request_view};
 
 use crate::netlist_text::back_text;
 use ice_answer::{
-    Cause, CommandFile, Done, FileRole, Made, Making, Texts, asc_refusal, bits_refusal,
-    chip_refusal, made_text, write_made,
+    Cause, CommandFile, Done, FileRole, Made, Texts, asc_refusal, bits_refusal, chip_refusal,
+    made_text,
 };
 use ice_asc::read_asc;
 use ice_base::NoMemory;
 use ice_bits::Bits;
 use ice_chip::Chip;
-use ice_chip_read::read_chip;
+use ice_chip_pieces::ChipReader;
+use ice_chip_texts::{ChipMaking, write_made_on_chip};
 use ice_decode::decode;
 use ice_desk::Desk;
 use ice_pads::PinFault;
@@ -42,7 +42,7 @@ pub struct BackRequest<'a> {
     pub blif: &'a str,
 }
 
-// The text of the netlist of bits on a chip, which the texts say.
+// The text of the netlist of bits on a chip, which a chip text and the texts behind it say.
 fn back_read(
     alloc: Global,
     package_name: &str,
@@ -50,10 +50,9 @@ fn back_read(
     chip: &Chip,
     bits: &Bits,
 ) -> Result<Made, Cause>
-    requires chip { chip_says (text_at texts.now 1) ≡ Ok chip.now }
-    requires bits { asc_in chip.now (text_at texts.now 2) ≡ Ok bits.now }
-    ensures made { IfOk result (λ made. IsMade package_name.now texts.now made.texts made.placement made.tallies.items) }
-    ensures refused { IfErr result (λ cause. IsRefusal (Stands package_name.now texts.now) cause) }
+    requires { (chip_text : List ℕ) × (chip_says chip_text ≡ Ok chip.now) }
+    ensures made { (chip_text : List ℕ) → IsRead (chip_text ∷ texts.now) chip.now bits.now → IfOk result (λ made. IsMade package_name.now (chip_text ∷ texts.now) made.texts made.placement made.tallies.items) }
+    ensures refused { (chip_text : List ℕ) → IsRead (chip_text ∷ texts.now) chip.now bits.now → IfErr result (λ cause. IsRefusal (Stands package_name.now (chip_text ∷ texts.now)) cause) }
 {
     pins_are_words();
     let Some(bonded) = chip.package(package_name.as_bytes()) else {
@@ -69,25 +68,25 @@ fn back_read(
     }
 }
 
-// The text of the netlist of the bits of the second text on a chip.
+// The text of the netlist of the bits of the text behind the chip's on the chip.
 fn back_on(alloc: Global, package_name: &str, texts: &Texts, chip: &Chip) -> Result<Made, Cause>
-    requires { chip_says (text_at texts.now 1) ≡ Ok chip.now }
-    ensures made { IfOk result (λ made. IsMade package_name.now texts.now made.texts made.placement made.tallies.items) }
-    ensures refused { IfErr result (λ cause. IsRefusal (Stands package_name.now texts.now) cause) }
+    requires { (chip_text : List ℕ) × (chip_says chip_text ≡ Ok chip.now) }
+    ensures made { (chip_text : List ℕ) → chip_says chip_text ≡ Ok chip.now → IfOk result (λ made. IsMade package_name.now (chip_text ∷ texts.now) made.texts made.placement made.tallies.items) }
+    ensures refused { (chip_text : List ℕ) → chip_says chip_text ≡ Ok chip.now → IfErr result (λ cause. IsRefusal (Stands package_name.now (chip_text ∷ texts.now)) cause) }
 {
-    match read_asc(alloc, texts.at(2), chip) {
+    match read_asc(alloc, texts.at(1), chip) {
         Ok(bits) => back_read(alloc, package_name, texts, chip, &bits),
         Err(fault) => Err(asc_refusal(fault)),
     }
 }
 
-impl<'a> Making for BackRequest<'a> {
+impl<'a> ChipMaking for BackRequest<'a> {
     ghost stands = { λ request texts cause. Stands request.package_name.now texts cause };
 
     ghost gives = { λ request texts made placement tallies. IsMade request.package_name.now texts made placement tallies };
 
-    fn make(&self, alloc: Global, texts: &Texts) -> Result<Made, Cause> {
-        match read_chip(alloc, texts.at(1)) {
+    fn make(&self, alloc: Global, reader: ChipReader, texts: &Texts) -> Result<Made, Cause> {
+        match reader.finish() {
             Ok(chip) => back_on(alloc, self.package_name, texts, &chip),
             Err(fault) => Err(chip_refusal(fault)),
         }
@@ -95,7 +94,7 @@ impl<'a> Making for BackRequest<'a> {
 }
 
 /// Writes the netlist of the bits of one file on the chip of another: reads the texts, makes the text of the netlist, and only then
-/// writes it to its file. A refusal says its line, and writes nothing.
+/// writes it to its file. A refusal says its line, and writes nothing. The chip's file is read piece by piece, and its text isn't held.
 ///
 /// Where it is done and the desk tells its contents, the text that was written says a sound netlist, of any size. It has a port for each
 /// pad of the package in order, and for every list of levels it shows there step by step what the configured chip shows at the pads.
@@ -112,19 +111,13 @@ pub fn back_files<D: Desk>(alloc: Global, desk: &mut D, request: &BackRequest<'_
     ensures silent { SilentRow (InFiles (outputs_of (request_view request.now))) (D.seen desk.old) (D.seen desk.new) result.cause }
     ensures given { TellsLong (D.seen desk.new) result.cause }
 {
-    let files = [
-        CommandFile {
-            role: FileRole::Chip,
-            name: request.chip,
-        },
-        CommandFile {
-            role: FileRole::Asc,
-            name: request.asc,
-        },
-    ];
+    let files = [CommandFile {
+        role: FileRole::Asc,
+        name: request.asc,
+    }];
     let outputs = [CommandFile {
         role: FileRole::Blif,
         name: request.blif,
     }];
-    write_made(alloc, desk, &files, request, &outputs)
+    write_made_on_chip(alloc, desk, request.chip, &files, request, &outputs)
 }

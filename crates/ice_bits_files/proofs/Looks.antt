@@ -16,9 +16,9 @@ use Rattle.ice_decode.specs.declared.fault.DecodeFault.{DecodeFault}
 use Rattle.ice_decode.specs.declared.fault.DecodeFault.TheVariants as decode_fault
 use Rattle.ice_pads.specs.declared.fault.PinFault.TheVariants as pin_fault
 use Rattle.ice_answer.specs.declared.cause.Cause.{Cause}
-use Rattle.ice_answer.specs.declared.cause.Cause.TheVariants.{BadChip, BadPin, BadAsc}
+use Rattle.ice_answer.specs.declared.cause.Cause.TheVariants.{BadChip, BadPin, BadAsc, BadBits}
 use Rattle.ice_answer.specs.Commands.{IsRefusal}
-use Rattle.ice_answer.specs.Refusals.{IsChipRefusal, IsAscRefusal}
+use Rattle.ice_answer.specs.Refusals.{IsChipRefusal, IsAscRefusal, IsBitsRefusal}
 use Rattle.ice_answer.specs.Texts.{text_at}
 use Rattle.ice_answer.proofs.Standings.{at_fault, behind, then_stands, behind_some, some_stands}
 use Rattle.ice_answer.proofs.Standings as standings
@@ -90,3 +90,11 @@ module _ (Then : PackageRows → Cause → Type 0) (name : List ℕ) (t : List (
       standings.asc_refused (Stands Then name t) fault cause
       (λ known. behind (chip_says (text_at t 1)) BadChip (AscStands Then name (text_at t 2)) parts (BadAsc fault) chip
       (at_fault (asc_in parts (text_at t 2)) BadAsc (PackageStands Then name parts) fault (asc_fault_is fault (asc_in parts (text_at t 2)) says known))) is
+
+  pub bits_refused : (parts : Parts) (k : Configuration) (bonded : PackageRows) (fault : DecodeFault) (cause : Cause) → IsRead t parts k → package_of parts name ≡ Some bonded
+      → IsFaultOf parts (bits_of k) k.extras fault → IsBitsRefusal fault cause → IsRefusal (Stands Then name t) cause
+  bits_refused parts k bonded fault cause read there bad is =
+      standings.bits_refused (Stands Then name t) fault cause
+      (λ known. behind (chip_says (text_at t 1)) BadChip (AscStands Then name (text_at t 2)) parts (BadBits fault) read.is_chip
+      (behind (asc_in parts (text_at t 2)) BadAsc (PackageStands Then name parts) k (BadBits fault) read.are_bits
+      (behind_some (package_of parts name) (BadPin pin_fault.NoPackage) (BitsStand Then parts k) bonded (BadBits fault) there (inl (fault, refl, bad, known))))) is

@@ -15,6 +15,10 @@ chip_file name = record { role = Chip; name = name }
 abbrev pub with_chip : List ℕ → Files → Files
 with_chip name files = chip_file name ∷ files
 
+-- a reader of a chip database stands for some text
+abbrev pub StandsForSome : Held → Type 0
+StandsForSome reader = (chip_text : List ℕ) × StandsFor reader chip_text
+
 -- a reader of a chip database stands for what was read of this file, which is not too long
 pub record HasRead (desk : Meaning) (name : List ℕ) (reader : Held) : Type 0 where
   pub chip_text : List ℕ

@@ -11,7 +11,7 @@ ghost use Rattle.ice_answer.specs.Commands.{Output, command_of, Aloud, InFiles, 
 ghost use Rattle.ice_answer.specs.Ends.{unreported, IsMadeOf, IsToldLong};
 ghost use Rattle.ice_answer.specs.Rows.{SaidBy, KeptRow, MadeRow, SilentRow};
 ghost use Rattle.ice_chip_pieces.specs.Stands.{StandsFor};
-ghost use Rattle.ice_chip_texts.specs.ChipFiles.{with_chip};
+ghost use Rattle.ice_chip_texts.specs.ChipFiles.{with_chip, StandsForSome};
 
 use crate::texts::{ChipTexts, read_chip_and_texts};
 use ice_answer::{Cause, CommandFile, Done, Made, Refused, Texts, end_aloud, end_in_files};
@@ -29,6 +29,7 @@ pub trait ChipMaking {
 
     /// What is made of a chip text, for which the reader stands, and of the texts behind it; or why nothing is made.
     fn make(&self, alloc: Global, reader: ChipReader, texts: &Texts) -> Result<Made, Cause>
+        requires { StandsForSome reader }
         ensures given { (chip_text : List ℕ) → StandsFor reader chip_text → IfOk result (λ made. gives self.now (chip_text ∷ texts.now) made.texts made.placement made.tallies.items) }
         ensures refused { (chip_text : List ℕ) → StandsFor reader chip_text → IfErr result (λ cause. IsRefusal (stands self.now (chip_text ∷ texts.now)) cause) };
 }

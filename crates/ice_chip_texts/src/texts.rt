@@ -7,7 +7,7 @@ ghost use Rattle.ice_answer.specs.Texts.{files_view, ArePermitted};
 ghost use Rattle.ice_chip_pieces.specs.Stands.{StandsFor};
 ghost use Rattle.ice_chip_texts.specs.ChipFiles.{with_chip, HasRead, AreRead};
 
-use ice_answer::{Cause, FileRole, CommandFile, Texts, read_texts};
+use ice_answer::{Cause, CommandFile, FileRole, Texts, read_texts};
 use ice_chip_pieces::ChipReader;
 use ice_desk::{Desk, ReadStop};
 use ice_pieces::read_pieces;
@@ -26,11 +26,7 @@ pub struct ChipTexts {
 }
 
 // Hands the file of a chip database on to a reader, to the file's end.
-fn read_chip_text<D: Desk>(
-    desk: &mut D,
-    chip: &str,
-    reader: &mut ChipReader,
-) -> Result<(), Cause>
+fn read_chip_text<D: Desk>(desk: &mut D, chip: &str, reader: &mut ChipReader) -> Result<(), Cause>
     requires name { D.may_read desk.old chip.now }
     requires empty { StandsFor reader.old [] }
     ensures same { SameButReading (D.seen desk.old) (D.seen desk.new) }

@@ -6,5 +6,5 @@ use Rattle.ice_back_files.proofs.command.back_files.Goals as goal
 pub returns-clause-rows : goal.returns-clause-rows
 returns-clause-rows g c =
     let D = g.D.Desk in
-    let e = c.write_made.ensures in
-    answers (request_view c.args.request.now) (D.seen c.args.desk.now) (D.seen c.write_made.new.desk) c.write_made.result e.cause e.status (e.given (omega arith))
+    let e = c.write_made_on_chip.ensures in
+    answers (request_view c.args.request.now) (D.seen c.args.desk.now) (D.seen c.write_made_on_chip.new.desk) c.write_made_on_chip.result e.cause e.status (e.given (omega arith))

@@ -5,6 +5,9 @@ use Rattle.ice_answer.proofs.Ended.{made_of_texts}
 use Rattle.ice_chip_texts.specs.ChipFiles.{with_chip}
 use Rattle.ice_chip_texts.proofs.making.make_of.Goals as goal
 
+pub make-requires : goal.make-requires
+make-requires g c = (c.in-Ok.ensures.texts.chip_text, c.in-Ok.ensures.texts.stands)
+
 pub returns-in-Ok-clause-made : goal.returns-in-Ok-clause-made
 returns-in-Ok-clause-made g c = λ output.
     let D = g.D.Desk in

@@ -1,10 +1,20 @@
 use Rattle.std.proofs.Common.{◌≡◌, ◌∷◌, Some, sym}
 use Rattle.ice_chip.specs.Views.{package_view}
 use Rattle.ice_chip.specs.Lookups.{package_of}
+use Rattle.ice_answer.specs.Texts.{text_at}
+use Rattle.ice_bits_files.proofs.Looks.{bits_refused}
 use Rattle.ice_bits_files.proofs.OneText.{one_is, none_refused}
-use Rattle.ice_play_bits.specs.Played.{IsPlayed, Stands}
+use Rattle.ice_play_bits.specs.Played.{LevelsStand, IsPlayed, Stands}
 use Rattle.ice_play_bits.proofs.Standing.{played_is}
 use Rattle.ice_play_bits.proofs.play.play_read.Goals as goal
+
+pub returns-in-Err-clause-refused : goal.returns-in-Err-clause-refused
+returns-in-Err-clause-refused c = λ chip_text read.
+    let name = c.args.package_name.now in
+    let texts = chip_text ∷ c.args.texts.now in
+    let there : package_of c.args.chip.now name ≡ Some (package_view c.in-Some.bonded.now) = sym (rw c.as_bytes.ensures.value at c.in-Some.ensures) in
+    bits_refused (LevelsStand (text_at texts 3)) name texts c.args.chip.now c.args.bits.now (package_view c.in-Some.bonded.now) c.in-Err.fault c.bits_refusal.result read there c.in-Err.ensures.fault
+    c.bits_refusal.ensures
 
 pub returns-in-Ok-play_chip-clause-played : goal.returns-in-Ok-play_chip-clause-played
 returns-in-Ok-play_chip-clause-played c = λ chip_text read.
