@@ -1,20 +1,21 @@
 -- When each answer comes, from what each cause says.
-use Rattle.std.proofs.Common.{◌≡◌, ◌∙◌, ℕ, Option, None, Some, List, true, false, inl, inr, refl, sym, ap, subst, arith, ◌⊎◌, ◌≤◌, if◌then◌else◌}
+use Rattle.std.proofs.Common.{◌≡◌, ◌∙◌, ℕ, Option, None, Some, List, true, false, inl, inr, refl, sym, ap, subst, ◌⊎◌, if◌then◌else◌}
 use Rattle.clap.specs.Words.{Text, takes, subcommand_of}
-use Rattle.ice_desk.specs.Desk.{Meaning, SameButSaying, SameButReading}
+use Rattle.ice_desk.specs.Desk.{Meaning, SameButSaying}
+use Rattle.ice_desk.specs.Said.{SaidRow}
 use Rattle.ice_request.specs.Command.{command}
 use Rattle.ice_request.specs.Requests.{Asked, Build, Back, PlayNet, PlayBits, Sample, ForBuild, ForBack, ForPlayNet, ForPlayBits, ForSample, is_taken, asked_in, request_of}
 use Rattle.ice_answer.specs.declared.cause.Cause.{Cause}
 use Rattle.ice_answer.specs.declared.cause.Cause.TheVariants.{Usage, NoMemory}
 use Rattle.ice_answer.specs.declared.cause.Done.{Done}
-use Rattle.ice_answer.specs.Causes.{status_of}
-use Rattle.ice_answer.specs.Commands.{IsTrueOf}
-use Rattle.ice_answer.specs.Ends.{IsEndOf, IsLineSaid}
-use Rattle.ice_answer.specs.Reading.{TellsLong}
+use Rattle.ice_answer.specs.Causes.{status_of, line_of}
+use Rattle.ice_answer.specs.Commands.{Command, Output, Aloud, InFiles, IsTrueOf}
+use Rattle.ice_answer.specs.Ends.{IsEndOf}
+use Rattle.ice_answer.specs.Reading.{File, TellsLong}
 use Rattle.ice_answer.specs.Refusals.{IsKnown}
+use Rattle.ice_answer.specs.Rows.{SaidBy, MadeRow, SilentRow}
 use Rattle.ice_answer.proofs.CommandRows as answers
 use Rattle.ice_answer.proofs.CommandRows.{known, asked}
-use Rattle.ice_answer.proofs.Ended.{refused_end}
 use Rattle.ice_back_files.proofs.BackLaws as back
 use Rattle.ice_back_files.specs.Command.{back_files}
 use Rattle.ice_build_files.proofs.BuildLaws as built
@@ -97,6 +98,7 @@ done_answer words w old new end is =
       kept = is.end_is.kept;
       made = is.end_is.made;
       silent = is.end_is.silent;
+      parted = is.end_is.parted;
     }
 
 pub done_so : (words : List Text) (w : Asked) (old new : Meaning) (end : Done) → request_of words ≡ Some w → IsDoneAs w old new end → IsAnswer words old new end
@@ -129,6 +131,7 @@ refused_none words refusal old new end is which = record {
   kept = λ t name. ap (λ (f : List ℕ → Option (List ℕ)). f name) is.same.files;
   made = is.same.makes;
   silent = tt;
+  parted = tt;
 }
 
 untaken : (words : List Text) → is_taken words ≡ false → request_of words ≡ None
@@ -139,15 +142,34 @@ refused_so words old new end e takes is =
     subst (λ (r : Option Asked). IsAnswerTo words r old new end) (sym (untaken words e)) (refused_none words Usage old new end is (inl (refl, takes)))
 
 -- ---- there was no memory to read the words
--- nothing was read
-unread : (old : Meaning) → SameButReading old old
-unread old = record { tells = refl; files = refl; taken = refl; said = refl; makes = refl; says = refl; puts = refl; is_open = refl; write_faults = refl; say_faults = refl; read_faults = omega arith }
+forgotten_said : (output : Output) (old new : Meaning) → SaidRow old new (line_of NoMemory) → SaidBy output old new NoMemory
+forgotten_said Aloud old new said = λ refused. said
+forgotten_said (InFiles files) old new said = said
+
+forgotten_made : (output : Output) (parting : Option File) (old new : Meaning) → new.makes ≡ old.makes → MadeRow output parting old new NoMemory
+forgotten_made Aloud parting old new same = same
+forgotten_made (InFiles files) None old new same = same
+forgotten_made (InFiles files) (Some file) old new same = same
+
+forgotten_silent : (output : Output) (old new : Meaning) → SilentRow output old new NoMemory
+forgotten_silent Aloud old new = tt
+forgotten_silent (InFiles files) old new = tt
+
+-- any command ends so where only the line of this was said
+forgotten_end_of : (k : Command) (old new : Meaning) → SameButSaying old new → (old.tells ≡ true → SaidRow old new (line_of NoMemory)) → IsEndOf k old new NoMemory
+forgotten_end_of k old new same said = record {
+  is_true = same.makes;
+  said = λ t. forgotten_said k.output old new (said t);
+  kept = λ t name apart. ap (λ (f : List ℕ → Option (List ℕ)). f name) same.files;
+  made = forgotten_made k.output k.parting old new same.makes;
+  silent = forgotten_silent k.output old new;
+  parted = λ file e gave. absurd gave;
+}
 
 forgotten_end : (w : Asked) (old new : Meaning) (end : Done) → IsRefusedAs NoMemory old new end → IsEndOf (asked_for w) old new end.cause
 forgotten_end w old new end is =
-    let line : IsLineSaid old new end.cause = record { same = is.same; said = is.said; silent = is.silent } in
-    subst (λ (x : Cause). IsLineSaid old new x → IsEndOf (asked_for w) old new x) (sym is.is_cause)
-        (λ l. refused_end (asked_for w) old old new NoMemory (unread old) tt refl l) line
+    let said : old.tells ≡ true → SaidRow old new (line_of NoMemory) = subst (λ (x : Cause). old.tells ≡ true → SaidRow old new (line_of x)) is.is_cause is.said in
+    subst (λ (x : Cause). IsEndOf (asked_for w) old new x) (sym is.is_cause) (forgotten_end_of (asked_for w) old new is.same said)
 
 forgotten_answer : (words : List Text) (asked : Option Asked) (old new : Meaning) (end : Done) → IsRefusedAs NoMemory old new end → IsAnswerTo words asked old new end
 forgotten_answer words None old new end is = refused_none words NoMemory old new end is (inr refl)
@@ -172,6 +194,7 @@ forgotten_answer words (Some w) old new end is =
       kept = ended.kept;
       made = ended.made;
       silent = ended.silent;
+      parted = ended.parted;
     }
 
 pub forgotten_so : (words : List Text) (old new : Meaning) (end : Done) → IsRefusedAs NoMemory old new end → IsAnswer words old new end

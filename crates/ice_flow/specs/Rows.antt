@@ -66,17 +66,22 @@ SaidByWords (Some asked) old new cause = SaidBy (asked_for asked).output old new
 -- which files may change: those that a command writes, and no file where the work was refused before its writing
 abbrev pub KeptRow : Option Asked → Meaning → Meaning → Cause → Type 0
 KeptRow None old new cause = (name : List ℕ) → new.files name ≡ old.files name
-KeptRow (Some asked) old new cause = answers.KeptRow (asked_for asked) old new cause
+KeptRow (Some asked) old new cause = answers.KeptRow (asked_for asked).output (asked_for asked).parting old new cause
 
 -- how many files were made, over every desk
 abbrev pub MadeRow : Option Asked → Meaning → Meaning → Cause → Type 0
 MadeRow None old new cause = new.makes ≡ old.makes
-MadeRow (Some asked) old new cause = answers.MadeRow (asked_for asked) old new cause
+MadeRow (Some asked) old new cause = answers.MadeRow (asked_for asked).output (asked_for asked).parting old new cause
 
 -- where a command that writes is done, nothing was said, over every desk
 abbrev pub SilentRow : Option Asked → Meaning → Meaning → Cause → Type 0
 SilentRow None old new cause = Unit {0}
 SilentRow (Some asked) old new cause = answers.SilentRow (asked_for asked).output old new cause
+
+-- what the file holds that is written where the rounds gave up
+abbrev pub PartedRow : Option Asked → Meaning → Meaning → Cause → Type 0
+PartedRow None old new cause = Unit {0}
+PartedRow (Some asked) old new cause = answers.PartingRow (asked_for asked) old new cause
 
 -- ---- names
 -- the name of a file that may be asked for passes the desk's test

@@ -10,7 +10,7 @@ use Rattle.ice_sample_run.specs.SampleRows.{IsSampleAnswer}
 use Rattle.ice_request.specs.Requests.{Asked, Build, ForBuild, request_of}
 use Rattle.ice_flow.specs.Command.{build_of, back_of, play_of, bits_of, sample_of}
 use Rattle.ice_flow.specs.Plays.{IsNetAnswer, IsBitsAnswer}
-use Rattle.ice_flow.specs.Rows.{Caused, Builds, BacksUp, Plays, PlaysBits, Samples, UsageRow, NoMemoryRow, SaidByWords, KeptRow, MadeRow, SilentRow}
+use Rattle.ice_flow.specs.Rows.{Caused, Builds, BacksUp, Plays, PlaysBits, Samples, UsageRow, NoMemoryRow, SaidByWords, KeptRow, MadeRow, SilentRow, PartedRow}
 
 -- The end of the program for words that ask for this, where the desk was seen as `old` before and is seen as `new` after.
 pub record IsAnswerTo (words : List Text) (asked : Option Asked) (old new : Meaning) (end : Done) : Type 0 where
@@ -34,6 +34,7 @@ pub record IsAnswerTo (words : List Text) (asked : Option Asked) (old new : Mean
   pub kept : old.tells ≡ true → KeptRow asked old new end.cause
   pub made : MadeRow asked old new end.cause
   pub silent : SilentRow asked old new end.cause
+  pub parted : PartedRow asked old new end.cause
 
 -- the end of the program for words
 abbrev pub IsAnswer : List Text → Meaning → Meaning → Done → Type 0
