@@ -1,19 +1,23 @@
 -- What each step of a command comes to, by its causes.
-use Rattle.std.proofs.Common.{◌≡◌, ◌∙◌, ◌≤◌, ◌++◌, ℕ, Option, Some, List, sym, ap, subst, take, length, arith}
+use Rattle.std.proofs.Common.{◌≡◌, ◌∙◌, ◌+◌, ◌≤◌, ◌++◌, ℕ, Option, None, Some, List, true, sym, ap, subst, take, length, arith}
+use Rattle.std.specs.Global.{Vec}
 use Rattle.ice_base.specs.declared.number.TileAt.{TileAt}
-use Rattle.ice_desk.specs.Desk.{Meaning, SameButReading, SameButSaying, Rose, after_one, after_more, HoldsAfter}
+use Rattle.ice_desk.specs.Desk.{Meaning, SameButReading, SameButSaying, Rose, after_more, HoldsAfter}
 use Rattle.ice_desk.specs.Said.{SaidRow, IsSilent}
+use Rattle.ice_core.specs.declared.log.RoundLog.{RoundLog}
 use Rattle.ice_words.specs.Grips.{Shut}
 use Rattle.ice_answer.specs.declared.cause.Cause.{Cause}
 use Rattle.ice_answer.specs.declared.cause.Cause.TheVariants.{Good, Usage, BadBlif, BadPcf, BadChip, BadNet, BadPin, Overfull, Unreachable, GaveUp, ReadFault, WriteFault, NoMemory, BadAsc, BadBits, TooLong, BadLevels}
 use Rattle.ice_answer.specs.declared.cause.FileRole.{FileRole}
 use Rattle.ice_answer.specs.Causes.{line_of}
-use Rattle.ice_answer.specs.Reading.{IsUnread}
-use Rattle.ice_answer.specs.Texts.{AreTexts, OfTexts}
-use Rattle.ice_answer.specs.Commands.{Command, Output, Aloud, InFile, IsDone, IsRefusal, IsRefused, IsWrittenWhole, IsWrittenInPart, IsGiven, IsCut, IsPut, IsTrueOf}
-use Rattle.ice_answer.specs.Rows.{SaidBy, MadeRow}
+use Rattle.ice_answer.specs.Reading.{File, Files, name_behind, IsUnread}
+use Rattle.ice_answer.specs.Texts.{text_behind, text_at, AreTexts, OfTexts}
+use Rattle.ice_answer.specs.Writing.{Contents, after_writing, AreWritten, AreWrittenInPart}
+use Rattle.ice_answer.specs.Commands.{Command, Output, Aloud, InFiles, IsRefusal, IsRefused, HasGivenUp, IsParting, IsGiven, IsCut, IsPut, IsTrueOf}
+use Rattle.ice_answer.specs.Rows.{SaidBy, KeptRow, MadeRow}
 use Rattle.ice_answer.specs.Says.{SilentWhereDone}
 use Rattle.ice_answer.proofs.ReadStops.{fault_said, long_said}
+use Rattle.ice_answer.proofs.Writes.{made_behind, made_before, other_at, others_hold}
 
 -- ---- each step comes to a cause that is true
 
@@ -59,55 +63,134 @@ refusal_is_true k old new texts (TooLong role limit) are made is = absurd is
 refusal_is_true k old new texts (BadLevels line) are made is = (tt, ((texts, are, is.0), is.1))
 
 -- what was given behind the reading was given by the whole call
-given_behind : (output : Output) (text : List ℕ) (old mid new : Meaning) → SameButReading old mid → IsGiven output text mid new → IsGiven output text old new
-given_behind Aloud text old mid new read is = record {
+given_behind : (output : Output) (texts : List (List ℕ)) (old mid new : Meaning) → SameButReading old mid → IsGiven output texts mid new → IsGiven output texts old new
+given_behind Aloud texts old mid new read is = record {
   made = is.made ∙ read.makes;
-  said = λ t. is.said (read.tells ∙ t) ∙ ap (λ xs. xs ++ text) read.said;
+  said = λ t. is.said (read.tells ∙ t) ∙ ap (λ xs. xs ++ text_at texts 1) read.said;
 }
-given_behind (InFile role name) text old mid new read is = record { made = is.made ∙ ap after_one read.makes; holds = λ t. is.holds (read.tells ∙ t) }
+given_behind (InFiles files) texts old mid new read is = record {
+  made = made_behind (length files) old mid new read.makes is.made;
+  hold = λ t name. is.hold (read.tells ∙ t) name ∙ ap (λ (held : Contents). after_writing (length files) files texts held name) read.files;
+}
 
-cut_behind : (output : Output) (text : List ℕ) (old mid new : Meaning) (role : FileRole) (put : ℕ) → SameButReading old mid → IsCut output text mid new role put → IsCut output text old new role put
-cut_behind Aloud text old mid new role put read is = record {
+cut_behind : (output : Output) (texts : List (List ℕ)) (old mid new : Meaning) (role : FileRole) (put : ℕ) → SameButReading old mid → IsCut output texts mid new role put → IsCut output texts old new role put
+cut_behind Aloud texts old mid new role put read is = record {
   is_role = is.is_role;
   rose = (let r : Rose mid.write_faults new.write_faults = is.rose in let e : mid.write_faults ≡ old.write_faults = read.write_faults in omega arith);
   say_rose = (let r : Rose mid.say_faults new.say_faults = is.say_rose in let e : mid.say_faults ≡ old.say_faults = read.say_faults in omega arith);
   made = is.made ∙ read.makes;
   says = is.says ∙ ap (λ n. after_more n put) read.says;
-  said = λ t. subst (λ xs. (n : ℕ) × (n ≤ length text) × (new.said ≡ xs ++ take n text)) read.said (is.said (read.tells ∙ t));
+  said = λ t. subst (λ xs. (n : ℕ) × (n ≤ length (text_at texts 1)) × (new.said ≡ xs ++ take n (text_at texts 1))) read.said (is.said (read.tells ∙ t));
 }
-cut_behind (InFile file_role name) text old mid new role put read is = record {
+cut_behind (InFiles files) texts old mid new role put read is = record {
+  before = is.before;
+  few = is.few;
   is_role = is.is_role;
   rose = (let r : Rose mid.write_faults new.write_faults = is.rose in let e : mid.write_faults ≡ old.write_faults = read.write_faults in omega arith);
-  made = is.made ∙ ap after_one read.makes;
+  made = made_behind (is.before + 1) old mid new read.makes is.made;
   puts = is.puts;
-  holds = λ t. subst (λ (f : List ℕ → Option (List ℕ)). HoldsAfter text put (f name) (new.files name)) read.files (is.holds (read.tells ∙ t));
+  holds = λ t.
+      let name = name_behind files is.before in
+      subst (λ (held : Contents). HoldsAfter (text_behind texts is.before) put (after_writing is.before files texts held name) (new.files name)) read.files (is.holds (read.tells ∙ t));
+  others = λ t other ne. is.others (read.tells ∙ t) other ne ∙ ap (λ (held : Contents). after_writing is.before files texts held other) read.files;
 }
 
+-- ---- what was put
+
+-- what is true of each answer of what was put
+of_put : (P : Cause → Type 0) (output : Output) (texts : List (List ℕ)) (on : List TileAt) (counted : List Shut) (old new : Meaning)
+    → ((placement : List TileAt) (tallies : Vec Shut) → placement ≡ on → tallies.items ≡ counted → IsGiven output texts old new → P (Good placement tallies))
+    → ((role : FileRole) (put : ℕ) → IsCut output texts old new role put → P (WriteFault role put)) → (cause : Cause) → IsPut output texts on counted old new cause → P cause
+of_put P output texts on counted old new good cut (Good placement tallies) put = good placement tallies put.0 put.1 put.2
+of_put P output texts on counted old new good cut Usage put = absurd put
+of_put P output texts on counted old new good cut (BadBlif fault) put = absurd put
+of_put P output texts on counted old new good cut (BadPcf fault) put = absurd put
+of_put P output texts on counted old new good cut (BadChip fault) put = absurd put
+of_put P output texts on counted old new good cut (BadNet fault) put = absurd put
+of_put P output texts on counted old new good cut (BadPin fault) put = absurd put
+of_put P output texts on counted old new good cut (Overfull fault) put = absurd put
+of_put P output texts on counted old new good cut (Unreachable placement net sink) put = absurd put
+of_put P output texts on counted old new good cut (GaveUp placement logs tallies) put = absurd put
+of_put P output texts on counted old new good cut (ReadFault role) put = absurd put
+of_put P output texts on counted old new good cut (WriteFault role number) put = cut role number put
+of_put P output texts on counted old new good cut NoMemory put = absurd put
+of_put P output texts on counted old new good cut (BadAsc fault) put = absurd put
+of_put P output texts on counted old new good cut (BadBits fault) put = absurd put
+of_put P output texts on counted old new good cut (TooLong role limit) put = absurd put
+of_put P output texts on counted old new good cut (BadLevels line) put = absurd put
+
+pub put_behind : (output : Output) (texts : List (List ℕ)) (on : List TileAt) (counted : List Shut) (old mid new : Meaning) (cause : Cause) → SameButReading old mid
+    → IsPut output texts on counted mid new cause → IsPut output texts on counted old new cause
+put_behind output texts on counted old mid new cause read put =
+    of_put (λ c. IsPut output texts on counted old new c) output texts on counted mid new (λ placement tallies e f given. (e, f, given_behind output texts old mid new read given))
+    (λ role number is. cut_behind output texts old mid new role number read is) cause put
+
 -- what was put is true of the command
-pub put_is_true : (k : Command) (old mid new : Meaning) (text : List ℕ) (on : List TileAt) (counted : List Shut) (cause : Cause) → OfTexts k.files old (λ texts. k.Gives texts text on counted) → SameButReading old mid → IsPut k.output text on counted mid new cause
-    → IsTrueOf k old new cause
-put_is_true k old mid new text on counted (Good placement tallies) of read put = record {
-  text = text;
-  texts = subst (λ (shuts : List Shut). OfTexts k.files old (λ texts. k.Gives texts text placement shuts)) (sym put.1)
-      (subst (λ (tiles : List TileAt). OfTexts k.files old (λ texts. k.Gives texts text tiles counted)) (sym put.0) of);
-  given = given_behind k.output text old mid new read put.2;
+pub put_is_true : (k : Command) (old new : Meaning) (texts : List (List ℕ)) (on : List TileAt) (counted : List Shut) (cause : Cause) → OfTexts k.files old (λ read. k.Gives read texts on counted)
+    → IsPut k.output texts on counted old new cause → IsTrueOf k old new cause
+put_is_true k old new texts on counted cause of put =
+    of_put (λ c. IsTrueOf k old new c) k.output texts on counted old new
+    (λ placement tallies e f given. record {
+      made = texts;
+      texts = subst (λ (shuts : List Shut). OfTexts k.files old (λ read. k.Gives read texts placement shuts)) (sym f)
+          (subst (λ (tiles : List TileAt). OfTexts k.files old (λ read. k.Gives read texts tiles counted)) (sym e) of);
+      given = given;
+    })
+    (λ role number is. record { made = texts; placement = on; tallies = counted; texts = of; cut = is }) cause put
+
+-- behind what was said, or a front of it, nothing is said
+pub put_said : (texts : List (List ℕ)) (on : List TileAt) (counted : List Shut) (old mid new : Meaning) (cause : Cause) → IsPut Aloud texts on counted mid new cause → SaidBy Aloud old new cause
+put_said texts on counted old mid new cause put =
+    of_put (λ c. SaidBy Aloud old new c) Aloud texts on counted mid new (λ placement tallies e f given. λ refused. absurd refused) (λ role number is. λ refused. absurd refused) cause put
+
+-- the files that were written, or those up to one, were made
+pub put_made : (files : Files) (parting : Option File) (texts : List (List ℕ)) (on : List TileAt) (counted : List Shut) (old new : Meaning) (cause : Cause)
+    → IsPut (InFiles files) texts on counted old new cause → MadeRow (InFiles files) parting old new cause
+put_made files parting texts on counted old new cause put =
+    of_put (λ c. MadeRow (InFiles files) parting old new c) (InFiles files) texts on counted old new (λ placement tallies e f given. given.made)
+    (λ role number is. (is.before + 1, omega arith, omega (arith, is.few), is.made)) cause put
+
+-- and no others changed
+pub put_kept : (files : Files) (parting : Option File) (texts : List (List ℕ)) (on : List TileAt) (counted : List Shut) (old new : Meaning) (cause : Cause) → old.tells ≡ true
+    → IsPut (InFiles files) texts on counted old new cause → KeptRow (InFiles files) parting old new cause
+put_kept files parting texts on counted old new cause t put =
+    of_put (λ c. KeptRow (InFiles files) parting old new c) (InFiles files) texts on counted old new
+    (λ placement tallies e f given. λ name apart. given.hold t name ∙ others_hold name files texts old.files (length files) (omega arith) apart)
+    (λ role number is. λ name apart. is.others t name (other_at name files is.before apart is.few) ∙ others_hold name files texts old.files is.before (omega (arith, is.few)) apart) cause put
+
+-- and the rounds did not give up
+pub put_not_given_up : (files : Files) (texts : List (List ℕ)) (on : List TileAt) (counted : List Shut) (old new : Meaning) (cause : Cause) → IsPut (InFiles files) texts on counted old new cause
+    → HasGivenUp cause → ⊥
+put_not_given_up files texts on counted old new cause put =
+    of_put (λ c. HasGivenUp c → ⊥) (InFiles files) texts on counted old new (λ placement tallies e f given. λ gave. gave) (λ role number is. λ gave. gave) cause put
+
+-- what was put to files stands while a line is said
+whole_said : (files : Files) (texts : List (List ℕ)) (old mid new : Meaning) → SameButSaying mid new → AreWritten files texts old mid → AreWritten files texts old new
+whole_said files texts old mid new same is = record {
+  made = made_before (length files) old mid new is.made same.makes;
+  hold = λ t name. ap (λ (held : Contents). held name) same.files ∙ is.hold t name;
 }
-put_is_true k old mid new text on counted Usage of read put = absurd put
-put_is_true k old mid new text on counted (BadBlif fault) of read put = absurd put
-put_is_true k old mid new text on counted (BadPcf fault) of read put = absurd put
-put_is_true k old mid new text on counted (BadChip fault) of read put = absurd put
-put_is_true k old mid new text on counted (BadNet fault) of read put = absurd put
-put_is_true k old mid new text on counted (BadPin fault) of read put = absurd put
-put_is_true k old mid new text on counted (Overfull fault) of read put = absurd put
-put_is_true k old mid new text on counted (Unreachable placement net sink) of read put = absurd put
-put_is_true k old mid new text on counted (GaveUp placement logs tallies) of read put = absurd put
-put_is_true k old mid new text on counted (ReadFault role) of read put = absurd put
-put_is_true k old mid new text on counted (WriteFault role number) of read put = record { text = text; placement = on; tallies = counted; texts = of; cut = cut_behind k.output text old mid new role number read put }
-put_is_true k old mid new text on counted NoMemory of read put = absurd put
-put_is_true k old mid new text on counted (BadAsc fault) of read put = absurd put
-put_is_true k old mid new text on counted (BadBits fault) of read put = absurd put
-put_is_true k old mid new text on counted (TooLong role limit) of read put = absurd put
-put_is_true k old mid new text on counted (BadLevels line) of read put = absurd put
+
+part_said : (files : Files) (texts : List (List ℕ)) (old mid new : Meaning) (role : FileRole) (put : ℕ) → SameButSaying mid new → AreWrittenInPart files texts old mid role put
+    → AreWrittenInPart files texts old new role put
+part_said files texts old mid new role put same is = record {
+  before = is.before;
+  few = is.few;
+  is_role = is.is_role;
+  rose = (let r : Rose old.write_faults mid.write_faults = is.rose in let le : mid.write_faults ≤ new.write_faults = same.write_faults in omega arith);
+  made = made_before (is.before + 1) old mid new is.made same.makes;
+  puts = same.puts ∙ is.puts;
+  holds = λ t.
+      let name = name_behind files is.before in
+      subst (λ (held : Contents). HoldsAfter (text_behind texts is.before) put (after_writing is.before files texts old.files name) (held name)) (sym same.files) (is.holds t);
+  others = λ t other ne. ap (λ (held : Contents). held other) same.files ∙ is.others t other ne;
+}
+
+pub put_stays : (files : Files) (texts : List (List ℕ)) (on : List TileAt) (counted : List Shut) (old mid new : Meaning) (cause : Cause) → SameButSaying mid new
+    → IsPut (InFiles files) texts on counted old mid cause → IsPut (InFiles files) texts on counted old new cause
+put_stays files texts on counted old mid new cause same put =
+    of_put (λ c. IsPut (InFiles files) texts on counted old new c) (InFiles files) texts on counted old mid (λ placement tallies e f given. (e, f, whole_said files texts old mid new same given))
+    (λ role number is. part_said files texts old mid new role number same is) cause put
 
 -- ---- a line is said
 
@@ -132,144 +215,51 @@ true_while_said k old mid new (TooLong role limit) same refused is = long_said k
 true_while_said k old mid new (BadLevels line) same refused is = is
 
 -- what a refusal says
-pub refused_said : (output : Output) (old new : Meaning) (cause : Cause) → IsRefused cause → SaidRow old new (line_of cause) → SaidBy output old new cause
-refused_said (InFile file_role name) old new cause refused said = said
-refused_said Aloud old new (Good placement tallies) refused said = absurd refused
-refused_said Aloud old new Usage refused said = said
-refused_said Aloud old new (BadBlif fault) refused said = said
-refused_said Aloud old new (BadPcf fault) refused said = said
-refused_said Aloud old new (BadChip fault) refused said = said
-refused_said Aloud old new (BadNet fault) refused said = said
-refused_said Aloud old new (BadPin fault) refused said = said
-refused_said Aloud old new (Overfull fault) refused said = said
-refused_said Aloud old new (Unreachable placement net sink) refused said = said
-refused_said Aloud old new (GaveUp placement logs tallies) refused said = said
-refused_said Aloud old new (ReadFault role) refused said = said
-refused_said Aloud old new (WriteFault role put) refused said = absurd refused
-refused_said Aloud old new NoMemory refused said = said
-refused_said Aloud old new (BadAsc fault) refused said = said
-refused_said Aloud old new (BadBits fault) refused said = said
-refused_said Aloud old new (TooLong role limit) refused said = said
-refused_said Aloud old new (BadLevels line) refused said = said
+pub refused_said : (output : Output) (old new : Meaning) (cause : Cause) → SaidRow old new (line_of cause) → SaidBy output old new cause
+refused_said Aloud old new cause said = λ refused. said
+refused_said (InFiles files) old new cause said = said
 
--- a refusal makes no file
-pub refused_made : (output : Output) (old new : Meaning) (cause : Cause) → IsRefused cause → new.makes ≡ old.makes → MadeRow output old new cause
-refused_made Aloud old new cause refused made = made
-refused_made (InFile file_role name) old new (Good placement tallies) refused made = absurd refused
-refused_made (InFile file_role name) old new Usage refused made = made
-refused_made (InFile file_role name) old new (BadBlif fault) refused made = made
-refused_made (InFile file_role name) old new (BadPcf fault) refused made = made
-refused_made (InFile file_role name) old new (BadChip fault) refused made = made
-refused_made (InFile file_role name) old new (BadNet fault) refused made = made
-refused_made (InFile file_role name) old new (BadPin fault) refused made = made
-refused_made (InFile file_role name) old new (Overfull fault) refused made = made
-refused_made (InFile file_role name) old new (Unreachable placement net sink) refused made = made
-refused_made (InFile file_role name) old new (GaveUp placement logs tallies) refused made = made
-refused_made (InFile file_role name) old new (ReadFault role) refused made = made
-refused_made (InFile file_role name) old new (WriteFault role put) refused made = absurd refused
-refused_made (InFile file_role name) old new NoMemory refused made = made
-refused_made (InFile file_role name) old new (BadAsc fault) refused made = made
-refused_made (InFile file_role name) old new (BadBits fault) refused made = made
-refused_made (InFile file_role name) old new (TooLong role limit) refused made = made
-refused_made (InFile file_role name) old new (BadLevels line) refused made = made
+-- a refusal makes no file, where nothing is left on parting
+pub refused_made : (files : Files) (parting : Option File) (old new : Meaning) (cause : Cause) → IsRefused cause → (IsParting parting cause → ⊥) → new.makes ≡ old.makes
+    → MadeRow (InFiles files) parting old new cause
+refused_made files parting old new (Good placement tallies) refused stays made = absurd refused
+refused_made files parting old new Usage refused stays made = made
+refused_made files parting old new (BadBlif fault) refused stays made = made
+refused_made files parting old new (BadPcf fault) refused stays made = made
+refused_made files parting old new (BadChip fault) refused stays made = made
+refused_made files parting old new (BadNet fault) refused stays made = made
+refused_made files parting old new (BadPin fault) refused stays made = made
+refused_made files parting old new (Overfull fault) refused stays made = made
+refused_made files parting old new (Unreachable placement net sink) refused stays made = made
+refused_made files None old new (GaveUp placement logs tallies) refused stays made = made
+refused_made files (Some file) old new (GaveUp placement logs tallies) refused stays made = absurd (stays tt)
+refused_made files parting old new (ReadFault role) refused stays made = made
+refused_made files parting old new (WriteFault role put) refused stays made = absurd refused
+refused_made files parting old new NoMemory refused stays made = made
+refused_made files parting old new (BadAsc fault) refused stays made = made
+refused_made files parting old new (BadBits fault) refused stays made = made
+refused_made files parting old new (TooLong role limit) refused stays made = made
+refused_made files parting old new (BadLevels line) refused stays made = made
 
--- behind what was said, or a front of it, nothing is said
-pub put_said : (text : List ℕ) (on : List TileAt) (counted : List Shut) (old mid new : Meaning) (cause : Cause) → IsPut Aloud text on counted mid new cause → SaidBy Aloud old new cause
-put_said text on counted old mid new (Good placement tallies) put = tt
-put_said text on counted old mid new Usage put = absurd put
-put_said text on counted old mid new (BadBlif fault) put = absurd put
-put_said text on counted old mid new (BadPcf fault) put = absurd put
-put_said text on counted old mid new (BadChip fault) put = absurd put
-put_said text on counted old mid new (BadNet fault) put = absurd put
-put_said text on counted old mid new (BadPin fault) put = absurd put
-put_said text on counted old mid new (Overfull fault) put = absurd put
-put_said text on counted old mid new (Unreachable placement net sink) put = absurd put
-put_said text on counted old mid new (GaveUp placement logs tallies) put = absurd put
-put_said text on counted old mid new (ReadFault role) put = absurd put
-put_said text on counted old mid new (WriteFault role number) put = tt
-put_said text on counted old mid new NoMemory put = absurd put
-put_said text on counted old mid new (BadAsc fault) put = absurd put
-put_said text on counted old mid new (BadBits fault) put = absurd put
-put_said text on counted old mid new (TooLong role limit) put = absurd put
-put_said text on counted old mid new (BadLevels line) put = absurd put
-
--- a file was put
-pub put_done : (output : Output) (text : List ℕ) (on : List TileAt) (counted : List Shut) (old new : Meaning) (cause : Cause) → IsPut output text on counted old new cause → IsDone cause
-put_done output text on counted old new (Good placement tallies) put = tt
-put_done output text on counted old new Usage put = absurd put
-put_done output text on counted old new (BadBlif fault) put = absurd put
-put_done output text on counted old new (BadPcf fault) put = absurd put
-put_done output text on counted old new (BadChip fault) put = absurd put
-put_done output text on counted old new (BadNet fault) put = absurd put
-put_done output text on counted old new (BadPin fault) put = absurd put
-put_done output text on counted old new (Overfull fault) put = absurd put
-put_done output text on counted old new (Unreachable placement net sink) put = absurd put
-put_done output text on counted old new (GaveUp placement logs tallies) put = absurd put
-put_done output text on counted old new (ReadFault role) put = absurd put
-put_done output text on counted old new (WriteFault role number) put = tt
-put_done output text on counted old new NoMemory put = absurd put
-put_done output text on counted old new (BadAsc fault) put = absurd put
-put_done output text on counted old new (BadBits fault) put = absurd put
-put_done output text on counted old new (TooLong role limit) put = absurd put
-put_done output text on counted old new (BadLevels line) put = absurd put
-
--- a file was made, where one is put behind the reading
-pub put_made : (role : FileRole) (name text : List ℕ) (on : List TileAt) (counted : List Shut) (old mid new : Meaning) (cause : Cause) → SameButReading old mid → IsPut (InFile role name) text on counted mid new cause
-    → MadeRow (InFile role name) old new cause
-put_made of_role name text on counted old mid new (Good placement tallies) read put = put.2.made ∙ ap after_one read.makes
-put_made of_role name text on counted old mid new Usage read put = absurd put
-put_made of_role name text on counted old mid new (BadBlif fault) read put = absurd put
-put_made of_role name text on counted old mid new (BadPcf fault) read put = absurd put
-put_made of_role name text on counted old mid new (BadChip fault) read put = absurd put
-put_made of_role name text on counted old mid new (BadNet fault) read put = absurd put
-put_made of_role name text on counted old mid new (BadPin fault) read put = absurd put
-put_made of_role name text on counted old mid new (Overfull fault) read put = absurd put
-put_made of_role name text on counted old mid new (Unreachable placement net sink) read put = absurd put
-put_made of_role name text on counted old mid new (GaveUp placement logs tallies) read put = absurd put
-put_made of_role name text on counted old mid new (ReadFault role) read put = absurd put
-put_made of_role name text on counted old mid new (WriteFault role number) read put = put.made ∙ ap after_one read.makes
-put_made of_role name text on counted old mid new NoMemory read put = absurd put
-put_made of_role name text on counted old mid new (BadAsc fault) read put = absurd put
-put_made of_role name text on counted old mid new (BadBits fault) read put = absurd put
-put_made of_role name text on counted old mid new (TooLong role limit) read put = absurd put
-put_made of_role name text on counted old mid new (BadLevels line) read put = absurd put
-
--- what was put to a file stands while a line is said
-whole_said : (name text : List ℕ) (old mid new : Meaning) → SameButSaying mid new → IsWrittenWhole name text old mid → IsWrittenWhole name text old new
-whole_said name text old mid new same is = record {
-  made = same.makes ∙ is.made;
-  holds = λ t. subst (λ (f : List ℕ → Option (List ℕ)). f name ≡ Some text) (sym same.files) (is.holds t);
-}
-
-part_said : (role : FileRole) (name text : List ℕ) (old mid new : Meaning) (of_role : FileRole) (put : ℕ) → SameButSaying mid new → IsWrittenInPart role name text old mid of_role put
-    → IsWrittenInPart role name text old new of_role put
-part_said role name text old mid new of_role put same is = record {
-  is_role = is.is_role;
-  rose = (let r : Rose old.write_faults mid.write_faults = is.rose in let le : mid.write_faults ≤ new.write_faults = same.write_faults in omega arith);
-  made = same.makes ∙ is.made;
-  puts = same.puts ∙ is.puts;
-  holds = λ t. subst (λ (f : List ℕ → Option (List ℕ)). HoldsAfter text put (old.files name) (f name)) (sym same.files) (is.holds t);
-}
-
-pub put_stays : (role : FileRole) (name text : List ℕ) (on : List TileAt) (counted : List Shut) (old mid new : Meaning) (cause : Cause) → SameButSaying mid new → IsPut (InFile role name) text on counted old mid cause
-    → IsPut (InFile role name) text on counted old new cause
-put_stays of_role name text on counted old mid new (Good placement tallies) same put = (put.0, put.1, whole_said name text old mid new same put.2)
-put_stays of_role name text on counted old mid new Usage same put = absurd put
-put_stays of_role name text on counted old mid new (BadBlif fault) same put = absurd put
-put_stays of_role name text on counted old mid new (BadPcf fault) same put = absurd put
-put_stays of_role name text on counted old mid new (BadChip fault) same put = absurd put
-put_stays of_role name text on counted old mid new (BadNet fault) same put = absurd put
-put_stays of_role name text on counted old mid new (BadPin fault) same put = absurd put
-put_stays of_role name text on counted old mid new (Overfull fault) same put = absurd put
-put_stays of_role name text on counted old mid new (Unreachable placement net sink) same put = absurd put
-put_stays of_role name text on counted old mid new (GaveUp placement logs tallies) same put = absurd put
-put_stays of_role name text on counted old mid new (ReadFault role) same put = absurd put
-put_stays of_role name text on counted old mid new (WriteFault role put_number) same put = part_said of_role name text old mid new role put_number same put
-put_stays of_role name text on counted old mid new NoMemory same put = absurd put
-put_stays of_role name text on counted old mid new (BadAsc fault) same put = absurd put
-put_stays of_role name text on counted old mid new (BadBits fault) same put = absurd put
-put_stays of_role name text on counted old mid new (TooLong role limit) same put = absurd put
-put_stays of_role name text on counted old mid new (BadLevels line) same put = absurd put
+-- what is true of each answer of rounds that gave up
+pub of_given_up : (P : Cause → Type 0) → ((placement : List TileAt) (logs : Vec RoundLog) (tallies : Vec Shut) → P (GaveUp placement logs tallies)) → (cause : Cause) → HasGivenUp cause → P cause
+of_given_up P gave (Good placement tallies) is = absurd is
+of_given_up P gave Usage is = absurd is
+of_given_up P gave (BadBlif fault) is = absurd is
+of_given_up P gave (BadPcf fault) is = absurd is
+of_given_up P gave (BadChip fault) is = absurd is
+of_given_up P gave (BadNet fault) is = absurd is
+of_given_up P gave (BadPin fault) is = absurd is
+of_given_up P gave (Overfull fault) is = absurd is
+of_given_up P gave (Unreachable placement net sink) is = absurd is
+of_given_up P gave (GaveUp placement logs tallies) is = gave placement logs tallies
+of_given_up P gave (ReadFault role) is = absurd is
+of_given_up P gave (WriteFault role put) is = absurd is
+of_given_up P gave NoMemory is = absurd is
+of_given_up P gave (BadAsc fault) is = absurd is
+of_given_up P gave (BadBits fault) is = absurd is
+of_given_up P gave (TooLong role limit) is = absurd is
+of_given_up P gave (BadLevels line) is = absurd is
 
 -- where the work is done and nothing was said behind it, nothing was said
 pub silent_behind : (old mid new : Meaning) (cause : Cause) → IsSilent old mid → SilentWhereDone mid new cause → SilentWhereDone old new cause

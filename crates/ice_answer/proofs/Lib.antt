@@ -1,5 +1,6 @@
 pub mod ReadStops
 pub mod TextFacts
+pub mod Writes
 pub mod Commanding
 pub mod Ended
 pub mod Standings

@@ -1,12 +1,12 @@
 -- The texts of a command's files: those that were read, and those that the files hold.
-use Rattle.std.proofs.Common.{◌≡◌, ◌∙◌, ◌≤◌, ◌<◌, ◌+◌, ◌-◌, ℕ, Vec, zero, suc, true, Some, List, [], ◌∷◌, ◌++◌, length, take, get_or, slice_index_or, sym, ap, subst, refl, arith}
+use Rattle.std.proofs.Common.{◌≡◌, ◌∙◌, ◌≤◌, ◌<◌, ◌+◌, ◌-◌, ℕ, Vec, zero, suc, true, Option, None, Some, List, [], ◌∷◌, ◌++◌, length, take, get_or, slice_index_or, sym, ap, subst, refl, arith}
 use Rattle.std.specs.declared.alloc.Global.{Global}
 use Rattle.ice_desk.specs.Desk.{Meaning, SameTest}
 use Rattle.ice_answer.specs.declared.cause.Cause.{Cause}
-use Rattle.ice_answer.specs.declared.files.InputFile.{InputFile}
-use Rattle.ice_answer.specs.Reading.{most_bytes, Files, role_behind, role_at, name_behind, name_at, IsTextOf, FitBefore, IsReadStop, IsTooLong, IsFirstTooLong}
+use Rattle.ice_answer.specs.declared.files.CommandFile.{CommandFile}
+use Rattle.ice_answer.specs.Reading.{most_bytes, File, Files, role_behind, role_at, name_behind, name_at, IsTextOf, FitBefore, IsReadStop, IsTooLong, IsFirstTooLong}
 use Rattle.ice_answer.specs.TextLists.{texts_view}
-use Rattle.ice_answer.specs.Texts.{text_behind, text_at, files_view, AreReadable, AreTexts, OfTexts, HoldEach, HoldsTexts}
+use Rattle.ice_answer.specs.Texts.{text_behind, text_at, files_view, ArePermitted, IsPermitted, AreTexts, OfTexts, HoldEach, HoldsTexts}
 use Rattle.ice_answer.specs.declared.cause.FileRole.{FileRole}
 use Rattle.ice_answer.proofs.ReadStops.{one_more}
 
@@ -31,37 +31,46 @@ no_text_at texts zero more = refl
 no_text_at texts (suc before) more = text_past texts before (omega arith)
 
 -- a name of files that pass a test passes what is the same test
-pub readable_at : (P Q : List ℕ → Type 0) (files : Files) (before : ℕ) → SameTest P Q → before < length files → AreReadable P files → Q (name_behind files before)
-readable_at P Q [] before same lt are = absurd (omega arith)
-readable_at P Q (file ∷ files) zero same lt are = (same file.name).0 are.0
-readable_at P Q (file ∷ files) (suc before) same lt are = readable_at P Q files before same (omega arith) are.1
+pub permitted_at : (P Q : List ℕ → Type 0) (files : Files) (before : ℕ) → SameTest P Q → before < length files → ArePermitted P files → Q (name_behind files before)
+permitted_at P Q [] before same lt are = absurd (omega arith)
+permitted_at P Q (file ∷ files) zero same lt are = (same file.name).0 are.0
+permitted_at P Q (file ∷ files) (suc before) same lt are = permitted_at P Q files before same (omega arith) are.1
+
+-- names that pass a test pass what is the same test
+pub still_permitted : (P Q : List ℕ → Type 0) (files : Files) → SameTest P Q → ArePermitted P files → ArePermitted Q files
+still_permitted P Q [] same are = tt
+still_permitted P Q (file ∷ files) same are = ((same file.name).0 are.0, still_permitted P Q files same are.1)
+
+pub parting_permitted : (P Q : List ℕ → Type 0) (parting : Option File) → SameTest P Q → IsPermitted P parting → IsPermitted Q parting
+parting_permitted P Q None same is = tt
+parting_permitted P Q (Some file) same is = (same file.name).0 is
 
 -- the name and the role of the file at a place of those that the program asks for
-name_here : (files : List InputFile) (before : ℕ) (d : InputFile) → before < length files → name_behind (files_view files) before ≡ (slice_index_or files before d).name.now
+pub name_here : (files : List CommandFile) (before : ℕ) (d : CommandFile) → before < length files → name_behind (files_view files) before ≡ (slice_index_or files before d).name.now
 name_here [] before d lt = absurd (omega arith)
 name_here (file ∷ files) zero d lt = refl
 name_here (file ∷ files) (suc before) d lt = name_here files before d (omega arith)
 
-role_here : (files : List InputFile) (before : ℕ) (d : InputFile) → before < length files → role_behind (files_view files) before ≡ (slice_index_or files before d).role
+pub role_here : (files : List CommandFile) (before : ℕ) (d : CommandFile) → before < length files → role_behind (files_view files) before ≡ (slice_index_or files before d).role
 role_here [] before d lt = absurd (omega arith)
 role_here (file ∷ files) zero d lt = refl
 role_here (file ∷ files) (suc before) d lt = role_here files before d (omega arith)
 
-pub as_many : (files : List InputFile) → length (files_view files) ≡ length files
+pub as_many : (files : List CommandFile) → length (files_view files) ≡ length files
 as_many [] = refl
 as_many (file ∷ files) = ap (λ n. suc n) (as_many files)
 
--- the name of the next file may be read
-pub may_read_next : (P Q : List ℕ → Type 0) (files : List InputFile) (before : ℕ) (d : InputFile) → SameTest P Q → before < length files → AreReadable P (files_view files)
+-- the name of the next file may be used, too
+pub may_use_next : (P Q : List ℕ → Type 0) (files : List CommandFile) (before : ℕ) (d : CommandFile) → SameTest P Q → before < length files → ArePermitted P (files_view files)
     → Q (slice_index_or files before d).name.now
-may_read_next P Q files before d same lt are = subst Q (name_here files before d lt) (readable_at P Q (files_view files) before same (omega (arith, as_many files)) are)
+may_use_next P Q files before d same lt are = subst Q (name_here files before d lt) (permitted_at P Q (files_view files) before same (omega (arith, as_many files)) are)
 
 -- what was read of the next file, and why it wasn't
-pub next_text : (desk : Meaning) (files : List InputFile) (before : ℕ) (d : InputFile) (text : List ℕ) → before < length files → IsTextOf desk (slice_index_or files before d).name.now text
+pub next_text : (desk : Meaning) (files : List CommandFile) (before : ℕ) (d : CommandFile) (text : List ℕ) → before < length files → IsTextOf desk (slice_index_or files before d).name.now text
     → IsTextOf desk (name_behind (files_view files) before) text
 next_text desk files before d text lt is = subst (λ name. IsTextOf desk name text) (sym (name_here files before d lt)) is
 
-pub next_stop : (files : List InputFile) (before : ℕ) (d : InputFile) (old new : Meaning) (cause : Cause) → before < length files
+pub next_stop : (files : List CommandFile) (before : ℕ) (d : CommandFile) (old new : Meaning) (cause : Cause) → before < length files
     → IsReadStop (slice_index_or files before d).name.now (slice_index_or files before d).role old new cause
     → IsReadStop (name_at (files_view files) (before + 1)) (role_at (files_view files) (before + 1)) old new cause
 next_stop files before d old new cause lt is =

@@ -1,21 +1,26 @@
 -- Commands: what each reads, how its texts may stand, and what it makes of them; and what each answer says.
 use Rattle.std.specs.Prelude.{◌≡◌, ◌⊎◌, ℕ, true, Option, None, Some, List, ◌++◌, Result, Ok, Err}
 use Rattle.ice_base.specs.declared.number.TileAt.{TileAt}
-use Rattle.ice_desk.specs.Desk.{Meaning, Rose, after_one, after_more, HoldsAfter}
+use Rattle.ice_desk.specs.Desk.{Meaning, Rose, after_more}
 use Rattle.ice_desk.specs.Said.{SaysFront}
 use Rattle.ice_answer.specs.declared.cause.Cause.{Cause}
-use Rattle.ice_answer.specs.declared.cause.Cause.TheVariants.{Good, ReadFault, WriteFault, NoMemory, TooLong}
+use Rattle.ice_answer.specs.declared.cause.Cause.TheVariants.{Good, GaveUp, ReadFault, WriteFault, NoMemory, TooLong}
 use Rattle.ice_answer.specs.declared.cause.FileRole.{FileRole}
 use Rattle.ice_answer.specs.declared.cause.FileRole.TheVariants.{Standard}
-use Rattle.ice_answer.specs.Reading.{Files, IsReadFault, IsTooLong}
+use Rattle.ice_answer.specs.Reading.{File, Files, IsReadFault, IsTooLong}
 use Rattle.ice_answer.specs.Refusals.{IsKnown}
-use Rattle.ice_answer.specs.Texts.{OfTexts}
+use Rattle.ice_answer.specs.Texts.{text_at, OfTexts}
+use Rattle.ice_answer.specs.Writing.{AreWritten, AreWrittenInPart}
 use Rattle.ice_words.specs.Grips.{Shut}
 
--- where a command gives what it makes: on the standard output, or to the file of this role and name
+-- where a command gives what it makes: on the standard output, or to these files, in the order of writing
 pub data Output : Type 0 where
   Aloud : Output
-  InFile : FileRole → List ℕ → Output
+  InFiles : Files → Output
+
+-- what texts give: the texts read, the texts made, the placement that they are about and the tallies of its routing
+abbrev pub Giving : Type 1
+Giving = List (List ℕ) → List (List ℕ) → List TileAt → List Shut → Type 0
 
 -- a command with its words
 pub record Command : Type 1 where
@@ -24,12 +29,17 @@ pub record Command : Type 1 where
   -- The texts stand so that this is their answer, beside what the desk and the memory have to do with it: the refusal of what is
   -- wrong first, or that the work is done.
   pub Stands : List (List ℕ) → Cause → Type 0
-  -- what it makes of texts: a text, with the placement that it is about and the tallies of its routing
-  pub Gives : List (List ℕ) → List ℕ → List TileAt → List Shut → Type 0
+  -- what it makes of texts: a text for each place where it gives, with the placement that they are about and the tallies of its routing
+  pub Gives : Giving
   pub output : Output
+  -- the file that is written where the rounds gave up, and which texts it may hold then, by the texts that were read and the answer
+  pub parting : Option File
+  pub Leaves : List (List ℕ) → Cause → List ℕ → Type 0
 
-abbrev pub command_of : Files → (List (List ℕ) → Cause → Type 0) → (List (List ℕ) → List ℕ → List TileAt → List Shut → Type 0) → Output → Command
-command_of files Stands Gives output = record { files = files; Stands = Stands; Gives = Gives; output = output }
+-- a command that writes nothing on parting
+abbrev pub command_of : Files → (List (List ℕ) → Cause → Type 0) → Giving → Output → Command
+command_of files Stands Gives output =
+    record { files = files; Stands = Stands; Gives = Gives; output = output; parting = None; Leaves = λ texts cause text. ⊥ }
 
 -- ---- how texts stand, one look at them after another
 
@@ -70,6 +80,16 @@ IsRefused (Good placement tallies) = ⊥
 IsRefused (WriteFault role put) = ⊥
 IsRefused cause = Unit {0}
 
+-- the rounds gave up
+abbrev pub HasGivenUp : Cause → Type 0
+HasGivenUp (GaveUp placement logs tallies) = Unit {0}
+HasGivenUp cause = ⊥
+
+-- something is left on parting: the rounds gave up, and there is a file for it
+abbrev pub IsParting : Option File → Cause → Type 0
+IsParting None cause = ⊥
+IsParting (Some file) cause = HasGivenUp cause
+
 -- ---- what became of what was made
 
 -- it was said whole, and no file was made
@@ -86,50 +106,37 @@ pub record IsSaidInPart (text : List ℕ) (old new : Meaning) (role : FileRole) 
   pub says : new.says ≡ after_more old.says put
   pub said : old.tells ≡ true → SaysFront old new text
 
--- the file holds it
-pub record IsWrittenWhole (name text : List ℕ) (old new : Meaning) : Type 0 where
-  pub made : new.makes ≡ after_one old.makes
-  pub holds : old.tells ≡ true → new.files name ≡ Some text
+-- the texts were given whole; who speaks says the first
+abbrev pub IsGiven : Output → List (List ℕ) → Meaning → Meaning → Type 0
+IsGiven Aloud texts old new = IsSaidWhole (text_at texts 1) old new
+IsGiven (InFiles files) texts old new = AreWritten files texts old new
 
--- the count of write faults rose in this call, at this put of the one file; it holds a front of it, or is as before or empty
-pub record IsWrittenInPart (file_role : FileRole) (name text : List ℕ) (old new : Meaning) (role : FileRole) (put : ℕ) : Type 0 where
-  pub is_role : role ≡ file_role
-  pub rose : Rose old.write_faults new.write_faults
-  pub made : new.makes ≡ after_one old.makes
-  pub puts : new.puts ≡ put
-  pub holds : old.tells ≡ true → HoldsAfter text put (old.files name) (new.files name)
+-- their giving stopped at a write fault
+abbrev pub IsCut : Output → List (List ℕ) → Meaning → Meaning → FileRole → ℕ → Type 0
+IsCut Aloud texts old new role put = IsSaidInPart (text_at texts 1) old new role put
+IsCut (InFiles files) texts old new role put = AreWrittenInPart files texts old new role put
 
--- it was given whole
-abbrev pub IsGiven : Output → List ℕ → Meaning → Meaning → Type 0
-IsGiven Aloud text old new = IsSaidWhole text old new
-IsGiven (InFile role name) text old new = IsWrittenWhole name text old new
-
--- its giving stopped at a write fault
-abbrev pub IsCut : Output → List ℕ → Meaning → Meaning → FileRole → ℕ → Type 0
-IsCut Aloud text old new role put = IsSaidInPart text old new role put
-IsCut (InFile file_role name) text old new role put = IsWrittenInPart file_role name text old new role put
-
--- how the giving of a text with this placement and these tallies ended
-abbrev pub IsPut : Output → List ℕ → List TileAt → List Shut → Meaning → Meaning → Cause → Type 0
-IsPut output text made_on counted old new (Good placement tallies) = (placement ≡ made_on) × (tallies.items ≡ counted) × IsGiven output text old new
-IsPut output text made_on counted old new (WriteFault role put) = IsCut output text old new role put
-IsPut output text made_on counted old new cause = ⊥
+-- how the giving of texts with this placement and these tallies ended
+abbrev pub IsPut : Output → List (List ℕ) → List TileAt → List Shut → Meaning → Meaning → Cause → Type 0
+IsPut output texts made_on counted old new (Good placement tallies) = (placement ≡ made_on) × (tallies.items ≡ counted) × IsGiven output texts old new
+IsPut output texts made_on counted old new (WriteFault role put) = IsCut output texts old new role put
+IsPut output texts made_on counted old new cause = ⊥
 
 -- ---- the answers
 
 -- the work is done: what the texts give with this placement and these tallies was given whole
 pub record IsGood (k : Command) (old new : Meaning) (placement : List TileAt) (tallies : List Shut) : Type 0 where
-  pub text : List ℕ
-  pub texts : OfTexts k.files old (λ texts. k.Gives texts text placement tallies)
-  pub given : IsGiven k.output text old new
+  pub made : List (List ℕ)
+  pub texts : OfTexts k.files old (λ texts. k.Gives texts made placement tallies)
+  pub given : IsGiven k.output made old new
 
 -- a write fault: the giving of what the texts give stopped
 pub record IsWriteFault (k : Command) (old new : Meaning) (role : FileRole) (put : ℕ) : Type 0 where
-  pub text : List ℕ
+  pub made : List (List ℕ)
   pub placement : List TileAt
   pub tallies : List Shut
-  pub texts : OfTexts k.files old (λ texts. k.Gives texts text placement tallies)
-  pub cut : IsCut k.output text old new role put
+  pub texts : OfTexts k.files old (λ texts. k.Gives texts made placement tallies)
+  pub cut : IsCut k.output made old new role put
 
 -- what each cause says of a command, of its texts, and of the desk before and after
 abbrev pub IsTrueOf : Command → Meaning → Meaning → Cause → Type 0

@@ -5,6 +5,7 @@ pub mod Reading
 pub mod Refusals
 pub mod TextLists
 pub mod Texts
+pub mod Writing
 pub mod Commands
 pub mod Rows
 pub mod Ends

@@ -10,14 +10,14 @@ use Rattle.ice_answer.specs.declared.cause.FileRole.TheVariants.{Standard}
 abbrev pub most_bytes : ℕ
 most_bytes = 268435456
 
--- a file that a command reads: what it is to the command, and its name
-pub record Input : Type 0 where
+-- a file of a command: what it is to the command, and its name
+pub record File : Type 0 where
   pub role : FileRole
   pub name : List ℕ
 
--- the files that a command reads, in the order of reading
+-- files of a command, in the order of reading or of writing
 abbrev pub Files : Type 0
-Files = List Input
+Files = List File
 
 -- the role of the file that has so many before it
 abbrev pub role_behind : Files → ℕ → FileRole

@@ -1,18 +1,19 @@
 -- When each answer of a command comes: only where its cause is true, and always there, unless the desk or the memory fails.
-use Rattle.std.specs.Prelude.{◌≡◌, ◌≢◌, ◌⊎◌, ◌↔◌, ℕ, ◌<◌, true, Some, List, ◌++◌}
+use Rattle.std.specs.Prelude.{◌≡◌, ◌≢◌, ◌⊎◌, ◌↔◌, ℕ, ◌<◌, ◌≤◌, true, Option, Some, List, [], ◌∷◌, ◌++◌, length}
 use Rattle.std.specs.Global.{Vec}
 use Rattle.ice_base.specs.declared.number.TileAt.{TileAt}
-use Rattle.ice_desk.specs.Desk.{Meaning, after_one}
+use Rattle.ice_desk.specs.Desk.{Meaning, Rose, after_one, HoldsAfter}
 use Rattle.ice_desk.specs.Said.{SaidRow}
 use Rattle.ice_words.specs.Grips.{Shut}
 use Rattle.ice_answer.specs.declared.cause.Cause.{Cause}
-use Rattle.ice_answer.specs.declared.cause.Cause.TheVariants.{Good, ReadFault, WriteFault, TooLong}
+use Rattle.ice_answer.specs.declared.cause.Cause.TheVariants.{Good, GaveUp, ReadFault, WriteFault, TooLong}
 use Rattle.ice_answer.specs.declared.cause.FileRole.{FileRole}
 use Rattle.ice_answer.specs.Causes.{line_of}
 use Rattle.ice_answer.specs.Says.{SilentWhereDone}
-use Rattle.ice_answer.specs.Reading.{most_bytes, role_at, IsReadFault, IsTooLong, IsFirstTooLong, IsInterrupted, IsLong}
-use Rattle.ice_answer.specs.Texts.{OfTexts, HoldsTexts}
-use Rattle.ice_answer.specs.Commands.{Command, Output, Aloud, InFile, IsDone, IsWriteFault}
+use Rattle.ice_answer.specs.Reading.{most_bytes, File, Files, role_at, IsReadFault, IsTooLong, IsFirstTooLong, IsInterrupted, IsLong}
+use Rattle.ice_answer.specs.Texts.{text_at, OfTexts, HoldsTexts}
+use Rattle.ice_answer.specs.Writing.{MadeMore, IsOther, HoldFrom}
+use Rattle.ice_answer.specs.Commands.{Command, Output, Aloud, InFiles, IsDone, IsRefused, HasGivenUp, IsWriteFault}
 
 -- Such an answer comes only where the texts are so; and where the files hold texts that are so, it always comes, unless
 -- the desk's reading or the memory fails.
@@ -22,20 +23,20 @@ pub record ComesExactly (k : Command) (old : Meaning) (IsSuch : Cause → Type 0
 
 -- status 0, or 12 where a fault of writing comes in between: exactly where the texts give something
 abbrev pub DoneRow : Command → Meaning → Cause → Type 0
-DoneRow k old cause = ComesExactly k old IsDone (λ texts. (text : List ℕ) × (placement : List TileAt) × (tallies : List Shut) × k.Gives texts text placement tallies) cause
+DoneRow k old cause = ComesExactly k old IsDone (λ texts. (made : List (List ℕ)) × (placement : List TileAt) × (tallies : List Shut) × k.Gives texts made placement tallies) cause
 
--- what was made stands where it was to be given
-abbrev pub IsThere : Output → List ℕ → Meaning → Meaning → Type 0
-IsThere Aloud text old new = new.said ≡ old.said ++ text
-IsThere (InFile role name) text old new = new.files name ≡ Some text
+-- what was made stands where it was to be given: the first text was said, or each file holds its text, unless a later one has the same name
+abbrev pub IsThere : Output → List (List ℕ) → Meaning → Meaning → Type 0
+IsThere Aloud texts old new = new.said ≡ old.said ++ text_at texts 1
+IsThere (InFiles files) texts old new = HoldFrom 1 files texts new
 
 -- what the texts of the files give with this placement and these tallies stands where it was to be given
 pub record IsHeld (k : Command) (old new : Meaning) (placement : List TileAt) (tallies : List Shut) : Type 0 where
   pub texts : List (List ℕ)
-  pub text : List ℕ
+  pub made : List (List ℕ)
   pub hold : HoldsTexts k.files old texts
-  pub gives : k.Gives texts text placement tallies
-  pub there : IsThere k.output text old new
+  pub gives : k.Gives texts made placement tallies
+  pub there : IsThere k.output made old new
 
 -- status 0: the work is done; and where the desk tells its contents, what was given is what the texts give with the placement and
 -- the tallies that are told
@@ -63,26 +64,50 @@ pub record TooLongRow (k : Command) (old new : Meaning) (cause : Cause) : Type 0
 -- What was said, beside what a command says that speaks: the whole line of a refusal, or a front of it where a say failed. After a
 -- failed say of what was made nothing more was said.
 abbrev pub SaidBy : Output → Meaning → Meaning → Cause → Type 0
-SaidBy Aloud old new (Good placement tallies) = Unit {0}
-SaidBy Aloud old new (WriteFault role put) = Unit {0}
-SaidBy Aloud old new cause = SaidRow old new (line_of cause)
-SaidBy (InFile role name) old new cause = SaidRow old new (line_of cause)
+SaidBy Aloud old new cause = IsRefused cause → SaidRow old new (line_of cause)
+SaidBy (InFiles files) old new cause = SaidRow old new (line_of cause)
 
--- where the desk tells, which files may change: the one that is written, and none where the work was refused before its writing
-abbrev pub KeptRow : Output → Meaning → Meaning → Cause → Type 0
-KeptRow Aloud old new cause = (new.makes ≡ old.makes) × ((name : List ℕ) → new.files name ≡ old.files name)
-KeptRow (InFile role name) old new cause =
-    ((other : List ℕ) → other ≢ name → new.files other ≡ old.files other)
-    × (IsDone cause ⊎ ((new.makes ≡ old.makes) × ((other : List ℕ) → new.files other ≡ old.files other)))
+-- the files that an answer may change: those that are written, where the work was not refused before; and by a refusal the parting file
+-- alone, where the rounds gave up
+abbrev pub changed_by : Output → Option File → Cause → Files
+changed_by Aloud parting cause = []
+changed_by (InFiles files) parting (Good placement tallies) = files
+changed_by (InFiles files) parting (WriteFault role put) = files
+changed_by (InFiles files) (Some file) (GaveUp placement logs tallies) = file ∷ []
+changed_by (InFiles files) parting cause = []
 
--- how many files were made, over every desk: one where a command that writes came to its writing, and else none
-abbrev pub MadeRow : Output → Meaning → Meaning → Cause → Type 0
-MadeRow Aloud old new cause = new.makes ≡ old.makes
-MadeRow (InFile role name) old new (Good placement tallies) = new.makes ≡ after_one old.makes
-MadeRow (InFile role name) old new (WriteFault of_role put) = new.makes ≡ after_one old.makes
-MadeRow (InFile role name) old new cause = new.makes ≡ old.makes
+-- where the desk tells, no other file changed
+abbrev pub KeptRow : Output → Option File → Meaning → Meaning → Cause → Type 0
+KeptRow output parting old new cause = (name : List ℕ) → IsOther name (changed_by output parting cause) → new.files name ≡ old.files name
+
+-- how many files were made, over every desk: each that is written, where the work is done; those up to the one of a write fault; the
+-- parting file, where the rounds gave up; and else none
+abbrev pub MadeRow : Output → Option File → Meaning → Meaning → Cause → Type 0
+MadeRow Aloud parting old new cause = new.makes ≡ old.makes
+MadeRow (InFiles files) parting old new (Good placement tallies) = MadeMore (length files) old new
+MadeRow (InFiles files) parting old new (WriteFault role put) = (place : ℕ) × (0 < place) × (place ≤ length files) × MadeMore place old new
+MadeRow (InFiles files) (Some file) old new (GaveUp placement logs tallies) = new.makes ≡ after_one old.makes
+MadeRow (InFiles files) parting old new cause = new.makes ≡ old.makes
 
 -- where a command that writes is done, nothing was said, over every desk
 abbrev pub SilentRow : Output → Meaning → Meaning → Cause → Type 0
 SilentRow Aloud old new cause = Unit {0}
-SilentRow (InFile role name) old new cause = SilentWhereDone old new cause
+SilentRow (InFiles files) old new cause = SilentWhereDone old new cause
+
+-- ---- what is left on parting
+
+-- the file holds the text; or the count of write faults rose, and it holds a front of the text, or is as before or empty
+abbrev pub IsLeftIn : List ℕ → List ℕ → Meaning → Meaning → Type 0
+IsLeftIn name text old new = (new.files name ≡ Some text) ⊎ (Rose old.write_faults new.write_faults × HoldsAfter text new.puts (old.files name) (new.files name))
+
+-- a text that the command leaves was written to the parting file, as far as no call failed, and no other file changed
+pub record IsParted (k : Command) (file : File) (old new : Meaning) (cause : Cause) : Type 0 where
+  pub text : List ℕ
+  pub texts : OfTexts k.files old (λ texts. k.Leaves texts cause text)
+  pub made : new.makes ≡ after_one old.makes
+  pub left : old.tells ≡ true → IsLeftIn file.name text old new
+  pub others : old.tells ≡ true → (other : List ℕ) → other ≢ file.name → new.files other ≡ old.files other
+
+-- status 10: where the rounds gave up, what the parting file holds
+abbrev pub PartingRow : Command → Meaning → Meaning → Cause → Type 0
+PartingRow k old new cause = (file : File) → k.parting ≡ Some file → HasGivenUp cause → IsParted k file old new cause

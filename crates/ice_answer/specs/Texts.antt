@@ -1,20 +1,28 @@
--- The texts of a command's files, in the order of reading.
-use Rattle.std.specs.Prelude.{◌≡◌, ℕ, zero, suc, ◌≤◌, true, Some, List, [], ◌∷◌, length, map}
+-- The texts of a command's files: those that are read, in the order of reading, and those that are made.
+use Rattle.std.specs.Prelude.{◌≡◌, ℕ, zero, suc, ◌≤◌, true, Option, None, Some, List, [], ◌∷◌, length, map}
 use Rattle.ice_desk.specs.Desk.{Meaning}
-use Rattle.ice_answer.specs.Reading.{most_bytes, Input, Files, IsTextOf}
-use Rattle.ice_answer.specs.declared.files.InputFile.{InputFile}
+use Rattle.ice_answer.specs.Reading.{most_bytes, File, Files, IsTextOf}
+use Rattle.ice_answer.specs.declared.files.CommandFile.{CommandFile}
 
 -- the files that the program asks for
-abbrev pub input_view : InputFile → Input
-input_view file = record { role = file.role; name = file.name.now }
+abbrev pub file_view : CommandFile → File
+file_view file = record { role = file.role; name = file.name.now }
 
-abbrev pub files_view : List InputFile → Files
-files_view files = map input_view files
+abbrev pub files_view : List CommandFile → Files
+files_view files = map file_view files
+
+abbrev pub parting_view : Option CommandFile → Option File
+parting_view None = None
+parting_view (Some file) = Some (file_view file)
 
 -- the names of files pass a test of the desk
-abbrev pub AreReadable : (List ℕ → Type 0) → Files → Type 0
-AreReadable may_read [] = Unit {0}
-AreReadable may_read (file ∷ files) = may_read file.name × AreReadable may_read files
+abbrev pub ArePermitted : (List ℕ → Type 0) → Files → Type 0
+ArePermitted may_use [] = Unit {0}
+ArePermitted may_use (file ∷ files) = may_use file.name × ArePermitted may_use files
+
+abbrev pub IsPermitted : (List ℕ → Type 0) → Option File → Type 0
+IsPermitted may_use None = Unit {0}
+IsPermitted may_use (Some file) = may_use file.name
 
 -- the text that has so many before it
 abbrev pub text_behind : List (List ℕ) → ℕ → List ℕ

@@ -1,9 +1,9 @@
-//! The files of a command, and their texts, which are read one after another, each to its end.
-ghost use Rattle.std.specs.Prelude.{◌≡◌, ◌<◌, ◌≤◌, ◌++◌, ◌∷◌, [], length, OnOk, IfOk, IfErr};
+//! The files of a command, and texts: those of files, which are read one after another, each to its end, and those that are made.
+ghost use Rattle.std.specs.Prelude.{◌≡◌, ◌<◌, ◌≤◌, ◌++◌, ◌∷◌, [], length, OnOk, OnErr, IfOk, IfErr};
 ghost use Rattle.ice_desk.specs.Desk.{SameButReading, SameTest};
 ghost use Rattle.ice_answer.specs.Reading.{most_bytes, IsUnread, TellsLong};
 ghost use Rattle.ice_answer.specs.TextLists.{texts_view};
-ghost use Rattle.ice_answer.specs.Texts.{files_view, AreReadable, AreTexts, text_at};
+ghost use Rattle.ice_answer.specs.Texts.{files_view, ArePermitted, AreTexts, text_at};
 
 use crate::cause::{Cause, FileRole};
 use crate::reading::read_text;
@@ -12,16 +12,16 @@ use ice_desk::Desk;
 use std::alloc::Global;
 use std::marker::Model;
 
-/// A file that a command reads: what it is to the command, and its name.
+/// A file that a command reads or writes: what it is to the command, and its name.
 #[derive(Clone, Copy)]
-pub struct InputFile<'a> {
+pub struct CommandFile<'a> {
     /// What the file is to the command.
     pub role: FileRole,
     /// The name of the file.
     pub name: &'a str,
 }
 
-/// The texts of a command's files, in the order of reading.
+/// The texts of a command's files, in the order of reading or of writing.
 #[derive(Drop)]
 pub struct Texts {
     texts: Vec<Vec<u8>>,
@@ -50,11 +50,35 @@ impl Texts {
         }
         self.texts[place - 1].as_slice()
     }
+
+    /// Adds a text behind the others.
+    ///
+    /// # Errors
+    /// Want of memory; the texts are as before.
+    pub fn add(&mut self, text: Vec<u8>) -> Result<(), NoMemory>
+        ensures added { OnOk result (self.new ≡ self.old ++ text.items ∷ []) }
+        ensures kept { OnErr result (self.new ≡ self.old) }
+    {
+        add_text(&mut self.texts, text)
+    }
+}
+
+/// One text.
+///
+/// # Errors
+/// Want of memory.
+pub fn one_text(alloc: Global, text: Vec<u8>) -> Result<Texts, NoMemory>
+    ensures { IfOk result (λ texts. texts ≡ text.items ∷ []) }
+{
+    let mut texts = Vec::new(alloc);
+    add_text(&mut texts, text)?;
+    Ok(Texts { texts })
 }
 
 // One text more.
 fn add_text(texts: &mut Vec<Vec<u8>>, text: Vec<u8>) -> Result<(), NoMemory>
-    ensures { OnOk result (texts_view texts.new.items ≡ texts_view texts.old.items ++ text.items ∷ []) }
+    ensures added { OnOk result (texts_view texts.new.items ≡ texts_view texts.old.items ++ text.items ∷ []) }
+    ensures kept { OnErr result (texts_view texts.new.items ≡ texts_view texts.old.items) }
 {
     Ok(texts.push(text)?)
 }
@@ -66,9 +90,9 @@ fn add_text(texts: &mut Vec<Vec<u8>>, text: Vec<u8>) -> Result<(), NoMemory>
 pub fn read_texts<D: Desk>(
     alloc: Global,
     desk: &mut D,
-    files: &[InputFile<'_>],
+    files: &[CommandFile<'_>],
 ) -> Result<Texts, Cause>
-    requires { AreReadable (D.may_read desk.old) (files_view files.now) }
+    requires { ArePermitted (D.may_read desk.old) (files_view files.now) }
     ensures same { SameButReading (D.seen desk.old) (D.seen desk.new) }
     ensures names_read { SameTest (D.may_read desk.old) (D.may_read desk.new) }
     ensures names_written { SameTest (D.may_write desk.old) (D.may_write desk.new) }

@@ -1,33 +1,68 @@
 //! Giving what a command made: it is said or written; or, where nothing was made, the line of the refusal is said.
-ghost use Rattle.std.specs.Prelude.{◌≡◌};
-ghost use Rattle.ice_desk.specs.Desk.{SameButSaying, SameButWriting};
-ghost use Rattle.ice_answer.specs.Causes.{status_of};
-ghost use Rattle.ice_answer.specs.Commands.{Aloud, InFile, IsPut};
-ghost use Rattle.ice_answer.specs.Ends.{IsEndAloud, IsEndInFile};
+ghost use Rattle.std.specs.Prelude.{◌≡◌, ◌∷◌, [], IfOk, IfErr};
+ghost use Rattle.ice_desk.specs.Desk.{SameButSaying};
+ghost use Rattle.ice_answer.specs.declared.cause.Cause.TheVariants.{NoMemory as out_of_memory};
+ghost use Rattle.ice_answer.specs.Causes.{no_places, status_of};
+ghost use Rattle.ice_answer.specs.Commands.{Aloud, InFiles, IsPut};
+ghost use Rattle.ice_answer.specs.Ends.{SameButFiles, IsEndAloud, IsEndInFiles};
+ghost use Rattle.ice_answer.specs.Texts.{files_view, parting_view, ArePermitted, IsPermitted};
 
-use crate::cause::{Cause, Done, FileRole};
+use crate::cause::{Cause, Done, FileRole, no_placement, no_tallies};
 use crate::end::{done, finish};
-use ice_desk::{Desk, WriteStop, say_text, write_whole};
+use crate::files::{CommandFile, Texts, one_text};
+use crate::writing::{leave_report, write_texts};
+use ice_base::NoMemory;
+use ice_desk::{Desk, say_text};
 use ice_place::Placement;
 use ice_words::Tally;
+use std::alloc::Global;
 
 /// What a command made of its texts.
 #[derive(Drop)]
 pub struct Made {
-    /// The text that is to be said or written.
-    pub text: Vec<u8>,
+    /// The text for each place where the command gives: the one that is said, or one for each file, in the order of writing.
+    pub texts: Texts,
     /// The placement of what was built; it has no cluster where nothing is placed.
     pub placement: Placement,
     /// The tallies of its rounds in order; there are none where nothing is routed.
     pub tallies: Vec<Tally>,
 }
 
-// Says what was made, whole or up to a say that failed. Each memory was taken before.
+/// One text, with the placement of no cluster and the tallies of no round.
+///
+/// # Errors
+/// Want of memory alone.
+pub fn made_text(alloc: Global, text: Vec<u8>) -> Result<Made, Cause>
+    ensures text { IfOk result (λ made. made.texts ≡ text.items ∷ []) }
+    ensures placement { IfOk result (λ made. made.placement ≡ no_places) }
+    ensures tallies { IfOk result (λ made. made.tallies.items ≡ []) }
+    ensures stop { IfErr result (λ cause. cause ≡ out_of_memory) }
+{
+    match one_text(alloc, text) {
+        Ok(texts) => Ok(Made {
+            texts,
+            placement: no_placement(alloc),
+            tallies: no_tallies(alloc),
+        }),
+        Err(NoMemory) => Err(Cause::NoMemory),
+    }
+}
+
+/// Why a command that writes made nothing.
+#[derive(Drop)]
+pub struct Refused {
+    /// What the answer is about.
+    pub cause: Cause,
+    /// The text that is to be left in the parting file, where the rounds gave up and there is such a file.
+    pub report: Option<Vec<u8>>,
+}
+
+// Says the first text, whole or up to a say that failed. Each memory was taken before.
 fn put_aloud<D: Desk>(desk: &mut D, made: Made) -> Cause
     ensures same { SameButSaying (D.seen desk.old) (D.seen desk.new) }
-    ensures put { IsPut Aloud made.text.items made.placement made.tallies.items (D.seen desk.old) (D.seen desk.new) result }
+    ensures put { IsPut Aloud made.texts made.placement made.tallies.items (D.seen desk.old) (D.seen desk.new) result }
 {
-    match say_text(desk, &made.text) {
+    match say_text(desk, made.texts.at(1)) {
         Ok(()) => Cause::Good {
             placement: made.placement,
             tallies: made.tallies,
@@ -51,38 +86,46 @@ pub fn end_aloud<D: Desk>(desk: &mut D, made: Result<Made, Cause>) -> Done
     }
 }
 
-// Writes what was made to a file. Each memory was taken before.
-fn put_in_file<D: Desk>(desk: &mut D, role: FileRole, name: &str, made: Made) -> Cause
-    requires { D.may_write desk.old name.now }
-    ensures same { SameButWriting name.now (D.seen desk.old) (D.seen desk.new) }
-    ensures put { IsPut (InFile role name.now) made.text.items made.placement made.tallies.items (D.seen desk.old) (D.seen desk.new) result }
+// Writes the texts to files. Each memory was taken before.
+fn put_in_files<D: Desk>(desk: &mut D, files: &[CommandFile<'_>], made: Made) -> Cause
+    requires { ArePermitted (D.may_write desk.old) (files_view files.now) }
+    ensures same { SameButFiles (D.seen desk.old) (D.seen desk.new) }
+    ensures put { IsPut (InFiles (files_view files.now)) made.texts made.placement made.tallies.items (D.seen desk.old) (D.seen desk.new) result }
 {
-    match write_whole(desk, name, &made.text) {
+    match write_texts(desk, files, &made.texts) {
         Ok(()) => Cause::Good {
             placement: made.placement,
             tallies: made.tallies,
         },
-        Err(WriteStop::Failed { put }) => Cause::WriteFault { role, put },
+        Err(stop) => Cause::WriteFault {
+            role: stop.role,
+            put: stop.put,
+        },
     }
 }
 
-/// Ends a command that writes: writes what was made to the file of this role and name, or says the line of the refusal. It takes no
-/// memory.
-pub fn end_in_file<D: Desk>(
+/// Ends a command that writes: writes what was made to the outputs, one after another, each with the text of its place; or leaves the
+/// text of the report in the parting file, where there are both, and says the line of the refusal. A fault at the parting file changes
+/// neither the status nor the cause. It takes no memory.
+pub fn end_in_files<D: Desk>(
     desk: &mut D,
-    made: Result<Made, Cause>,
-    role: FileRole,
-    name: &str,
+    made: Result<Made, Refused>,
+    outputs: &[CommandFile<'_>],
+    parting: Option<CommandFile<'_>>,
 ) -> Done
-    requires { D.may_write desk.old name.now }
+    requires outputs { ArePermitted (D.may_write desk.old) (files_view outputs.now) }
+    requires parting { IsPermitted (D.may_write desk.old) (parting_view parting) }
     ensures status { result.status ≡ status_of result.cause }
-    ensures end { IsEndInFile role name.now made (D.seen desk.old) (D.seen desk.new) result.cause }
+    ensures end { IsEndInFiles (files_view outputs.now) (parting_view parting.entry) made (D.seen desk.old) (D.seen desk.new) result.cause }
 {
     match made {
         Ok(made) => {
-            let cause = put_in_file(desk, role, name, made);
+            let cause = put_in_files(desk, outputs, made);
             finish(desk, cause)
         }
-        Err(cause) => finish(desk, cause),
+        Err(refused) => {
+            leave_report(desk, &refused.report, parting);
+            finish(desk, refused.cause)
+        }
     }
 }

@@ -1,5 +1,5 @@
 //! The answers of the program with their causes: the statuses, and the line that each refusal says; and the frame of commands: files are
-//! read, something is made of their texts, and it is said or written, with a row for each answer.
+//! read, something is made of their texts, and it is said or written to files, with a row for each answer.
 #![tactic(auto)]
 
 mod bits_say;
@@ -11,11 +11,12 @@ mod making;
 mod reading;
 mod refusal;
 mod say;
+mod writing;
 
 pub use cause::{Cause, Done, FileRole, no_placement, no_tallies};
 pub use end::{done, finish};
-pub use files::{InputFile, Texts, read_texts};
-pub use giving::{Made, end_aloud, end_in_file};
+pub use files::{CommandFile, Texts, one_text, read_texts};
+pub use giving::{Made, Refused, end_aloud, end_in_files, made_text};
 pub use making::{Making, say_made, write_made};
 pub use refusal::{
     asc_refusal, bits_refusal, blif_refusal, chip_refusal, net_refusal, pcf_refusal, pin_refusal,

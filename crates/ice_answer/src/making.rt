@@ -1,19 +1,19 @@
 //! Commands: files are read, something is made of their texts, and only then it is said or written.
-ghost use Rattle.std.specs.Prelude.{◌≡◌, ◌<◌, ℕ, List, length, true, IfOk, IfErr};
+ghost use Rattle.std.specs.Prelude.{◌≡◌, ◌<◌, ℕ, List, length, true, None, IfOk, IfErr};
 ghost use Rattle.ice_base.specs.declared.number.TileAt.{TileAt};
 ghost use Rattle.ice_desk.specs.Desk.{SameButReading, SameTest};
 ghost use Rattle.ice_words.specs.Grips.{Shut};
 ghost use Rattle.ice_answer.specs.declared.cause.Cause.{Cause};
 ghost use Rattle.ice_answer.specs.Causes.{status_of};
 ghost use Rattle.ice_answer.specs.Reading.{TellsLong};
-ghost use Rattle.ice_answer.specs.Texts.{files_view, AreReadable};
-ghost use Rattle.ice_answer.specs.Commands.{Output, command_of, Aloud, InFile, IsRefusal, IsTrueOf};
-ghost use Rattle.ice_answer.specs.Ends.{IsMadeOf, IsToldLong};
+ghost use Rattle.ice_answer.specs.Texts.{files_view, ArePermitted};
+ghost use Rattle.ice_answer.specs.Commands.{Output, command_of, Aloud, InFiles, IsRefusal, IsTrueOf};
+ghost use Rattle.ice_answer.specs.Ends.{unreported, IsMadeOf, IsToldLong};
 ghost use Rattle.ice_answer.specs.Rows.{SaidBy, KeptRow, MadeRow, SilentRow};
 
-use crate::cause::{Cause, Done, FileRole};
-use crate::files::{InputFile, Texts, read_texts};
-use crate::giving::{Made, end_aloud, end_in_file};
+use crate::cause::{Cause, Done};
+use crate::files::{CommandFile, Texts, read_texts};
+use crate::giving::{Made, Refused, end_aloud, end_in_files};
 use ice_desk::Desk;
 use std::alloc::Global;
 
@@ -22,12 +22,12 @@ pub trait Making {
     /// How texts stand, by the answer that they have.
     ghost stands: { Self → List (List ℕ) → Cause → Type 0 };
 
-    /// What is made of texts: a text, with the placement that it is about and the tallies of its routing.
-    ghost gives: { Self → List (List ℕ) → List ℕ → List TileAt → List Shut → Type 0 };
+    /// What is made of texts: texts, with the placement that they are about and the tallies of its routing.
+    ghost gives: { Self → List (List ℕ) → List (List ℕ) → List TileAt → List Shut → Type 0 };
 
     /// What is made of the texts, or why nothing is made.
     fn make(&self, alloc: Global, texts: &Texts) -> Result<Made, Cause>
-        ensures given { IfOk result (λ made. gives self.now texts.now made.text.items made.placement made.tallies.items) }
+        ensures given { IfOk result (λ made. gives self.now texts.now made.texts made.placement made.tallies.items) }
         ensures refused { IfErr result (λ cause. IsRefusal (stands self.now texts.now) cause) };
 }
 
@@ -35,10 +35,10 @@ pub trait Making {
 fn make_of<D: Desk, M: Making>(
     alloc: Global,
     desk: &mut D,
-    files: &[InputFile<'_>],
+    files: &[CommandFile<'_>],
     making: &M,
 ) -> Result<Made, Cause>
-    requires { AreReadable (D.may_read desk.old) (files_view files.now) }
+    requires { ArePermitted (D.may_read desk.old) (files_view files.now) }
     ensures same { SameButReading (D.seen desk.old) (D.seen desk.new) }
     ensures names_read { SameTest (D.may_read desk.old) (D.may_read desk.new) }
     ensures names_written { SameTest (D.may_write desk.old) (D.may_write desk.new) }
@@ -51,19 +51,33 @@ fn make_of<D: Desk, M: Making>(
     }
 }
 
+// What was made, or why nothing was made, with no text to be left.
+fn without_report(made: Result<Made, Cause>) -> Result<Made, Refused>
+    ensures same { unreported result ≡ made }
+    ensures none { IfErr result (λ refused. refused.report ≡ None) }
+{
+    match made {
+        Ok(made) => Ok(made),
+        Err(cause) => Err(Refused {
+            cause,
+            report: None,
+        }),
+    }
+}
+
 /// Reads files, and says what is made of their texts, or the line of a refusal. After a failed say nothing more is said. No file
 /// is made.
 pub fn say_made<D: Desk, M: Making>(
     alloc: Global,
     desk: &mut D,
-    files: &[InputFile<'_>],
+    files: &[CommandFile<'_>],
     making: &M,
 ) -> Done
-    requires { AreReadable (D.may_read desk.old) (files_view files.now) }
+    requires { ArePermitted (D.may_read desk.old) (files_view files.now) }
     ensures status { result.status ≡ status_of result.cause }
     ensures cause { IsTrueOf (command_of (files_view files.now) (M.stands making.now) (M.gives making.now) Aloud) (D.seen desk.old) (D.seen desk.new) result.cause }
     ensures said { (D.seen desk.old).tells ≡ true → SaidBy Aloud (D.seen desk.old) (D.seen desk.new) result.cause }
-    ensures kept { (D.seen desk.old).tells ≡ true → KeptRow Aloud (D.seen desk.old) (D.seen desk.new) result.cause }
+    ensures kept { (D.seen desk.old).tells ≡ true → KeptRow Aloud None (D.seen desk.old) (D.seen desk.new) result.cause }
     ensures made { (D.seen desk.new).makes ≡ (D.seen desk.old).makes }
     ensures given { 0 < length files.now → TellsLong (D.seen desk.new) result.cause }
 {
@@ -71,25 +85,25 @@ pub fn say_made<D: Desk, M: Making>(
     end_aloud(desk, made)
 }
 
-/// Reads files, and writes what is made of their texts to the file of this role and name, or says the line of a refusal.
+/// Reads files, and writes what is made of their texts to the outputs, one after another, each with the text of its place; or says the
+/// line of a refusal.
 pub fn write_made<D: Desk, M: Making>(
     alloc: Global,
     desk: &mut D,
-    files: &[InputFile<'_>],
+    files: &[CommandFile<'_>],
     making: &M,
-    role: FileRole,
-    name: &str,
+    outputs: &[CommandFile<'_>],
 ) -> Done
-    requires names { AreReadable (D.may_read desk.old) (files_view files.now) }
-    requires name { D.may_write desk.old name.now }
+    requires names { ArePermitted (D.may_read desk.old) (files_view files.now) }
+    requires outputs { ArePermitted (D.may_write desk.old) (files_view outputs.now) }
     ensures status { result.status ≡ status_of result.cause }
-    ensures cause { IsTrueOf (command_of (files_view files.now) (M.stands making.now) (M.gives making.now) (InFile role name.now)) (D.seen desk.old) (D.seen desk.new) result.cause }
-    ensures said { (D.seen desk.old).tells ≡ true → SaidBy (InFile role name.now) (D.seen desk.old) (D.seen desk.new) result.cause }
-    ensures kept { (D.seen desk.old).tells ≡ true → KeptRow (InFile role name.now) (D.seen desk.old) (D.seen desk.new) result.cause }
-    ensures made { MadeRow (InFile role name.now) (D.seen desk.old) (D.seen desk.new) result.cause }
-    ensures silent { SilentRow (InFile role name.now) (D.seen desk.old) (D.seen desk.new) result.cause }
+    ensures cause { IsTrueOf (command_of (files_view files.now) (M.stands making.now) (M.gives making.now) (InFiles (files_view outputs.now))) (D.seen desk.old) (D.seen desk.new) result.cause }
+    ensures said { (D.seen desk.old).tells ≡ true → SaidBy (InFiles (files_view outputs.now)) (D.seen desk.old) (D.seen desk.new) result.cause }
+    ensures kept { (D.seen desk.old).tells ≡ true → KeptRow (InFiles (files_view outputs.now)) None (D.seen desk.old) (D.seen desk.new) result.cause }
+    ensures made { MadeRow (InFiles (files_view outputs.now)) None (D.seen desk.old) (D.seen desk.new) result.cause }
+    ensures silent { SilentRow (InFiles (files_view outputs.now)) (D.seen desk.old) (D.seen desk.new) result.cause }
     ensures given { 0 < length files.now → TellsLong (D.seen desk.new) result.cause }
 {
     let made = make_of(alloc, desk, files, making);
-    end_in_file(desk, made, role, name)
+    end_in_files(desk, without_report(made), outputs, None)
 }

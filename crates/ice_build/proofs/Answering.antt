@@ -19,7 +19,7 @@ use Rattle.ice_realised.specs.Feeds.{FeedsNoGlobal}
 use Rattle.ice_sites.specs.Stretches.{stretches_of}
 use Rattle.ice_written.specs.Routed.{AreTrees}
 use Rattle.ice_written.specs.Written.{IsWritten}
-use Rattle.ice_build.specs.Answers.{IsBuilt, IsFault, IsComplete, IsRouted, pins_said, places_said, routes_in}
+use Rattle.ice_build.specs.Answers.{IsBuilt, IsFault, IsComplete, IsRouted, net_count, pins_said, places_said, routes_in}
 use Rattle.ice_build.specs.Laid.{Task, IsLaidOut, IsSettled, StandsOn, plan_in}
 use Rattle.ice_build.specs.Shown.{IsCircuitOf}
 use Rattle.ice_build.specs.Stages.{IsPlaceFault, IsLayFault, IsRouteFault, IsFinished, IsEndFault, IsBitsFault, unrouted}
@@ -42,7 +42,7 @@ lay_stops task n d clusters found fault same_net same_design same_clusters said 
     by (Pins fault) good never = absurd never
     by (Places fault) good e = (found, good, e)
     by (Unreachable layout net sink) good never = absurd never
-    by (GaveUp layout logs tallies) good never = absurd never
+    by (GaveUp layout nets logs tallies) good never = absurd never
     by (Bits fault) good never = absurd never
     by NoMemory good e = tt
 
@@ -50,16 +50,16 @@ pub lay_fault : (task : Task) (rounds : ℕ) (fault : BuildFault) → IsLayFault
 lay_fault task rounds (Pins fault) e = e
 lay_fault task rounds (Places fault) e = e
 lay_fault task rounds (Unreachable layout net sink) never = absurd never
-lay_fault task rounds (GaveUp layout logs tallies) never = absurd never
+lay_fault task rounds (GaveUp layout nets logs tallies) never = absurd never
 lay_fault task rounds (Bits fault) never = absurd never
 lay_fault task rounds NoMemory e = tt
 
 pub end_fault : (task : Task) (rounds : ℕ) (layout : Layout) (fault : BuildFault) → IsLaidOut task layout → IsEndFault task.parts rounds layout fault → IsFault task rounds fault
 end_fault task rounds layout fault laid (stop, is, same) = subst (IsFault task rounds) (sym same) (by stop is)
   where
-    by : (stop : RouteFault) → IsRouteFault task.parts (plan_in layout) rounds stop → IsFault task rounds (unrouted layout stop)
+    by : (stop : RouteFault) → IsRouteFault task.parts (plan_in layout) rounds stop → IsFault task rounds (unrouted layout (net_count task.parts (plan_in layout)) stop)
     by (route.Unreachable net sink) is = (laid, is)
-    by (route.GaveUp logs tallies) is = (laid, is)
+    by (route.GaveUp logs tallies) is = (laid, is, refl)
     by route.NoMemory is = tt
 
 -- the bits have no circuit
@@ -67,7 +67,7 @@ pub bits_stop : (task : Task) (rounds : ℕ) (made : Built) (fault : BuildFault)
 bits_stop task rounds made (Pins fault) is never = absurd never
 bits_stop task rounds made (Places fault) is never = absurd never
 bits_stop task rounds made (Unreachable layout net sink) is never = absurd never
-bits_stop task rounds made (GaveUp layout logs tallies) is never = absurd never
+bits_stop task rounds made (GaveUp layout nets logs tallies) is never = absurd never
 bits_stop task rounds made (Bits fault) is stop = (made, is, stop)
 bits_stop task rounds made NoMemory is stop = tt
 
@@ -144,7 +144,7 @@ complete task rounds (Err (Unreachable layout net sink)) is = record {
   places = λ found fault said e. absurd (not_both (places_said task) is.0.placed.first fault (places_good task layout is.0) e);
   tried = λ found first said e. tt;
 }
-complete task rounds (Err (GaveUp layout logs tallies)) is = record {
+complete task rounds (Err (GaveUp layout nets logs tallies)) is = record {
   pins = λ fault e. absurd (not_both (pins_said task) layout.pads fault (pins_good task layout is.0) e);
   places = λ found fault said e. absurd (not_both (places_said task) is.0.placed.first fault (places_good task layout is.0) e);
   tried = λ found first said e. tt;

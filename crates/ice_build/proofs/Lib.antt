@@ -1,3 +1,5 @@
+mod Counting
 mod Standing
 mod Showing
 pub mod Answering
+pub mod Excluding

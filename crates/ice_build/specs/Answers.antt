@@ -1,5 +1,5 @@
 -- What building answers.
-use Rattle.std.specs.Prelude.{◌≡◌, ◌⊎◌, ℕ, Result, Ok, Err, List, map}
+use Rattle.std.specs.Prelude.{◌≡◌, ◌⊎◌, ℕ, Result, Ok, Err, List, length, map}
 use Rattle.ice_base.specs.declared.number.NetNo.{NetNo}
 use Rattle.ice_base.specs.declared.number.TileAt.{TileAt}
 use Rattle.ice_base.specs.declared.number.WireNo.{WireNo}
@@ -17,6 +17,7 @@ use Rattle.ice_negotiate.specs.Logs.{AreRouted, AllEndOverused}
 use Rattle.ice_negotiate.specs.Rounds.{IsUnreachable}
 use Rattle.ice_negotiate.specs.Trees.{Route, route_of}
 use Rattle.ice_negotiate.specs.declared.fault.Routed.{Routed}
+use Rattle.ice_nets.specs.Nets.{nets_of}
 use Rattle.ice_pads.specs.Assign.{PadsData, assign_of}
 use Rattle.ice_pads.specs.declared.fault.PinFault.{PinFault}
 use Rattle.ice_place.specs.Place.{place_of}
@@ -38,6 +39,10 @@ use Rattle.ice_build.specs.declared.answer.BuildFault.TheVariants.{Pins, Places,
 pub record IsRouting (parts : Parts) (plan : Plan) (graph : Network) (nets : List Net) : Type 0 where
   pub fabric : IsFabric parts graph
   pub nets_are : AreNetsOf parts plan nets
+
+-- how many nets a placed design has
+abbrev pub net_count : Parts → Plan → ℕ
+net_count parts plan = length (nets_of parts plan)
 
 abbrev pub IsRouted : Parts → Plan → ℕ → Routed → Type 0
 IsRouted parts plan rounds routed = (graph : Network) × (nets : List Net) × IsRouting parts plan graph nets × AreRouted graph nets rounds routed
@@ -82,7 +87,8 @@ abbrev pub IsFault : Task → ℕ → BuildFault → Type 0
 IsFault task rounds (Pins fault) = pins_said task ≡ Err fault
 IsFault task rounds (Places fault) = (pads : PadsData) × (pins_said task ≡ Ok pads) × (places_said task ≡ Err fault)
 IsFault task rounds (Unreachable layout net sink) = IsLaidOut task layout × IsStuck task.parts (plan_in layout) net sink
-IsFault task rounds (GaveUp layout logs tallies) = IsLaidOut task layout × IsGivenUp task.parts (plan_in layout) rounds logs.items tallies.items
+IsFault task rounds (GaveUp layout nets logs tallies) =
+    IsLaidOut task layout × IsGivenUp task.parts (plan_in layout) rounds logs.items tallies.items × (nets ≡ net_count task.parts (plan_in layout))
 IsFault task rounds (Bits fault) = (built : Built) × IsBuilt task rounds built × IsUndecoded task.parts built.bits fault
 IsFault task rounds NoMemory = Unit {0}
 
@@ -97,7 +103,7 @@ IsTried (Ok built) = Unit {0}
 IsTried (Err (Pins fault)) = ⊥
 IsTried (Err (Places fault)) = ⊥
 IsTried (Err (Unreachable layout net sink)) = Unit {0}
-IsTried (Err (GaveUp layout logs tallies)) = Unit {0}
+IsTried (Err (GaveUp layout nets logs tallies)) = Unit {0}
 IsTried (Err (Bits fault)) = Unit {0}
 IsTried (Err NoMemory) = Unit {0}
 

@@ -3,3 +3,4 @@ pub mod Shown
 pub mod Laid
 pub mod Answers
 pub mod Stages
+pub mod Placements

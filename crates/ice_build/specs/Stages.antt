@@ -12,7 +12,7 @@ use Rattle.ice_plan.specs.Plan.{Plan}
 use Rattle.ice_sites.specs.Stretches.{stretches_of}
 use Rattle.ice_written.specs.Routed.{AreTrees}
 use Rattle.ice_written.specs.Written.{IsWritten}
-use Rattle.ice_build.specs.Answers.{IsRouted, IsStuck, IsGivenUp, IsUndecoded, routes_in, pins_said, places_said}
+use Rattle.ice_build.specs.Answers.{IsRouted, net_count, IsStuck, IsGivenUp, IsUndecoded, routes_in, pins_said, places_said}
 use Rattle.ice_build.specs.Laid.{Task, plan_in}
 use Rattle.ice_build.specs.declared.answer.Built.{Built}
 use Rattle.ice_build.specs.declared.answer.Effort.{Effort}
@@ -32,7 +32,7 @@ abbrev pub IsPlaceFault : Parts → Clusters → Design → BuildFault → Type 
 IsPlaceFault parts clusters d (Pins fault) = ⊥
 IsPlaceFault parts clusters d (Places fault) = place_of (stretches_of parts) clusters d ≡ Err fault
 IsPlaceFault parts clusters d (Unreachable layout net sink) = ⊥
-IsPlaceFault parts clusters d (GaveUp layout logs tallies) = ⊥
+IsPlaceFault parts clusters d (GaveUp layout nets logs tallies) = ⊥
 IsPlaceFault parts clusters d (Bits fault) = ⊥
 IsPlaceFault parts clusters d NoMemory = Unit {0}
 
@@ -41,7 +41,7 @@ abbrev pub IsLayFault : Task → BuildFault → Type 0
 IsLayFault task (Pins fault) = pins_said task ≡ Err fault
 IsLayFault task (Places fault) = (pads : PadsData) × (pins_said task ≡ Ok pads) × (places_said task ≡ Err fault)
 IsLayFault task (Unreachable layout net sink) = ⊥
-IsLayFault task (GaveUp layout logs tallies) = ⊥
+IsLayFault task (GaveUp layout nets logs tallies) = ⊥
 IsLayFault task (Bits fault) = ⊥
 IsLayFault task NoMemory = Unit {0}
 
@@ -51,11 +51,11 @@ IsRouteFault parts plan rounds (route.Unreachable net sink) = IsStuck parts plan
 IsRouteFault parts plan rounds (route.GaveUp logs tallies) = IsGivenUp parts plan rounds logs.items tallies.items
 IsRouteFault parts plan rounds route.NoMemory = Unit {0}
 
--- the same of building, with the placed design
-abbrev pub unrouted : Layout → RouteFault → BuildFault
-unrouted layout (route.Unreachable net sink) = Unreachable layout net sink
-unrouted layout (route.GaveUp logs tallies) = GaveUp layout logs tallies
-unrouted layout route.NoMemory = NoMemory
+-- the same of building, with the placed design and the number of its nets
+abbrev pub unrouted : Layout → ℕ → RouteFault → BuildFault
+unrouted layout nets (route.Unreachable net sink) = Unreachable layout net sink
+unrouted layout nets (route.GaveUp logs tallies) = GaveUp layout nets logs tallies
+unrouted layout nets route.NoMemory = NoMemory
 
 -- a placed design is routed, and its bits are written
 pub record IsFinished (parts : Parts) (rounds : ℕ) (layout : Layout) (built : Built) : Type 0 where
@@ -66,13 +66,13 @@ pub record IsFinished (parts : Parts) (rounds : ℕ) (layout : Layout) (built : 
 
 -- why it is not
 abbrev pub IsEndFault : Parts → ℕ → Layout → BuildFault → Type 0
-IsEndFault parts rounds layout fault = (stop : RouteFault) × IsRouteFault parts (plan_in layout) rounds stop × (fault ≡ unrouted layout stop)
+IsEndFault parts rounds layout fault = (stop : RouteFault) × IsRouteFault parts (plan_in layout) rounds stop × (fault ≡ unrouted layout (net_count parts (plan_in layout)) stop)
 
 -- why bits have no circuit
 abbrev pub IsBitsFault : Parts → Configuration → BuildFault → Type 0
 IsBitsFault parts k (Pins fault) = ⊥
 IsBitsFault parts k (Places fault) = ⊥
 IsBitsFault parts k (Unreachable layout net sink) = ⊥
-IsBitsFault parts k (GaveUp layout logs tallies) = ⊥
+IsBitsFault parts k (GaveUp layout nets logs tallies) = ⊥
 IsBitsFault parts k (Bits fault) = IsUndecoded parts k fault
 IsBitsFault parts k NoMemory = Unit {0}

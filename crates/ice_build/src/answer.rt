@@ -81,6 +81,8 @@ pub enum BuildFault {
     GaveUp {
         /// The placed design.
         layout: Layout,
+        /// How many nets it has.
+        nets: u32,
         /// The logs of the rounds in order.
         logs: Vec<RoundLog>,
         /// The tallies of the rounds in order.

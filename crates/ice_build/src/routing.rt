@@ -1,19 +1,21 @@
 //! The trees and the bits of a placed design.
-ghost use Rattle.std.specs.Prelude.{◌≡◌, IfOk, IfErr};
+ghost use Rattle.std.specs.Prelude.{◌≡◌, ◌≤◌, length, IfOk, IfErr};
 ghost use Rattle.ice_bits.specs.Configuration.{bits_of};
 ghost use Rattle.ice_decode.specs.Faults.{HasNoLoop};
 ghost use Rattle.ice_emit.specs.Placed.{IsPlacedOn};
 ghost use Rattle.ice_realised.specs.Feeds.{FeedsNoGlobal};
+ghost use Rattle.ice_routed_trees.specs.Routing.{AreNetsOf};
 ghost use Rattle.ice_written.specs.Realised.{Realises};
 ghost use Rattle.ice_written.specs.Routed.{AreTrees};
 ghost use Rattle.ice_written.specs.Written.{IsWritten, wanted_rows};
-ghost use Rattle.ice_build.specs.Answers.{IsRouted, routes_in};
+ghost use Rattle.ice_build.specs.Answers.{IsRouted, net_count, routes_in};
 ghost use Rattle.ice_build.specs.Laid.{plan_in};
 ghost use Rattle.ice_build.specs.Stages.{IsPermitted, IsRouteFault, IsFinished, IsEndFault, unrouted};
 
 use crate::answer::{BuildFault, Built, Effort, Layout};
 use ice_base::NoMemory;
 use ice_chip::Chip;
+use ice_core::Net;
 use ice_desk::Gate;
 use ice_emit::emit;
 use ice_fabric::fabric;
@@ -28,24 +30,16 @@ use std::thread::Threads;
 // As many nets can be counted on a wire.
 const MOST_NETS: usize = 65_536;
 
-// The trees of the nets of a placed design. More nets than are counted are want of memory.
-fn route<G: Gate + Sync, R: Threads + Sync>(
-    rt: &R,
-    alloc: Global,
-    chip: &Chip,
-    layout: &Layout,
-    effort: Effort,
-    gate: &G,
-) -> Result<Routed, RouteFault>
-    requires placed { IsPlacedOn chip.now (plan_in layout.now) layout.now.pads.pullups }
-    requires effort { IsPermitted effort }
-    ensures routed { IfOk result (IsRouted chip.now (plan_in layout.now) effort.rounds) }
-    ensures trees { IfOk result (λ routed. AreTrees chip.now (plan_in layout.now) (routes_in routed)) }
-    ensures fault { IfErr result (IsRouteFault chip.now (plan_in layout.now) effort.rounds) }
+/// The nets of a placed design.
+///
+/// # Errors
+/// Want of memory alone; more than 65,536 nets count as such.
+#[tactic(auto, using(crate::proofs::Counting::nets_counted))]
+pub fn nets_in(alloc: Global, chip: &Chip, layout: &Layout) -> Result<Vec<Net>, NoMemory>
+    ensures nets { IfOk result (λ nets. AreNetsOf chip.now (plan_in layout.now) nets.items) }
+    ensures count { IfOk result (λ nets. length nets.items ≡ net_count chip.now (plan_in layout.now)) }
+    ensures few { IfOk result (λ nets. length nets.items ≤ 65536) }
 {
-    let _wires = chip.wires();
-    placed_nets_are_routable();
-    routed_nets_are_trees();
     let nets = nets_of(
         alloc,
         chip,
@@ -55,28 +49,49 @@ fn route<G: Gate + Sync, R: Threads + Sync>(
         &layout.pads,
     )?;
     if nets.len() > MOST_NETS {
-        return Err(RouteFault::NoMemory);
+        return Err(NoMemory);
     }
-    let graph = fabric(alloc, chip)?;
-    negotiate(
-        rt,
-        alloc,
-        &graph,
-        nets.as_slice(),
-        effort.rounds,
-        effort.workers,
-        gate,
-    )
+    Ok(nets)
 }
 
-// Why nothing is built of a placed design that is not routed.
-fn unrouted(layout: Layout, fault: RouteFault) -> BuildFault
-    ensures { result ≡ unrouted layout fault }
+/// The trees of the nets of a placed design, in at most so many rounds, from 1 to 64, by 1 to 8 workers, each in a thread, on whom
+/// nothing depends. No bits are set.
+///
+/// # Errors
+/// The first sink to which no walk leads; permitted rounds that all end with an overused wire; want of memory.
+pub fn route<G: Gate + Sync, R: Threads + Sync>(
+    rt: &R,
+    alloc: Global,
+    chip: &Chip,
+    layout: &Layout,
+    nets: &[Net],
+    effort: Effort,
+    gate: &G,
+) -> Result<Routed, RouteFault>
+    requires placed { IsPlacedOn chip.now (plan_in layout.now) layout.now.pads.pullups }
+    requires nets { AreNetsOf chip.now (plan_in layout.now) nets.now }
+    requires few { length nets.now ≤ 65536 }
+    requires effort { IsPermitted effort }
+    ensures routed { IfOk result (IsRouted chip.now (plan_in layout.now) effort.rounds) }
+    ensures trees { IfOk result (λ routed. AreTrees chip.now (plan_in layout.now) (routes_in routed)) }
+    ensures fault { IfErr result (IsRouteFault chip.now (plan_in layout.now) effort.rounds) }
+{
+    let _wires = chip.wires();
+    placed_nets_are_routable();
+    routed_nets_are_trees();
+    let graph = fabric(alloc, chip)?;
+    negotiate(rt, alloc, &graph, nets, effort.rounds, effort.workers, gate)
+}
+
+// Why nothing is built of a placed design with so many nets that is not routed.
+fn unrouted(layout: Layout, nets: u32, fault: RouteFault) -> BuildFault
+    ensures { result ≡ unrouted layout nets fault }
 {
     match fault {
         RouteFault::Unreachable { net, sink } => BuildFault::Unreachable { layout, net, sink },
         RouteFault::GaveUp { logs, tallies } => BuildFault::GaveUp {
             layout,
+            nets,
             logs,
             tallies,
         },
@@ -129,8 +144,9 @@ pub fn finish<G: Gate + Sync, R: Threads + Sync>(
     ensures realised { IfOk result (λ built. HasNoLoop chip.now (bits_of built.bits) → Realises chip.now (plan_in layout) (wanted_rows chip.now (plan_in layout) (routes_in built.routed)) (bits_of built.bits)) }
     ensures fault { IfErr result (IsEndFault chip.now effort.rounds layout) }
 {
-    match route(rt, alloc, chip, &layout, effort, gate) {
-        Err(fault) => Err(unrouted(layout, fault)),
+    let nets = nets_in(alloc, chip, &layout)?;
+    match route(rt, alloc, chip, &layout, nets.as_slice(), effort, gate) {
+        Err(fault) => Err(unrouted(layout, nets.len() as u32, fault)),
         Ok(routed) => {
             let built = write(alloc, chip, layout, routed)?;
             Ok(built)

@@ -1,9 +1,10 @@
 -- When each answer of `build` comes, from how its texts stand.
-use Rattle.std.proofs.Common.{◌≡◌, ◌≢◌, ◌∙◌, ℕ, List, Result, Ok, Err, inl, inr, refl, sym, ap, subst}
+use Rattle.std.proofs.Common.{◌≡◌, ◌≢◌, ◌∙◌, ℕ, true, List, Result, Ok, Err, inl, inr, refl, sym, ap, subst}
 use Rattle.std.specs.Global.{Vec}
 use Rattle.ice_base.specs.declared.number.NetNo.{NetNo}
 use Rattle.ice_base.specs.declared.number.TileAt.{TileAt}
 use Rattle.ice_base.specs.declared.number.WireNo.{WireNo}
+use Rattle.ice_asc.specs.Text.{asc_text}
 use Rattle.ice_desk.specs.Desk.{Meaning, SameButReading}
 use Rattle.ice_net.specs.NetlistData.{NetlistData}
 use Rattle.ice_blif.specs.Grammar.{netlist_of}
@@ -17,6 +18,7 @@ use Rattle.ice_chip_read.specs.Whole.{chip_says}
 use Rattle.ice_core.specs.declared.log.RoundLog.{RoundLog}
 use Rattle.ice_pcf.specs.Grammar.{text_says}
 use Rattle.ice_pcf.specs.declared.constraint.Constraint.{Constraint}
+use Rattle.ice_report.specs.PinReport.{pin_text}
 use Rattle.ice_words.specs.Grips.{Shut}
 use Rattle.ice_build.specs.Answers.{pins_said, places_said}
 use Rattle.ice_build.specs.Laid.{Task, IsLaidOut}
@@ -25,27 +27,31 @@ use Rattle.ice_build.proofs.Answering.{pins_good, places_good}
 use Rattle.ice_answer.specs.declared.cause.Cause.{Cause}
 use Rattle.ice_answer.specs.declared.cause.Cause.TheVariants.{Good, Usage, BadBlif, BadPcf, BadChip, BadNet, BadPin, Overfull, Unreachable, GaveUp, BadBits}
 use Rattle.ice_answer.specs.declared.cause.Done.{Done}
-use Rattle.ice_answer.specs.declared.cause.FileRole.TheVariants.{Asc}
+use Rattle.ice_answer.specs.declared.cause.FileRole.TheVariants.{Report}
 use Rattle.ice_answer.specs.declared.giving.Made.{Made}
+use Rattle.ice_answer.specs.declared.giving.Refused.{Refused}
 use Rattle.ice_answer.specs.Causes.{status_of}
 use Rattle.ice_answer.specs.Commands.{IsDone, IsTrueOf}
-use Rattle.ice_answer.specs.Ends.{IsEndInFile, IsMadeOf, IsEndOf}
-use Rattle.ice_answer.specs.Reading.{TellsLong}
-use Rattle.ice_answer.specs.Rows.{IsHeld, GoodRow}
+use Rattle.ice_answer.specs.Ends.{IsEndInFiles, IsMadeOf, IsEndOf, IsReported, unreported}
+use Rattle.ice_answer.specs.Reading.{File, TellsLong}
+use Rattle.ice_answer.specs.Rows.{IsHeld, GoodRow, IsParted, PartingRow}
 use Rattle.ice_answer.specs.Texts.{OfTexts, HoldsTexts, text_at}
+use Rattle.ice_answer.specs.Writing.{HoldFrom}
 use Rattle.ice_answer.proofs.CommandRows.{Lawful, comes, good_row, read_fault_row, write_fault_row, too_long_row}
-use Rattle.ice_answer.proofs.Ended.{end_is_in_file}
+use Rattle.ice_answer.proofs.Ended.{end_is_in_files}
 use Rattle.ice_answer.proofs.Standings.{fault_alone, of_done}
-use Rattle.ice_answer.proofs.TextFacts.{at_files, of_weaker}
-use Rattle.ice_build_files.specs.Asked.{Build, files_of, IsAsked, Asks}
-use Rattle.ice_build_files.specs.BuildRows.{ChipRow, HasChipFault, PcfRow, HasPcfFault, BlifRow, HasBlifFault, SaysNetlist, IsNetFault, NetRow, PinRow, PlaceRow, HasPlaceFault, IsPlaceable, IsTried, TriedRow, IsAbout, IsGood, BuiltRow, IsUnreachable, UnreachableRow, HasGivenUp, GaveUpRow, BitsRow, HeadlineRow, IsBuildAnswer}
+use Rattle.ice_answer.proofs.TextFacts.{at_files, of_weaker, holds_read}
+use Rattle.ice_build_files.specs.Asked.{Build, files_of, file_asked, outputs_of, parting_of, IsAsked, Asks}
+use Rattle.ice_build_files.specs.BuildRows.{ChipRow, HasChipFault, PcfRow, HasPcfFault, BlifRow, HasBlifFault, SaysNetlist, IsNetFault, NetRow, PinRow, PlaceRow, HasPlaceFault, IsPlaceable, IsTried, TriedRow, IsAbout, IsGood, BuiltRow, IsUnreachable, UnreachableRow, HasGivenUp, GaveUpRow, BitsRow, HeadlineRow, IsWritten, WrittenRow, HoldsReport, ReportedRow, IsBuildAnswer}
 use Rattle.ice_cells.specs.Runs.{design_of}
 use Rattle.ice_pads.specs.Assign.{assign_of}
 use Rattle.ice_build_files.specs.Command.{build_files}
 use Rattle.ice_build_files.specs.Headline.{IsShown}
 use Rattle.ice_build_files.specs.Made.{IsMade, IsBuiltOn, IsTalliedOn, IsStuckOn, IsGivenUpOn, HasBadBits}
+use Rattle.ice_build_files.specs.Reports.{routes_text}
 use Rattle.ice_build_files.specs.Standing.{IsEnd, PlacesStand, NetStands, BlifStands, PcfStands, Stands}
 use Rattle.ice_build_files.proofs.Excluding.{built_not_stuck, built_not_given_up, given_up_not_stuck_on, stuck_on_one}
+use Rattle.ice_build_files.proofs.Holding.{held_bits, held_pins, held_report}
 use Rattle.ice_build_files.proofs.Standing.{pcf_stands, blif_stands, net_stands, task_stands, places_stand, end_stands, end_so, one_task}
 use Rattle.ice_build_files.proofs.Telling.{of_end, of_tried, of_about, Told, told}
 
@@ -54,7 +60,7 @@ done_end task rounds cause done = of_done (IsEnd task rounds) (λ placement tall
 
 pub lawful : (b : Build) → Lawful (build_files b)
 lawful b = record {
-  done = λ t text on counted cause g done.
+  done = λ t made on counted cause g done.
       let layout = g.built.layout in
       let laid = g.is_built.laid in
       end_so b.package_name b.effort.rounds t g.task layout.pads laid.placed.first cause g.is_asked (pins_good g.task layout laid) (places_good g.task layout laid) (done_end g.task b.effort.rounds cause done);
@@ -136,8 +142,8 @@ laid_placeable task layout laid = (layout.pads, laid.placed.first, pins_good tas
 asks_weaker : (name : List ℕ) (P Q : Task → Type 0) (t : List (List ℕ)) → ((task : Task) → P task → Q task) → Asks name P t → Asks name Q t
 asks_weaker name P Q t weaker h = record { task = h.task; is_asked = h.is_asked; is_so = weaker h.task h.is_so }
 
-made_placeable : (b : Build) (t : List (List ℕ)) (text : List ℕ) (on : List TileAt) (counted : List Shut) → IsMade b t text on counted → Asks b.package_name IsPlaceable t
-made_placeable b t text on counted g = record { task = g.task; is_asked = g.is_asked; is_so = laid_placeable g.task g.built.layout g.is_built.laid }
+made_placeable : (b : Build) (t made : List (List ℕ)) (on : List TileAt) (counted : List Shut) → IsMade b t made on counted → Asks b.package_name IsPlaceable t
+made_placeable b t made on counted g = record { task = g.task; is_asked = g.is_asked; is_so = laid_placeable g.task g.built.layout g.is_built.laid }
 
 end_tried : (task : Task) (rounds : ℕ) (cause : Cause) → IsEnd task rounds cause → IsTried cause
 end_tried task rounds cause is = of_end IsTried task rounds (λ placement tallies. tt) (λ role put. tt) (λ placement net sink stuck. tt) (λ placement logs tallies given. tt) (λ fault bits. tt) cause is
@@ -145,8 +151,8 @@ end_tried task rounds cause is = of_end IsTried task rounds (λ placement tallie
 tried_only : (b : Build) (old new : Meaning) (cause : Cause) → IsTrueOf (build_files b) old new cause → IsTried cause → OfTexts (files_of b) old (Asks b.package_name IsPlaceable)
 tried_only b old new cause is tried =
     of_tried (λ c. IsTrueOf (build_files b) old new c → OfTexts (files_of b) old (Asks b.package_name IsPlaceable))
-    (λ placement tallies i. of_weaker (files_of b) old (λ t. IsMade b t i.text placement tallies.items) (Asks b.package_name IsPlaceable) (λ t g. made_placeable b t i.text placement tallies.items g) i.texts)
-    (λ role put i. of_weaker (files_of b) old (λ t. IsMade b t i.text i.placement i.tallies) (Asks b.package_name IsPlaceable) (λ t g. made_placeable b t i.text i.placement i.tallies g) i.texts)
+    (λ placement tallies i. of_weaker (files_of b) old (λ t. IsMade b t i.made placement tallies.items) (Asks b.package_name IsPlaceable) (λ t g. made_placeable b t i.made placement tallies.items g) i.mades)
+    (λ role put i. of_weaker (files_of b) old (λ t. IsMade b t i.made i.placement i.tallies) (Asks b.package_name IsPlaceable) (λ t g. made_placeable b t i.made i.placement i.tallies g) i.mades)
     (λ placement net sink i. told_of b old new (Unreachable placement net sink) (Unreachable placement net sink) (Asks b.package_name IsPlaceable) i refl (λ j. j.0)
     (λ t h. asks_weaker b.package_name (λ task. IsStuckOn task placement net sink) IsPlaceable t (λ task stuck. laid_placeable task stuck.0 stuck.1) h))
     (λ placement logs tallies i. told_of b old new (GaveUp placement logs tallies) (GaveUp placement logs tallies) (Asks b.package_name IsPlaceable) i refl (λ j. j.0)
@@ -165,7 +171,7 @@ tried_row b old new cause is =
 held_built : (b : Build) (old new : Meaning) (placement : List TileAt) (tallies : Vec Shut) (t : List (List ℕ)) (task : Task) → HoldsTexts (files_of b) old t
     → IsAsked b.package_name t task → IsTrueOf (build_files b) old new (Good placement tallies) → IsBuiltOn task b.effort.rounds placement
 held_built b old new placement tallies t task holds asked is =
-    let g = at_files (files_of b) old (λ texts. IsMade b texts is.text placement tallies.items) t holds is.texts in
+    let g = at_files (files_of b) old (λ texts. IsMade b texts is.made placement tallies.items) t holds is.texts in
     subst (λ (x : Task). IsBuiltOn x b.effort.rounds placement) (one_task b.package_name t g.task task g.is_asked asked) (g.built, g.is_built, sym g.is_placement)
 
 held_stuck : (b : Build) (old new : Meaning) (placement : List TileAt) (net : NetNo) (sink : WireNo) (t : List (List ℕ)) (task : Task) → HoldsTexts (files_of b) old t
@@ -184,8 +190,8 @@ tallied_at : (b : Build) (old new : Meaning) (cause : Cause) (placement : List T
     → OfTexts (files_of b) old (Asks b.package_name (λ task. IsTalliedOn task b.effort.rounds placement tallies.items))
 tallied_at b old new cause placement tallies is e =
     let i = subst (λ (x : Cause). IsTrueOf (build_files b) old new x) e is in
-    of_weaker (files_of b) old (λ t. IsMade b t i.text placement tallies.items) (Asks b.package_name (λ task. IsTalliedOn task b.effort.rounds placement tallies.items))
-    (λ t g. record { task = g.task; is_asked = g.is_asked; is_so = (g.built, g.is_built, sym g.is_placement, sym g.are_tallies) }) i.texts
+    of_weaker (files_of b) old (λ t. IsMade b t i.made placement tallies.items) (Asks b.package_name (λ task. IsTalliedOn task b.effort.rounds placement tallies.items))
+    (λ t g. record { task = g.task; is_asked = g.is_asked; is_so = (g.built, g.is_built, sym g.is_placement, sym g.are_tallies) }) i.mades
 
 built_row : (b : Build) (old new : Meaning) (cause : Cause) → IsTrueOf (build_files b) old new cause → BuiltRow b old cause
 built_row b old new cause is = record {
@@ -266,9 +272,9 @@ bits_row : (b : Build) (old new : Meaning) (cause : Cause) → IsTrueOf (build_f
 bits_row b old new cause is fault e =
     told_of b old new cause (BadBits fault) (Asks b.package_name (λ task. HasBadBits task b.effort.rounds fault)) is e (λ i. i.0) (λ t h. h)
 
--- ---- the headline
-made_shown : (b : Build) (t : List (List ℕ)) (text : List ℕ) (on : List TileAt) (counted : List Shut) → IsMade b t text on counted → IsShown b.package_name t text
-made_shown b t text on counted g = record {
+-- ---- what is written
+made_shown : (b : Build) (t made : List (List ℕ)) (on : List TileAt) (counted : List Shut) (g : IsMade b t made on counted) → IsShown b.package_name t (asc_text g.task.parts g.built.bits)
+made_shown b t made on counted g = record {
   parts = g.task.parts;
   constraints = g.task.constraints;
   circuit = g.is_asked.circuit;
@@ -283,19 +289,58 @@ made_shown b t text on counted g = record {
   shows = g.is_shown;
 }
 
+-- what was made is on file
+held_written : (b : Build) (old new : Meaning) (on : List TileAt) (counted : List Shut) → IsHeld (build_files b) old new on counted → IsWritten b old new on counted
+held_written b old new on counted held =
+    let g = held.gives in
+    let bits = asc_text g.task.parts g.built.bits in
+    let pad_lines = pin_text g.is_asked.circuit g.bonded g.built.layout.pads.ports in
+    let route_lines = routes_text g.task.parts g.built.layout g.built.routed.logs.items true in
+    let hold = subst (λ (made : List (List ℕ)). HoldFrom 1 (outputs_of b) made new) g.are_texts held.there in
+    record {
+      texts = held.texts;
+      made = held.made;
+      hold = held.hold;
+      of = g;
+      bits = λ apart. held_bits b.asc bits pad_lines route_lines new b.pins b.report hold apart.0 apart.1;
+      pins = λ name e apart. held_pins b.asc bits pad_lines route_lines new b.pins b.report name hold e apart;
+      report = λ name e. held_report b.asc bits pad_lines route_lines new b.pins b.report name hold e;
+    }
+
+written_row : (b : Build) (old new : Meaning) (cause : Cause) (status : ℕ) → GoodRow (build_files b) old new cause status → WrittenRow b old new cause
+written_row b old new cause status good placement tallies e tells = held_written b old new placement tallies.items (good.held placement tallies e tells)
+
 headline_row : (b : Build) (old new : Meaning) (cause : Cause) (status : ℕ) → GoodRow (build_files b) old new cause status → HeadlineRow b old new status
 headline_row b old new cause status good zero_status tells =
     let done = good.done zero_status in
-    let held : IsHeld (build_files b) old new done.0 done.1.items = good.held done.0 done.1 done.2 tells in
-    (held.texts, held.text, held.hold, held.there, made_shown b held.texts held.text done.0 done.1.items held.gives)
+    let is = written_row b old new cause status good done.0 done.1 done.2 tells in
+    (is.texts, asc_text is.of.task.parts is.of.built.bits, is.hold, is.bits, made_shown b is.texts is.made done.0 done.1.items is.of)
+
+-- ---- the report on rounds that gave up
+parted_reported : (b : Build) (old new : Meaning) (placement : List TileAt) (logs : Vec RoundLog) (tallies : Vec Shut) (file : File) → old.tells ≡ true
+    → IsParted (build_files b) file old new (GaveUp placement logs tallies) → HoldsReport b old new file.name placement logs.items tallies.items
+parted_reported b old new placement logs tallies file tells is = record {
+  texts = is.texts.0;
+  report = is.text;
+  hold = holds_read (files_of b) old is.texts.0 tells is.texts.1;
+  tells = is.texts.2;
+  left = is.left tells;
+}
+
+reported_row : (b : Build) (old new : Meaning) (cause : Cause) → PartingRow (build_files b) old new cause → ReportedRow b old new cause
+reported_row b old new cause row placement logs tallies name e asked tells =
+    parted_reported b old new placement logs tallies (record { role = Report; name = name }) tells
+    (subst (λ (c : Cause). PartingRow (build_files b) old new c) e row (record { role = Report; name = name }) (ap (file_asked Report) asked) tt)
 
 -- ---- all of them
-pub answers : (b : Build) (old new : Meaning) (end : Done) → IsTrueOf (build_files b) old new end.cause → end.status ≡ status_of end.cause → TellsLong new end.cause → IsBuildAnswer b old new end
-answers b old new end is status told_long =
+pub answers : (b : Build) (old new : Meaning) (end : Done) → IsTrueOf (build_files b) old new end.cause → end.status ≡ status_of end.cause → TellsLong new end.cause
+    → PartingRow (build_files b) old new end.cause → IsBuildAnswer b old new end
+answers b old new end is status told_long parted =
     let good = good_row (build_files b) old new end.cause end.status is status in
     record {
       headline = headline_row b old new end.cause end.status good;
       good = good;
+      written = written_row b old new end.cause end.status good;
       built = built_row b old new end.cause is;
       bad_blif = blif_row b old new end.cause is;
       bad_pcf = pcf_row b old new end.cause is;
@@ -306,6 +351,8 @@ answers b old new end is status told_long =
       tried = tried_row b old new end.cause is;
       unreachable = unreachable_row b old new end.cause is;
       gave_up = gave_up_row b old new end.cause is;
+      parted = parted;
+      reported = reported_row b old new end.cause parted;
       bad_bits = bits_row b old new end.cause is;
       read_fault = read_fault_row (build_files b) old new end.cause is;
       write_fault = write_fault_row (build_files b) old new end.cause is;
@@ -313,6 +360,6 @@ answers b old new end is status told_long =
     }
 
 -- how the command ended
-pub ends : (b : Build) (old mid new : Meaning) (result : Result Made Cause) (cause : Cause) → SameButReading old mid → IsMadeOf (build_files b) old mid result
-    → IsEndInFile Asc b.asc result mid new cause → IsEndOf (build_files b) old new cause
-ends b old mid new result cause read made end = end_is_in_file (build_files b) Asc b.asc old mid new result cause read made end
+pub ends : (b : Build) (old mid new : Meaning) (result : Result Made Refused) (cause : Cause) → SameButReading old mid → IsMadeOf (build_files b) old mid (unreported result)
+    → IsReported (build_files b) old result → IsEndInFiles (outputs_of b) (parting_of b) result mid new cause → IsEndOf (build_files b) old new cause
+ends b old mid new result cause read made left end = end_is_in_files (build_files b) (outputs_of b) old mid new result cause read made left end

@@ -1,60 +1,172 @@
 -- From what building answers to what the texts give, or why they are refused.
-use Rattle.std.proofs.Common.{◌≡◌, ◌∙◌, ℕ, Bool, List, length, map, Result, Ok, Err, IfOk, refl, sym, ap, subst}
+use Rattle.std.proofs.Common.{◌≡◌, ◌∙◌, ℕ, Bool, true, false, Option, Some, None, List, length, map, Result, Ok, Err, IfOk, IfErr, inl, inr, refl, sym, ap, subst}
+use Rattle.std.specs.Prelude.{option_map}
+use Rattle.std.specs.Global.{Vec}
+use Rattle.std.specs.declared.alloc.Global.{Global}
+use Rattle.std.proofs.lemmas.List.{length-map}
 use Rattle.ice_base.specs.declared.number.TileAt.{TileAt}
 use Rattle.ice_asc.specs.Grammar.{asc_in}
 use Rattle.ice_asc.specs.Text.{asc_text}
 use Rattle.ice_bits.specs.Configuration.{Configuration, IsOf}
+use Rattle.ice_blif.specs.declared.fault.BlifFault.{BlifFault}
+use Rattle.ice_check.specs.declared.fault.NetFault.{NetFault}
 use Rattle.ice_net.specs.Formed.{IsFormed}
 use Rattle.ice_net.specs.Meaning.{shows}
 use Rattle.ice_net.specs.NetlistData.{NetlistData}
-use Rattle.ice_chip.specs.Database.{Parts}
+use Rattle.ice_chip.specs.Database.{Parts, PackageRows}
+use Rattle.ice_chip.specs.Lookups.{package_of}
+use Rattle.ice_chip.specs.declared.fault.ChipFault.{ChipFault}
 use Rattle.ice_chip.specs.declared.rows.Pad.{Pad}
 use Rattle.ice_cells.specs.Runs.{design_of}
+use Rattle.ice_core.specs.declared.log.RoundLog.{RoundLog}
+use Rattle.ice_decode.specs.declared.fault.DecodeFault.{DecodeFault}
+use Rattle.ice_negotiate.specs.Trees.{route_of}
 use Rattle.ice_pads.specs.Assign.{assign_of}
+use Rattle.ice_pads.specs.declared.fault.PinFault.{PinFault}
+use Rattle.ice_pcf.specs.declared.fault.PcfFault.{PcfFault}
+use Rattle.ice_place.specs.declared.fault.PlaceFault.{PlaceFault}
 use Rattle.ice_promote.specs.PromotionLaws.{PromotedShowTheSame}
+use Rattle.ice_report.specs.PinReport.{pin_text}
+use Rattle.ice_report.specs.RouteReport.{route_text}
 use Rattle.ice_clocks.specs.Clocks.{free_globals, promoted_on}
-use Rattle.ice_clocks.specs.Pins.{PinsStay}
+use Rattle.ice_clocks.specs.Pins.{PinsStay, PinReportsStay}
+use Rattle.ice_words.specs.Grips.{Shut}
 use Rattle.ice_written.specs.Realised.{port_levels}
-use Rattle.ice_build.specs.Answers.{IsBuilt, IsFault, pins_said, places_said}
-use Rattle.ice_build.specs.Laid.{Task}
+use Rattle.ice_build.specs.Answers.{IsBuilt, IsFault, IsGivenUp, net_count, pins_said, places_said}
+use Rattle.ice_build.specs.Laid.{Task, IsLaidOut, plan_in}
 use Rattle.ice_build.specs.Shown.{IsCircuitOf}
 use Rattle.ice_build.specs.declared.answer.Built.{Built}
 use Rattle.ice_build.specs.declared.answer.BuildFault.{BuildFault}
 use Rattle.ice_build.specs.declared.answer.BuildFault.TheVariants as build
+use Rattle.ice_build.specs.declared.answer.Layout.{Layout}
 use Rattle.ice_build.proofs.Answering.{pins_good, places_good}
 use Rattle.ice_answer.specs.declared.cause.Cause.{Cause}
+use Rattle.ice_answer.specs.declared.cause.Cause.TheVariants.{BadBlif, BadPcf, BadChip, BadNet, BadPin, Overfull, Unreachable, GaveUp, BadBits, NoMemory}
 use Rattle.ice_answer.specs.declared.giving.Made.{Made}
-use Rattle.ice_answer.specs.declared.cause.Cause.TheVariants.{BadPin, Overfull, Unreachable, GaveUp, BadBits}
-use Rattle.ice_answer.specs.Commands.{IsRefusal}
+use Rattle.ice_answer.specs.declared.giving.Refused.{Refused}
+use Rattle.ice_answer.specs.Commands.{HasGivenUp, IsRefusal}
+use Rattle.ice_answer.specs.Ends.{text_of}
+use Rattle.ice_answer.specs.Refusals.{IsBlifRefusal, IsPcfRefusal, IsChipRefusal, IsNetRefusal, IsPinRefusal, IsPlaceRefusal, IsBitsRefusal}
 use Rattle.ice_answer.proofs.Standings.{at_fault, pin_refused, place_refused, bits_refused}
 use Rattle.ice_build_files.specs.Asked.{Build, IsAsked}
-use Rattle.ice_build_files.specs.Ending.{IsBuildRefusal}
+use Rattle.ice_build_files.specs.Ending.{IsBuildRefusal, HasGivenUpWith}
 use Rattle.ice_build_files.specs.Made.{IsMade}
+use Rattle.ice_build_files.specs.Parting.{TellsOf, HasReport, IsRefusedWith}
+use Rattle.ice_build_files.specs.Reports.{pins_text, texts_of}
 use Rattle.ice_build_files.specs.Standing.{IsEnd, PlacesStand, Stands}
 use Rattle.ice_build_files.proofs.Standing.{asked_so, pins_so, end_so}
-use Rattle.ice_words.specs.Grips.{Shut}
 
-pub refused : (name : List ℕ) (rounds : ℕ) (t : List (List ℕ)) (task : Task) (fault : BuildFault) (cause : Cause) → IsAsked name t task → IsFault task rounds fault → IsBuildRefusal fault cause
-    → IsRefusal (Stands name rounds t) cause
-refused name rounds t task (build.Pins fault) cause asked said is =
-    pin_refused (Stands name rounds t) fault cause
-    (λ known. asked_so name rounds t task (BadPin fault) asked (at_fault (pins_said task) BadPin (λ pads. PlacesStand task rounds) fault said)) is
-refused name rounds t task (build.Places fault) cause asked (pads, pins, said) is =
-    place_refused (Stands name rounds t) fault cause
-    (λ known. pins_so name rounds t task pads (Overfull fault) asked pins (at_fault (places_said task) Overfull (λ first. IsEnd task rounds) fault said)) is
-refused name rounds t task (build.Unreachable layout net sink) cause asked (laid, stuck) is =
-    subst (IsRefusal (Stands name rounds t)) (sym is)
-    (end_so name rounds t task layout.pads laid.placed.first (Unreachable layout.placement net sink) asked (pins_good task layout laid) (places_good task layout laid) (layout, laid, refl, stuck), tt)
-refused name rounds t task (build.GaveUp layout logs tallies) cause asked (laid, given) is =
-    subst (IsRefusal (Stands name rounds t)) (sym is)
-    (end_so name rounds t task layout.pads laid.placed.first (GaveUp layout.placement logs tallies) asked (pins_good task layout laid) (places_good task layout laid) (layout, laid, refl, given), tt)
-refused name rounds t task (build.Bits fault) cause asked bits is =
+-- ---- causes that are told without a report
+abbrev IsOfNoRounds : Cause → Type 0
+IsOfNoRounds cause = HasGivenUp cause → ⊥
+
+of_no_rounds : (cause this : Cause) → cause ≡ this → IsOfNoRounds this → IsOfNoRounds cause
+of_no_rounds cause this e is = subst IsOfNoRounds (sym e) is
+
+pin_alone : (fault : PinFault) (cause : Cause) → IsPinRefusal fault cause → IsOfNoRounds cause
+pin_alone fault cause (inl memory) = of_no_rounds cause NoMemory memory.0 (λ never. never)
+pin_alone fault cause (inr told) = of_no_rounds cause (BadPin fault) told.0 (λ never. never)
+
+place_alone : (fault : PlaceFault) (cause : Cause) → IsPlaceRefusal fault cause → IsOfNoRounds cause
+place_alone fault cause (inl memory) = of_no_rounds cause NoMemory memory.0 (λ never. never)
+place_alone fault cause (inr told) = of_no_rounds cause (Overfull fault) told.0 (λ never. never)
+
+bits_alone : (fault : DecodeFault) (cause : Cause) → IsBitsRefusal fault cause → IsOfNoRounds cause
+bits_alone fault cause (inl memory) = of_no_rounds cause NoMemory memory.0 (λ never. never)
+bits_alone fault cause (inr told) = of_no_rounds cause (BadBits fault) told.0 (λ never. never)
+
+pub net_alone : (fault : NetFault) (cause : Cause) → IsNetRefusal fault cause → IsOfNoRounds cause
+net_alone fault cause (inl memory) = of_no_rounds cause NoMemory memory.0 (λ never. never)
+net_alone fault cause (inr told) = of_no_rounds cause (BadNet fault) told.0 (λ never. never)
+
+pub blif_alone : (fault : BlifFault) (cause : Cause) → IsBlifRefusal fault cause → IsOfNoRounds cause
+blif_alone fault cause (inl memory) = of_no_rounds cause NoMemory memory.0 (λ never. never)
+blif_alone fault cause (inr told) = of_no_rounds cause (BadBlif fault) told.0 (λ never. never)
+
+pub pcf_alone : (fault : PcfFault) (cause : Cause) → IsPcfRefusal fault cause → IsOfNoRounds cause
+pcf_alone fault cause (inl memory) = of_no_rounds cause NoMemory memory.0 (λ never. never)
+pcf_alone fault cause (inr told) = of_no_rounds cause (BadPcf fault) told.0 (λ never. never)
+
+pub chip_alone : (fault : ChipFault) (cause : Cause) → IsChipRefusal fault cause → IsOfNoRounds cause
+chip_alone fault cause (inl memory) = of_no_rounds cause NoMemory memory.0 (λ never. never)
+chip_alone fault cause (inr told) = of_no_rounds cause (BadChip fault) told.0 (λ never. never)
+
+-- such a refusal without a report
+pub refused_alone : (b : Build) (t : List (List ℕ)) (refused : Refused) → IsRefusal (Stands b.package_name b.effort.rounds t) refused.cause → IsOfNoRounds refused.cause → refused.report ≡ None
+    → IsRefusedWith b t refused
+refused_alone b t refused is alone none = record {
+  refusal = is;
+  report = subst (λ (o : Option (Vec ℕ Global)). HasReport b t refused.cause (text_of o)) (sym none) (λ gave. absurd (alone gave));
+}
+
+pub refused_by : (b : Build) (t : List (List ℕ)) (this : Cause) (refused : Refused) → IsRefusal (Stands b.package_name b.effort.rounds t) this → IsOfNoRounds this → refused.cause ≡ this → refused.report ≡ None
+    → IsRefusedWith b t refused
+refused_by b t this refused is alone e none =
+    refused_alone b t refused (subst (IsRefusal (Stands b.package_name b.effort.rounds t)) (sym e) is) (of_no_rounds refused.cause this e alone) none
+
+pub refused_for_memory : (b : Build) (t : List (List ℕ)) (refused : Refused) → refused.cause ≡ NoMemory → refused.report ≡ None → IsRefusedWith b t refused
+refused_for_memory b t refused e none = refused_by b t NoMemory refused tt (λ never. never) e none
+
+-- ---- rounds that gave up
+pub not_none : (o : Option (List ℕ)) (name : List ℕ) → o ≡ Some name → o ≡ None → ⊥
+not_none o name e none = cc
+
+has_report : (b : Build) (t : List (List ℕ)) (placement : List TileAt) (logs : Vec RoundLog) (tallies : Vec Shut) (report : List ℕ) (asked : Option (List ℕ)) → b.report ≡ asked
+    → TellsOf b t (GaveUp placement logs tallies) report → HasReport b t (GaveUp placement logs tallies) (option_map (λ name. report) asked)
+has_report b t placement logs tallies report None e tells = λ gave. e
+has_report b t placement logs tallies report (Some name) e tells = (tt, not_none b.report name e, tells)
+
+-- the report tells of the rounds that gave up on the placed design
+tells_of : (b : Build) (t : List (List ℕ)) (task : Task) (layout : Layout) (nets : ℕ) (logs : Vec RoundLog) (tallies : Vec Shut) → IsAsked b.package_name t task → IsLaidOut task layout
+    → IsGivenUp task.parts (plan_in layout) b.effort.rounds logs.items tallies.items → nets ≡ net_count task.parts (plan_in layout)
+    → TellsOf b t (GaveUp layout.placement logs tallies) (route_text (length layout.design.cells) (length layout.clusters.list) nets logs.items false)
+tells_of b t task layout nets logs tallies asked laid given counted = record {
+  task = task;
+  is_asked = asked;
+  is_so = (layout, laid, refl, (given, ap (λ n. route_text (length layout.design.cells) (length layout.clusters.list) n logs.items false) counted));
+}
+
+refused_given_up : (b : Build) (t : List (List ℕ)) (task : Task) (layout : Layout) (nets : ℕ) (logs : Vec RoundLog) (tallies : Vec Shut) (refused : Refused) → IsAsked b.package_name t task
+    → IsFault task b.effort.rounds (build.GaveUp layout nets logs tallies) → HasGivenUpWith b layout nets logs tallies refused → IsRefusedWith b t refused
+refused_given_up b t task layout nets logs tallies refused asked fault (inl memory) = refused_for_memory b t refused memory.0 memory.1
+refused_given_up b t task layout nets logs tallies refused asked (laid, given, counted) (inr told) =
+    let on = GaveUp layout.placement logs tallies in
+    let stands = end_so b.package_name b.effort.rounds t task layout.pads laid.placed.first on asked (pins_good task layout laid) (places_good task layout laid) (layout, laid, refl, given) in
+    let tells = has_report b t layout.placement logs tallies (route_text (length layout.design.cells) (length layout.clusters.list) nets logs.items false) b.report refl
+    (tells_of b t task layout nets logs tallies asked laid given counted) in
+    record {
+      refusal = subst (IsRefusal (Stands b.package_name b.effort.rounds t)) (sym told.0) (stands, tt);
+      report = subst (λ (c : Cause). HasReport b t c (text_of refused.report)) (sym told.0) (subst (HasReport b t on) (sym told.1) tells);
+    }
+
+-- ---- why nothing is built
+pub refused : (b : Build) (t : List (List ℕ)) (task : Task) (fault : BuildFault) (refused : Refused) → IsAsked b.package_name t task → IsFault task b.effort.rounds fault → IsBuildRefusal b fault refused
+    → IsRefusedWith b t refused
+refused b t task (build.Pins fault) r asked said is =
+    let name = b.package_name in
+    let rounds = b.effort.rounds in
+    refused_alone b t r (pin_refused (Stands name rounds t) fault r.cause
+    (λ known. asked_so name rounds t task (BadPin fault) asked (at_fault (pins_said task) BadPin (λ pads. PlacesStand task rounds) fault said)) is.0) (pin_alone fault r.cause is.0) is.1
+refused b t task (build.Places fault) r asked (pads, pins, said) is =
+    let name = b.package_name in
+    let rounds = b.effort.rounds in
+    refused_alone b t r (place_refused (Stands name rounds t) fault r.cause
+    (λ known. pins_so name rounds t task pads (Overfull fault) asked pins (at_fault (places_said task) Overfull (λ first. IsEnd task rounds) fault said)) is.0) (place_alone fault r.cause is.0) is.1
+refused b t task (build.Unreachable layout net sink) r asked (laid, stuck) is =
+    refused_by b t (Unreachable layout.placement net sink) r
+    (end_so b.package_name b.effort.rounds t task layout.pads laid.placed.first (Unreachable layout.placement net sink) asked (pins_good task layout laid) (places_good task layout laid) (layout, laid, refl, stuck), tt)
+    (λ never. never) is.0 is.1
+refused b t task (build.GaveUp layout nets logs tallies) r asked fault is = refused_given_up b t task layout nets logs tallies r asked fault is
+refused b t task (build.Bits fault) r asked bits is =
+    let name = b.package_name in
+    let rounds = b.effort.rounds in
     let layout = bits.0.layout in
     let laid = bits.1.laid in
-    bits_refused (Stands name rounds t) fault cause
-    (λ known. end_so name rounds t task layout.pads laid.placed.first (BadBits fault) asked (pins_good task layout laid) (places_good task layout laid) bits) is
-refused name rounds t task build.NoMemory cause asked free is = subst (IsRefusal (Stands name rounds t)) (sym is) tt
+    refused_alone b t r (bits_refused (Stands name rounds t) fault r.cause
+    (λ known. end_so name rounds t task layout.pads laid.placed.first (BadBits fault) asked (pins_good task layout laid) (places_good task layout laid) bits) is.0) (bits_alone fault r.cause is.0) is.1
+refused b t task build.NoMemory r asked free is = refused_for_memory b t r is.0 is.1
 
+-- ---- what is made
 -- what is shown of a netlist is shown of one with as many ports that shows the same
 circuit_as : (m n : NetlistData) (ports : List Pad) (parts : Parts) (k : Configuration) → length m.ports ≡ length n.ports → ((levels : List (List Bool)) → shows m levels ≡ shows n levels)
     → IsCircuitOf m ports parts k → IsCircuitOf n ports parts k
@@ -73,6 +185,7 @@ circuit_as m n ports parts k long same is = record {
 -- what promoted clocks leave as it is
 pub record StaysSo : Type 0 where
   pub pins : PinsStay
+  pub reports : PinReportsStay
   pub shows : PromotedShowTheSame
 
 module _ (b : Build) (t : List (List ℕ)) (task : Task) (built : Built) (asked : IsAsked b.package_name t task) (formed : IsFormed asked.circuit) (stays : StaysSo) (is : IsBuilt task b.effort.rounds built) where
@@ -88,24 +201,56 @@ module _ (b : Build) (t : List (List ℕ)) (task : Task) (built : Built) (asked 
       (stays.shows asked.circuit (free_globals task.parts asked.circuit) formed)
       (subst (λ (n : NetlistData). IsCircuitOf n built.layout.pads.ports task.parts built.bits) asked.is_promoted shown)
 
-  made_is : (text : List ℕ) (on : List TileAt) (counted : List Shut) → IsCircuitOf task.circuit built.layout.pads.ports task.parts built.bits → text ≡ asc_text task.parts built.bits → on ≡ built.layout.placement
-      → counted ≡ built.routed.tallies.items → (IsOf task.parts built.bits → asc_in task.parts text ≡ Ok built.bits) → IsMade b t text on counted
-  made_is text on counted shown is_text here tallied read_back = record {
+  -- the package is there
+  named : package_of task.parts b.package_name ≡ Some is.stands.0
+  named = subst (λ (name : List ℕ). package_of task.parts name ≡ Some is.stands.0) asked.is_name is.stands.1
+
+  -- the report on the pins tells of the netlist read
+  pins_told : pins_text (package_of task.parts b.package_name) task.circuit built.layout.pads.ports ≡ pin_text asked.circuit is.stands.0 built.layout.pads.ports
+  pins_told =
+      ap (λ (bonded : Option PackageRows). pins_text bonded task.circuit built.layout.pads.ports) named
+      ∙ ap (λ (n : NetlistData). pin_text n is.stands.0 built.layout.pads.ports) asked.is_promoted
+      ∙ stays.reports asked.circuit (free_globals task.parts asked.circuit) is.stands.0 built.layout.pads.ports formed
+
+  -- each net has its tree
+  trees_told : length built.routed.trees.items ≡ net_count task.parts (plan_in built.layout)
+  trees_told = sym (length-map built.routed.trees.items route_of) ∙ is.trees.count
+
+  -- what is made of what was built
+  abbrev texts_here : List ℕ → ℕ → List (List ℕ)
+  texts_here pins nets =
+      texts_of b (asc_text task.parts built.bits) pins
+      (route_text (length built.layout.design.cells) (length built.layout.clusters.list) nets built.routed.logs.items true)
+
+  made_is : (made : List (List ℕ)) (on : List TileAt) (counted : List Shut) → IsCircuitOf task.circuit built.layout.pads.ports task.parts built.bits
+      → made ≡ texts_here (pins_text (package_of task.parts b.package_name) task.circuit built.layout.pads.ports) (length built.routed.trees.items) → on ≡ built.layout.placement
+      → counted ≡ built.routed.tallies.items → (IsOf task.parts built.bits → asc_in task.parts (asc_text task.parts built.bits) ≡ Ok built.bits) → IsMade b t made on counted
+  made_is made on counted shown texts here tallied read_back = record {
     task = task;
     built = built;
+    bonded = is.stands.0;
     is_asked = asked;
     is_built = is;
+    is_package = named;
     is_placement = here;
     are_tallies = tallied;
-    is_text = is_text;
+    are_texts = texts ∙ ap (λ (pins : List ℕ). texts_here pins (length built.routed.trees.items)) pins_told
+        ∙ ap (λ (nets : ℕ). texts_here (pin_text asked.circuit is.stands.0 built.layout.pads.ports) nets) trees_told;
     is_read_back = read_back shown.form;
     are_pads = pads_are;
     is_shown = shown_read shown;
   }
 
-  pub made_of_built : (result : Result Made Cause) → IsCircuitOf task.circuit built.layout.pads.ports task.parts built.bits
-      → IfOk result (λ made. made.text.items ≡ asc_text task.parts built.bits) → IfOk result (λ made. made.placement ≡ built.layout.placement)
-      → IfOk result (λ made. made.tallies.items ≡ built.routed.tallies.items) → IfOk result (λ made. IsOf task.parts built.bits → asc_in task.parts made.text.items ≡ Ok built.bits)
-      → IfOk result (λ made. IsMade b t made.text.items made.placement made.tallies.items)
-  made_of_built (Ok made) shown text here tallied read_back = made_is made.text.items made.placement made.tallies.items shown text here tallied read_back
-  made_of_built (Err cause) shown text here tallied read_back = tt
+  pub made_of_built : (result : Result Made Refused) → IsCircuitOf task.circuit built.layout.pads.ports task.parts built.bits
+      → IfOk result (λ made. made.texts ≡ texts_here (pins_text (package_of task.parts b.package_name) task.circuit built.layout.pads.ports) (length built.routed.trees.items))
+      → IfOk result (λ made. made.placement ≡ built.layout.placement) → IfOk result (λ made. made.tallies.items ≡ built.routed.tallies.items)
+      → IfOk result (λ made. IsOf task.parts built.bits → asc_in task.parts (asc_text task.parts built.bits) ≡ Ok built.bits)
+      → IfOk result (λ made. IsMade b t made.texts made.placement made.tallies.items)
+  made_of_built (Ok made) shown texts here tallied read_back = made_is made.texts made.placement made.tallies.items shown texts here tallied read_back
+  made_of_built (Err refused) shown texts here tallied read_back = tt
+
+-- there was no memory for what is made
+pub made_refused : (b : Build) (t : List (List ℕ)) (result : Result Made Refused) → IfErr result (λ refused. refused.cause ≡ NoMemory) → IfErr result (λ refused. refused.report ≡ None)
+    → IfErr result (IsRefusedWith b t)
+made_refused b t (Ok made) memory none = tt
+made_refused b t (Err refused) memory none = refused_for_memory b t refused memory none

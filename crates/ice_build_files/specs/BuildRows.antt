@@ -1,10 +1,11 @@
 -- When each answer of `build` comes: only where its cause is true, and always there, unless the desk or the memory fails. The other
 -- answers come as those of every command.
-use Rattle.std.specs.Prelude.{◌≡◌, ℕ, true, Some, List, Ok, Err}
+use Rattle.std.specs.Prelude.{◌≡◌, ◌≢◌, ℕ, true, Some, List, Ok, Err}
 use Rattle.std.specs.Global.{Vec}
 use Rattle.ice_base.specs.declared.number.NetNo.{NetNo}
 use Rattle.ice_base.specs.declared.number.TileAt.{TileAt}
 use Rattle.ice_base.specs.declared.number.WireNo.{WireNo}
+use Rattle.ice_asc.specs.Text.{asc_text}
 use Rattle.ice_desk.specs.Desk.{Meaning}
 use Rattle.ice_net.specs.NetlistData.{NetlistData}
 use Rattle.ice_blif.specs.Grammar.{netlist_of}
@@ -23,18 +24,20 @@ use Rattle.ice_pcf.specs.Grammar.{text_says}
 use Rattle.ice_pcf.specs.declared.constraint.Constraint.{Constraint}
 use Rattle.ice_pcf.specs.declared.fault.PcfFault.{PcfFault}
 use Rattle.ice_place.specs.declared.fault.PlaceFault.{PlaceFault}
+use Rattle.ice_report.specs.PinReport.{pin_text}
 use Rattle.ice_words.specs.Grips.{Shut}
 use Rattle.ice_build.specs.Answers.{pins_said, places_said}
 use Rattle.ice_build.specs.Laid.{Task}
 use Rattle.ice_answer.specs.declared.cause.Cause.{Cause}
 use Rattle.ice_answer.specs.declared.cause.Cause.TheVariants.{Good, BadBlif, BadPcf, BadChip, BadNet, BadPin, Overfull, Unreachable, GaveUp, WriteFault, BadBits}
 use Rattle.ice_answer.specs.declared.cause.Done.{Done}
-use Rattle.ice_answer.specs.Rows.{ComesExactly, GoodRow, ReadFaultRow, WriteFaultRow, TooLongRow}
+use Rattle.ice_answer.specs.Rows.{ComesExactly, GoodRow, ReadFaultRow, WriteFaultRow, TooLongRow, PartingRow, IsLeftIn}
 use Rattle.ice_answer.specs.Texts.{OfTexts, HoldsTexts, text_at}
 use Rattle.ice_build_files.specs.Asked.{Build, files_of, Asks}
 use Rattle.ice_build_files.specs.Command.{build_files}
 use Rattle.ice_build_files.specs.Headline.{IsShown}
-use Rattle.ice_build_files.specs.Made.{IsBuiltOn, IsTalliedOn, IsStuckOn, IsGivenUpOn, HasBadBits}
+use Rattle.ice_build_files.specs.Made.{IsMade, IsBuiltOn, IsTalliedOn, IsStuckOn, IsGivenUpOn, IsGivenUpIn, HasBadBits}
+use Rattle.ice_build_files.specs.Reports.{routes_text}
 
 -- ---- the texts
 -- the chip text has this first fault
@@ -159,18 +162,54 @@ pub record GaveUpRow (b : Build) (old : Meaning) (cause : Cause) : Type 0 where
 abbrev pub BitsRow : Build → Meaning → Cause → Type 0
 BitsRow b old cause = (fault : DecodeFault) → cause ≡ BadBits fault → OfTexts (files_of b) old (Asks b.package_name (λ task. HasBadBits task b.effort.rounds fault))
 
--- ---- the headline
--- status 0: where the desk tells its contents, the file of the bits holds the circuit of the netlist
+-- ---- what is written
+-- no report is written to the file of the bits
+abbrev pub IsApart : Build → Type 0
+IsApart b = (b.pins ≢ Some b.asc) × (b.report ≢ Some b.asc)
+
+-- status 0: where the desk tells its contents, the file of the bits holds the circuit of the netlist, unless a report has the same name
 abbrev pub HeadlineRow : Build → Meaning → Meaning → ℕ → Type 0
 HeadlineRow b old new status =
     status ≡ 0 → old.tells ≡ true
-    → (texts : List (List ℕ)) × (text : List ℕ) × HoldsTexts (files_of b) old texts × (new.files b.asc ≡ Some text) × IsShown b.package_name texts text
+    → (texts : List (List ℕ)) × (text : List ℕ) × HoldsTexts (files_of b) old texts × (IsApart b → new.files b.asc ≡ Some text) × IsShown b.package_name texts text
+
+-- Of the texts that the files hold this is built, with this placement and in rounds of these tallies; and what is written tells of it, each
+-- file unless a later one has the same name: the text of its bits, the report on the pins of the netlist read, and the report on the
+-- rounds that led to these bits.
+pub record IsWritten (b : Build) (old new : Meaning) (placement : List TileAt) (tallies : List Shut) : Type 0 where
+  pub texts : List (List ℕ)
+  pub made : List (List ℕ)
+  pub hold : HoldsTexts (files_of b) old texts
+  pub of : IsMade b texts made placement tallies
+  pub bits : IsApart b → new.files b.asc ≡ Some (asc_text of.task.parts of.built.bits)
+  pub pins : (name : List ℕ) → b.pins ≡ Some name → b.report ≢ Some name → new.files name ≡ Some (pin_text of.is_asked.circuit of.bonded of.built.layout.pads.ports)
+  pub report : (name : List ℕ) → b.report ≡ Some name → new.files name ≡ Some (routes_text of.task.parts of.built.layout of.built.routed.logs.items true)
+
+-- status 0: where the desk tells its contents, what the files hold, of the build with the placement and the tallies that are told
+abbrev pub WrittenRow : Build → Meaning → Meaning → Cause → Type 0
+WrittenRow b old new cause = (placement : List TileAt) (tallies : Vec Shut) → cause ≡ Good placement tallies → old.tells ≡ true → IsWritten b old new placement tallies.items
+
+-- Of the texts that the files hold this is the report on the rounds that gave up with this placement, these logs and these tallies. The
+-- file of this name holds it; or the count of write faults rose, and the file holds a front of it, or is as before or empty.
+pub record HoldsReport (b : Build) (old new : Meaning) (name : List ℕ) (placement : List TileAt) (logs : List RoundLog) (tallies : List Shut) : Type 0 where
+  pub texts : List (List ℕ)
+  pub report : List ℕ
+  pub hold : HoldsTexts (files_of b) old texts
+  pub tells : Asks b.package_name (λ task. IsGivenUpIn task b.effort.rounds placement logs tallies report) texts
+  pub left : IsLeftIn name report old new
+
+-- status 10: where the report on the routes is asked for and the desk tells its contents, what the file of the report holds
+abbrev pub ReportedRow : Build → Meaning → Meaning → Cause → Type 0
+ReportedRow b old new cause =
+    (placement : List TileAt) (logs : Vec RoundLog) (tallies : Vec Shut) (name : List ℕ) → cause ≡ GaveUp placement logs tallies → b.report ≡ Some name → old.tells ≡ true
+    → HoldsReport b old new name placement logs.items tallies.items
 
 -- ---- all of them
 -- The end of `build`, where the desk was seen as `old` before and is seen as `new` after.
 pub record IsBuildAnswer (b : Build) (old new : Meaning) (end : Done) : Type 0 where
   pub headline : HeadlineRow b old new end.status
   pub good : GoodRow (build_files b) old new end.cause end.status
+  pub written : WrittenRow b old new end.cause
   pub built : BuiltRow b old end.cause
   pub bad_blif : BlifRow b old end.cause
   pub bad_pcf : PcfRow b old end.cause
@@ -181,6 +220,8 @@ pub record IsBuildAnswer (b : Build) (old new : Meaning) (end : Done) : Type 0 w
   pub tried : TriedRow b old end.cause
   pub unreachable : UnreachableRow b old end.cause
   pub gave_up : GaveUpRow b old end.cause
+  pub parted : PartingRow (build_files b) old new end.cause
+  pub reported : ReportedRow b old new end.cause
   pub bad_bits : BitsRow b old end.cause
   pub read_fault : ReadFaultRow (build_files b) old new end.cause
   pub write_fault : WriteFaultRow (build_files b) old new end.cause

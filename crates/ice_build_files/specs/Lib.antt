@@ -1,8 +1,10 @@
 pub mod Asked
+pub mod Reports
 pub mod Made
 pub mod Headline
 pub mod Ending
 pub mod Standing
+pub mod Parting
 pub mod Command
 pub mod Requests
 pub mod BuildRows

@@ -1,41 +1,43 @@
 -- What `build` makes of its texts, and what it shows.
-use Rattle.std.specs.Prelude.{◌≡◌, ℕ, List, Ok}
-use Rattle.ice_base.specs.declared.number.NetNo.{NetNo}
+use Rattle.std.specs.Prelude.{◌≡◌, ℕ, true, false, Some, List, Ok}
 use Rattle.ice_base.specs.declared.number.TileAt.{TileAt}
-use Rattle.ice_base.specs.declared.number.WireNo.{WireNo}
 use Rattle.ice_asc.specs.Grammar.{asc_in}
 use Rattle.ice_asc.specs.Text.{asc_text}
 use Rattle.ice_cells.specs.Runs.{design_of}
+use Rattle.ice_chip.specs.Database.{PackageRows}
+use Rattle.ice_chip.specs.Lookups.{package_of}
 use Rattle.ice_core.specs.declared.log.RoundLog.{RoundLog}
 use Rattle.ice_decode.specs.declared.fault.DecodeFault.{DecodeFault}
 use Rattle.ice_pads.specs.Assign.{assign_of}
+use Rattle.ice_report.specs.PinReport.{pin_text}
 use Rattle.ice_words.specs.Grips.{Shut}
-use Rattle.ice_build.specs.Answers.{IsBuilt, IsStuck, IsGivenUp, IsUndecoded}
-use Rattle.ice_build.specs.Laid.{Task, IsLaidOut, plan_in}
+use Rattle.ice_build.specs.Answers.{IsBuilt, IsGivenUp, IsUndecoded}
+use Rattle.ice_build.specs.Laid.{Task, plan_in}
+pub use Rattle.ice_build.specs.Placements.{IsLaidOn, IsStuckOn, IsGivenUpOn}
 use Rattle.ice_build.specs.Shown.{IsCircuitOf}
 use Rattle.ice_build.specs.declared.answer.Built.{Built}
-use Rattle.ice_build.specs.declared.answer.Layout.{Layout}
 use Rattle.ice_build_files.specs.Asked.{Build, IsAsked}
+use Rattle.ice_build_files.specs.Reports.{routes_text, texts_of}
 
--- The netlist that the texts say is built with this placement and in rounds of these tallies, and this is the text of the bits. The text
--- says these bits, and they are a circuit that shows what the netlist read shows, at the pads of its ports.
-pub record IsMade (b : Build) (texts : List (List ℕ)) (text : List ℕ) (placement : List TileAt) (tallies : List Shut) : Type 0 where
+-- The netlist that the texts say is built with this placement and in rounds of these tallies, and these texts are made of it: that of the
+-- bits; where it is asked for, the report on the pins, which tells of the netlist read; and where it is asked for, the report on the
+-- routes, which tells of the rounds that led to the bits. The text of the bits says them, and they are a circuit that shows what the
+-- netlist read shows, at the pads of its ports.
+pub record IsMade (b : Build) (texts made : List (List ℕ)) (placement : List TileAt) (tallies : List Shut) : Type 0 where
   pub task : Task
   pub built : Built
+  pub bonded : PackageRows
   pub is_asked : IsAsked b.package_name texts task
   pub is_built : IsBuilt task b.effort.rounds built
+  pub is_package : package_of task.parts b.package_name ≡ Some bonded
   pub is_placement : placement ≡ built.layout.placement
   pub are_tallies : tallies ≡ built.routed.tallies.items
-  pub is_text : text ≡ asc_text task.parts built.bits
-  pub is_read_back : asc_in task.parts text ≡ Ok built.bits
+  pub are_texts : made ≡ texts_of b (asc_text task.parts built.bits) (pin_text is_asked.circuit bonded built.layout.pads.ports) (routes_text task.parts built.layout built.routed.logs.items true)
+  pub is_read_back : asc_in task.parts (asc_text task.parts built.bits) ≡ Ok built.bits
   pub are_pads : assign_of task.parts b.package_name task.constraints is_asked.circuit (design_of task.circuit) ≡ Ok built.layout.pads
   pub is_shown : IsCircuitOf is_asked.circuit built.layout.pads.ports task.parts built.bits
 
 -- ---- of a placement
--- the task is laid out with this placement, and this is true of the layout
-abbrev pub IsLaidOn : Task → List TileAt → (Layout → Type 0) → Type 0
-IsLaidOn task placement IsSo = (layout : Layout) × IsLaidOut task layout × (layout.placement ≡ placement) × IsSo layout
-
 -- with this placement the task is built
 abbrev pub IsBuiltOn : Task → ℕ → List TileAt → Type 0
 IsBuiltOn task rounds placement = (built : Built) × IsBuilt task rounds built × (built.layout.placement ≡ placement)
@@ -44,13 +46,11 @@ IsBuiltOn task rounds placement = (built : Built) × IsBuilt task rounds built �
 abbrev pub IsTalliedOn : Task → ℕ → List TileAt → List Shut → Type 0
 IsTalliedOn task rounds placement tallies = (built : Built) × IsBuilt task rounds built × (built.layout.placement ≡ placement) × (built.routed.tallies.items ≡ tallies)
 
--- with this placement no walk leads from the net's root to any target of a sink, of which this is the first
-abbrev pub IsStuckOn : Task → List TileAt → NetNo → WireNo → Type 0
-IsStuckOn task placement net sink = IsLaidOn task placement (λ layout. IsStuck task.parts (plan_in layout) net sink)
-
--- with this placement each permitted round ends with an overused wire, and these are the logs and the tallies of the rounds
-abbrev pub IsGivenUpOn : Task → ℕ → List TileAt → List RoundLog → List Shut → Type 0
-IsGivenUpOn task rounds placement logs tallies = IsLaidOn task placement (λ layout. IsGivenUp task.parts (plan_in layout) rounds logs tallies)
+-- with this placement each permitted round ends with an overused wire, these are the logs and the tallies of the rounds, and this is the
+-- report on them
+abbrev pub IsGivenUpIn : Task → ℕ → List TileAt → List RoundLog → List Shut → List ℕ → Type 0
+IsGivenUpIn task rounds placement logs tallies report =
+    IsLaidOn task placement (λ layout. IsGivenUp task.parts (plan_in layout) rounds logs tallies × (report ≡ routes_text task.parts layout logs false))
 
 -- ---- of bits
 -- the task is built, but for this fault the bits have no circuit; so some global of the chip is fed by a global

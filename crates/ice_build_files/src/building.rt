@@ -1,12 +1,11 @@
-//! Building: three texts are read, the netlist is built, and the text of its bits is written.
+//! Building: three texts are read, the netlist is built, and the text of its bits is written, with the reports that are asked for.
 ghost use Rattle.std.specs.Prelude.{◌≡◌, true, Ok, IfOk, IfErr};
-ghost use Rattle.ice_answer.specs.declared.cause.FileRole.TheVariants.{Asc};
 ghost use Rattle.ice_answer.specs.Causes.{status_of};
-ghost use Rattle.ice_answer.specs.Commands.{InFile, IsRefusal, IsTrueOf};
-ghost use Rattle.ice_answer.specs.Ends.{IsMadeOf, IsToldLong};
+ghost use Rattle.ice_answer.specs.Commands.{InFiles, IsTrueOf};
+ghost use Rattle.ice_answer.specs.Ends.{IsEndInFiles, IsMadeOf, IsReported, IsToldLong, unreported};
 ghost use Rattle.ice_answer.specs.Reading.{TellsLong};
-ghost use Rattle.ice_answer.specs.Rows.{SaidBy, KeptRow, MadeRow, SilentRow};
-ghost use Rattle.ice_answer.specs.Texts.{text_at};
+ghost use Rattle.ice_answer.specs.Rows.{SaidBy, KeptRow, MadeRow, SilentRow, PartingRow};
+ghost use Rattle.ice_answer.specs.Texts.{text_at, ArePermitted};
 ghost use Rattle.ice_blif.specs.Cells.{IsWithinLimits};
 ghost use Rattle.ice_blif.specs.Grammar.{netlist_of};
 ghost use Rattle.ice_build.specs.Laid.{task_of};
@@ -17,18 +16,19 @@ ghost use Rattle.ice_desk.specs.Desk.{SameButReading, SameTest};
 ghost use Rattle.ice_net.specs.Formed.{IsFormed};
 ghost use Rattle.ice_net.specs.NetlistData.{NetlistData};
 ghost use Rattle.ice_promote.specs.Promotable.{CanBePromoted};
-ghost use Rattle.ice_build_files.specs.Asked.{IsAsked};
+ghost use Rattle.ice_build_files.specs.Asked.{IsAsked, outputs_of, parting_of};
 ghost use Rattle.ice_build_files.specs.BuildRows.{IsRead, IsBuildAnswer};
 ghost use Rattle.ice_build_files.specs.Command.{build_files};
 ghost use Rattle.ice_build_files.specs.Made.{IsMade};
+ghost use Rattle.ice_build_files.specs.Parting.{IsRefusedWith};
 ghost use Rattle.ice_build_files.specs.Requests.{request_view};
-ghost use Rattle.ice_build_files.specs.Standing.{Stands};
 
-use crate::ending::{build_refusal, made_of};
+use crate::ending::{build_refusal, made_of, without_report};
+use crate::files::{outputs, parting};
 use crate::request::BuildRequest;
 use ice_answer::{
-    Cause, Done, FileRole, InputFile, Made, Texts, blif_refusal, chip_refusal, end_in_file,
-    net_refusal, pcf_refusal, read_texts,
+    Cause, CommandFile, Done, FileRole, Made, Refused, Texts, blif_refusal, chip_refusal,
+    end_in_files, net_refusal, pcf_refusal, read_texts,
 };
 use ice_base::NoMemory;
 use ice_blif::read_blif;
@@ -37,7 +37,7 @@ use ice_build::build;
 use ice_check::{Sound, check};
 use ice_chip::Chip;
 use ice_chip_read::read_chip;
-use ice_clocks::laws::pins_stay;
+use ice_clocks::laws::{pin_reports_stay, pins_stay};
 use ice_clocks::promote_clocks;
 use ice_desk::{Desk, Gate};
 use ice_net::Netlist;
@@ -70,19 +70,20 @@ fn build_promoted<G: Gate + Sync, R: Threads + Sync>(
     chip: &Chip,
     pcf: &Pcf,
     sound: &Sound,
-) -> Result<Made, Cause>
+) -> Result<Made, Refused>
     requires asked { IsAsked request.now.package_name.now texts.now (task_of chip.now request.now.package_name.now pcf.now sound.now) }
     requires formed { (n : NetlistData) → netlist_of (text_at texts.now 3) ≡ Ok n → IsFormed n }
     requires effort { IsPermitted request.now.effort }
-    ensures made { IfOk result (λ made. IsMade (request_view request.now) texts.now made.text.items made.placement made.tallies.items) }
-    ensures refused { IfErr result (λ cause. IsRefusal (Stands request.now.package_name.now request.now.effort.rounds texts.now) cause) }
+    ensures made { IfOk result (λ made. IsMade (request_view request.now) texts.now made.texts made.placement made.tallies.items) }
+    ensures refused { IfErr result (IsRefusedWith (request_view request.now) texts.now) }
 {
     pins_stay();
+    pin_reports_stay();
     promoted_show_the_same();
     let name = request.package_name.as_bytes();
     match build(rt, alloc, chip, name, pcf, sound, request.effort, gate) {
-        Ok(built) => made_of(alloc, chip, built),
-        Err(fault) => Err(build_refusal(fault)),
+        Ok(built) => made_of(alloc, chip, request, sound.netlist(), built),
+        Err(fault) => Err(build_refusal(alloc, request, fault)),
     }
 }
 
@@ -96,18 +97,18 @@ fn build_sound<G: Gate + Sync, R: Threads + Sync>(
     chip: &Chip,
     pcf: &Pcf,
     sound: Sound,
-) -> Result<Made, Cause>
+) -> Result<Made, Refused>
     requires read { IsRead texts.now chip.now pcf.now }
     requires netlist { netlist_of (text_at texts.now 3) ≡ Ok sound }
     requires limits { IsWithinLimits sound }
     requires effort { IsPermitted request.now.effort }
-    ensures made { IfOk result (λ made. IsMade (request_view request.now) texts.now made.text.items made.placement made.tallies.items) }
-    ensures refused { IfErr result (λ cause. IsRefusal (Stands request.now.package_name.now request.now.effort.rounds texts.now) cause) }
+    ensures made { IfOk result (λ made. IsMade (request_view request.now) texts.now made.texts made.placement made.tallies.items) }
+    ensures refused { IfErr result (IsRefusedWith (request_view request.now) texts.now) }
 {
     can_be_promoted(texts, &sound);
     match promote_clocks(alloc, chip, sound) {
         Ok(promoted) => build_promoted(rt, alloc, gate, request, texts, chip, pcf, &promoted),
-        Err(NoMemory) => Err(Cause::NoMemory),
+        Err(NoMemory) => Err(without_report(Cause::NoMemory)),
     }
 }
 
@@ -121,17 +122,17 @@ fn build_net<G: Gate + Sync, R: Threads + Sync>(
     chip: &Chip,
     pcf: &Pcf,
     netlist: Netlist,
-) -> Result<Made, Cause>
+) -> Result<Made, Refused>
     requires read { IsRead texts.now chip.now pcf.now }
     requires netlist { netlist_of (text_at texts.now 3) ≡ Ok netlist }
     requires limits { IsWithinLimits netlist }
     requires effort { IsPermitted request.now.effort }
-    ensures made { IfOk result (λ made. IsMade (request_view request.now) texts.now made.text.items made.placement made.tallies.items) }
-    ensures refused { IfErr result (λ cause. IsRefusal (Stands request.now.package_name.now request.now.effort.rounds texts.now) cause) }
+    ensures made { IfOk result (λ made. IsMade (request_view request.now) texts.now made.texts made.placement made.tallies.items) }
+    ensures refused { IfErr result (IsRefusedWith (request_view request.now) texts.now) }
 {
     match check(alloc, netlist) {
         Ok(sound) => build_sound(rt, alloc, gate, request, texts, chip, pcf, sound),
-        Err(fault) => Err(net_refusal(fault)),
+        Err(fault) => Err(without_report(net_refusal(fault))),
     }
 }
 
@@ -144,15 +145,15 @@ fn build_read<G: Gate + Sync, R: Threads + Sync>(
     texts: &Texts,
     chip: &Chip,
     pcf: &Pcf,
-) -> Result<Made, Cause>
+) -> Result<Made, Refused>
     requires read { IsRead texts.now chip.now pcf.now }
     requires effort { IsPermitted request.now.effort }
-    ensures made { IfOk result (λ made. IsMade (request_view request.now) texts.now made.text.items made.placement made.tallies.items) }
-    ensures refused { IfErr result (λ cause. IsRefusal (Stands request.now.package_name.now request.now.effort.rounds texts.now) cause) }
+    ensures made { IfOk result (λ made. IsMade (request_view request.now) texts.now made.texts made.placement made.tallies.items) }
+    ensures refused { IfErr result (IsRefusedWith (request_view request.now) texts.now) }
 {
     match read_blif(alloc, texts.at(3)) {
         Ok(netlist) => build_net(rt, alloc, gate, request, texts, chip, pcf, netlist),
-        Err(fault) => Err(blif_refusal(fault)),
+        Err(fault) => Err(without_report(blif_refusal(fault))),
     }
 }
 
@@ -164,15 +165,15 @@ fn build_on<G: Gate + Sync, R: Threads + Sync>(
     request: &BuildRequest<'_>,
     texts: &Texts,
     chip: &Chip,
-) -> Result<Made, Cause>
+) -> Result<Made, Refused>
     requires chip { chip_says (text_at texts.now 1) ≡ Ok chip.now }
     requires effort { IsPermitted request.now.effort }
-    ensures made { IfOk result (λ made. IsMade (request_view request.now) texts.now made.text.items made.placement made.tallies.items) }
-    ensures refused { IfErr result (λ cause. IsRefusal (Stands request.now.package_name.now request.now.effort.rounds texts.now) cause) }
+    ensures made { IfOk result (λ made. IsMade (request_view request.now) texts.now made.texts made.placement made.tallies.items) }
+    ensures refused { IfErr result (IsRefusedWith (request_view request.now) texts.now) }
 {
     match read_pcf(alloc, texts.at(2)) {
         Ok(pcf) => build_read(rt, alloc, gate, request, texts, chip, &pcf),
-        Err(fault) => Err(pcf_refusal(fault)),
+        Err(fault) => Err(without_report(pcf_refusal(fault))),
     }
 }
 
@@ -183,14 +184,14 @@ fn build_texts<G: Gate + Sync, R: Threads + Sync>(
     gate: &G,
     request: &BuildRequest<'_>,
     texts: &Texts,
-) -> Result<Made, Cause>
+) -> Result<Made, Refused>
     requires { IsPermitted request.now.effort }
-    ensures made { IfOk result (λ made. IsMade (request_view request.now) texts.now made.text.items made.placement made.tallies.items) }
-    ensures refused { IfErr result (λ cause. IsRefusal (Stands request.now.package_name.now request.now.effort.rounds texts.now) cause) }
+    ensures made { IfOk result (λ made. IsMade (request_view request.now) texts.now made.texts made.placement made.tallies.items) }
+    ensures refused { IfErr result (IsRefusedWith (request_view request.now) texts.now) }
 {
     match read_chip(alloc, texts.at(1)) {
         Ok(chip) => build_on(rt, alloc, gate, request, texts, &chip),
-        Err(fault) => Err(chip_refusal(fault)),
+        Err(fault) => Err(without_report(chip_refusal(fault))),
     }
 }
 
@@ -201,39 +202,51 @@ fn make<D: Desk, G: Gate + Sync, R: Threads + Sync>(
     desk: &mut D,
     gate: &G,
     request: &BuildRequest<'_>,
-) -> Result<Made, Cause>
+) -> Result<Made, Refused>
     requires chip { D.may_read desk.old request.now.chip.now }
     requires pcf { D.may_read desk.old request.now.pcf.now }
     requires blif { D.may_read desk.old request.now.blif.now }
     requires effort { IsPermitted request.now.effort }
     ensures same { SameButReading (D.seen desk.old) (D.seen desk.new) }
     ensures names_written { SameTest (D.may_write desk.old) (D.may_write desk.new) }
-    ensures made { IsMadeOf (build_files (request_view request.now)) (D.seen desk.old) (D.seen desk.new) result }
-    ensures given { IsToldLong (D.seen desk.new) result }
+    ensures made { IsMadeOf (build_files (request_view request.now)) (D.seen desk.old) (D.seen desk.new) (unreported result) }
+    ensures reported { IsReported (build_files (request_view request.now)) (D.seen desk.old) result }
+    ensures given { IsToldLong (D.seen desk.new) (unreported result) }
 {
     let files = [
-        InputFile {
+        CommandFile {
             role: FileRole::Chip,
             name: request.chip,
         },
-        InputFile {
+        CommandFile {
             role: FileRole::Pcf,
             name: request.pcf,
         },
-        InputFile {
+        CommandFile {
             role: FileRole::Blif,
             name: request.blif,
         },
     ];
     match read_texts(alloc, desk, &files) {
         Ok(texts) => build_texts(rt, alloc, gate, request, &texts),
-        Err(cause) => Err(cause),
+        Err(cause) => Err(without_report(cause)),
     }
 }
 
-/// Builds the netlist of one file on the chip of another, with the constraints of a third: reads the texts, makes the text of the bits,
-/// and only then writes it to the file of bits. A refusal says its line, and writes nothing. It may try for 1 to 64 rounds of routing,
-/// with 1 to 8 workers, each in a thread, which pass the gate.
+// Writes what was made to its files, or says the line of the refusal, with the report that it leaves. It takes no memory.
+fn give<D: Desk>(desk: &mut D, made: Result<Made, Refused>, request: &BuildRequest<'_>) -> Done
+    requires { ArePermitted (D.may_write desk.old) (outputs_of (request_view request.now)) }
+    ensures status { result.status ≡ status_of result.cause }
+    ensures end { IsEndInFiles (outputs_of (request_view request.now)) (parting_of (request_view request.now)) made (D.seen desk.old) (D.seen desk.new) result.cause }
+{
+    let (files, count) = outputs(request);
+    end_in_files(desk, made, &files[..count], parting(request))
+}
+
+/// Builds the netlist of one file on the chip of another, with the constraints of a third: reads the texts, makes the text of the bits
+/// and the reports that are asked for, and only then writes them: first the bits, then the report on the pins, then that on the routes. A
+/// refusal says its line, and writes nothing; but where the rounds give up, the report on them is written, if it is asked for. It may try
+/// for 1 to 64 rounds of routing, with 1 to 8 workers, each in a thread, which pass the gate.
 ///
 /// Where it is done and the desk tells its contents, the text that was written, read by the database of the chip's file, is a circuit
 /// that for every list of levels shows step by step at the ports' pads what the netlist shows, and drives no other pad.
@@ -247,17 +260,18 @@ pub fn build_files<D: Desk, G: Gate + Sync, R: Threads + Sync>(
     requires chip { D.may_read desk.old request.now.chip.now }
     requires pcf { D.may_read desk.old request.now.pcf.now }
     requires blif { D.may_read desk.old request.now.blif.now }
-    requires asc { D.may_write desk.old request.now.asc.now }
+    requires outputs { ArePermitted (D.may_write desk.old) (outputs_of (request_view request.now)) }
     requires effort { IsPermitted request.now.effort }
     ensures status { result.status ≡ status_of result.cause }
     ensures cause { IsTrueOf (build_files (request_view request.now)) (D.seen desk.old) (D.seen desk.new) result.cause }
     ensures rows { IsBuildAnswer (request_view request.now) (D.seen desk.old) (D.seen desk.new) result }
-    ensures said { (D.seen desk.old).tells ≡ true → SaidBy (InFile Asc request.now.asc.now) (D.seen desk.old) (D.seen desk.new) result.cause }
-    ensures kept { (D.seen desk.old).tells ≡ true → KeptRow (InFile Asc request.now.asc.now) (D.seen desk.old) (D.seen desk.new) result.cause }
-    ensures made { MadeRow (InFile Asc request.now.asc.now) (D.seen desk.old) (D.seen desk.new) result.cause }
-    ensures silent { SilentRow (InFile Asc request.now.asc.now) (D.seen desk.old) (D.seen desk.new) result.cause }
+    ensures said { (D.seen desk.old).tells ≡ true → SaidBy (InFiles (outputs_of (request_view request.now))) (D.seen desk.old) (D.seen desk.new) result.cause }
+    ensures kept { (D.seen desk.old).tells ≡ true → KeptRow (InFiles (outputs_of (request_view request.now))) (parting_of (request_view request.now)) (D.seen desk.old) (D.seen desk.new) result.cause }
+    ensures made { MadeRow (InFiles (outputs_of (request_view request.now))) (parting_of (request_view request.now)) (D.seen desk.old) (D.seen desk.new) result.cause }
+    ensures silent { SilentRow (InFiles (outputs_of (request_view request.now))) (D.seen desk.old) (D.seen desk.new) result.cause }
+    ensures parted { PartingRow (build_files (request_view request.now)) (D.seen desk.old) (D.seen desk.new) result.cause }
     ensures given { TellsLong (D.seen desk.new) result.cause }
 {
     let made = make(rt, alloc, desk, gate, request);
-    end_in_file(desk, made, FileRole::Asc, request.asc)
+    give(desk, made, request)
 }

@@ -1,49 +1,101 @@
-//! From what was built to what is made of the texts, and from its faults to causes.
-ghost use Rattle.std.specs.Prelude.{◌≡◌, Ok, IfOk, IfErr};
+//! From what was built to what is made of the texts, and from its faults to refusals.
+ghost use Rattle.std.specs.Prelude.{◌≡◌, true, length, None, Ok, IfOk, IfErr};
 ghost use Rattle.ice_answer.specs.declared.cause.Cause.TheVariants.{NoMemory as out_of_memory};
+ghost use Rattle.ice_answer.specs.Ends.{text_of};
 ghost use Rattle.ice_asc.specs.Grammar.{asc_in};
 ghost use Rattle.ice_asc.specs.Text.{asc_text};
 ghost use Rattle.ice_bits.specs.Configuration.{IsOf};
-ghost use Rattle.ice_build_files.specs.Ending.{IsBuildRefusal};
+ghost use Rattle.ice_chip.specs.Lookups.{package_of};
+ghost use Rattle.ice_report.specs.RouteReport.{route_text};
+ghost use Rattle.ice_build_files.specs.Ending.{IsBuildRefusal, HasGivenUpWith};
+ghost use Rattle.ice_build_files.specs.Reports.{pins_text, texts_of};
+ghost use Rattle.ice_build_files.specs.Requests.{request_view};
 
-use ice_answer::{Cause, Made, bits_refusal, pin_refusal, place_refusal};
-use ice_asc::write_asc;
+use crate::request::BuildRequest;
+use crate::texts::{parting_text, texts_of};
+use ice_answer::{Cause, Made, Refused, bits_refusal, pin_refusal, place_refusal};
 use ice_base::NoMemory;
-use ice_build::{BuildFault, Built};
+use ice_build::{BuildFault, Built, Layout};
 use ice_chip::Chip;
+use ice_core::RoundLog;
+use ice_net::Netlist;
+use ice_words::Tally;
 use std::alloc::Global;
 
-/// What is made of what was built: the text of the bits, with the placement and the tallies. Where the bits are of the chip, the text says them.
+/// What is made of what was built of a netlist: the texts that are asked for, with the placement and the tallies. Where the bits are of
+/// the chip, their text says them.
 ///
 /// # Errors
 /// Want of memory alone.
-pub fn made_of(alloc: Global, chip: &Chip, built: Built) -> Result<Made, Cause>
-    ensures text { IfOk result (λ made. made.text.items ≡ asc_text chip.now built.bits) }
+pub fn made_of(
+    alloc: Global,
+    chip: &Chip,
+    request: &BuildRequest<'_>,
+    netlist: &Netlist,
+    built: Built,
+) -> Result<Made, Refused>
+    ensures texts { IfOk result (λ made. made.texts ≡ texts_of (request_view request.now) (asc_text chip.now built.bits) (pins_text (package_of chip.now request.now.package_name.now) netlist.now built.layout.pads.ports) (route_text (length built.layout.design.cells) (length built.layout.clusters.list) (length built.routed.trees.items) built.routed.logs.items true)) }
     ensures placement { IfOk result (λ made. made.placement ≡ built.layout.placement) }
     ensures tallies { IfOk result (λ made. made.tallies.items ≡ built.routed.tallies.items) }
-    ensures read_back { IfOk result (λ made. IsOf chip.now built.bits → asc_in chip.now made.text.items ≡ Ok built.bits) }
-    ensures stop { IfErr result (λ cause. cause ≡ out_of_memory) }
+    ensures read_back { IfOk result (λ made. IsOf chip.now built.bits → asc_in chip.now (asc_text chip.now built.bits) ≡ Ok built.bits) }
+    ensures stop { IfErr result (λ refused. refused.cause ≡ out_of_memory) }
+    ensures unreported { IfErr result (λ refused. refused.report ≡ None) }
 {
-    let mut text = Vec::new(alloc);
-    match write_asc(&built.bits, chip, &mut text) {
-        Ok(()) => {
+    match texts_of(alloc, chip, request, netlist, &built) {
+        Ok(texts) => {
             let layout = built.layout;
             let routed = built.routed;
             Ok(Made {
-                text,
+                texts,
                 placement: layout.placement,
                 tallies: routed.tallies,
             })
         }
-        Err(NoMemory) => Err(Cause::NoMemory),
+        Err(NoMemory) => Err(without_report(Cause::NoMemory)),
     }
 }
 
-/// Why nothing was built: the fault, with the placement of which it is told, or want of memory.
-pub fn build_refusal(fault: BuildFault) -> Cause
-    ensures { IsBuildRefusal fault result }
+// Each permitted round on a placed design with so many nets ended with an overused wire: the report on them is made, where it is asked for.
+fn gave_up(
+    alloc: Global,
+    request: &BuildRequest<'_>,
+    layout: Layout,
+    nets: u32,
+    logs: Vec<RoundLog>,
+    tallies: Vec<Tally>,
+) -> Refused
+    ensures { HasGivenUpWith (request_view request.now) layout nets logs tallies result }
 {
-    match fault {
+    match parting_text(alloc, request, &layout, nets, &logs) {
+        Ok(report) => Refused {
+            cause: Cause::GaveUp {
+                placement: layout.placement,
+                logs,
+                tallies,
+            },
+            report,
+        },
+        Err(NoMemory) => without_report(Cause::NoMemory),
+    }
+}
+
+/// A refusal without a report.
+pub fn without_report(cause: Cause) -> Refused
+    ensures cause { result.cause ≡ cause }
+    ensures report { result.report ≡ None }
+{
+    Refused {
+        cause,
+        report: None,
+    }
+}
+
+/// Why nothing was built: the fault, with the placement of which it is told, or want of memory; and the report on the rounds, where they
+/// gave up and it is asked for.
+pub fn build_refusal(alloc: Global, request: &BuildRequest<'_>, fault: BuildFault) -> Refused
+    ensures { IsBuildRefusal (request_view request.now) fault result }
+{
+    let cause = match fault {
         BuildFault::Pins(fault) => pin_refusal(fault),
         BuildFault::Places(fault) => place_refusal(fault),
         BuildFault::Unreachable { layout, net, sink } => Cause::Unreachable {
@@ -53,14 +105,12 @@ pub fn build_refusal(fault: BuildFault) -> Cause
         },
         BuildFault::GaveUp {
             layout,
+            nets,
             logs,
             tallies,
-        } => Cause::GaveUp {
-            placement: layout.placement,
-            logs,
-            tallies,
-        },
+        } => return gave_up(alloc, request, layout, nets, logs, tallies),
         BuildFault::Bits(fault) => bits_refusal(fault),
         BuildFault::NoMemory => Cause::NoMemory,
-    }
+    };
+    without_report(cause)
 }

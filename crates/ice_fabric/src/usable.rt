@@ -4,13 +4,14 @@ ghost use Rattle.ice_chip.specs.IsRead.{HasWiresBelow};
 ghost use Rattle.ice_chip.specs.Limits.{most_rows};
 ghost use Rattle.ice_chip.specs.Views.{row_view, group_view};
 ghost use Rattle.ice_rows.specs.Index.{IsIndexOf};
+ghost use Rattle.ice_rows.specs.Sources.{AreSources};
 ghost use Rattle.ice_graph.specs.Network.{ArePlaces};
 ghost use Rattle.ice_fabric.specs.Edges.{edges_of, places_of, usable_places, usable_rows};
 
 use ice_base::{NoMemory, RowNo, TileAt};
 use ice_chip::{Chip, Group};
 use ice_graph::{Edge, Graph};
-use ice_rows::{Index, index_of, is_open, is_taken};
+use ice_rows::{Index, index_of, is_open, is_taken, sources_of};
 use std::alloc::Global;
 
 // Adds an edge and the tile of its group, where its row is taken.
@@ -36,11 +37,13 @@ fn add_row(
 fn add_group(
     chip: &Chip,
     index: &Index,
+    sources: &[bool],
     group: &Group,
     edges: &mut Vec<Edge>,
     places: &mut Vec<TileAt>,
 ) -> Result<(), NoMemory>
     requires index { IsIndexOf chip.now index.now }
+    requires sources { AreSources chip.now sources.now }
     requires wires { HasWiresBelow chip.now.wires (group_view group.now) }
     requires few { group.now.first.0 + length group.now.rows.items ≤ most_rows }
     ensures edges { OnOk result (edges.new.items ≡ edges.old.items ++ edges_of chip.now (group_view group.now) group.now.first.0 (group_view group.now).rows) }
@@ -52,7 +55,7 @@ fn add_group(
     for k in 0..group.rows.len() {
         let row = &group.rows[k];
         let number = group.first.0 + k as u32;
-        let taken = is_taken(chip, index, group, number, row);
+        let taken = is_taken(chip, index, sources, group, number, row);
         let edge = Edge {
             row: RowNo(number),
             from: row.source,
@@ -68,8 +71,10 @@ fn usable_rows(
     alloc: Global,
     chip: &Chip,
     index: &Index,
+    sources: &[bool],
 ) -> Result<(Vec<Edge>, Vec<TileAt>), NoMemory>
-    requires { IsIndexOf chip.now index.now }
+    requires index { IsIndexOf chip.now index.now }
+    requires sources { AreSources chip.now sources.now }
     ensures edges { IfOk result (λ r. r.0.items ≡ usable_rows chip.now) }
     ensures places { IfOk result (λ r. r.1.items ≡ usable_places chip.now) }
 {
@@ -77,7 +82,7 @@ fn usable_rows(
     let mut edges = Vec::new(alloc);
     let mut places = Vec::new(alloc);
     for group in chip.groups() {
-        add_group(chip, index, group, &mut edges, &mut places)?;
+        add_group(chip, index, sources, group, &mut edges, &mut places)?;
     }
     Ok((edges, places))
 }
@@ -90,7 +95,8 @@ pub fn indexed_fabric(alloc: Global, chip: &Chip, index: &Index) -> Result<Graph
     ensures places { IfOk result (λ graph. ArePlaces graph (usable_places chip.now)) }
 {
     let wires = chip.wires();
-    let (edges, places) = usable_rows(alloc, chip, index)?;
+    let sources = sources_of(alloc, chip)?;
+    let (edges, places) = usable_rows(alloc, chip, index, &sources)?;
     Graph::placed(alloc, wires, edges, places)
 }
 

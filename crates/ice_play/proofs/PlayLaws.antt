@@ -66,14 +66,14 @@ net_alone texts circuit cause unsound (inr good) = absurd (unsound good.0)
 pub lawful : (p : PlayNet) → Lawful (play_net p)
 unfolding Told
 lawful p = record {
-  done = λ texts text on counted cause g done.
+  done = λ texts made on counted cause g done.
       behind (netlist_of (text_at texts 1)) BadBlif (NetStands (text_at texts 2)) g.0.circuit cause g.0.is_circuit
       (inr (g.0.is_sound, behind (levels_of (length g.0.circuit.ports) (text_at texts 2)) BadLevels (λ levels. IsDone) g.0.levels cause g.0.are_levels done));
   never = λ texts m. told texts Usage m;
 }
 
 pub alone : (p : PlayNet) → StandsAlone (play_net p)
-alone p texts text on counted cause g m =
+alone p texts made on counted cause g m =
     then_stands (levels_of (length g.0.circuit.ports) (text_at texts 2)) BadLevels (λ levels. IsDone) g.0.levels cause g.0.are_levels
     (levels_stand texts g.0.circuit cause g.0.is_sound (net_stands texts g.0.circuit cause g.0.is_circuit m))
 

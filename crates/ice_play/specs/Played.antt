@@ -68,8 +68,8 @@ pub record IsPlayed (texts : List (List ℕ)) (text : List ℕ) : Type 0 where
   pub is_text : text ≡ drives_text (shows circuit levels)
 
 -- what is made of the texts; nothing is placed or routed
-abbrev pub IsMade : List (List ℕ) → List ℕ → List TileAt → List Shut → Type 0
-IsMade texts text placement tallies = IsPlayed texts text × (placement ≡ no_places) × (tallies ≡ [])
+abbrev pub IsMade : List (List ℕ) → List (List ℕ) → List TileAt → List Shut → Type 0
+IsMade texts made placement tallies = IsPlayed texts (text_at made 1) × (placement ≡ no_places) × (tallies ≡ [])
 
 abbrev pub play_net : PlayNet → Command
 play_net p = command_of (files_of p) Stands IsMade Aloud

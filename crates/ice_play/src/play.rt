@@ -1,5 +1,5 @@
 //! Playing a netlist: two texts are read, and the text of drives is said.
-ghost use Rattle.std.specs.Prelude.{◌≡◌, true};
+ghost use Rattle.std.specs.Prelude.{◌≡◌, true, None};
 ghost use Rattle.ice_answer.specs.Causes.{status_of};
 ghost use Rattle.ice_answer.specs.Commands.{Aloud, IsTrueOf};
 ghost use Rattle.ice_answer.specs.Reading.{TellsLong};
@@ -8,8 +8,8 @@ ghost use Rattle.ice_play.specs.Played.{Stands, IsMade, play_net};
 ghost use Rattle.ice_play.specs.Requests.{request_view};
 
 use ice_answer::{
-    Cause, Done, FileRole, InputFile, Made, Making, Texts, blif_refusal, net_refusal, no_placement,
-    no_tallies, say_made,
+    Cause, CommandFile, Done, FileRole, Made, Making, Texts, blif_refusal, made_text, net_refusal,
+    say_made,
 };
 use ice_base::NoMemory;
 use ice_blif::read_blif;
@@ -30,7 +30,7 @@ pub struct NetRequest<'a> {
 impl<'a> Making for NetRequest<'a> {
     ghost stands = { λ request texts cause. Stands texts cause };
 
-    ghost gives = { λ request texts text placement tallies. IsMade texts text placement tallies };
+    ghost gives = { λ request texts made placement tallies. IsMade texts made placement tallies };
 
     fn make(&self, alloc: Global, texts: &Texts) -> Result<Made, Cause> {
         let netlist = match read_blif(alloc, texts.at(1)) {
@@ -47,11 +47,7 @@ impl<'a> Making for NetRequest<'a> {
             Err(LevelFault::NoMemory) => return Err(Cause::NoMemory),
         };
         match play(alloc, &sound, &levels) {
-            Ok(text) => Ok(Made {
-                text,
-                placement: no_placement(alloc),
-                tallies: no_tallies(alloc),
-            }),
+            Ok(text) => made_text(alloc, text),
             Err(NoMemory) => Err(Cause::NoMemory),
         }
     }
@@ -65,16 +61,16 @@ pub fn play_net<D: Desk>(alloc: Global, desk: &mut D, request: &NetRequest<'_>) 
     ensures status { result.status ≡ status_of result.cause }
     ensures cause { IsTrueOf (play_net (request_view request.now)) (D.seen desk.old) (D.seen desk.new) result.cause }
     ensures said { (D.seen desk.old).tells ≡ true → SaidBy Aloud (D.seen desk.old) (D.seen desk.new) result.cause }
-    ensures kept { (D.seen desk.old).tells ≡ true → KeptRow Aloud (D.seen desk.old) (D.seen desk.new) result.cause }
+    ensures kept { (D.seen desk.old).tells ≡ true → KeptRow Aloud None (D.seen desk.old) (D.seen desk.new) result.cause }
     ensures made { (D.seen desk.new).makes ≡ (D.seen desk.old).makes }
     ensures given { TellsLong (D.seen desk.new) result.cause }
 {
     let files = [
-        InputFile {
+        CommandFile {
             role: FileRole::Blif,
             name: request.blif,
         },
-        InputFile {
+        CommandFile {
             role: FileRole::Levels,
             name: request.levels,
         },

@@ -1,5 +1,5 @@
 //! Playing bits: three texts are read, and the text of drives is said.
-ghost use Rattle.std.specs.Prelude.{◌≡◌, true, Ok, IfOk, IfErr};
+ghost use Rattle.std.specs.Prelude.{◌≡◌, true, None, Ok, IfOk, IfErr};
 ghost use Rattle.ice_answer.specs.Causes.{status_of};
 ghost use Rattle.ice_answer.specs.Commands.{Aloud, IsRefusal, IsTrueOf};
 ghost use Rattle.ice_answer.specs.Reading.{TellsLong};
@@ -11,8 +11,8 @@ ghost use Rattle.ice_play_bits.specs.Played.{Stands, IsMade, play_bits};
 ghost use Rattle.ice_play_bits.specs.Requests.{request_view};
 
 use ice_answer::{
-    Cause, Done, FileRole, InputFile, Made, Making, Texts, asc_refusal, bits_refusal, chip_refusal,
-    no_placement, no_tallies, say_made,
+    Cause, CommandFile, Done, FileRole, Made, Making, Texts, asc_refusal, bits_refusal,
+    chip_refusal, made_text, say_made,
 };
 use ice_asc::read_asc;
 use ice_base::NoMemory;
@@ -48,7 +48,7 @@ fn play_read(
 ) -> Result<Made, Cause>
     requires chip { chip_says (text_at texts.now 1) ≡ Ok chip.now }
     requires bits { asc_in chip.now (text_at texts.now 2) ≡ Ok bits.now }
-    ensures played { IfOk result (λ made. IsMade package_name.now texts.now made.text.items made.placement made.tallies.items) }
+    ensures played { IfOk result (λ made. IsMade package_name.now texts.now made.texts made.placement made.tallies.items) }
     ensures refused { IfErr result (λ cause. IsRefusal (Stands package_name.now texts.now) cause) }
 {
     let Some(bonded) = chip.package(package_name.as_bytes()) else {
@@ -64,11 +64,7 @@ fn play_read(
         Err(LevelFault::NoMemory) => return Err(Cause::NoMemory),
     };
     match play_chip(alloc, chip, &circuit, bonded, &levels) {
-        Ok(text) => Ok(Made {
-            text,
-            placement: no_placement(alloc),
-            tallies: no_tallies(alloc),
-        }),
+        Ok(text) => made_text(alloc, text),
         Err(NoMemory) => Err(Cause::NoMemory),
     }
 }
@@ -76,7 +72,7 @@ fn play_read(
 // The text of what the bits of the second text drive on a chip, for all steps.
 fn play_on(alloc: Global, package_name: &str, texts: &Texts, chip: &Chip) -> Result<Made, Cause>
     requires { chip_says (text_at texts.now 1) ≡ Ok chip.now }
-    ensures played { IfOk result (λ made. IsMade package_name.now texts.now made.text.items made.placement made.tallies.items) }
+    ensures played { IfOk result (λ made. IsMade package_name.now texts.now made.texts made.placement made.tallies.items) }
     ensures refused { IfErr result (λ cause. IsRefusal (Stands package_name.now texts.now) cause) }
 {
     match read_asc(alloc, texts.at(2), chip) {
@@ -88,7 +84,7 @@ fn play_on(alloc: Global, package_name: &str, texts: &Texts, chip: &Chip) -> Res
 impl<'a> Making for BitsRequest<'a> {
     ghost stands = { λ request texts cause. Stands request.package_name.now texts cause };
 
-    ghost gives = { λ request texts text placement tallies. IsMade request.package_name.now texts text placement tallies };
+    ghost gives = { λ request texts made placement tallies. IsMade request.package_name.now texts made placement tallies };
 
     fn make(&self, alloc: Global, texts: &Texts) -> Result<Made, Cause> {
         match read_chip(alloc, texts.at(1)) {
@@ -107,20 +103,20 @@ pub fn play_bits<D: Desk>(alloc: Global, desk: &mut D, request: &BitsRequest<'_>
     ensures status { result.status ≡ status_of result.cause }
     ensures cause { IsTrueOf (play_bits (request_view request.now)) (D.seen desk.old) (D.seen desk.new) result.cause }
     ensures said { (D.seen desk.old).tells ≡ true → SaidBy Aloud (D.seen desk.old) (D.seen desk.new) result.cause }
-    ensures kept { (D.seen desk.old).tells ≡ true → KeptRow Aloud (D.seen desk.old) (D.seen desk.new) result.cause }
+    ensures kept { (D.seen desk.old).tells ≡ true → KeptRow Aloud None (D.seen desk.old) (D.seen desk.new) result.cause }
     ensures made { (D.seen desk.new).makes ≡ (D.seen desk.old).makes }
     ensures given { TellsLong (D.seen desk.new) result.cause }
 {
     let files = [
-        InputFile {
+        CommandFile {
             role: FileRole::Chip,
             name: request.chip,
         },
-        InputFile {
+        CommandFile {
             role: FileRole::Asc,
             name: request.asc,
         },
-        InputFile {
+        CommandFile {
             role: FileRole::Levels,
             name: request.levels,
         },

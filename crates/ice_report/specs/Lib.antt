@@ -1,3 +1,4 @@
 pub mod Lines
 pub mod PinReport
 pub mod RouteReport
+pub mod Summary

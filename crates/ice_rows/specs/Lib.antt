@@ -1,6 +1,7 @@
 pub mod Bundles
 pub mod WireNames
 pub mod Sound
+pub mod Sources
 pub mod Usable
 pub mod FirstSound
 pub mod Lists

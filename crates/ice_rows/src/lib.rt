@@ -11,7 +11,9 @@ mod names;
 mod owners;
 mod rows;
 mod sound;
+mod sources;
 
 pub use first::{first_sound, is_joined};
 pub use index::{Index, index_of};
 pub use sound::{is_open, is_sound, is_taken, is_usable};
+pub use sources::sources_of;

@@ -5,11 +5,13 @@ ghost use Rattle.ice_rows.specs.Bundles.{is_private};
 ghost use Rattle.ice_rows.specs.Sound.{is_alone, is_sound};
 ghost use Rattle.ice_rows.specs.Usable.{is_open, is_taken, is_usable};
 ghost use Rattle.ice_rows.specs.Index.{IsIndexOf};
+ghost use Rattle.ice_rows.specs.Sources.{AreSources};
 
 use crate::alone;
 use crate::bundle::is_private;
 use crate::index::{Index, groups_into};
 use crate::names::{has_memory_name, may_enter, may_leave};
+use crate::sources::is_noted;
 use ice_chip::{Chip, Group, Row};
 
 // Whether the row of a number is the one row of its bundle that is on under its values.
@@ -44,17 +46,22 @@ pub fn is_open(chip: &Chip, index: &Index, group: &Group) -> bool
 }
 
 /// Whether the row of an open group is usable: its values turn it on alone in its bundle, its source is no memory's wire,
-/// and a route may leave that. The number is that of the row.
-#[tactic(auto, using(crate::proofs::Taken::taken))]
-pub fn is_taken(chip: &Chip, index: &Index, group: &Group, number: u32, row: &Row) -> bool
+/// and a route may leave that, by what was noted of all wires. The number is that of the row.
+#[tactic(auto, using(crate::proofs::Sourcing::taken_by_source))]
+pub fn is_taken(
+    chip: &Chip,
+    index: &Index,
+    sources: &[bool],
+    group: &Group,
+    number: u32,
+    row: &Row,
+) -> bool
     requires index { IsIndexOf chip.now index.now }
-    requires wire { group.now.wire.0 < chip.now.wires }
+    requires sources { AreSources chip.now sources.now }
     requires source { row.now.source.0 < chip.now.wires }
     ensures { result ≡ is_taken chip.now (group_view group.now) number (row_view row.now) }
 {
-    !has_memory_name(chip, row.source)
-        && is_alone(chip, index, group, number, row)
-        && may_leave(chip, row.source)
+    is_noted(chip, sources, row.source) && is_alone(chip, index, group, number, row)
 }
 
 /// Whether the row of a group is usable: it is sound, and a route may leave its source and enter its wire. The number is

@@ -4,7 +4,7 @@ use Rattle.ice_answer.specs.TextLists.{texts_view}
 use Rattle.ice_answer.specs.Reading.{name_behind}
 use Rattle.ice_answer.specs.Texts.{files_view}
 use Rattle.ice_answer.proofs.ReadStops.{reading_refl, stopped_at, next_place, none_before, text_before}
-use Rattle.ice_answer.proofs.TextFacts.{as_many, may_read_next, next_text, next_stop, one_text_more, one_fits_more}
+use Rattle.ice_answer.proofs.TextFacts.{as_many, may_use_next, next_text, next_stop, one_text_more, one_fits_more}
 use Rattle.ice_answer.proofs.files.read_texts.Goals as goal
 
 pub loop-read-init : goal.loop-read-init
@@ -25,7 +25,7 @@ loop-read-init g c =
 pub read_text-requires : goal.read_text-requires
 read_text-requires g c =
     let D = g.D.Desk in
-    may_read_next (D.may_read c.args.desk.now) (D.may_read c.loop-read.desk) c.args.files.now c.loop-read.read _ c.loop-read.invariant.names_read c.loop-read-test.true c.requires
+    may_use_next (D.may_read c.args.desk.now) (D.may_read c.loop-read.desk) c.args.files.now c.loop-read.read _ c.loop-read.invariant.names_read c.loop-read-test.true c.requires
 
 pub returns-in-Err-clause-stop : goal.returns-in-Err-clause-stop
 returns-in-Err-clause-stop g c =
@@ -57,7 +57,7 @@ loop-read-preserved g c =
       names_written = same_test_trans (D.may_write c.args.desk.now) (D.may_write c.loop-read.desk) (D.may_write c.read_text.new.desk) i.names_written e.names_written;
       within = omega (arith, c.loop-read-test.true);
       begun = λ next is_next. next_place old.begins new.begins next (read + 1) (i.begun new.begins e.begun) is_next;
-      texts = rw c.in-Ok-add_text.ensures (one_text_more old files read (texts_view c.loop-read.texts.items) text (omega (arith, as_many c.args.files.now, c.loop-read-test.true)) i.texts is e.fits);
+      texts = rw c.in-Ok-add_text.ensures.added (one_text_more old files read (texts_view c.loop-read.texts.items) text (omega (arith, as_many c.args.files.now, c.loop-read-test.true)) i.texts is e.fits);
       fits = one_fits_more files old read text i.fits is e.fits;
       given = λ some. e.given;
     }

@@ -1,9 +1,12 @@
-use Rattle.ice_play_bits.proofs.Standing.{asc_refused}
+use Rattle.ice_answer.specs.Texts.{text_at}
+use Rattle.ice_bits_files.proofs.Looks.{asc_refused}
+use Rattle.ice_play_bits.specs.Played.{LevelsStand}
 use Rattle.ice_play_bits.proofs.play.play_on.Goals as goal
 
 pub returns-in-Err-clause-refused : goal.returns-in-Err-clause-refused
 returns-in-Err-clause-refused c =
-    asc_refused c.args.package_name.now c.args.texts.now c.args.chip.now c.in-Err.fault c.asc_refusal.result c.requires (rw c.at.ensures at c.in-Err.ensures.answers) c.asc_refusal.ensures
+    asc_refused (LevelsStand (text_at c.args.texts.now 3)) c.args.package_name.now c.args.texts.now c.args.chip.now c.in-Err.fault c.asc_refusal.result c.requires (rw c.at.ensures at c.in-Err.ensures.answers)
+    c.asc_refusal.ensures
 
 pub returns-in-Ok-clause-played : goal.returns-in-Ok-clause-played
 returns-in-Ok-clause-played c = c.play_read.ensures.played

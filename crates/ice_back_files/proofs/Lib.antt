@@ -1,0 +1,3 @@
+mod Written
+mod PortNames
+pub mod BackLaws

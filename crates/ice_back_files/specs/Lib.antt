@@ -1,0 +1,6 @@
+pub mod Asked
+pub mod Headline
+pub mod Made
+pub mod Command
+pub mod BackRows
+pub mod Requests

@@ -1,0 +1,130 @@
+//! Going back: two texts are read, and the text of the netlist of the bits is written.
+ghost use Rattle.std.specs.Prelude.{◌≡◌, true, None, Ok, IfOk, IfErr};
+ghost use Rattle.ice_answer.specs.Causes.{status_of};
+ghost use Rattle.ice_answer.specs.Commands.{InFiles, IsRefusal, IsTrueOf};
+ghost use Rattle.ice_answer.specs.Reading.{TellsLong};
+ghost use Rattle.ice_answer.specs.Rows.{SaidBy, KeptRow, MadeRow, SilentRow};
+ghost use Rattle.ice_answer.specs.Texts.{text_at};
+ghost use Rattle.ice_chip_read.specs.Whole.{chip_says};
+ghost use Rattle.ice_asc.specs.Grammar.{asc_in};
+ghost use Rattle.ice_back_files.specs.Asked.{outputs_of};
+ghost use Rattle.ice_back_files.specs.BackRows.{IsBackAnswer};
+ghost use Rattle.ice_back_files.specs.Command.{Stands, back_files};
+ghost use Rattle.ice_back_files.specs.Made.{IsMade};
+ghost use Rattle.ice_back_files.specs.Requests.{request_view};
+
+use crate::netlist_text::back_text;
+use ice_answer::{
+    Cause, CommandFile, Done, FileRole, Made, Making, Texts, asc_refusal, bits_refusal,
+    chip_refusal, made_text, write_made,
+};
+use ice_asc::read_asc;
+use ice_base::NoMemory;
+use ice_bits::Bits;
+use ice_chip::Chip;
+use ice_chip_read::read_chip;
+use ice_decode::decode;
+use ice_desk::Desk;
+use ice_pads::PinFault;
+use ice_pin_words::pins_are_words;
+use std::alloc::Global;
+
+/// To write the netlist of the bits of one file on the chip of another, with a port for each pad of the package.
+#[derive(Clone, Copy)]
+pub struct BackRequest<'a> {
+    /// The name of the file of the chip database.
+    pub chip: &'a str,
+    /// The name of the package.
+    pub package_name: &'a str,
+    /// The name of the file of bits.
+    pub asc: &'a str,
+    /// The name of the file that the netlist is written to.
+    pub blif: &'a str,
+}
+
+// The text of the netlist of bits on a chip, which the texts say.
+fn back_read(
+    alloc: Global,
+    package_name: &str,
+    texts: &Texts,
+    chip: &Chip,
+    bits: &Bits,
+) -> Result<Made, Cause>
+    requires chip { chip_says (text_at texts.now 1) ≡ Ok chip.now }
+    requires bits { asc_in chip.now (text_at texts.now 2) ≡ Ok bits.now }
+    ensures made { IfOk result (λ made. IsMade package_name.now texts.now made.texts made.placement made.tallies.items) }
+    ensures refused { IfErr result (λ cause. IsRefusal (Stands package_name.now texts.now) cause) }
+{
+    pins_are_words();
+    let Some(bonded) = chip.package(package_name.as_bytes()) else {
+        return Err(Cause::BadPin(PinFault::NoPackage));
+    };
+    let circuit = match decode(alloc, chip, bits) {
+        Ok(circuit) => circuit,
+        Err(fault) => return Err(bits_refusal(fault)),
+    };
+    match back_text(alloc, chip, &circuit, bonded) {
+        Ok(text) => made_text(alloc, text),
+        Err(NoMemory) => Err(Cause::NoMemory),
+    }
+}
+
+// The text of the netlist of the bits of the second text on a chip.
+fn back_on(alloc: Global, package_name: &str, texts: &Texts, chip: &Chip) -> Result<Made, Cause>
+    requires { chip_says (text_at texts.now 1) ≡ Ok chip.now }
+    ensures made { IfOk result (λ made. IsMade package_name.now texts.now made.texts made.placement made.tallies.items) }
+    ensures refused { IfErr result (λ cause. IsRefusal (Stands package_name.now texts.now) cause) }
+{
+    match read_asc(alloc, texts.at(2), chip) {
+        Ok(bits) => back_read(alloc, package_name, texts, chip, &bits),
+        Err(fault) => Err(asc_refusal(fault)),
+    }
+}
+
+impl<'a> Making for BackRequest<'a> {
+    ghost stands = { λ request texts cause. Stands request.package_name.now texts cause };
+
+    ghost gives = { λ request texts made placement tallies. IsMade request.package_name.now texts made placement tallies };
+
+    fn make(&self, alloc: Global, texts: &Texts) -> Result<Made, Cause> {
+        match read_chip(alloc, texts.at(1)) {
+            Ok(chip) => back_on(alloc, self.package_name, texts, &chip),
+            Err(fault) => Err(chip_refusal(fault)),
+        }
+    }
+}
+
+/// Writes the netlist of the bits of one file on the chip of another: reads the texts, makes the text of the netlist, and only then
+/// writes it to its file. A refusal says its line, and writes nothing.
+///
+/// Where it is done and the desk tells its contents, the text that was written says a sound netlist, of any size. It has a port for each
+/// pad of the package in order, and for every list of levels it shows there step by step what the configured chip shows at the pads.
+pub fn back_files<D: Desk>(alloc: Global, desk: &mut D, request: &BackRequest<'_>) -> Done
+    requires chip { D.may_read desk.old request.now.chip.now }
+    requires asc { D.may_read desk.old request.now.asc.now }
+    requires blif { D.may_write desk.old request.now.blif.now }
+    ensures status { result.status ≡ status_of result.cause }
+    ensures cause { IsTrueOf (back_files (request_view request.now)) (D.seen desk.old) (D.seen desk.new) result.cause }
+    ensures rows { IsBackAnswer (request_view request.now) (D.seen desk.old) (D.seen desk.new) result }
+    ensures said { (D.seen desk.old).tells ≡ true → SaidBy (InFiles (outputs_of (request_view request.now))) (D.seen desk.old) (D.seen desk.new) result.cause }
+    ensures kept { (D.seen desk.old).tells ≡ true → KeptRow (InFiles (outputs_of (request_view request.now))) None (D.seen desk.old) (D.seen desk.new) result.cause }
+    ensures made { MadeRow (InFiles (outputs_of (request_view request.now))) None (D.seen desk.old) (D.seen desk.new) result.cause }
+    ensures silent { SilentRow (InFiles (outputs_of (request_view request.now))) (D.seen desk.old) (D.seen desk.new) result.cause }
+    ensures given { TellsLong (D.seen desk.new) result.cause }
+{
+    let files = [
+        CommandFile {
+            role: FileRole::Chip,
+            name: request.chip,
+        },
+        CommandFile {
+            role: FileRole::Asc,
+            name: request.asc,
+        },
+    ];
+    let outputs = [CommandFile {
+        role: FileRole::Blif,
+        name: request.blif,
+    }];
+    write_made(alloc, desk, &files, request, &outputs)
+}

@@ -1,0 +1,4 @@
+pub mod Looks
+pub mod Told
+pub mod RowLaws
+pub mod OneText

@@ -1,0 +1,13 @@
+use Rattle.std.proofs.Common.{rules}
+use Rattle.ice_answer.specs.Commands.{IsRefusal}
+use Rattle.ice_build_files.specs.Requests.{request_view}
+use Rattle.ice_build_files.specs.Standing.{Stands}
+use Rattle.ice_build_files.proofs.Refusing.{net_alone, refused_by}
+use Rattle.ice_build_files.proofs.building.build_net.Goals as goal
+
+pub returns-in-Err-clause-refused : goal.returns-in-Err-clause-refused
+returns-in-Err-clause-refused g c =
+    let b = request_view c.args.request.now in
+    let cause = c.net_refusal.result in
+    let is : IsRefusal (Stands b.package_name b.effort.rounds c.args.texts.now) cause = search rules in
+    refused_by b c.args.texts.now cause c.without_report.result is (net_alone c.in-Err.fault cause c.net_refusal.ensures) c.without_report.ensures.cause c.without_report.ensures.report

@@ -1,0 +1,4 @@
+mod Refusing
+mod Standing
+mod Telling
+pub mod SampleLaws

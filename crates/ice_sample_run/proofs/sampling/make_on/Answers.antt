@@ -1,0 +1,18 @@
+use Rattle.std.proofs.Common.{[], refl}
+use Rattle.ice_build.specs.Laid.{task_of}
+use Rattle.ice_sample_run.specs.Samples.{package_name}
+use Rattle.ice_sample_run.specs.Standing.{TaskStands, BlifStands}
+use Rattle.ice_sample_run.proofs.Refusing.{refused_behind}
+use Rattle.ice_sample_run.proofs.Standing.{net_so}
+use Rattle.ice_sample_run.proofs.sampling.make_on.Goals as goal
+
+pub route_sound-requires-clause-asked : goal.route_sound-requires-clause-asked
+route_sound-requires-clause-asked g c κs within =
+    record { is_chip = c.requires.chip; is_name = refl; no_constraints = refl; is_circuit = c.in-Ok.ensures.netlist; is_sound = c.in-Ok.ensures.sound }
+
+pub returns-in-Ok-clause-refused : goal.returns-in-Ok-clause-refused
+returns-in-Ok-clause-refused g c =
+    let number = c.args.request.now.number in
+    let parts = c.args.chip.now in
+    refused_behind (BlifStands number parts) (TaskStands (task_of parts package_name [] c.in-Ok.sound)) c.route_sound.result
+    (λ cause m. net_so number parts c.in-Ok.sound cause c.in-Ok.ensures.netlist c.in-Ok.ensures.sound m) c.route_sound.ensures.refused
