@@ -66,7 +66,7 @@ task_so number task cause asked m =
     (net_so number task.parts task.circuit cause asked.is_circuit asked.is_sound (subst (λ (x : Task). TaskStands x cause) (sym (parts_of number task asked)) m))
 
 -- ---- the texts say one task
-one_value : {A E : Type 0} (said : Result A E) (value other : A) → said ≡ Ok value → said ≡ Ok other → value ≡ other
+pub one_value : {A E : Type 0} (said : Result A E) (value other : A) → said ≡ Ok value → said ≡ Ok other → value ≡ other
 one_value said value other a b = cc
 
 pub one_task : (number : ℕ) (a b : Task) → IsAsked number a → IsAsked number b → a ≡ b

@@ -19,6 +19,7 @@ use ice_sample::{sample_chip, sample_net};
 use std::alloc::Global;
 
 // The text of the sample chip.
+#[tactic(auto, unfolding(crate::specs::Samples::chip_text))]
 fn chip_text(alloc: Global) -> Result<Vec<u8>, NoMemory>
     ensures { IfOk result (λ text. text.items ≡ chip_text) }
 {
@@ -28,6 +29,7 @@ fn chip_text(alloc: Global) -> Result<Vec<u8>, NoMemory>
 }
 
 // The text of the sample netlist of a number.
+#[tactic(auto, unfolding(crate::specs::Samples::net_text))]
 fn net_text(alloc: Global, number: u64) -> Result<Vec<u8>, NoMemory>
     ensures { IfOk result (λ text. text.items ≡ net_text number) }
 {

@@ -20,4 +20,4 @@ returns-in-Ok-clause-refused g c = memory_refused (TaskStands (task_of c.args.ch
 pub returns-in-Err-clause-refused : goal.returns-in-Err-clause-refused
 returns-in-Err-clause-refused g c =
     let task = task_of c.args.chip.now package_name [] c.args.sound.now in
-    rw c.route_refusal.ensures (route_refused task c.args.layout c.in-Err.fault c.requires.laid c.in-Err.ensures)
+    rw c.route_refusal.ensures (route_refused task c.args.layout c.in-Err.fault c.requires.laid c.in-Err.ensures.fault)

@@ -10,6 +10,9 @@ pub route_sound-requires-clause-asked : goal.route_sound-requires-clause-asked
 route_sound-requires-clause-asked g c κs within =
     record { is_chip = c.requires.chip; is_name = refl; no_constraints = refl; is_circuit = c.in-Ok.ensures.netlist; is_sound = c.in-Ok.ensures.sound }
 
+pub returns-in-Err-clause-refused : goal.returns-in-Err-clause-refused
+returns-in-Err-clause-refused g c = c.in-Err.ensures.refused c.args.chip.now
+
 pub returns-in-Ok-clause-refused : goal.returns-in-Ok-clause-refused
 returns-in-Ok-clause-refused g c =
     let number = c.args.request.now.number in
