@@ -70,7 +70,7 @@ fn do_sample<D: Desk, G: Gate + Sync, R: Threads + Sync>(
     requires { IsInLimits (asked.Sample number workers) }
     ensures { IsDoneAs (ForSample (sample_view number workers)) (D.seen desk.old) (D.seen desk.new) result }
 {
-    sample(rt, alloc, desk, gate, sample_request(number, workers))
+    sample(rt, alloc, desk, gate, &sample_request(number, workers))
 }
 
 // Does what was asked for.
