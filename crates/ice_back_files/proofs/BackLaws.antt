@@ -1,9 +1,7 @@
 -- When each answer of `back` comes, from how its texts stand.
-use Rattle.std.proofs.Common.{◌≡◌, ◌⊎◌, ℕ, List, inl, inr}
-use Rattle.ice_base.specs.declared.number.TileAt.{TileAt}
+use Rattle.std.proofs.Common.{◌≡◌, ℕ, List, inl, inr}
 use Rattle.ice_desk.specs.Desk.{Meaning}
 use Rattle.ice_chip.specs.Database.{PackageRows}
-use Rattle.ice_words.specs.Grips.{Shut}
 use Rattle.ice_answer.specs.declared.cause.Cause.{Cause}
 use Rattle.ice_answer.specs.declared.cause.Cause.TheVariants.{Usage}
 use Rattle.ice_answer.specs.declared.cause.Done.{Done}
@@ -16,11 +14,10 @@ use Rattle.ice_answer.proofs.CommandRows.{Lawful, StandsAlone, done_row, good_ro
 use Rattle.ice_answer.proofs.Standings.{of_done}
 use Rattle.ice_bits_files.proofs.Looks.{then_so, configured_so}
 use Rattle.ice_bits_files.proofs.RowLaws.{IsLater, IsOnBits, chip_row, asc_row, package_row, bits_row}
-use Rattle.ice_bits_files.proofs.Told.{Refuses, IsBehind, told}
+use Rattle.ice_bits_files.proofs.Told.{told}
 use Rattle.ice_back_files.specs.Asked.{Back}
 use Rattle.ice_back_files.specs.BackRows.{HeadlineRow, IsBackAnswer}
 use Rattle.ice_back_files.specs.Command.{Stands, back_files}
-use Rattle.ice_back_files.specs.Made.{IsMade}
 
 abbrev Then : List (List ℕ) → PackageRows → Cause → Type 0
 Then texts bonded = IsDone

@@ -1,3 +1,4 @@
 mod Written
 mod PortNames
+mod Making
 pub mod BackLaws

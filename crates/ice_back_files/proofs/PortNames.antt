@@ -1,5 +1,5 @@
 -- The ports of the netlist of bits, by the names of their signals.
-use Rattle.std.proofs.Common.{◌≡◌, ℕ, zero, suc, ◌+◌, ◌*◌, List, [], ◌∷◌, ◌++◌, length, map, refl, sym, ap, ◌∙◌, arith}
+use Rattle.std.proofs.Common.{◌≡◌, ℕ, suc, ◌+◌, ◌*◌, List, [], ◌∷◌, ◌++◌, length, map, refl, ap, ◌∙◌, arith}
 use Rattle.std.specs.List.{flat_map, range_with_len}
 use Rattle.std.specs.Prelude.{codes, slice_index_or}
 use Rattle.ice_chip.specs.Database.{Parts, PackageRows}
@@ -25,7 +25,7 @@ module _ (rows : PackageRows) (first second : List ℕ) (rest : List (List ℕ))
       let behind : port_number a ≡ suc (suc (2 * a)) = omega arith in
       let here : 2 * a ≡ 2 * (a + 0) = omega arith in
       let name : name_at (first ∷ second ∷ named) (port_number a) ≡ codes "p_" ++ first_pin rows pad =
-          ap (name_at (first ∷ second ∷ named)) behind ∙ ap (name_at named) here ∙ is 0 in
+      ap (name_at (first ∷ second ∷ named)) behind ∙ ap (name_at named) here ∙ is 0 in
       let later = named_from named (a + 1) pads (λ j. next a j (flat_map (pad_names rows) pads ++ rest) named (is (j + 1))) in
       ap (λ (n : List ℕ). (n, Both) ∷ map (named_port (first ∷ second ∷ named)) (map pad_port (range_with_len (a + 1) (length pads)))) name
       ∙ ap (λ (ports : List (List ℕ × Way)). port_of_pad rows pad ∷ ports) later

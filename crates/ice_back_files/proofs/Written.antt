@@ -1,5 +1,5 @@
 -- The netlist of bits can be written, and what its text says.
-use Rattle.std.proofs.Common.{◌≡◌, ◌≢◌, ◌∙◌, ℕ, zero, suc, Bool, true, false, List, [], ◌∷◌, map, Option, None, Some, refl, sym, ap, subst, true≢false}
+use Rattle.std.proofs.Common.{◌≡◌, ◌≢◌, ◌∙◌, ℕ, zero, suc, Bool, false, List, [], ◌∷◌, map, Option, None, Some, refl, sym, ap, subst, true≢false}
 use Rattle.std.specs.List.{AllByRecursion}
 use Rattle.std.specs.Prelude.{All, codes, slice_index_or}
 use Rattle.std.proofs.lemmas.List.Elements.{All-from_recursion}
@@ -22,7 +22,6 @@ use Rattle.ice_back_laws.specs.Numbers.{back_names}
 use Rattle.ice_back_laws.proofs.Names.{names_are_words, none_begins_comment, none_begins_dollar}
 use Rattle.ice_blif_laws.specs.SameNames.{SaysTheSame}
 use Rattle.ice_blif_write.specs.RoundTrip.{IsName, IsDefined, AreDefined, IsDefinedCell, IsWritable, named_port}
-use Rattle.ice_blif_write.specs.Text.{name_of, blif_text}
 use Rattle.ice_back_files.specs.Headline.{SaysBits}
 use Rattle.ice_back_files.proofs.PortNames.{ports_named}
 

@@ -1,7 +1,6 @@
 //! The text of the netlist of a configured chip.
 ghost use Rattle.std.specs.Prelude.{◌≡◌, IfOk};
 ghost use Rattle.ice_value.specs.Order.{Has};
-ghost use Rattle.ice_chip.specs.IsRead.{IsRead};
 ghost use Rattle.ice_chip.specs.Views.{package_view};
 ghost use Rattle.ice_bits.specs.Configuration.{bits_of};
 ghost use Rattle.ice_check.specs.Sound.{IsSound};

@@ -151,8 +151,8 @@ end_tried task rounds cause is = of_end IsTried task rounds (λ placement tallie
 tried_only : (b : Build) (old new : Meaning) (cause : Cause) → IsTrueOf (build_files b) old new cause → IsTried cause → OfTexts (files_of b) old (Asks b.package_name IsPlaceable)
 tried_only b old new cause is tried =
     of_tried (λ c. IsTrueOf (build_files b) old new c → OfTexts (files_of b) old (Asks b.package_name IsPlaceable))
-    (λ placement tallies i. of_weaker (files_of b) old (λ t. IsMade b t i.made placement tallies.items) (Asks b.package_name IsPlaceable) (λ t g. made_placeable b t i.made placement tallies.items g) i.mades)
-    (λ role put i. of_weaker (files_of b) old (λ t. IsMade b t i.made i.placement i.tallies) (Asks b.package_name IsPlaceable) (λ t g. made_placeable b t i.made i.placement i.tallies g) i.mades)
+    (λ placement tallies i. of_weaker (files_of b) old (λ t. IsMade b t i.made placement tallies.items) (Asks b.package_name IsPlaceable) (λ t g. made_placeable b t i.made placement tallies.items g) i.texts)
+    (λ role put i. of_weaker (files_of b) old (λ t. IsMade b t i.made i.placement i.tallies) (Asks b.package_name IsPlaceable) (λ t g. made_placeable b t i.made i.placement i.tallies g) i.texts)
     (λ placement net sink i. told_of b old new (Unreachable placement net sink) (Unreachable placement net sink) (Asks b.package_name IsPlaceable) i refl (λ j. j.0)
     (λ t h. asks_weaker b.package_name (λ task. IsStuckOn task placement net sink) IsPlaceable t (λ task stuck. laid_placeable task stuck.0 stuck.1) h))
     (λ placement logs tallies i. told_of b old new (GaveUp placement logs tallies) (GaveUp placement logs tallies) (Asks b.package_name IsPlaceable) i refl (λ j. j.0)
@@ -191,7 +191,7 @@ tallied_at : (b : Build) (old new : Meaning) (cause : Cause) (placement : List T
 tallied_at b old new cause placement tallies is e =
     let i = subst (λ (x : Cause). IsTrueOf (build_files b) old new x) e is in
     of_weaker (files_of b) old (λ t. IsMade b t i.made placement tallies.items) (Asks b.package_name (λ task. IsTalliedOn task b.effort.rounds placement tallies.items))
-    (λ t g. record { task = g.task; is_asked = g.is_asked; is_so = (g.built, g.is_built, sym g.is_placement, sym g.are_tallies) }) i.mades
+    (λ t g. record { task = g.task; is_asked = g.is_asked; is_so = (g.built, g.is_built, sym g.is_placement, sym g.are_tallies) }) i.texts
 
 built_row : (b : Build) (old new : Meaning) (cause : Cause) → IsTrueOf (build_files b) old new cause → BuiltRow b old cause
 built_row b old new cause is = record {

@@ -1,7 +1,6 @@
 -- From what comes of the texts to what comes of the making.
 use Rattle.std.proofs.Common.{◌≡◌, ◌≤◌, ℕ, Option, None, Some, List, Result, Ok, Err, IfOk, IfErr, refl, sym, subst}
 use Rattle.std.specs.Global.{Vec}
-use Rattle.std.specs.declared.alloc.Global.{Global}
 use Rattle.ice_desk.specs.Desk.{Meaning}
 use Rattle.ice_answer.specs.declared.cause.Cause.{Cause}
 use Rattle.ice_answer.specs.declared.cause.FileRole.TheVariants.{Report}
@@ -66,7 +65,7 @@ pub unread_reported : (b : Build) (old new : Meaning) (cause : Cause) (refused :
     → IsReport (build_files b) old refused.cause (text_of refused.report)
 unread_reported b old new cause refused e none is =
     subst (λ (c : Cause). IsReport (build_files b) old c (text_of refused.report)) (sym e)
-    (subst (λ (o : Option (Vec ℕ Global)). IsReport (build_files b) old cause (text_of o)) (sym none) (λ parts. unread_gave b old new cause is (parting_gave b.report cause parts)))
+    (subst (λ (o : Option (Vec ℕ)). IsReport (build_files b) old cause (text_of o)) (sym none) (λ parts. unread_gave b old new cause is (parting_gave b.report cause parts)))
 
 pub unread_told : (new : Meaning) (cause : Cause) (refused : Refused) → refused.cause ≡ cause → TellsLong new cause → TellsLong new refused.cause
 unread_told new cause refused e told = subst (TellsLong new) (sym e) told

@@ -2,7 +2,6 @@
 use Rattle.std.proofs.Common.{◌≡◌, ◌∙◌, ℕ, Bool, true, false, Option, Some, None, List, length, map, Result, Ok, Err, IfOk, IfErr, inl, inr, refl, sym, ap, subst}
 use Rattle.std.specs.Prelude.{option_map}
 use Rattle.std.specs.Global.{Vec}
-use Rattle.std.specs.declared.alloc.Global.{Global}
 use Rattle.std.proofs.lemmas.List.{length-map}
 use Rattle.ice_base.specs.declared.number.TileAt.{TileAt}
 use Rattle.ice_asc.specs.Grammar.{asc_in}
@@ -96,7 +95,7 @@ pub refused_alone : (b : Build) (t : List (List ℕ)) (refused : Refused) → Is
     → IsRefusedWith b t refused
 refused_alone b t refused is alone none = record {
   refusal = is;
-  report = subst (λ (o : Option (Vec ℕ Global)). HasReport b t refused.cause (text_of o)) (sym none) (λ gave. absurd (alone gave));
+  report = subst (λ (o : Option (Vec ℕ)). HasReport b t refused.cause (text_of o)) (sym none) (λ gave. absurd (alone gave));
 }
 
 pub refused_by : (b : Build) (t : List (List ℕ)) (this : Cause) (refused : Refused) → IsRefusal (Stands b.package_name b.effort.rounds t) this → IsOfNoRounds this → refused.cause ≡ this → refused.report ≡ None
@@ -247,10 +246,10 @@ module _ (b : Build) (t : List (List ℕ)) (task : Task) (built : Built) (asked 
       → IfOk result (λ made. IsOf task.parts built.bits → asc_in task.parts (asc_text task.parts built.bits) ≡ Ok built.bits)
       → IfOk result (λ made. IsMade b t made.texts made.placement made.tallies.items)
   made_of_built (Ok made) shown texts here tallied read_back = made_is made.texts made.placement made.tallies.items shown texts here tallied read_back
-  made_of_built (Err refused) shown texts here tallied read_back = tt
+  made_of_built (Err r) shown texts here tallied read_back = tt
 
 -- there was no memory for what is made
 pub made_refused : (b : Build) (t : List (List ℕ)) (result : Result Made Refused) → IfErr result (λ refused. refused.cause ≡ NoMemory) → IfErr result (λ refused. refused.report ≡ None)
     → IfErr result (IsRefusedWith b t)
 made_refused b t (Ok made) memory none = tt
-made_refused b t (Err refused) memory none = refused_for_memory b t refused memory none
+made_refused b t (Err r) memory none = refused_for_memory b t r memory none

@@ -1,5 +1,5 @@
 -- The refusal of each fault of building.
-use Rattle.std.specs.Prelude.{◌≡◌, ◌⊎◌, ℕ, false, None, List, length, option_map}
+use Rattle.std.specs.Prelude.{◌≡◌, ◌⊎◌, ℕ, false, Option, None, List, length, option_map}
 use Rattle.std.specs.Global.{Vec}
 use Rattle.ice_core.specs.declared.log.RoundLog.{RoundLog}
 use Rattle.ice_report.specs.RouteReport.{route_text}

@@ -42,7 +42,19 @@ impl Model for ChipReader {
 }
 
 impl ChipReader {
-    /// A reader that was given nothing yet.
+    /// A reader that was given nothing yet. It takes no memory.
+    pub fn empty(alloc: Global) -> ChipReader
+        ensures { StandsFor result [] }
+    {
+        ChipReader {
+            alloc,
+            said: Said::Nothing,
+            number: 1,
+            rest: Vec::new(alloc),
+        }
+    }
+
+    /// A reader that was given nothing yet, with room for a line.
     ///
     /// # Errors
     /// Want of memory.

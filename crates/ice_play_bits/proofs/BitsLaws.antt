@@ -45,12 +45,12 @@ bad_line : (name : List ℕ) (t : List (List ℕ)) (line : ℕ) → Stands name 
 bad_line name t line m = elim (told (Then t) name t (BadLevels line) m) [
   | inl so ↦ absurd so
   | inr later ↦ record {
-      parts = later.parts;
-      configuration = later.configuration;
-      bonded = later.bonded;
-      is_configured = later.is_configured;
-      is_line = line_told later.bonded (text_at t 3) (BadLevels line) later.stands;
-    }
+    parts = later.parts;
+    configuration = later.configuration;
+    bonded = later.bonded;
+    is_configured = later.is_configured;
+    is_line = line_told later.bonded (text_at t 3) (BadLevels line) later.stands;
+  }
 ]
 
 pub lawful : (p : PlayBits) → Lawful (play_bits p)

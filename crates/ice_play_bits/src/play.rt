@@ -1,24 +1,24 @@
 //! Playing bits: three texts are read, and the text of drives is said.
-ghost use Rattle.std.specs.Prelude.{◌≡◌, true, None, Ok, IfOk, IfErr};
+ghost use Rattle.std.specs.Prelude.{◌≡◌, ◌∷◌, ℕ, List, true, None, Ok, IfOk, IfErr};
 ghost use Rattle.ice_answer.specs.Causes.{status_of};
 ghost use Rattle.ice_answer.specs.Commands.{Aloud, IsRefusal, IsTrueOf};
 ghost use Rattle.ice_answer.specs.Reading.{TellsLong};
 ghost use Rattle.ice_answer.specs.Rows.{SaidBy, KeptRow};
-ghost use Rattle.ice_answer.specs.Texts.{text_at};
 ghost use Rattle.ice_chip_read.specs.Whole.{chip_says};
-ghost use Rattle.ice_asc.specs.Grammar.{asc_in};
+ghost use Rattle.ice_bits_files.specs.Standing.{IsRead};
 ghost use Rattle.ice_play_bits.specs.Played.{Stands, IsMade, play_bits};
 ghost use Rattle.ice_play_bits.specs.Requests.{request_view};
 
 use ice_answer::{
-    Cause, CommandFile, Done, FileRole, Made, Making, Texts, asc_refusal, bits_refusal,
-    chip_refusal, made_text, say_made,
+    Cause, CommandFile, Done, FileRole, Made, Texts, asc_refusal, bits_refusal, chip_refusal,
+    made_text,
 };
 use ice_asc::read_asc;
 use ice_base::NoMemory;
 use ice_bits::Bits;
 use ice_chip::Chip;
-use ice_chip_read::read_chip;
+use ice_chip_pieces::ChipReader;
+use ice_chip_texts::{ChipMaking, say_made_on_chip};
 use ice_decode::decode;
 use ice_desk::Desk;
 use ice_pads::PinFault;
@@ -38,7 +38,7 @@ pub struct BitsRequest<'a> {
     pub levels: &'a str,
 }
 
-// The text of what the bits drive at the pads of the package, for all steps.
+// The text of what the bits drive at the pads of the package, for all steps; the texts are those behind the chip's.
 fn play_read(
     alloc: Global,
     package_name: &str,
@@ -46,10 +46,8 @@ fn play_read(
     chip: &Chip,
     bits: &Bits,
 ) -> Result<Made, Cause>
-    requires chip { chip_says (text_at texts.now 1) ≡ Ok chip.now }
-    requires bits { asc_in chip.now (text_at texts.now 2) ≡ Ok bits.now }
-    ensures played { IfOk result (λ made. IsMade package_name.now texts.now made.texts made.placement made.tallies.items) }
-    ensures refused { IfErr result (λ cause. IsRefusal (Stands package_name.now texts.now) cause) }
+    ensures played { (chip_text : List ℕ) → IsRead (chip_text ∷ texts.now) chip.now bits.now → IfOk result (λ made. IsMade package_name.now (chip_text ∷ texts.now) made.texts made.placement made.tallies.items) }
+    ensures refused { (chip_text : List ℕ) → IsRead (chip_text ∷ texts.now) chip.now bits.now → IfErr result (λ cause. IsRefusal (Stands package_name.now (chip_text ∷ texts.now)) cause) }
 {
     let Some(bonded) = chip.package(package_name.as_bytes()) else {
         return Err(Cause::BadPin(PinFault::NoPackage));
@@ -58,7 +56,7 @@ fn play_read(
         Ok(circuit) => circuit,
         Err(fault) => return Err(bits_refusal(fault)),
     };
-    let levels = match read_levels(alloc, texts.at(3), bonded.pads.len()) {
+    let levels = match read_levels(alloc, texts.at(2), bonded.pads.len()) {
         Ok(levels) => levels,
         Err(LevelFault::BadLine { line }) => return Err(Cause::BadLevels { line }),
         Err(LevelFault::NoMemory) => return Err(Cause::NoMemory),
@@ -69,25 +67,24 @@ fn play_read(
     }
 }
 
-// The text of what the bits of the second text drive on a chip, for all steps.
+// The text of what the bits of the text behind the chip's drive on the chip, for all steps.
 fn play_on(alloc: Global, package_name: &str, texts: &Texts, chip: &Chip) -> Result<Made, Cause>
-    requires { chip_says (text_at texts.now 1) ≡ Ok chip.now }
-    ensures played { IfOk result (λ made. IsMade package_name.now texts.now made.texts made.placement made.tallies.items) }
-    ensures refused { IfErr result (λ cause. IsRefusal (Stands package_name.now texts.now) cause) }
+    ensures played { (chip_text : List ℕ) → chip_says chip_text ≡ Ok chip.now → IfOk result (λ made. IsMade package_name.now (chip_text ∷ texts.now) made.texts made.placement made.tallies.items) }
+    ensures refused { (chip_text : List ℕ) → chip_says chip_text ≡ Ok chip.now → IfErr result (λ cause. IsRefusal (Stands package_name.now (chip_text ∷ texts.now)) cause) }
 {
-    match read_asc(alloc, texts.at(2), chip) {
+    match read_asc(alloc, texts.at(1), chip) {
         Ok(bits) => play_read(alloc, package_name, texts, chip, &bits),
         Err(fault) => Err(asc_refusal(fault)),
     }
 }
 
-impl<'a> Making for BitsRequest<'a> {
+impl<'a> ChipMaking for BitsRequest<'a> {
     ghost stands = { λ request texts cause. Stands request.package_name.now texts cause };
 
     ghost gives = { λ request texts made placement tallies. IsMade request.package_name.now texts made placement tallies };
 
-    fn make(&self, alloc: Global, texts: &Texts) -> Result<Made, Cause> {
-        match read_chip(alloc, texts.at(1)) {
+    fn make(&self, alloc: Global, reader: ChipReader, texts: &Texts) -> Result<Made, Cause> {
+        match reader.finish() {
             Ok(chip) => play_on(alloc, self.package_name, texts, &chip),
             Err(fault) => Err(chip_refusal(fault)),
         }
@@ -95,7 +92,8 @@ impl<'a> Making for BitsRequest<'a> {
 }
 
 /// Plays the bits of one file on the chip of another, with the levels of a third: says what the chip drives at the pads of the
-/// package, step by step, or the line of a refusal. After a failed say nothing more is said. No file is made.
+/// package, step by step, or the line of a refusal. After a failed say nothing more is said. No file is made. The chip's file is read piece
+/// by piece, and its text isn't held.
 pub fn play_bits<D: Desk>(alloc: Global, desk: &mut D, request: &BitsRequest<'_>) -> Done
     requires chip { D.may_read desk.old request.now.chip.now }
     requires asc { D.may_read desk.old request.now.asc.now }
@@ -109,10 +107,6 @@ pub fn play_bits<D: Desk>(alloc: Global, desk: &mut D, request: &BitsRequest<'_>
 {
     let files = [
         CommandFile {
-            role: FileRole::Chip,
-            name: request.chip,
-        },
-        CommandFile {
             role: FileRole::Asc,
             name: request.asc,
         },
@@ -121,5 +115,5 @@ pub fn play_bits<D: Desk>(alloc: Global, desk: &mut D, request: &BitsRequest<'_>
             name: request.levels,
         },
     ];
-    say_made(alloc, desk, &files, request)
+    say_made_on_chip(alloc, desk, request.chip, &files, request)
 }

@@ -1,5 +1,5 @@
 -- When each answer of `sample` comes, from how the sample texts stand.
-use Rattle.std.proofs.Common.{◌≡◌, ◌≢◌, ◌⊎◌, ◌∙◌, ◌<◌, ◌≤◌, ℕ, List, [], true, Result, Ok, Err, IfOk, IfErr, inl, inr, refl, sym, ap, subst, arith}
+use Rattle.std.proofs.Common.{◌≡◌, ◌≢◌, ◌⊎◌, ◌∙◌, ◌<◌, ◌≤◌, ℕ, List, [], Result, Ok, Err, IfOk, IfErr, inl, inr, refl, sym, ap, subst, arith}
 use Rattle.std.specs.Global.{Vec}
 use Rattle.ice_answer.proofs.CommandRows.{Lawful, good_row, write_fault_row}
 use Rattle.ice_answer.proofs.Ended.{made_of_texts, end_is_aloud}
@@ -28,7 +28,6 @@ use Rattle.ice_build.specs.declared.answer.Layout.{Layout}
 use Rattle.ice_check.proofs.Faulty.{faulty}
 use Rattle.ice_check.specs.Refusals.{IsFaultOf}
 use Rattle.ice_check.specs.Sound.{IsSound}
-use Rattle.ice_check.specs.declared.fault.NetFault.{NetFault}
 use Rattle.ice_check.specs.declared.fault.NetFault.TheVariants as net_fault
 use Rattle.ice_chip.specs.Database.{Parts}
 use Rattle.ice_chip_read.specs.Whole.{chip_says}

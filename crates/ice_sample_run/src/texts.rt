@@ -6,7 +6,7 @@ ghost use Rattle.ice_check.specs.Sound.{IsSound};
 ghost use Rattle.ice_chip.specs.Database.{Parts};
 ghost use Rattle.ice_chip_read.specs.Whole.{chip_says};
 ghost use Rattle.ice_sample_run.specs.Samples.{chip_text, net_text};
-ghost use Rattle.ice_sample_run.specs.Standing.{BlifStands, NetStands, Stands};
+ghost use Rattle.ice_sample_run.specs.Standing.{BlifStands, Stands};
 
 use ice_answer::{Cause, blif_refusal, chip_refusal, net_refusal};
 use ice_base::NoMemory;

@@ -6,7 +6,7 @@ use Rattle.ice_build_files.proofs.BuildLaws.{answers, ends}
 use Rattle.ice_build_files.proofs.building.build_files.Goals as goal
 
 pub give-requires : goal.give-requires
-give-requires g c κs within =
+give-requires g c =
     let D = g.D.Desk in
     still_permitted (D.may_write c.args.desk.now) (D.may_write c.make-made.new.desk) (outputs_of (request_view c.args.request.now)) c.make-made.ensures.names_written c.requires.outputs
 

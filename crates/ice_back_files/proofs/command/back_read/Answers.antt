@@ -1,0 +1,35 @@
+use Rattle.std.proofs.Common.{◌≡◌, Some, sym}
+use Rattle.ice_answer.specs.Texts.{text_at}
+use Rattle.ice_chip.specs.Views.{package_view}
+use Rattle.ice_chip.specs.Lookups.{package_of}
+use Rattle.ice_bits_files.proofs.OneText.{one_is, none_refused}
+use Rattle.ice_back_files.specs.Command.{Stands}
+use Rattle.ice_back_files.specs.Made.{IsNetlistOfBits}
+use Rattle.ice_back_files.proofs.Making.{is_listed, netlist_is}
+use Rattle.ice_back_files.proofs.command.back_read.Goals as goal
+
+pub back_text-requires-clause-listed : goal.back_text-requires-clause-listed
+back_text-requires-clause-listed c =
+    is_listed c.args.chip.now c.args.package_name.now (package_view c.in-Some.bonded.now) (sym (rw c.as_bytes.ensures.value at c.in-Some.ensures))
+
+pub back_text-requires-clause-words : goal.back_text-requires-clause-words
+back_text-requires-clause-words c =
+    let rows = package_view c.in-Some.bonded.now in
+    c.pins_are_words.ensures (text_at c.args.texts.now 1) c.args.chip.now c.requires.chip rows
+    (is_listed c.args.chip.now c.args.package_name.now rows (sym (rw c.as_bytes.ensures.value at c.in-Some.ensures)))
+
+pub returns-in-Ok-back_text-clause-made : goal.returns-in-Ok-back_text-clause-made
+returns-in-Ok-back_text-clause-made c =
+    let name = c.args.package_name.now in
+    let texts = c.args.texts.now in
+    let bonded = package_view c.in-Some.bonded.now in
+    let text = c.in-Ok-back_text.text.items in
+    let there : package_of c.args.chip.now name ≡ Some bonded = sym (rw c.as_bytes.ensures.value at c.in-Some.ensures) in
+    one_is (IsNetlistOfBits name texts) text c.made_text.result
+    (netlist_is name texts c.args.chip.now c.args.bits.now c.in-Ok.circuit.configuration bonded text
+    (record { is_packed = record { is_read = record { is_chip = c.requires.chip; are_bits = c.requires.bits }; is_package = there }; faultless = c.in-Ok.ensures.circuit.faultless })
+    c.in-Ok.ensures.circuit.same c.in-Ok-back_text.ensures.text c.in-Ok-back_text.ensures.says)
+    c.made_text.ensures.text c.made_text.ensures.placement c.made_text.ensures.tallies
+
+pub returns-in-Ok-back_text-clause-refused : goal.returns-in-Ok-back_text-clause-refused
+returns-in-Ok-back_text-clause-refused c = none_refused (Stands c.args.package_name.now c.args.texts.now) c.made_text.result c.made_text.ensures.stop
