@@ -1,90 +1,201 @@
 -- When each answer comes, from what each cause says.
-use Rattle.std.proofs.Common.{◌≡◌, ◌∙◌, Option, None, Some, true, refl, sym, subst}
-use Rattle.ice_desk.specs.Desk.{Meaning}
+use Rattle.std.proofs.Common.{◌≡◌, ◌∙◌, ℕ, Option, None, Some, List, true, false, inl, inr, refl, sym, ap, subst, ◌⊎◌, if◌then◌else◌}
+use Rattle.clap.specs.Words.{Text, takes, subcommand_of}
+use Rattle.ice_desk.specs.Desk.{Meaning, SameButSaying}
+use Rattle.ice_desk.specs.Said.{SaidRow}
+use Rattle.ice_request.specs.Command.{command}
+use Rattle.ice_request.specs.Requests.{Asked, Build, Back, PlayNet, PlayBits, Sample, ForBuild, ForBack, ForPlayNet, ForPlayBits, ForSample, is_taken, asked_in, request_of}
 use Rattle.ice_answer.specs.declared.cause.Cause.{Cause}
 use Rattle.ice_answer.specs.declared.cause.Cause.TheVariants.{Usage, NoMemory}
 use Rattle.ice_answer.specs.declared.cause.Done.{Done}
-use Rattle.ice_answer.specs.Causes.{status_of}
-use Rattle.ice_answer.specs.Commands.{IsTrueOf}
-use Rattle.ice_answer.specs.Reading.{TellsLong}
+use Rattle.ice_answer.specs.Causes.{status_of, line_of}
+use Rattle.ice_answer.specs.Commands.{Command, Output, Aloud, InFiles, IsTrueOf}
+use Rattle.ice_answer.specs.Ends.{IsEndOf}
+use Rattle.ice_answer.specs.Reading.{File, TellsLong}
 use Rattle.ice_answer.specs.Refusals.{IsKnown}
+use Rattle.ice_answer.specs.Rows.{SaidBy, MadeRow, SilentRow}
 use Rattle.ice_answer.proofs.CommandRows as answers
 use Rattle.ice_answer.proofs.CommandRows.{known, asked}
+use Rattle.ice_back_files.proofs.BackLaws as back
+use Rattle.ice_back_files.specs.Command.{back_files}
 use Rattle.ice_build_files.proofs.BuildLaws as built
-use Rattle.ice_build_files.specs.Asked.{Build}
 use Rattle.ice_build_files.specs.Command.{build_files}
 use Rattle.ice_play.proofs.PlayLaws as play
-use Rattle.ice_play.specs.Played.{PlayNet, play_net}
+use Rattle.ice_play.specs.Played.{PlayNet as NetPlay, play_net}
 use Rattle.ice_play_bits.proofs.BitsLaws as bits
-use Rattle.ice_play_bits.specs.Played.{PlayBits, play_bits}
-use Rattle.ice_flow.specs.Command.{Request, ForBuild, ForPlayNet, ForPlayBits}
-use Rattle.ice_flow.specs.Rows.{asked_for, Caused, UsageRow, NoMemoryRow, SaidByWords, KeptRow, MadeRow, SilentRow, GivenRow}
-use Rattle.ice_flow.specs.Run.{IsAnswer}
+use Rattle.ice_play_bits.specs.Played.{PlayBits as BitsPlay, play_bits}
+use Rattle.ice_sample_run.proofs.SampleLaws as sample
+use Rattle.ice_sample_run.specs.Command.{sample as sample_command}
+use Rattle.ice_flow.specs.Command.{asked_for, build_of, back_of, play_of, bits_of, sample_of}
+use Rattle.ice_flow.specs.Ends.{IsDoneAs, IsRefusedAs}
+use Rattle.ice_flow.specs.Plays.{IsNetAnswer, IsBitsAnswer}
+use Rattle.ice_flow.specs.Rows.{IsForgotten, Caused, UsageRow, NoMemoryRow, MayUse}
+use Rattle.ice_flow.specs.Run.{IsAnswer, IsAnswerTo}
 
--- ---- the program
+-- ---- one command
+never_usage : (w : Asked) (old new : Meaning) (cause : Cause) → IsTrueOf (asked_for w) old new cause → cause ≡ Usage → ⊥
+never_usage (ForBuild w) old new cause is e = asked (build_files (build_of w)) old new cause (built.lawful (build_of w)) is e
+never_usage (ForBack w) old new cause is e = asked (back_files (back_of w)) old new cause (back.lawful (back_of w)) is e
+never_usage (ForPlayNet w) old new cause is e = asked (play_net (play_of w)) old new cause (play.lawful (play_of w)) is e
+never_usage (ForPlayBits w) old new cause is e = asked (play_bits (bits_of w)) old new cause (bits.lawful (bits_of w)) is e
+never_usage (ForSample w) old new cause is e = asked (sample_command (sample_of w)) old new cause (sample.lawful (sample_of w)) is e
 
-usage_of : (request : Request) (old new : Meaning) (cause : Cause) → IsTrueOf (asked_for request) old new cause → cause ≡ Usage → ⊥
-usage_of (ForBuild b) old new cause is e = asked (build_files b) old new cause (built.lawful b) is e
-usage_of (ForPlayNet p) old new cause is e = asked (play_net p) old new cause (play.lawful p) is e
-usage_of (ForPlayBits p) old new cause is e = asked (play_bits p) old new cause (bits.lawful p) is e
-
-usage_row : (request : Option Request) (old new : Meaning) (cause : Cause) → Caused request old new cause → UsageRow request cause
-usage_row None old new cause caused = ((λ e. refl), (λ e. caused))
-usage_row (Some request) old new cause caused = ((λ e. absurd (usage_of request old new cause caused e)), (λ e. cc e))
-
-no_memory_row : (request : Option Request) (old new : Meaning) (cause : Cause) → Caused request old new cause → NoMemoryRow old new cause
-no_memory_row None old new cause caused = record {
-  unmade = λ e. let both : NoMemory ≡ Usage = sym e ∙ caused in cc both;
-  alone = subst IsKnown (sym caused) tt;
+net_answer : (p : NetPlay) (old new : Meaning) (end : Done) → IsTrueOf (play_net p) old new end.cause → end.status ≡ status_of end.cause → TellsLong new end.cause → IsNetAnswer p old new end
+net_answer p old new end is status long = record {
+  good = answers.good_row (play_net p) old new end.cause end.status is status;
+  done = answers.done_row (play_net p) old new end.cause (play.lawful p) (play.alone p) is;
+  bad_blif = play.blif_row p old new end.cause is;
+  bad_net = play.net_row p old new end.cause is;
+  bad_levels = play.levels_row p old new end.cause is;
+  read_fault = answers.read_fault_row (play_net p) old new end.cause is;
+  write_fault = answers.write_fault_row (play_net p) old new end.cause is;
+  too_long = answers.too_long_row (play_net p) old new end.cause is long;
 }
-no_memory_row (Some request) old new cause caused = record {
-  unmade = λ e. subst (λ (x : Cause). IsTrueOf (asked_for request) old new x) e caused;
-  alone = known (asked_for request) old new cause caused;
+
+bits_answer : (p : BitsPlay) (old new : Meaning) (end : Done) → IsTrueOf (play_bits p) old new end.cause → end.status ≡ status_of end.cause → TellsLong new end.cause → IsBitsAnswer p old new end
+bits_answer p old new end is status long = record {
+  good = answers.good_row (play_bits p) old new end.cause end.status is status;
+  done = answers.done_row (play_bits p) old new end.cause (bits.lawful p) (bits.alone p) is;
+  bad_chip = bits.chip_row p old new end.cause is;
+  bad_asc = bits.asc_row p old new end.cause is;
+  no_package = bits.package_row p old new end.cause is;
+  bad_bits = bits.bits_row p old new end.cause is;
+  bad_levels = bits.levels_row p old new end.cause is;
+  read_fault = answers.read_fault_row (play_bits p) old new end.cause is;
+  write_fault = answers.write_fault_row (play_bits p) old new end.cause is;
+  too_long = answers.too_long_row (play_bits p) old new end.cause is long;
 }
 
--- what the words ask for is answered so
-caused_at : (request : Option Request) (this : Request) (old new : Meaning) (cause : Cause) → Caused request old new cause → request ≡ Some this → IsTrueOf (asked_for this) old new cause
-caused_at request this old new cause caused e = subst (λ (r : Option Request). Caused r old new cause) e caused
+-- ---- what the words ask for was done
+abbrev DoneIf : Meaning → Meaning → Done → Option Asked → Type 0
+DoneIf old new end None = Unit {0}
+DoneIf old new end (Some w) = IsDoneAs w old new end
 
-given_at : (request : Option Request) (this : Request) (new : Meaning) (cause : Cause) → GivenRow request new cause → request ≡ Some this → TellsLong new cause
-given_at request this new cause given e = subst (λ (r : Option Request). GivenRow r new cause) e given
+done_this : (w this : Asked) (old new : Meaning) (end : Done) → IsDoneAs w old new end → Some w ≡ Some this → IsDoneAs this old new end
+done_this w this old new end is e = subst (DoneIf old new end) e is
 
--- every clause follows from what the cause says
-pub answers_so : (request : Option Request) (old new : Meaning) (end : Done) → end.status ≡ status_of end.cause → Caused request old new end.cause → (old.tells ≡ true → SaidByWords request old new end.cause)
-    → (old.tells ≡ true → KeptRow request old new end.cause) → MadeRow request old new end.cause → SilentRow request old new end.cause → GivenRow request new end.cause → IsAnswer request old new end
-answers_so request old new end status caused said kept made silent given =
-    let cause = end.cause in
-    let built_at = λ (b : Build) (e : request ≡ Some (ForBuild b)). caused_at request (ForBuild b) old new cause caused e in
-    let build_answer = λ (b : Build) (e : request ≡ Some (ForBuild b)). built.answers b old new end (built_at b e) status (given_at request (ForBuild b) new cause given e) in
-    let played_at = λ (p : PlayNet) (e : request ≡ Some (ForPlayNet p)). caused_at request (ForPlayNet p) old new cause caused e in
-    let bits_at = λ (p : PlayBits) (e : request ≡ Some (ForPlayBits p)). caused_at request (ForPlayBits p) old new cause caused e in
+done_answer : (words : List Text) (w : Asked) (old new : Meaning) (end : Done) → IsDoneAs w old new end → IsAnswerTo words (Some w) old new end
+done_answer words w old new end is =
+    let as = λ (this : Asked) (e : Some w ≡ Some this). done_this w this old new end is e in
     record {
-      status = status;
-      usage = usage_row request old new cause caused;
-      no_memory = no_memory_row request old new cause caused;
-      headline = λ b e. (build_answer b e).headline;
-      built = build_answer;
-      played = λ p e. answers.good_row (play_net p) old new cause end.status (played_at p e) status;
-      played_done = λ p e. answers.done_row (play_net p) old new cause (play.lawful p) (play.alone p) (played_at p e);
-      played_bad_blif = λ p e. play.blif_row p old new cause (played_at p e);
-      played_bad_net = λ p e. play.net_row p old new cause (played_at p e);
-      played_bad_levels = λ p e. play.levels_row p old new cause (played_at p e);
-      played_read_fault = λ p e. answers.read_fault_row (play_net p) old new cause (played_at p e);
-      played_write_fault = λ p e. answers.write_fault_row (play_net p) old new cause (played_at p e);
-      played_too_long = λ p e. answers.too_long_row (play_net p) old new cause (played_at p e) (given_at request (ForPlayNet p) new cause given e);
-      bits_played = λ p e. answers.good_row (play_bits p) old new cause end.status (bits_at p e) status;
-      bits_done = λ p e. answers.done_row (play_bits p) old new cause (bits.lawful p) (bits.alone p) (bits_at p e);
-      bits_bad_chip = λ p e. bits.chip_row p old new cause (bits_at p e);
-      bits_bad_asc = λ p e. bits.asc_row p old new cause (bits_at p e);
-      bits_no_package = λ p e. bits.package_row p old new cause (bits_at p e);
-      bits_bad_bits = λ p e. bits.bits_row p old new cause (bits_at p e);
-      bits_bad_levels = λ p e. bits.levels_row p old new cause (bits_at p e);
-      bits_read_fault = λ p e. answers.read_fault_row (play_bits p) old new cause (bits_at p e);
-      bits_write_fault = λ p e. answers.write_fault_row (play_bits p) old new cause (bits_at p e);
-      bits_too_long = λ p e. answers.too_long_row (play_bits p) old new cause (bits_at p e) (given_at request (ForPlayBits p) new cause given e);
-      caused = caused;
-      said = said;
-      kept = kept;
-      made = made;
-      silent = silent;
+      status = is.status;
+      usage = record {
+        only = λ e. absurd (never_usage w old new end.cause is.end_is.is_true e);
+        always = λ e. cc e;
+      };
+      no_memory = record {
+        unmade = λ e. subst (λ (x : Cause). IsTrueOf (asked_for w) old new x) e is.end_is.is_true;
+        alone = known (asked_for w) old new end.cause is.end_is.is_true;
+      };
+      headline = λ b e. (let d = as (ForBuild b) e in built.answers (build_of b) old new end d.end_is.is_true d.status d.long).headline;
+      built = λ b e. (let d = as (ForBuild b) e in inr (built.answers (build_of b) old new end d.end_is.is_true d.status d.long));
+      backed_up = λ b e. (let d = as (ForBack b) e in inr (back.answers (back_of b) old new end d.end_is.is_true d.status d.long));
+      played = λ p e. (let d = as (ForPlayNet p) e in inr (net_answer (play_of p) old new end d.end_is.is_true d.status d.long));
+      bits_played = λ p e. (let d = as (ForPlayBits p) e in inr (bits_answer (bits_of p) old new end d.end_is.is_true d.status d.long));
+      sampled = λ s e. (let d = as (ForSample s) e in inr (sample.answers (sample_of s) old new end d.end_is.is_true d.status));
+      caused = is.end_is.is_true;
+      said = is.end_is.said;
+      kept = is.end_is.kept;
+      made = is.end_is.made;
+      silent = is.end_is.silent;
+      parted = is.end_is.parted;
     }
+
+pub done_so : (words : List Text) (w : Asked) (old new : Meaning) (end : Done) → request_of words ≡ Some w → IsDoneAs w old new end → IsAnswer words old new end
+done_so words w old new end e is = subst (λ (r : Option Asked). IsAnswerTo words r old new end) (sym e) (done_answer words w old new end is)
+
+pub may_use_asked : (may_read may_write : List ℕ → Type 0) (words : List Text) (w : Asked) → request_of words ≡ Some w → MayUse may_read may_write (request_of words) → MayUse may_read may_write (Some w)
+may_use_asked may_read may_write words w e may = subst (MayUse may_read may_write) e may
+
+-- ---- the words are no command
+refused_none : (words : List Text) (refusal : Cause) (old new : Meaning) (end : Done) → IsRefusedAs refusal old new end → ((refusal ≡ Usage) × (takes command words ≡ false)) ⊎ (refusal ≡ NoMemory)
+    → IsAnswerTo words None old new end
+refused_none words refusal old new end is which = record {
+  status = is.status;
+  usage = record {
+    only = λ e. (refl, elim which [ | inl u ↦ u.1 | inr m ↦ (let both : Usage ≡ NoMemory = sym e ∙ is.is_cause ∙ m in cc both) ]);
+    always = λ e. elim which [ | inl u ↦ inl (is.is_cause ∙ u.0) | inr m ↦ inr (is.is_cause ∙ m) ];
+  };
+  no_memory = record {
+    unmade = λ e. is.same.makes;
+    alone = elim which [ | inl u ↦ subst IsKnown (sym (is.is_cause ∙ u.0)) tt | inr m ↦ subst IsKnown (sym (is.is_cause ∙ m)) tt ];
+  };
+  headline = λ w e. cc e;
+  built = λ w e. cc e;
+  backed_up = λ w e. cc e;
+  played = λ w e. cc e;
+  bits_played = λ w e. cc e;
+  sampled = λ w e. cc e;
+  caused = (is.same, elim which [ | inl u ↦ inl (is.is_cause ∙ u.0) | inr m ↦ inr (is.is_cause ∙ m) ]);
+  said = is.said;
+  kept = λ t name. ap (λ (f : List ℕ → Option (List ℕ)). f name) is.same.files;
+  made = is.same.makes;
+  silent = tt;
+  parted = tt;
+}
+
+untaken : (words : List Text) → is_taken words ≡ false → request_of words ≡ None
+untaken words e = ap (λ b. if b then asked_in (subcommand_of command words) else None) e
+
+pub refused_so : (words : List Text) (old new : Meaning) (end : Done) → is_taken words ≡ false → takes command words ≡ false → IsRefusedAs Usage old new end → IsAnswer words old new end
+refused_so words old new end e takes is =
+    subst (λ (r : Option Asked). IsAnswerTo words r old new end) (sym (untaken words e)) (refused_none words Usage old new end is (inl (refl, takes)))
+
+-- ---- there was no memory to read the words
+forgotten_said : (output : Output) (old new : Meaning) → SaidRow old new (line_of NoMemory) → SaidBy output old new NoMemory
+forgotten_said Aloud old new said = λ refused. said
+forgotten_said (InFiles files) old new said = said
+
+forgotten_made : (output : Output) (parting : Option File) (old new : Meaning) → new.makes ≡ old.makes → MadeRow output parting old new NoMemory
+forgotten_made Aloud parting old new same = same
+forgotten_made (InFiles files) None old new same = same
+forgotten_made (InFiles files) (Some file) old new same = same
+
+forgotten_silent : (output : Output) (old new : Meaning) → SilentRow output old new NoMemory
+forgotten_silent Aloud old new = tt
+forgotten_silent (InFiles files) old new = tt
+
+-- any command ends so where only the line of this was said
+forgotten_end_of : (k : Command) (old new : Meaning) → SameButSaying old new → (old.tells ≡ true → SaidRow old new (line_of NoMemory)) → IsEndOf k old new NoMemory
+forgotten_end_of k old new same said = record {
+  is_true = same.makes;
+  said = λ t. forgotten_said k.output old new (said t);
+  kept = λ t name apart. ap (λ (f : List ℕ → Option (List ℕ)). f name) same.files;
+  made = forgotten_made k.output k.parting old new same.makes;
+  silent = forgotten_silent k.output old new;
+  parted = λ file e gave. absurd gave;
+}
+
+forgotten_end : (w : Asked) (old new : Meaning) (end : Done) → IsRefusedAs NoMemory old new end → IsEndOf (asked_for w) old new end.cause
+forgotten_end w old new end is =
+    let said : old.tells ≡ true → SaidRow old new (line_of NoMemory) = subst (λ (x : Cause). old.tells ≡ true → SaidRow old new (line_of x)) is.is_cause is.said in
+    subst (λ (x : Cause). IsEndOf (asked_for w) old new x) (sym is.is_cause) (forgotten_end_of (asked_for w) old new is.same said)
+
+forgotten_answer : (words : List Text) (asked : Option Asked) (old new : Meaning) (end : Done) → IsRefusedAs NoMemory old new end → IsAnswerTo words asked old new end
+forgotten_answer words None old new end is = refused_none words NoMemory old new end is (inr refl)
+forgotten_answer words (Some w) old new end is =
+    let ended = forgotten_end w old new end is in
+    let forgotten : IsForgotten old new end.cause = record { is_cause = is.is_cause; same = is.same } in
+    record {
+      status = is.status;
+      usage = record {
+        only = λ e. (let both : Usage ≡ NoMemory = sym e ∙ is.is_cause in cc both);
+        always = λ e. cc e;
+      };
+      no_memory = record { unmade = λ e. is.same.makes; alone = subst IsKnown (sym is.is_cause) tt };
+      headline = λ b e zero. (let both : status_of NoMemory ≡ 0 = ap status_of (sym is.is_cause) ∙ sym is.status ∙ zero in cc both);
+      built = λ b e. inl forgotten;
+      backed_up = λ b e. inl forgotten;
+      played = λ p e. inl forgotten;
+      bits_played = λ p e. inl forgotten;
+      sampled = λ s e. inl forgotten;
+      caused = ended.is_true;
+      said = ended.said;
+      kept = ended.kept;
+      made = ended.made;
+      silent = ended.silent;
+      parted = ended.parted;
+    }
+
+pub forgotten_so : (words : List Text) (old new : Meaning) (end : Done) → IsRefusedAs NoMemory old new end → IsAnswer words old new end
+forgotten_so words old new end is = forgotten_answer words (request_of words) old new end is

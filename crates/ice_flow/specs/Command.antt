@@ -1,46 +1,51 @@
--- What the words of the program ask for.
-use Rattle.std.specs.Prelude.{ℕ, Bool, ◌&&◌, not, Option, Some, None, List, [], ◌∷◌, if◌then◌else◌, codes}
-use Rattle.std.specs.Str.{bytes_eq}
-use Rattle.ice_base.specs.Comments.{begins_with}
+-- The commands that words ask for.
 use Rattle.ice_build.specs.declared.answer.Effort.{Effort}
-use Rattle.ice_build_files.specs.Asked.{Build}
-use Rattle.ice_play.specs.Played.{PlayNet}
-use Rattle.ice_play_bits.specs.Played.{PlayBits}
+use Rattle.ice_build_files.specs.Asked as build
+use Rattle.ice_build_files.specs.Command.{build_files}
+use Rattle.ice_back_files.specs.Asked as back
+use Rattle.ice_back_files.specs.Command.{back_files}
+use Rattle.ice_play.specs.Played as play
+use Rattle.ice_play.specs.Played.{play_net}
+use Rattle.ice_play_bits.specs.Played as bits
+use Rattle.ice_play_bits.specs.Played.{play_bits}
+use Rattle.ice_sample_run.specs.Samples as sample
+use Rattle.ice_sample_run.specs.Command.{sample}
+use Rattle.ice_answer.specs.Commands.{Command}
+use Rattle.ice_request.specs.Requests.{Asked, ForBuild, ForBack, ForPlayNet, ForPlayBits, ForSample}
+use Rattle.ice_request.specs.Requests as words
 
--- a command with its names
-pub data Request : Type 0 where
-  ForBuild : Build → Request
-  ForPlayNet : PlayNet → Request
-  ForPlayBits : PlayBits → Request
+-- how long a build tries, and from where
+abbrev pub effort_of : words.Build → Effort
+effort_of w = record { seed = w.seed; rounds = w.rounds; workers = w.workers }
 
--- a word that stands for itself does not begin with `-`, which is 45
-abbrev pub is_plain : List ℕ → Bool
-is_plain word = not (begins_with 45 word)
+abbrev pub build_of : words.Build → build.Build
+build_of w = record {
+  chip = w.chip;
+  package_name = w.package_name;
+  pcf = w.pcf;
+  blif = w.blif;
+  asc = w.asc;
+  pins = w.pins;
+  report = w.report;
+  effort = effort_of w;
+}
 
-abbrev pub are_plain : Build → Bool
-are_plain b = is_plain b.chip && is_plain b.package_name && is_plain b.pcf && is_plain b.blif && is_plain b.asc
+abbrev pub back_of : words.Back → back.Back
+back_of w = record { chip = w.chip; package_name = w.package_name; asc = w.asc; blif = w.blif }
 
--- how long a build tries, and from where: from the seed 1, in at most 64 rounds, with 2 workers
-abbrev pub default_effort : Effort
-default_effort = record { seed = 1; rounds = 64; workers = 2 }
+abbrev pub play_of : words.PlayNet → play.PlayNet
+play_of w = record { blif = w.blif; levels = w.levels }
 
--- the request of a command and its names
-abbrev pub build_with : List ℕ → Build → Option Request
-build_with command b = if bytes_eq command (codes "build") && are_plain b then Some (ForBuild b) else None
+abbrev pub bits_of : words.PlayBits → bits.PlayBits
+bits_of w = record { chip = w.chip; package_name = w.package_name; asc = w.asc; levels = w.levels }
 
-abbrev pub play_with : List ℕ → PlayNet → Option Request
-play_with command p = if bytes_eq command (codes "play-net") && is_plain p.blif && is_plain p.levels then Some (ForPlayNet p) else None
+abbrev pub sample_of : words.Sample → sample.Sample
+sample_of w = record { number = w.number; workers = w.workers }
 
-abbrev pub are_plain_words : PlayBits → Bool
-are_plain_words p = is_plain p.chip && is_plain p.package_name && is_plain p.asc && is_plain p.levels
-
-abbrev pub play_bits_with : List ℕ → PlayBits → Option Request
-play_bits_with command p = if bytes_eq command (codes "play-bits") && are_plain_words p then Some (ForPlayBits p) else None
-
--- what the words ask for, where they ask for anything
-abbrev pub request_of : List (List ℕ) → Option Request
-request_of (command ∷ blif ∷ levels ∷ []) = play_with command (record { blif = blif; levels = levels })
-request_of (command ∷ chip ∷ name ∷ asc ∷ levels ∷ []) = play_bits_with command (record { chip = chip; package_name = name; asc = asc; levels = levels })
-request_of (command ∷ chip ∷ name ∷ pcf ∷ blif ∷ asc ∷ []) =
-    build_with command (record { chip = chip; package_name = name; pcf = pcf; blif = blif; asc = asc; effort = default_effort })
-request_of words = None
+-- the command that the words ask for
+abbrev pub asked_for : Asked → Command
+asked_for (ForBuild w) = build_files (build_of w)
+asked_for (ForBack w) = back_files (back_of w)
+asked_for (ForPlayNet w) = play_net (play_of w)
+asked_for (ForPlayBits w) = play_bits (bits_of w)
+asked_for (ForSample w) = sample (sample_of w)

@@ -1,4 +1,5 @@
 pub mod Command
-pub mod Requests
+pub mod Plays
 pub mod Rows
+pub mod Ends
 pub mod Run

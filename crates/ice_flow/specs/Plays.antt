@@ -1,0 +1,33 @@
+-- The end of a command that plays, clause by clause.
+use Rattle.std.specs.Prelude.{ℕ}
+use Rattle.ice_desk.specs.Desk.{Meaning}
+use Rattle.ice_answer.specs.declared.cause.Done.{Done}
+use Rattle.ice_answer.specs.Rows.{DoneRow, GoodRow, ReadFaultRow, WriteFaultRow, TooLongRow}
+use Rattle.ice_play.specs.Played.{PlayNet, play_net}
+use Rattle.ice_play.specs.PlayRows as play
+use Rattle.ice_play_bits.specs.Played.{PlayBits, play_bits}
+use Rattle.ice_play_bits.specs.BitsRows as bits
+
+-- a netlist is played: what was said at status 0, and when each answer comes
+pub record IsNetAnswer (p : PlayNet) (old new : Meaning) (end : Done) : Type 0 where
+  pub good : GoodRow (play_net p) old new end.cause end.status
+  pub done : DoneRow (play_net p) old end.cause
+  pub bad_blif : play.BlifRow p old end.cause
+  pub bad_net : play.NetRow p old end.cause
+  pub bad_levels : play.LevelsRow p old end.cause
+  pub read_fault : ReadFaultRow (play_net p) old new end.cause
+  pub write_fault : WriteFaultRow (play_net p) old new end.cause
+  pub too_long : TooLongRow (play_net p) old new end.cause
+
+-- bits are played: what was said at status 0, and when each answer comes
+pub record IsBitsAnswer (p : PlayBits) (old new : Meaning) (end : Done) : Type 0 where
+  pub good : GoodRow (play_bits p) old new end.cause end.status
+  pub done : DoneRow (play_bits p) old end.cause
+  pub bad_chip : bits.ChipRow p old end.cause
+  pub bad_asc : bits.AscRow p old end.cause
+  pub no_package : bits.PackageRow p old end.cause
+  pub bad_bits : bits.BitsRow p old end.cause
+  pub bad_levels : bits.LevelsRow p old end.cause
+  pub read_fault : ReadFaultRow (play_bits p) old new end.cause
+  pub write_fault : WriteFaultRow (play_bits p) old new end.cause
+  pub too_long : TooLongRow (play_bits p) old new end.cause
