@@ -76,7 +76,7 @@ done_this w this old new end is e = subst (DoneIf old new end) e is
 
 done_answer : (words : List Text) (w : Asked) (old new : Meaning) (end : Done) → IsDoneAs w old new end → IsAnswerTo words (Some w) old new end
 done_answer words w old new end is =
-    let as = λ (this : Asked) (e : Some w ≡ Some this). done_this w this old new end is e in
+    let this = λ (other : Asked) (e : Some w ≡ Some other). done_this w other old new end is e in
     record {
       status = is.status;
       usage = record {
@@ -87,12 +87,12 @@ done_answer words w old new end is =
         unmade = λ e. subst (λ (x : Cause). IsTrueOf (asked_for w) old new x) e is.end_is.is_true;
         alone = known (asked_for w) old new end.cause is.end_is.is_true;
       };
-      headline = λ b e. (let d = as (ForBuild b) e in built.answers (build_of b) old new end d.end_is.is_true d.status d.long).headline;
-      built = λ b e. (let d = as (ForBuild b) e in inr (built.answers (build_of b) old new end d.end_is.is_true d.status d.long));
-      backed_up = λ b e. (let d = as (ForBack b) e in inr (back.answers (back_of b) old new end d.end_is.is_true d.status d.long));
-      played = λ p e. (let d = as (ForPlayNet p) e in inr (net_answer (play_of p) old new end d.end_is.is_true d.status d.long));
-      bits_played = λ p e. (let d = as (ForPlayBits p) e in inr (bits_answer (bits_of p) old new end d.end_is.is_true d.status d.long));
-      sampled = λ s e. (let d = as (ForSample s) e in inr (sample.answers (sample_of s) old new end d.end_is.is_true d.status));
+      headline = λ b e. (let d = this (ForBuild b) e in built.answers (build_of b) old new end d.end_is.is_true d.status d.long).headline;
+      built = λ b e. (let d = this (ForBuild b) e in inr (built.answers (build_of b) old new end d.end_is.is_true d.status d.long));
+      backed_up = λ b e. (let d = this (ForBack b) e in inr (back.answers (back_of b) old new end d.end_is.is_true d.status d.long));
+      played = λ p e. (let d = this (ForPlayNet p) e in inr (net_answer (play_of p) old new end d.end_is.is_true d.status d.long));
+      bits_played = λ p e. (let d = this (ForPlayBits p) e in inr (bits_answer (bits_of p) old new end d.end_is.is_true d.status d.long));
+      sampled = λ s e. (let d = this (ForSample s) e in inr (sample.answers (sample_of s) old new end d.end_is.is_true d.status));
       caused = is.end_is.is_true;
       said = is.end_is.said;
       kept = is.end_is.kept;
@@ -113,12 +113,12 @@ refused_none : (words : List Text) (refusal : Cause) (old new : Meaning) (end : 
 refused_none words refusal old new end is which = record {
   status = is.status;
   usage = record {
-    only = λ e. (refl, elim which [ | inl u ↦ u.1 | inr m ↦ (let both : Usage ≡ NoMemory = sym e ∙ is.is_cause ∙ m in cc both) ]);
-    always = λ e. elim which [ | inl u ↦ inl (is.is_cause ∙ u.0) | inr m ↦ inr (is.is_cause ∙ m) ];
+    only = λ e. (refl, elim which [ inl u ↦ u.1 | inr m ↦ (let both : Usage ≡ NoMemory = sym e ∙ is.is_cause ∙ m in cc both) ]);
+    always = λ e. elim which [ inl u ↦ inl (is.is_cause ∙ u.0) | inr m ↦ inr (is.is_cause ∙ m) ];
   };
   no_memory = record {
     unmade = λ e. is.same.makes;
-    alone = elim which [ | inl u ↦ subst IsKnown (sym (is.is_cause ∙ u.0)) tt | inr m ↦ subst IsKnown (sym (is.is_cause ∙ m)) tt ];
+    alone = elim which [ inl u ↦ subst IsKnown (sym (is.is_cause ∙ u.0)) tt | inr m ↦ subst IsKnown (sym (is.is_cause ∙ m)) tt ];
   };
   headline = λ w e. cc e;
   built = λ w e. cc e;
@@ -126,7 +126,7 @@ refused_none words refusal old new end is which = record {
   played = λ w e. cc e;
   bits_played = λ w e. cc e;
   sampled = λ w e. cc e;
-  caused = (is.same, elim which [ | inl u ↦ inl (is.is_cause ∙ u.0) | inr m ↦ inr (is.is_cause ∙ m) ]);
+  caused = (is.same, elim which [ inl u ↦ inl (is.is_cause ∙ u.0) | inr m ↦ inr (is.is_cause ∙ m) ]);
   said = is.said;
   kept = λ t name. ap (λ (f : List ℕ → Option (List ℕ)). f name) is.same.files;
   made = is.same.makes;
