@@ -87,8 +87,8 @@ done_answer words w old new end is =
         unmade = λ e. subst (λ (x : Cause). IsTrueOf (asked_for w) old new x) e is.end_is.is_true;
         alone = known (asked_for w) old new end.cause is.end_is.is_true;
       };
-      headline = λ b e. (let d = this (ForBuild b) e in built.answers (build_of b) old new end d.end_is.is_true d.status d.long).headline;
-      built = λ b e. (let d = this (ForBuild b) e in inr (built.answers (build_of b) old new end d.end_is.is_true d.status d.long));
+      headline = λ b e. (let d = this (ForBuild b) e in built.answers (build_of b) old new end d.end_is.is_true d.status d.long d.end_is.parted).headline;
+      built = λ b e. (let d = this (ForBuild b) e in inr (built.answers (build_of b) old new end d.end_is.is_true d.status d.long d.end_is.parted));
       backed_up = λ b e. (let d = this (ForBack b) e in inr (back.answers (back_of b) old new end d.end_is.is_true d.status d.long));
       played = λ p e. (let d = this (ForPlayNet p) e in inr (net_answer (play_of p) old new end d.end_is.is_true d.status d.long));
       bits_played = λ p e. (let d = this (ForPlayBits p) e in inr (bits_answer (bits_of p) old new end d.end_is.is_true d.status d.long));
