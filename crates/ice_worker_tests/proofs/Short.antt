@@ -120,14 +120,18 @@ first_ready graph r t u wires round history counts t_of u_of t_old u_old =
       bounded = All-from_recursion (KeepsBounds r) (t ∷ u ∷ []) (bounds r t (omega (arith, round)) (omega (arith, round)) long many past low, (bounds r u (omega (arith, round)) (omega (arith, round)) long many past low, tt));
     }
 
-pub second_ready : (graph : Network) (r : RoundPrices) (t : Task) (old : List WireNo) → graph.wires ≡ 7 → r.round ≡ 2 → r.history.items ≡ 0 ∷ 0 ∷ 1 ∷ 0 ∷ 0 ∷ 0 ∷ 0 ∷ [] → r.counts.items ≡ 1 ∷ 1 ∷ 2 ∷ 0 ∷ 0 ∷ 1 ∷ 1 ∷ []
-    → IsTaskOf graph t → t.old.items ≡ old → numbers old ≡ 0 ∷ 2 ∷ 5 ∷ [] → AreReady graph r (t ∷ [])
-second_ready graph r t old wires round history counts t_of t_old is =
+-- the wire of this number
+abbrev wire : ℕ → WireNo
+wire n = record { 0 = n }
+
+pub second_ready : (graph : Network) (r : RoundPrices) (t : Task) → graph.wires ≡ 7 → r.round ≡ 2 → r.history.items ≡ 0 ∷ 0 ∷ 1 ∷ 0 ∷ 0 ∷ 0 ∷ 0 ∷ [] → r.counts.items ≡ 1 ∷ 1 ∷ 2 ∷ 0 ∷ 0 ∷ 1 ∷ 1 ∷ []
+    → IsTaskOf graph t → t.old.items ≡ wire 0 ∷ wire 2 ∷ wire 5 ∷ [] → AreReady graph r (t ∷ [])
+second_ready graph r t wires round history counts t_of t_old =
     let past : (w : ℕ) → slice_index r.history.items w ≤ 1 = λ w. omega (arith, ap (λ xs. slice_index xs w) history, low_at 1 (0 ∷ 0 ∷ 1 ∷ 0 ∷ 0 ∷ 0 ∷ 0 ∷ []) (omega arith, (omega arith, (omega arith, (omega arith, (omega arith, (omega arith, (omega arith, tt))))))) w) in
     let low : (w : ℕ) → slice_index r.counts.items w ≤ 2 = λ w. omega (arith, ap (λ xs. slice_index xs w) counts, low_at 2 (1 ∷ 1 ∷ 2 ∷ 0 ∷ 0 ∷ 1 ∷ 1 ∷ []) (omega arith, (omega arith, (omega arith, (omega arith, (omega arith, (omega arith, (omega arith, tt))))))) w) in
     let long : length r.history.items ≡ 7 = ap length history in
     let many : length r.counts.items ≡ 7 = ap length counts in
-    let first : numbers t.old.items ≡ 0 ∷ 2 ∷ 5 ∷ [] = ap numbers t_old ∙ is in
+    let first : numbers t.old.items ≡ 0 ∷ 2 ∷ 5 ∷ [] = ap numbers t_old in
     let olds : old_wires (t ∷ []) ≡ (0 ∷ 2 ∷ 5 ∷ []) ∷ [] = λ k. first k ∷ [] in
     record {
       histories = long ∙ sym wires;

@@ -17,6 +17,8 @@ pub struct Size {
     pub nets: u32,
     /// The inner wires, at most 10,000.
     pub inner: u32,
+    /// How many edges from drawn inner wires lead into each inner wire and each target.
+    pub ways: u32,
 }
 
 impl Size {
@@ -47,20 +49,20 @@ fn draw_inner(seed: &mut u64, size: Size) -> u32 {
     size.nets.saturating_add(draw(seed, size.inner))
 }
 
-// Adds edges from three drawn inner wires to this one.
+// Adds edges from drawn inner wires to this one.
 fn enter(
     pairs: &mut Vec<(u32, u32)>,
     seed: &mut u64,
     size: Size,
     wire: u32,
 ) -> Result<(), AllocError> {
-    for _edge in 0..3 {
+    for _edge in 0..size.ways {
         pairs.push((draw_inner(seed, size), wire))?;
     }
     Ok(())
 }
 
-// Adds the edges into the inner wires: one along their circle, so that all are reached, and three drawn ones.
+// Adds the edges into the inner wires: one along their circle, so that all are reached, and drawn ones.
 fn add_inner(pairs: &mut Vec<(u32, u32)>, seed: &mut u64, size: Size) -> Result<(), AllocError> {
     let mut before = size.nets.saturating_add(size.inner).saturating_sub(1);
     for place in 0..size.inner {

@@ -112,15 +112,17 @@ fn expect_alike(
 fn some_hundred_nets_are_routed_alike(rt: HostRuntime) {
     let alloc = rt.alloc();
     let roomy = Size {
-        nets: 200,
-        inner: 2_400,
+        nets: 100,
+        inner: 1_200,
+        ways: 8,
     };
     let narrow = Size {
-        nets: 300,
-        inner: 900,
+        nets: 200,
+        inner: 400,
+        ways: 3,
     };
     let routed = expect_alike(&rt, alloc, 1, roomy, 64);
-    let given_up = expect_alike(&rt, alloc, 2, narrow, 5);
+    let given_up = expect_alike(&rt, alloc, 2, narrow, 3);
     println!(rt; "{routed} {given_up}").expect(&rt, "said");
-    assert!(rt; routed > 3 && routed < 64 && given_up == 5);
+    assert!(rt; routed > 3 && routed < 64 && given_up == 3);
 }

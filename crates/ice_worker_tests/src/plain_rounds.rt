@@ -168,12 +168,17 @@ fn movers(
     Ok(moved)
 }
 
+// The number of a wire or a net at a place.
+fn number_of(place: usize) -> u32 {
+    u32::try_from(place).unwrap_or(u32::MAX)
+}
+
 // The histories of a round, but those of 0.
 fn past_of(alloc: Global, history: &[u64]) -> Result<Vec<(WireNo, u64)>, AllocError> {
     let mut list = Vec::new(alloc);
     for (wire, past) in history.iter().enumerate() {
         if *past > 0 {
-            list.push((WireNo(wire as u32), *past))?;
+            list.push((WireNo(number_of(wire)), *past))?;
         }
     }
     Ok(list)
@@ -184,7 +189,7 @@ fn over_of(alloc: Global, counts: &[u32]) -> Result<Vec<(WireNo, u32)>, AllocErr
     let mut list = Vec::new(alloc);
     for (wire, count) in counts.iter().enumerate() {
         if *count > 1 {
-            list.push((WireNo(wire as u32), *count))?;
+            list.push((WireNo(number_of(wire)), *count))?;
         }
     }
     Ok(list)
@@ -204,7 +209,7 @@ fn moved_of(alloc: Global, plain: &Plain) -> Result<Vec<(NetNo, Tree)>, AllocErr
     for (net, (moved, tree)) in plain.moved.iter().zip(&plain.trees).enumerate() {
         if *moved {
             let copy = copy_of(tree)?;
-            list.push((NetNo(net as u32), copy))?;
+            list.push((NetNo(number_of(net)), copy))?;
         }
     }
     Ok(list)

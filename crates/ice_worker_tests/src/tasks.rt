@@ -80,8 +80,7 @@ pub fn second_round(rt: &impl Abort, alloc: Global, graph: &Graph) -> Play
     ensures { AreReady graph.now result.prices result.tasks.items }
 {
     let prices = prices_of(rt, alloc, 2, &[0, 0, 1, 0, 0, 0, 0], &[1, 1, 2, 0, 0, 1, 1]);
-    let old = [WireNo(0), WireNo(2), WireNo(5)];
-    let one = task_to(rt, alloc, graph, 0, 5, &old);
+    let one = task_to(rt, alloc, graph, 0, 5, &[WireNo(0), WireNo(2), WireNo(5)]);
     let tasks = vec![in alloc; one].expect(rt, "memory");
     Play { prices, tasks }
 }
