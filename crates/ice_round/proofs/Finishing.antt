@@ -101,7 +101,7 @@ tree_at (x ∷ news) zero tree at = ap (λ (u : Tree). numbers u.wires.items) (g
 tree_at (x ∷ news) (suc i) tree at = tree_at news i tree at
 
 module _ (graph : Network) (r : RoundPrices) (tasks : List Task) (news : List Tree) (are : AreTrees graph r tasks news) where
-  made_wires : (m : ℕ × Tree) → IsMade graph r tasks m → numbers m.1.wires.items ≡ wires_of (tree_wires news) m.0
+  pub made_wires : (m : ℕ × Tree) → IsMade graph r tasks m → numbers m.1.wires.items ≡ wires_of (tree_wires news) m.0
   made_wires m made =
       let lt : m.0 < length news = omega (arith, are.long, slice_get_within tasks m.0 made.task made.at) in
       let there = slice_get-get_or news m.0 m.1 lt in

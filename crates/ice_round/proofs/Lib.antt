@@ -1,6 +1,7 @@
 pub mod Gathering
 pub mod PlacingTrees
 pub mod Finishing
+pub mod Moments
 pub mod Stopping
 pub mod Listing
 pub mod Replacing

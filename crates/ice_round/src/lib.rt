@@ -2,6 +2,7 @@
 #![tactic(auto)]
 
 mod jobs;
+pub mod laws;
 mod moving;
 mod placing;
 mod playing;

@@ -3,3 +3,4 @@ pub mod Leaving
 pub mod Stepping
 pub mod Working
 pub mod Lawful
+pub mod Moments
