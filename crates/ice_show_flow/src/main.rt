@@ -38,6 +38,8 @@ use laws::designs_stand_on_their_chip;
 use placed::{say_pads, say_placed};
 use routed::say_routed;
 use std::alloc::Global;
+use std::fs::Files;
+use std::thread::Threads;
 use std::{env, fs};
 
 /// A chip with its sites, and whether bits are said.
@@ -62,8 +64,8 @@ fn design_of(alloc: Global, sound: &Sound) -> Result<Design>
 }
 
 // The design with its first placement, or nothing behind its refusal.
-fn placed(
-    rt: &HostRuntime,
+fn lay_out(
+    rt: &impl Print,
     alloc: Global,
     chip: &Chip,
     sites: &Sites,
@@ -94,8 +96,8 @@ fn placed(
 }
 
 // The pads of a design; then its first placement, its routes and its bits, or the first refusal.
-fn say_assigned(
-    rt: &HostRuntime,
+fn say_assigned<R: Print + Threads + Sync>(
+    rt: &R,
     alloc: Global,
     board: Board<'_>,
     sound: &Sound,
@@ -113,7 +115,7 @@ fn say_assigned(
     };
     say_pads(rt, &pads)?;
     let (chip, sites) = (board.chip, board.sites);
-    match placed(rt, alloc, chip, sites, sound, design, clusters, pads)? {
+    match lay_out(rt, alloc, chip, sites, sound, design, clusters, pads)? {
         None => Ok(()),
         Some(layout) => {
             say_placed(rt, alloc, chip, &layout)?;
@@ -123,8 +125,8 @@ fn say_assigned(
 }
 
 // The packed design of a netlist, its clusters, and with pin constraints what follows from them.
-fn say_passes(
-    rt: &HostRuntime,
+fn say_passes<R: Print + Threads + Sync>(
+    rt: &R,
     alloc: Global,
     board: Board<'_>,
     sound: &Sound,
@@ -145,8 +147,8 @@ fn say_passes(
 }
 
 // The same for the text of a netlist.
-fn say_netlist(
-    rt: &HostRuntime,
+fn say_netlist<R: Print + Threads + Sync>(
+    rt: &R,
     alloc: Global,
     board: Board<'_>,
     blif: &[u8],
@@ -166,8 +168,8 @@ fn say_netlist(
 }
 
 // The same for two files: the text of the netlist, and, where its name isn't -, of the pin constraints.
-fn say_files(
-    rt: &HostRuntime,
+fn say_files<R: Print + Files + Alloc<A = Global> + Threads + Sync>(
+    rt: &R,
     alloc: Global,
     board: Board<'_>,
     blif_name: &str,
@@ -200,7 +202,12 @@ fn chip_of(alloc: Global) -> Result<Chip> {
 }
 
 // What is shown for these names of files.
-fn say_cases(rt: &HostRuntime, alloc: Global, board: Board<'_>, words: &[String]) -> Result<()>
+fn say_cases<R: Print + Files + Alloc<A = Global> + Threads + Sync>(
+    rt: &R,
+    alloc: Global,
+    board: Board<'_>,
+    words: &[String],
+) -> Result<()>
     requires { board.sites.now ≡ stretches_of board.chip.now }
 {
     for names in words.chunks_exact(2) {
@@ -213,8 +220,8 @@ fn say_cases(rt: &HostRuntime, alloc: Global, board: Board<'_>, words: &[String]
 }
 
 // The same by the words of the program: where the first is `bits`, the bits are said too.
-fn say_words(
-    rt: &HostRuntime,
+fn say_words<R: Print + Files + Alloc<A = Global> + Threads + Sync>(
+    rt: &R,
     alloc: Global,
     chip: &Chip,
     sites: &Sites,
@@ -235,7 +242,11 @@ fn say_words(
 }
 
 // The same on the sample chip.
-fn say_all(rt: &HostRuntime, alloc: Global, words: &[String]) -> Result<()> {
+fn say_all<R: Print + Files + Alloc<A = Global> + Threads + Sync>(
+    rt: &R,
+    alloc: Global,
+    words: &[String],
+) -> Result<()> {
     let chip = chip_of(alloc)?;
     let Ok(sites) = sites_of(alloc, &chip) else {
         bail!("want of memory");

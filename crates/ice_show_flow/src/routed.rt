@@ -21,6 +21,7 @@ use ice_routable::laws::placed_nets_are_routable;
 use ice_routed_trees::laws::routed_nets_are_trees;
 use std::alloc::Global;
 use std::str;
+use std::thread::Threads;
 
 // As many nets can be counted on a wire.
 const MOST_NETS: usize = 65_536;
@@ -30,8 +31,8 @@ const ROUNDS: u32 = 64;
 const WORKERS: u32 = 2;
 
 // The trees of the nets of a placed design.
-fn route(
-    rt: &HostRuntime,
+fn route<R: Threads + Sync>(
+    rt: &R,
     alloc: Global,
     chip: &Chip,
     layout: &Layout,
@@ -59,7 +60,7 @@ fn route(
 }
 
 // Says a text.
-fn say_text(rt: &HostRuntime, text: &[u8]) -> Result<()> {
+fn say_text(rt: &impl Print, text: &[u8]) -> Result<()> {
     match str::from_utf8(text) {
         Ok(text) => print!(rt; "{text}")?,
         Err(_) => bail!("the text is not UTF-8"),
@@ -85,7 +86,7 @@ fn nets_in(alloc: Global, chip: &Chip, layout: &Layout) -> Result<usize> {
 
 // The report on routing.
 fn say_report(
-    rt: &HostRuntime,
+    rt: &impl Print,
     alloc: Global,
     chip: &Chip,
     layout: &Layout,
@@ -105,7 +106,7 @@ fn say_report(
 
 // The text of the bits.
 fn say_bits(
-    rt: &HostRuntime,
+    rt: &impl Print,
     alloc: Global,
     chip: &Chip,
     layout: &Layout,
@@ -136,7 +137,7 @@ fn say_bits(
 
 // Why a placed design is not routed.
 fn say_route_fault(
-    rt: &HostRuntime,
+    rt: &impl Print,
     alloc: Global,
     chip: &Chip,
     layout: &Layout,
@@ -153,8 +154,8 @@ fn say_route_fault(
 }
 
 // The report on the routes of a placed design, and its bits where they are asked for; or why it has no routes.
-pub(crate) fn say_routed(
-    rt: &HostRuntime,
+pub(crate) fn say_routed<R: Print + Threads + Sync>(
+    rt: &R,
     alloc: Global,
     chip: &Chip,
     layout: &Layout,

@@ -13,8 +13,8 @@ negotiate-requires-clause-nets g c κs within =
     c.placed_nets_are_routable.ensures c.args.chip.now c.requires.0 (plan_in c.args.layout.now) c.args.layout.now.pads.pullups c.in_ok-graph.graph c.as_slice.result.now
     c.wires-wires.ensures.chip c.requires.1 (record { wires = c.in_ok-graph.ensures.wires; edges = c.in_ok-graph.ensures.edges }) (ap (map bare_net) c.as_slice.ensures.value ∙ c.in_ok-nets.ensures.nets)
 
-pub returns-clause-trees : goal.returns-clause-trees
-returns-clause-trees g c =
+pub returns : goal.returns
+returns g c =
     IfOk-weaker c.negotiate.result (AreRouted c.in_ok-graph.graph c.as_slice.result.now 64) (λ (routed : Routed). AreTrees c.args.chip.now (plan_in c.args.layout.now) (routes_in routed))
     (λ routed is. c.routed_nets_are_trees.ensures c.args.chip.now (plan_in c.args.layout.now) c.in_ok-graph.graph c.as_slice.result.now 64 routed
     (record { wires = c.in_ok-graph.ensures.wires; edges = c.in_ok-graph.ensures.edges }) (ap (map bare_net) c.as_slice.ensures.value ∙ c.in_ok-nets.ensures.nets) is)
