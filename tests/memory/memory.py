@@ -10,7 +10,8 @@ import subprocess
 import sys
 
 SECONDS = 60
-ADDER_CHIP = (6, 9)
+SECONDS_FOR_ALL = 3600
+ADDER_CHIP = (5, 7)
 BUFFERS = ".model top\n.inputs a b\n.outputs y z\n.names a y\n1 1\n.names b z\n1 1\n.end\n"
 BUFFER_PINS = "set_io a 1\nset_io b 2\nset_io y 3\nset_io z 4\n"
 
@@ -71,7 +72,7 @@ class Build:
         bits = self.folder / "bits"
         bits.unlink(missing_ok=True)
         env = {"REFUSE": str(which), "REFUSE_LOG": "log", "REFUSE_FILES": "bits", "LD_PRELOAD": self.refuse}
-        run = subprocess.run([self.program, *self.words], cwd=self.folder, env=env, capture_output=True, timeout=SECONDS)
+        run = subprocess.run([self.program, *self.words], cwd=self.folder, env=env, capture_output=True, timeout=SECONDS_FOR_ALL if which == "each" else SECONDS)
         held = bits.read_bytes() if bits.exists() else None
         return run.returncode, run.stdout.decode("latin-1") + run.stderr.decode("latin-1"), held
 

@@ -15,6 +15,7 @@
 #include <stdio.h>
 #include <stdlib.h>
 #include <string.h>
+#include <sys/syscall.h>
 #include <sys/wait.h>
 #include <unistd.h>
 
@@ -28,9 +29,13 @@ static unsigned long refused;
 static int each, counting, log_file = -1;
 static char files[4096];
 
+static void leave(int status) {
+    for (;;) syscall(SYS_exit_group, status);
+}
+
 /* Adds a text to the log. */
 static void note(const char *text) {
-    if (write(log_file, text, strlen(text)) < 0) _exit(99);
+    if (write(log_file, text, strlen(text)) < 0) leave(99);
 }
 
 /* Adds the size and the sum of a file of a copy, and removes it. */
@@ -85,11 +90,11 @@ static int copied(unsigned long number) {
     if (copy == 0) {
         counting = 0;
         int said = chdir("refused") ? -1 : open("said", O_CREAT | O_TRUNC | O_WRONLY, 0644);
-        if (said < 0 || dup2(said, 1) < 0) _exit(99);
+        if (said < 0 || dup2(said, 1) < 0) leave(99);
         close(said);
         return 1;
     }
-    if (copy < 0 || waitpid(copy, &status, 0) < 0) _exit(99);
+    if (copy < 0 || waitpid(copy, &status, 0) < 0) leave(99);
     note_answer(number, status);
     return 0;
 }
@@ -127,17 +132,21 @@ __attribute__((constructor)) static void begin(void) {
     const char *which = getenv("REFUSE"), *log = getenv("REFUSE_LOG"), *names = getenv("REFUSE_FILES");
     if (!which || !log) return;
     log_file = open(log, O_CREAT | O_TRUNC | O_WRONLY, 0644);
-    if (log_file < 0 || (names && strlen(names) >= sizeof files)) _exit(99);
+    if (log_file < 0 || (names && strlen(names) >= sizeof files)) leave(99);
     if (names) strcpy(files, names);
     each = strcmp(which, "each") == 0;
     refused = each ? 0 : strtoul(which, NULL, 10);
     counting = 1;
 }
 
-__attribute__((destructor)) static void end(void) {
+/* The program's end. */
+void _exit(int status) {
     char line[64];
-    if (!counting) return;
-    counting = 0;
-    snprintf(line, sizeof line, "requests %lu\n", atomic_load(&requests));
-    note(line);
+    if (counting) {
+        counting = 0;
+        snprintf(line, sizeof line, "requests %lu\n", atomic_load(&requests));
+        note(line);
+    }
+    leave(status);
+    __builtin_unreachable();
 }
