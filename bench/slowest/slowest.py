@@ -111,20 +111,28 @@ INPUTS = [
 ]
 
 
-def measured(program, work, words, texts):
-    """Seconds, megabytes, status and line of a run."""
-    for it, text in texts.items():
-        (work / it).write_bytes(text)
+def one(program, *words):
+    """Runs the program, and says its processor time, memory and status, or nothing where it was ended by a signal."""
     limit = lambda: resource.setrlimit(resource.RLIMIT_CPU, (SECONDS, SECONDS))
-    with open(work / "said", "wb") as out:
-        run = subprocess.Popen([program, *words], cwd=work, stdout=out, preexec_fn=limit)
+    with open("said", "wb") as out:
+        run = subprocess.Popen([program, *words], stdout=out, preexec_fn=limit)
     _, status, usage = os.wait4(run.pid, 0)
     run.returncode = 0
-    if os.WIFSIGNALED(status):
+    if os.WIFEXITED(status):
+        print(usage.ru_utime + usage.ru_stime, usage.ru_maxrss / 1024, os.WEXITSTATUS(status))
+
+
+def measured(program, work, words, texts):
+    """Seconds, megabytes, status and line of a run. A small process starts it, since the memory of what starts it counts too."""
+    for it, text in texts.items():
+        (work / it).write_bytes(text)
+    said = subprocess.run([sys.executable, __file__, "one", program, *words], cwd=work, capture_output=True, text=True, check=True).stdout
+    if not said:
         return None
-    with open(work / "said", "rb") as said:
-        line = said.read(60).split(b"\n")[0].decode("latin-1")
-    return usage.ru_utime + usage.ru_stime, usage.ru_maxrss / 1024, os.waitstatus_to_exitcode(status), line
+    seconds, memory, status = said.split()
+    with open(work / "said", "rb") as file:
+        line = file.read(60).split(b"\n")[0].decode("latin-1")
+    return float(seconds), float(memory), int(status), line
 
 
 def main():
@@ -149,4 +157,7 @@ def main():
                 print(f"| {name} | {size:,} | {bytes_ / 1e6:.1f} MB | {seconds:.2f} s | {memory:.0f} MB | {growth} | {status} {line} |", flush=True)
 
 
-main()
+if sys.argv[1] == "one":
+    one(*sys.argv[2:])
+else:
+    main()

@@ -1,6 +1,6 @@
 """Refuses each request for memory of a build in turn, and says what was answered and what the files hold.
 
-usage: memory.py PROGRAM REFUSE TOP WORK; REFUSE is the built refuse.c
+usage: memory.py PROGRAM REFUSE TOP WORK [WORD..]; REFUSE is the built refuse.c; with WORDs, only the builds whose names have one
 """
 import os
 import pathlib
@@ -143,9 +143,11 @@ def tell(name, how, answers):
 
 
 def main():
-    program, refuse, top, work = sys.argv[1:]
+    program, refuse, top, work, *words = sys.argv[1:]
     good = True
     for number, (name, texts, package) in enumerate(builds(top)):
+        if words and not any(word in name for word in words):
+            continue
         folder = pathlib.Path(work) / str(number)
         shutil.rmtree(folder, ignore_errors=True)
         build = Build(program, refuse, folder, name, texts, package)
