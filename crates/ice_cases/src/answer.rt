@@ -1,7 +1,7 @@
 //! The run of a case, and what is said of it.
-use crate::pieces::number_at;
+use crate::pieces::{number_at, word_at};
 use crate::texts::{Text, find};
-use ice_base::{Name, begins_with, lines_of, number_of, words_of};
+use ice_base::{Name, lines_of, number_of, words_of};
 use ice_desk::{DeskCall, MemoryDesk, OpenGate};
 use ice_flow::run;
 use itoa::Buffer;
@@ -25,6 +25,8 @@ pub struct Setting<'a> {
     pub fails: &'a [u8],
     /// The names of the files that are told.
     pub shows: &'a [u8],
+    /// The name of a file, and how those of its lines begin that are told.
+    pub finds: &'a [u8],
 }
 
 impl<'a> Setting<'a> {
@@ -38,6 +40,7 @@ impl<'a> Setting<'a> {
             moves: &[],
             fails: &[],
             shows: &[],
+            finds: &[],
         }
     }
 }
@@ -154,6 +157,35 @@ fn add_file(out: &mut Vec<u8>, desk: &MemoryDesk, name: &[u8]) -> Result<(), All
     }
 }
 
+// Whether a line begins with a word that is asked for.
+fn is_found(line: &[u8], finds: &[u8]) -> bool {
+    for word in words_of(finds).skip(2) {
+        if line.starts_with(word) {
+            return true;
+        }
+    }
+    false
+}
+
+// Adds the lines of a file that are asked for.
+fn add_found(out: &mut Vec<u8>, desk: &MemoryDesk, finds: &[u8]) -> Result<(), AllocError> {
+    let name = word_at(finds, 1);
+    let Some(bytes) = desk.file(word_text(name)) else {
+        return add_file(out, desk, name);
+    };
+    out.extend_from_slice(b"lines of ")?;
+    out.extend_from_slice(name)?;
+    out.push(b'\n')?;
+    for line in lines_of(bytes) {
+        if is_found(line.text, finds) {
+            out.push(b'|')?;
+            out.extend_from_slice(line.text)?;
+            out.push(b'\n')?;
+        }
+    }
+    Ok(())
+}
+
 // Adds the number of a run's case, or of its status.
 fn add_number(out: &mut Vec<u8>, before: &[u8], number: u32) -> Result<(), AllocError> {
     out.extend_from_slice(before)?;
@@ -193,6 +225,9 @@ fn add_answer<R: Threads + Sync>(
     }
     for name in words_of(case.shows).skip(1) {
         add_file(out, desk, name)?;
+    }
+    if !case.finds.is_empty() {
+        add_found(out, desk, case.finds)?;
     }
     Ok(())
 }

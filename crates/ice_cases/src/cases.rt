@@ -143,6 +143,7 @@ impl<'a> Cases<'a> {
             b"moves" => self.case.moves = line,
             b"fails" => self.case.fails = line,
             b"shows" => self.case.shows = line,
+            b"finds" => self.case.finds = line,
             _ => return self.add_piece(alloc, line),
         }
         Ok(true)

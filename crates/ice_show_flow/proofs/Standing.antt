@@ -1,0 +1,53 @@
+-- Placed designs stand on their chip.
+use Rattle.std.proofs.Common.{◌≡◌, ℕ, Option, Some, None, List, refl, sym, ap, subst}
+use Rattle.std.specs.Prelude.{Ok, bytes_eq}
+use Rattle.ice_value.proofs.Members.{find_Has}
+use Rattle.ice_net.specs.NetlistData.{NetlistData}
+use Rattle.ice_pcf.specs.declared.constraint.Constraint.{Constraint}
+use Rattle.ice_chip.specs.Database.{Parts, PackageRows}
+use Rattle.ice_chip.specs.IsRead.{IsChip}
+use Rattle.ice_chip.specs.Lookups.{package_of}
+use Rattle.ice_cells.specs.Formed.{IsFormed}
+use Rattle.ice_cells.specs.Meaning.{HasValues}
+use Rattle.ice_cells.specs.declared.cluster.Clusters.{Clusters}
+use Rattle.ice_cells.specs.declared.design.Design.{Design}
+use Rattle.ice_pack_form.specs.FormLaws.{DesignsAreFormed, DesignsHaveValues}
+use Rattle.ice_pack_laws.specs.PackLaws.{IsSoundInOrder}
+use Rattle.ice_pads.specs.Assign.{PadsData, assigned, assign_of}
+use Rattle.ice_pads.specs.Facts.{AssignedPadsFit}
+use Rattle.ice_pads.specs.Wants.{wants, pins}
+use Rattle.ice_place.specs.Place.{chunks_of}
+use Rattle.ice_sites.specs.Legal.{IsLegal, IsLegalOn}
+use Rattle.ice_sites.specs.Stretches.{stretches_of}
+use Rattle.ice_base.specs.declared.number.TileAt.{TileAt}
+use Rattle.ice_build.specs.Laid.{plan_in}
+use Rattle.ice_build.specs.declared.answer.Layout.{Layout}
+use Rattle.ice_emit.specs.Placed.{IsPlacedOn}
+use Rattle.ice_show_flow.specs.Standing.{IsLegallyPlaced}
+
+-- where pads are assigned, the package is there
+package_there : (parts : Parts) (name : List ℕ) (constraints : List Constraint) (n : NetlistData) (d : Design) (pads : PadsData) → assign_of parts name constraints n d ≡ Ok pads → (bonded : PackageRows) × (package_of parts name ≡ Some bonded)
+package_there parts name constraints n d pads said = by (package_of parts name) said
+  where
+    by : (o : Option PackageRows) → assigned parts constraints n (wants d) (pins d) o ≡ Ok pads → (bonded : PackageRows) × (o ≡ Some bonded)
+    by None e = absurd (cc)
+    by (Some bonded) e = (bonded, refl)
+
+abbrev pub SitesAreLegal : Type 0
+SitesAreLegal = (parts : Parts) → (chunks : List (Option (ℕ × ℕ))) → (at : List TileAt) → IsLegal (stretches_of parts) chunks at → IsLegalOn parts chunks at
+
+pub stands : (parts : Parts) (n : NetlistData) (order : List ℕ) → IsChip parts → IsSoundInOrder n order → DesignsAreFormed → DesignsHaveValues → AssignedPadsFit → SitesAreLegal
+    → (layout : Layout) → IsLegallyPlaced parts n layout → IsPlacedOn parts (plan_in layout) layout.pads.pullups
+stands parts n order chip sound formed values fit legal layout laid =
+    let name = laid.pads.0 in let constraints = laid.pads.1.0 in let said = laid.pads.1.1 in
+    let there = package_there parts name constraints n layout.design layout.pads said in (
+      there.0,
+      record {
+        formed = subst IsFormed (sym laid.design) (formed n order sound);
+        values = subst HasValues (sym laid.design) (values n order sound);
+        clusters = ap (λ (c : Clusters). c.list) laid.clusters;
+        legal = legal parts (chunks_of layout.clusters.list) layout.placement laid.legal;
+        «package» = (find_Has (λ (p : PackageRows). bytes_eq p.name name) parts.packages there.0 there.1).0;
+        pads = fit parts name constraints n layout.design there.0 layout.pads chip there.1 said;
+      },
+    )

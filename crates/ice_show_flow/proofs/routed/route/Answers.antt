@@ -1,0 +1,21 @@
+use Rattle.std.proofs.Common.{ap, map, ◌∙◌}
+use Rattle.std.proofs.lemmas.Result.{IfOk-weaker}
+use Rattle.ice_negotiate.specs.Logs.{AreRouted}
+use Rattle.ice_negotiate.specs.declared.fault.Routed.{Routed}
+use Rattle.ice_nets.specs.Nets.{bare_net}
+use Rattle.ice_written.specs.Routed.{AreTrees}
+use Rattle.ice_build.specs.Answers.{routes_in}
+use Rattle.ice_build.specs.Laid.{plan_in}
+use Rattle.ice_show_flow.proofs.routed.route.Goals as goal
+
+pub negotiate-requires-clause-nets : goal.negotiate-requires-clause-nets
+negotiate-requires-clause-nets g c κs within =
+    c.placed_nets_are_routable.ensures c.args.chip.now c.requires.0 (plan_in c.args.layout.now) c.args.layout.now.pads.pullups c.in_ok-graph.graph c.as_slice.result.now
+    c.wires-wires.ensures.chip c.requires.1 (record { wires = c.in_ok-graph.ensures.wires; edges = c.in_ok-graph.ensures.edges }) (ap (map bare_net) c.as_slice.ensures.value ∙ c.in_ok-nets.ensures.nets)
+
+pub returns : goal.returns
+returns g c =
+    IfOk-weaker c.negotiate.result (AreRouted c.in_ok-graph.graph c.as_slice.result.now 64) (λ (routed : Routed). AreTrees c.args.chip.now (plan_in c.args.layout.now) (routes_in routed))
+    (λ routed is. c.routed_nets_are_trees.ensures c.args.chip.now (plan_in c.args.layout.now) c.in_ok-graph.graph c.as_slice.result.now 64 routed
+    (record { wires = c.in_ok-graph.ensures.wires; edges = c.in_ok-graph.ensures.edges }) (ap (map bare_net) c.as_slice.ensures.value ∙ c.in_ok-nets.ensures.nets) is)
+    c.negotiate.ensures.routed
