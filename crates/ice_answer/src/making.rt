@@ -51,8 +51,8 @@ fn make_of<D: Desk, M: Making>(
     }
 }
 
-// What was made, or why nothing was made, with no text to be left.
-fn without_report(made: Result<Made, Cause>) -> Result<Made, Refused>
+/// What was made, or why nothing was made, with no text to be left.
+pub fn without_report(made: Result<Made, Cause>) -> Result<Made, Refused>
     ensures same { unreported result ≡ made }
     ensures none { IfErr result (λ refused. refused.report ≡ None) }
 {
