@@ -1,6 +1,7 @@
 """Levels for the two commands, and the comparison of what they say.
 
 levels CHIP PACKAGE PCF BLIF STEPS NET_LEVELS BITS_LEVELS  writes one step a line, for the netlist's ports and for the package's pads
+draw CHIP PACKAGE STEPS LEVELS  writes one step a line, with a level for each of the package's pads
 compare CHIP PACKAGE PCF BLIF NET_DRIVES BITS_DRIVES       ends with 0 where the pads show what the ports show, and every other is Off
 bench BLIF STEPS CHIP_VERILOG OUT  writes a bench that runs the Verilog of bits, from which memories are taken out, beside the netlist's
 """
@@ -71,6 +72,14 @@ def levels(chip, package, pcf, blif, steps, net_out, bits_out):
             bits.write("".join(map(str, pads)) + "\n")
 
 
+def draw(chip, package, steps, out):
+    _, pads = pads_of(chip, package)
+    source = random.Random(7)
+    with open(out, "w", encoding="ascii") as levels_file:
+        for _ in range(int(steps)):
+            levels_file.write("".join(str(int(source.random() < 0.5)) for _ in pads) + "\n")
+
+
 def compare(chip, package, pcf, blif, net_said, bits_said):
     ports, _ = ports_of(blif)
     places, count = places_of(chip, package, pcf, ports)
@@ -132,4 +141,4 @@ def bench(blif, steps, verilog, out):
     open(out, "w", encoding="ascii").write("\n".join(lines) + "\n")
 
 
-{"levels": levels, "compare": compare, "bench": bench}[sys.argv[1]](*sys.argv[2:])
+{"levels": levels, "draw": draw, "compare": compare, "bench": bench}[sys.argv[1]](*sys.argv[2:])
