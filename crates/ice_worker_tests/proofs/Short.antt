@@ -1,5 +1,5 @@
 -- The two rounds of two nets over one short wire can be played.
-use Rattle.std.proofs.Common.{◌≡◌, ℕ, zero, suc, ◌+◌, ◌-◌, ◌≤◌, ◌<◌, ◌⊎◌, List, [], ◌∷◌, length, map, cond, slice_index, refl, sym, ap, ◌∙◌, subst, arith, inl, inr}
+use Rattle.std.proofs.Common.{◌≡◌, ℕ, zero, suc, ◌≤◌, ◌<◌, ◌⊎◌, List, [], ◌∷◌, length, slice_index, sym, ap, ◌∙◌, subst, arith, inl, inr}
 use Rattle.std.proofs.lemmas.List.{get_or_past}
 use Rattle.std.proofs.lemmas.List.Elements.{All-from_recursion}
 use Rattle.std.specs.List.{AllByRecursion}
@@ -7,10 +7,9 @@ use Rattle.ice_base.specs.declared.number.WireNo.{WireNo}
 use Rattle.ice_graph.specs.Network.{Network}
 use Rattle.ice_core.specs.declared.round_prices.RoundPrices.{RoundPrices}
 use Rattle.ice_core.specs.declared.task.Task.{Task}
-use Rattle.ice_core.specs.Congestion.{ArePrices}
 use Rattle.ice_core.specs.Routes.{IsOpening, numbers, old_wires, sum_below, times, wires_of}
 use Rattle.ice_core.proofs.Sums.{at_other, times_cons}
-use Rattle.ice_worker.specs.Tasks.{AreFor, IsTaskOf, KeepsBounds}
+use Rattle.ice_worker.specs.Tasks.{IsTaskOf, KeepsBounds}
 use Rattle.ice_worker_tests.specs.Hands.{AreReady}
 
 within_or_not : (w n : ℕ) → (w < n) ⊎ (n ≤ w)

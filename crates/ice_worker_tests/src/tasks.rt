@@ -74,7 +74,6 @@ pub fn first_round(rt: &impl Abort, alloc: Global, graph: &Graph) -> Play
 }
 
 /// The second round: both nets hold wire 2, and the first one moves.
-#[tactic(auto, using(crate::proofs::Short::second_ready))]
 pub fn second_round(rt: &impl Abort, alloc: Global, graph: &Graph) -> Play
     requires { graph.now.wires ≡ 7 }
     ensures { AreReady graph.now result.prices result.tasks.items }
