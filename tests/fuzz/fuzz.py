@@ -38,6 +38,7 @@ COMMANDS = {
     "build": ("chip", "=tiny", "pcf", "blif", "*asc"),
     "play-net": ("blif", "levels"),
     "play-bits": ("chip", "=tiny", "asc", "levels"),
+    "back": ("chip", "=tiny", "asc", "*netlist"),
 }
 
 
@@ -100,34 +101,34 @@ def change(text, others, chance):
     return b"\n".join(lines)
 
 
-def complaint(command, run, asc):
-    """What is not as documented in this answer, or None."""
+def complaint(run, written):
+    """What is not as documented in this answer of a command, or None; written is the file that it writes, or None where it says drives."""
     said = run.stdout
     if run.returncode < 0:
         return f"ended by signal {-run.returncode}"
     if run.stderr:
         return "wrote to standard error"
     if run.returncode == 0:
-        if command == "build":
-            return "said something" if said else None if os.path.exists(asc) else "wrote no bits"
+        if written:
+            return "said something" if said else None if os.path.exists(written) else "wrote no file"
         return None if re.fullmatch(rb"([.01]*\n)*", said) else "said no drives"
     if run.returncode not in LINE:
         return f"status {run.returncode} is none of the documented ones"
     if not re.fullmatch(LINE[run.returncode].encode() + rb"\n", said, re.S):
         return "the line doesn't agree with the status"
-    return "wrote bits, and refused" if os.path.exists(asc) else None
+    return "wrote a file, and refused" if written and os.path.exists(written) else None
 
 
 def ran(program, command, folder):
-    """Runs the program over the files of the folder: the answer, with the bits that it wrote, if any."""
+    """Runs the program over the files of the folder: the answer, with the text that it wrote, if any."""
     words = [word[1:] if word[0] == "=" else f"{folder}/{word.lstrip('*')}" for word in COMMANDS[command]]
-    asc = f"{folder}/asc" if command == "build" else f"{folder}/none"
+    written = next((f"{folder}/{word[1:]}" for word in COMMANDS[command] if word[0] == "*"), None)
     run = subprocess.run([program, command, *words], capture_output=True, timeout=SECONDS_A_RUN)
-    bits = open(asc, "rb").read() if os.path.exists(asc) else None
-    why = complaint(command, run, asc)
-    if command == "build" and bits is not None:
-        os.remove(asc)
-    return why, (run.returncode, run.stdout, bits)
+    text = open(written, "rb").read() if written and os.path.exists(written) else None
+    why = complaint(run, written)
+    if text is not None:
+        os.remove(written)
+    return why, (run.returncode, run.stdout, text)
 
 
 def tried(program, command, folder):
