@@ -2,6 +2,6 @@ pub mod Standing
 pub mod Excluding
 pub mod Telling
 pub mod Refusing
-pub mod Leaving
+pub mod Making
 pub mod Holding
 pub mod BuildLaws

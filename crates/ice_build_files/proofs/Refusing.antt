@@ -7,11 +7,14 @@ use Rattle.ice_base.specs.declared.number.TileAt.{TileAt}
 use Rattle.ice_asc.specs.Grammar.{asc_in}
 use Rattle.ice_asc.specs.Text.{asc_text}
 use Rattle.ice_bits.specs.Configuration.{Configuration, IsOf}
+use Rattle.ice_blif.specs.declared.fault.BlifFault.{BlifFault}
+use Rattle.ice_check.specs.declared.fault.NetFault.{NetFault}
 use Rattle.ice_net.specs.Formed.{IsFormed}
 use Rattle.ice_net.specs.Meaning.{shows}
 use Rattle.ice_net.specs.NetlistData.{NetlistData}
 use Rattle.ice_chip.specs.Database.{Parts, PackageRows}
 use Rattle.ice_chip.specs.Lookups.{package_of}
+use Rattle.ice_chip.specs.declared.fault.ChipFault.{ChipFault}
 use Rattle.ice_chip.specs.declared.rows.Pad.{Pad}
 use Rattle.ice_cells.specs.Runs.{design_of}
 use Rattle.ice_core.specs.declared.log.RoundLog.{RoundLog}
@@ -19,6 +22,7 @@ use Rattle.ice_decode.specs.declared.fault.DecodeFault.{DecodeFault}
 use Rattle.ice_negotiate.specs.Trees.{route_of}
 use Rattle.ice_pads.specs.Assign.{assign_of}
 use Rattle.ice_pads.specs.declared.fault.PinFault.{PinFault}
+use Rattle.ice_pcf.specs.declared.fault.PcfFault.{PcfFault}
 use Rattle.ice_place.specs.declared.fault.PlaceFault.{PlaceFault}
 use Rattle.ice_promote.specs.PromotionLaws.{PromotedShowTheSame}
 use Rattle.ice_report.specs.PinReport.{pin_text}
@@ -36,12 +40,12 @@ use Rattle.ice_build.specs.declared.answer.BuildFault.TheVariants as build
 use Rattle.ice_build.specs.declared.answer.Layout.{Layout}
 use Rattle.ice_build.proofs.Answering.{pins_good, places_good}
 use Rattle.ice_answer.specs.declared.cause.Cause.{Cause}
-use Rattle.ice_answer.specs.declared.cause.Cause.TheVariants.{BadPin, Overfull, Unreachable, GaveUp, BadBits, NoMemory}
+use Rattle.ice_answer.specs.declared.cause.Cause.TheVariants.{BadBlif, BadPcf, BadChip, BadNet, BadPin, Overfull, Unreachable, GaveUp, BadBits, NoMemory}
 use Rattle.ice_answer.specs.declared.giving.Made.{Made}
 use Rattle.ice_answer.specs.declared.giving.Refused.{Refused}
 use Rattle.ice_answer.specs.Commands.{HasGivenUp, IsRefusal}
 use Rattle.ice_answer.specs.Ends.{text_of}
-use Rattle.ice_answer.specs.Refusals.{IsPinRefusal, IsPlaceRefusal, IsBitsRefusal}
+use Rattle.ice_answer.specs.Refusals.{IsBlifRefusal, IsPcfRefusal, IsChipRefusal, IsNetRefusal, IsPinRefusal, IsPlaceRefusal, IsBitsRefusal}
 use Rattle.ice_answer.proofs.Standings.{at_fault, pin_refused, place_refused, bits_refused}
 use Rattle.ice_build_files.specs.Asked.{Build, IsAsked}
 use Rattle.ice_build_files.specs.Ending.{IsBuildRefusal, HasGivenUpWith}
@@ -70,15 +74,31 @@ bits_alone : (fault : DecodeFault) (cause : Cause) → IsBitsRefusal fault cause
 bits_alone fault cause (inl memory) = of_no_rounds cause NoMemory memory.0 (λ never. never)
 bits_alone fault cause (inr told) = of_no_rounds cause (BadBits fault) told.0 (λ never. never)
 
+pub net_alone : (fault : NetFault) (cause : Cause) → IsNetRefusal fault cause → IsOfNoRounds cause
+net_alone fault cause (inl memory) = of_no_rounds cause NoMemory memory.0 (λ never. never)
+net_alone fault cause (inr told) = of_no_rounds cause (BadNet fault) told.0 (λ never. never)
+
+pub blif_alone : (fault : BlifFault) (cause : Cause) → IsBlifRefusal fault cause → IsOfNoRounds cause
+blif_alone fault cause (inl memory) = of_no_rounds cause NoMemory memory.0 (λ never. never)
+blif_alone fault cause (inr told) = of_no_rounds cause (BadBlif fault) told.0 (λ never. never)
+
+pub pcf_alone : (fault : PcfFault) (cause : Cause) → IsPcfRefusal fault cause → IsOfNoRounds cause
+pcf_alone fault cause (inl memory) = of_no_rounds cause NoMemory memory.0 (λ never. never)
+pcf_alone fault cause (inr told) = of_no_rounds cause (BadPcf fault) told.0 (λ never. never)
+
+pub chip_alone : (fault : ChipFault) (cause : Cause) → IsChipRefusal fault cause → IsOfNoRounds cause
+chip_alone fault cause (inl memory) = of_no_rounds cause NoMemory memory.0 (λ never. never)
+chip_alone fault cause (inr told) = of_no_rounds cause (BadChip fault) told.0 (λ never. never)
+
 -- such a refusal without a report
-refused_alone : (b : Build) (t : List (List ℕ)) (refused : Refused) → IsRefusal (Stands b.package_name b.effort.rounds t) refused.cause → IsOfNoRounds refused.cause → refused.report ≡ None
+pub refused_alone : (b : Build) (t : List (List ℕ)) (refused : Refused) → IsRefusal (Stands b.package_name b.effort.rounds t) refused.cause → IsOfNoRounds refused.cause → refused.report ≡ None
     → IsRefusedWith b t refused
 refused_alone b t refused is alone none = record {
   refusal = is;
   report = subst (λ (o : Option (Vec ℕ)). HasReport b t refused.cause (text_of o)) (sym none) (λ gave. absurd (alone gave));
 }
 
-refused_by : (b : Build) (t : List (List ℕ)) (this : Cause) (refused : Refused) → IsRefusal (Stands b.package_name b.effort.rounds t) this → IsOfNoRounds this → refused.cause ≡ this → refused.report ≡ None
+pub refused_by : (b : Build) (t : List (List ℕ)) (this : Cause) (refused : Refused) → IsRefusal (Stands b.package_name b.effort.rounds t) this → IsOfNoRounds this → refused.cause ≡ this → refused.report ≡ None
     → IsRefusedWith b t refused
 refused_by b t this refused is alone e none =
     refused_alone b t refused (subst (IsRefusal (Stands b.package_name b.effort.rounds t)) (sym e) is) (of_no_rounds refused.cause this e alone) none

@@ -1,5 +1,5 @@
 //! Building: three texts are read, the netlist is built, and the text of its bits is written, with the reports that are asked for.
-ghost use Rattle.std.specs.Prelude.{◌≡◌, true, Ok, IfOk, IfErr};
+ghost use Rattle.std.specs.Prelude.{◌≡◌, ◌∷◌, ℕ, List, true, Ok, IfOk, IfErr};
 ghost use Rattle.ice_answer.specs.Causes.{status_of};
 ghost use Rattle.ice_answer.specs.Commands.{InFiles, IsTrueOf};
 ghost use Rattle.ice_answer.specs.Ends.{IsEndInFiles, IsMadeOf, IsReported, IsToldLong, unreported};
@@ -11,6 +11,7 @@ ghost use Rattle.ice_blif.specs.Grammar.{netlist_of};
 ghost use Rattle.ice_build.specs.Laid.{task_of};
 ghost use Rattle.ice_build.specs.Stages.{IsPermitted};
 ghost use Rattle.ice_check.specs.Sound.{IsSound};
+ghost use Rattle.ice_chip_pieces.specs.Stands.{StandsFor};
 ghost use Rattle.ice_chip_read.specs.Whole.{chip_says};
 ghost use Rattle.ice_desk.specs.Desk.{SameButReading, SameTest};
 ghost use Rattle.ice_net.specs.Formed.{IsFormed};
@@ -28,7 +29,7 @@ use crate::files::{outputs, parting};
 use crate::request::BuildRequest;
 use ice_answer::{
     Cause, CommandFile, Done, FileRole, Made, Refused, Texts, blif_refusal, chip_refusal,
-    end_in_files, net_refusal, pcf_refusal, read_texts,
+    end_in_files, net_refusal, pcf_refusal,
 };
 use ice_base::NoMemory;
 use ice_blif::read_blif;
@@ -36,7 +37,8 @@ use ice_blif_laws::read_names_are_words;
 use ice_build::build;
 use ice_check::{Sound, check};
 use ice_chip::Chip;
-use ice_chip_read::read_chip;
+use ice_chip_pieces::ChipReader;
+use ice_chip_texts::{ChipTexts, read_chip_and_texts};
 use ice_clocks::laws::{pin_reports_stay, pins_stay};
 use ice_clocks::promote_clocks;
 use ice_desk::{Desk, Gate};
@@ -46,9 +48,9 @@ use ice_promote::laws::{netlists_of_words_can_be_promoted, promoted_show_the_sam
 use std::alloc::Global;
 use std::thread::Threads;
 
-// The clocks of a sound netlist that the third text says can be promoted.
+// The clocks of a sound netlist that the second text behind the chip's says can be promoted.
 fn can_be_promoted(texts: &Texts, sound: &Sound)
-    requires netlist { netlist_of (text_at texts.now 3) ≡ Ok sound.now }
+    requires netlist { netlist_of (text_at texts.now 2) ≡ Ok sound.now }
     requires limits { IsWithinLimits sound.now }
     ensures formed { IsFormed sound.now }
     ensures sound { IsSound sound.now }
@@ -60,7 +62,7 @@ fn can_be_promoted(texts: &Texts, sound: &Sound)
     let _cells = netlist.cells();
 }
 
-// What is made of a task that the texts say. The netlist's clocks are promoted.
+// What is made of a task that a chip text and the texts behind it say. The netlist's clocks are promoted.
 fn build_promoted<G: Gate + Sync, R: Threads + Sync>(
     rt: &R,
     alloc: Global,
@@ -71,11 +73,10 @@ fn build_promoted<G: Gate + Sync, R: Threads + Sync>(
     pcf: &Pcf,
     sound: &Sound,
 ) -> Result<Made, Refused>
-    requires asked { IsAsked request.now.package_name.now texts.now (task_of chip.now request.now.package_name.now pcf.now sound.now) }
-    requires formed { (n : NetlistData) → netlist_of (text_at texts.now 3) ≡ Ok n → IsFormed n }
+    requires formed { (n : NetlistData) → netlist_of (text_at texts.now 2) ≡ Ok n → IsFormed n }
     requires effort { IsPermitted request.now.effort }
-    ensures made { IfOk result (λ made. IsMade (request_view request.now) texts.now made.texts made.placement made.tallies.items) }
-    ensures refused { IfErr result (IsRefusedWith (request_view request.now) texts.now) }
+    ensures made { (chip_text : List ℕ) → IsAsked request.now.package_name.now (chip_text ∷ texts.now) (task_of chip.now request.now.package_name.now pcf.now sound.now) → IfOk result (λ made. IsMade (request_view request.now) (chip_text ∷ texts.now) made.texts made.placement made.tallies.items) }
+    ensures refused { (chip_text : List ℕ) → IsAsked request.now.package_name.now (chip_text ∷ texts.now) (task_of chip.now request.now.package_name.now pcf.now sound.now) → IfErr result (IsRefusedWith (request_view request.now) (chip_text ∷ texts.now)) }
 {
     pins_stay();
     pin_reports_stay();
@@ -87,7 +88,7 @@ fn build_promoted<G: Gate + Sync, R: Threads + Sync>(
     }
 }
 
-// What is made of a sound netlist that the third text says.
+// What is made of a sound netlist that the second text behind the chip's says.
 fn build_sound<G: Gate + Sync, R: Threads + Sync>(
     rt: &R,
     alloc: Global,
@@ -98,12 +99,11 @@ fn build_sound<G: Gate + Sync, R: Threads + Sync>(
     pcf: &Pcf,
     sound: Sound,
 ) -> Result<Made, Refused>
-    requires read { IsRead texts.now chip.now pcf.now }
-    requires netlist { netlist_of (text_at texts.now 3) ≡ Ok sound }
+    requires netlist { netlist_of (text_at texts.now 2) ≡ Ok sound }
     requires limits { IsWithinLimits sound }
     requires effort { IsPermitted request.now.effort }
-    ensures made { IfOk result (λ made. IsMade (request_view request.now) texts.now made.texts made.placement made.tallies.items) }
-    ensures refused { IfErr result (IsRefusedWith (request_view request.now) texts.now) }
+    ensures made { (chip_text : List ℕ) → IsRead (chip_text ∷ texts.now) chip.now pcf.now → IfOk result (λ made. IsMade (request_view request.now) (chip_text ∷ texts.now) made.texts made.placement made.tallies.items) }
+    ensures refused { (chip_text : List ℕ) → IsRead (chip_text ∷ texts.now) chip.now pcf.now → IfErr result (IsRefusedWith (request_view request.now) (chip_text ∷ texts.now)) }
 {
     can_be_promoted(texts, &sound);
     match promote_clocks(alloc, chip, sound) {
@@ -112,7 +112,7 @@ fn build_sound<G: Gate + Sync, R: Threads + Sync>(
     }
 }
 
-// What is made of a netlist that the third text says.
+// What is made of a netlist that the second text behind the chip's says.
 fn build_net<G: Gate + Sync, R: Threads + Sync>(
     rt: &R,
     alloc: Global,
@@ -123,12 +123,11 @@ fn build_net<G: Gate + Sync, R: Threads + Sync>(
     pcf: &Pcf,
     netlist: Netlist,
 ) -> Result<Made, Refused>
-    requires read { IsRead texts.now chip.now pcf.now }
-    requires netlist { netlist_of (text_at texts.now 3) ≡ Ok netlist }
+    requires netlist { netlist_of (text_at texts.now 2) ≡ Ok netlist }
     requires limits { IsWithinLimits netlist }
     requires effort { IsPermitted request.now.effort }
-    ensures made { IfOk result (λ made. IsMade (request_view request.now) texts.now made.texts made.placement made.tallies.items) }
-    ensures refused { IfErr result (IsRefusedWith (request_view request.now) texts.now) }
+    ensures made { (chip_text : List ℕ) → IsRead (chip_text ∷ texts.now) chip.now pcf.now → IfOk result (λ made. IsMade (request_view request.now) (chip_text ∷ texts.now) made.texts made.placement made.tallies.items) }
+    ensures refused { (chip_text : List ℕ) → IsRead (chip_text ∷ texts.now) chip.now pcf.now → IfErr result (IsRefusedWith (request_view request.now) (chip_text ∷ texts.now)) }
 {
     match check(alloc, netlist) {
         Ok(sound) => build_sound(rt, alloc, gate, request, texts, chip, pcf, sound),
@@ -136,7 +135,7 @@ fn build_net<G: Gate + Sync, R: Threads + Sync>(
     }
 }
 
-// What is made of a chip and constraints that the first two texts say.
+// What is made of a chip and constraints that the chip's text and the one behind it say.
 fn build_read<G: Gate + Sync, R: Threads + Sync>(
     rt: &R,
     alloc: Global,
@@ -146,18 +145,17 @@ fn build_read<G: Gate + Sync, R: Threads + Sync>(
     chip: &Chip,
     pcf: &Pcf,
 ) -> Result<Made, Refused>
-    requires read { IsRead texts.now chip.now pcf.now }
-    requires effort { IsPermitted request.now.effort }
-    ensures made { IfOk result (λ made. IsMade (request_view request.now) texts.now made.texts made.placement made.tallies.items) }
-    ensures refused { IfErr result (IsRefusedWith (request_view request.now) texts.now) }
+    requires { IsPermitted request.now.effort }
+    ensures made { (chip_text : List ℕ) → IsRead (chip_text ∷ texts.now) chip.now pcf.now → IfOk result (λ made. IsMade (request_view request.now) (chip_text ∷ texts.now) made.texts made.placement made.tallies.items) }
+    ensures refused { (chip_text : List ℕ) → IsRead (chip_text ∷ texts.now) chip.now pcf.now → IfErr result (IsRefusedWith (request_view request.now) (chip_text ∷ texts.now)) }
 {
-    match read_blif(alloc, texts.at(3)) {
+    match read_blif(alloc, texts.at(2)) {
         Ok(netlist) => build_net(rt, alloc, gate, request, texts, chip, pcf, netlist),
         Err(fault) => Err(without_report(blif_refusal(fault))),
     }
 }
 
-// What is made of a chip that the first text says.
+// What is made of a chip that its text says.
 fn build_on<G: Gate + Sync, R: Threads + Sync>(
     rt: &R,
     alloc: Global,
@@ -166,30 +164,30 @@ fn build_on<G: Gate + Sync, R: Threads + Sync>(
     texts: &Texts,
     chip: &Chip,
 ) -> Result<Made, Refused>
-    requires chip { chip_says (text_at texts.now 1) ≡ Ok chip.now }
-    requires effort { IsPermitted request.now.effort }
-    ensures made { IfOk result (λ made. IsMade (request_view request.now) texts.now made.texts made.placement made.tallies.items) }
-    ensures refused { IfErr result (IsRefusedWith (request_view request.now) texts.now) }
+    requires { IsPermitted request.now.effort }
+    ensures made { (chip_text : List ℕ) → chip_says chip_text ≡ Ok chip.now → IfOk result (λ made. IsMade (request_view request.now) (chip_text ∷ texts.now) made.texts made.placement made.tallies.items) }
+    ensures refused { (chip_text : List ℕ) → chip_says chip_text ≡ Ok chip.now → IfErr result (IsRefusedWith (request_view request.now) (chip_text ∷ texts.now)) }
 {
-    match read_pcf(alloc, texts.at(2)) {
+    match read_pcf(alloc, texts.at(1)) {
         Ok(pcf) => build_read(rt, alloc, gate, request, texts, chip, &pcf),
         Err(fault) => Err(without_report(pcf_refusal(fault))),
     }
 }
 
-// What is made of the texts.
+// What is made of a chip text, for which the reader stands, and of the texts behind it.
 fn build_texts<G: Gate + Sync, R: Threads + Sync>(
     rt: &R,
     alloc: Global,
     gate: &G,
     request: &BuildRequest<'_>,
+    reader: ChipReader,
     texts: &Texts,
 ) -> Result<Made, Refused>
     requires { IsPermitted request.now.effort }
-    ensures made { IfOk result (λ made. IsMade (request_view request.now) texts.now made.texts made.placement made.tallies.items) }
-    ensures refused { IfErr result (IsRefusedWith (request_view request.now) texts.now) }
+    ensures made { (chip_text : List ℕ) → StandsFor reader chip_text → IfOk result (λ made. IsMade (request_view request.now) (chip_text ∷ texts.now) made.texts made.placement made.tallies.items) }
+    ensures refused { (chip_text : List ℕ) → StandsFor reader chip_text → IfErr result (IsRefusedWith (request_view request.now) (chip_text ∷ texts.now)) }
 {
-    match read_chip(alloc, texts.at(1)) {
+    match reader.finish() {
         Ok(chip) => build_on(rt, alloc, gate, request, texts, &chip),
         Err(fault) => Err(without_report(chip_refusal(fault))),
     }
@@ -215,10 +213,6 @@ fn make<D: Desk, G: Gate + Sync, R: Threads + Sync>(
 {
     let files = [
         CommandFile {
-            role: FileRole::Chip,
-            name: request.chip,
-        },
-        CommandFile {
             role: FileRole::Pcf,
             name: request.pcf,
         },
@@ -227,8 +221,8 @@ fn make<D: Desk, G: Gate + Sync, R: Threads + Sync>(
             name: request.blif,
         },
     ];
-    match read_texts(alloc, desk, &files) {
-        Ok(texts) => build_texts(rt, alloc, gate, request, &texts),
+    match read_chip_and_texts(alloc, desk, request.chip, &files) {
+        Ok(ChipTexts { reader, texts }) => build_texts(rt, alloc, gate, request, reader, &texts),
         Err(cause) => Err(without_report(cause)),
     }
 }

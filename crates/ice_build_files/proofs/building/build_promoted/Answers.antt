@@ -1,22 +1,23 @@
+use Rattle.std.proofs.Common.{◌∷◌}
 use Rattle.ice_build.specs.Laid.{task_of}
 use Rattle.ice_build_files.specs.Requests.{request_view}
 use Rattle.ice_build_files.proofs.Refusing.{refused, made_of_built, made_refused}
 use Rattle.ice_build_files.proofs.building.build_promoted.Goals as goal
 
 pub returns-in-Err-clause-refused : goal.returns-in-Err-clause-refused
-returns-in-Err-clause-refused g c =
+returns-in-Err-clause-refused g c = λ chip_text asked.
     let b = request_view c.args.request.now in
     let task = task_of c.args.chip.now b.package_name c.args.pcf.now c.args.sound.now in
-    refused b c.args.texts.now task c.in-Err.fault c.build_refusal.result c.requires.asked (rw c.as_bytes-name.ensures.value at c.in-Err.ensures.fault) c.build_refusal.ensures
+    refused b (chip_text ∷ c.args.texts.now) task c.in-Err.fault c.build_refusal.result asked (rw c.as_bytes-name.ensures.value at c.in-Err.ensures.fault) c.build_refusal.ensures
 
 pub returns-in-Ok-clause-refused : goal.returns-in-Ok-clause-refused
-returns-in-Ok-clause-refused g c = made_refused (request_view c.args.request.now) c.args.texts.now c.made_of.result c.made_of.ensures.stop c.made_of.ensures.unreported
+returns-in-Ok-clause-refused g c = λ chip_text asked. made_refused (request_view c.args.request.now) (chip_text ∷ c.args.texts.now) c.made_of.result c.made_of.ensures.stop c.made_of.ensures.unreported
 
 pub returns-in-Ok-clause-made : goal.returns-in-Ok-clause-made
-returns-in-Ok-clause-made g c =
+returns-in-Ok-clause-made g c = λ chip_text asked.
     let b = request_view c.args.request.now in
     let task = task_of c.args.chip.now b.package_name c.args.pcf.now c.args.sound.now in
     let e = c.made_of.ensures in
-    made_of_built b c.args.texts.now task c.in-Ok.built c.requires.asked (c.requires.formed c.requires.asked.circuit c.requires.asked.is_circuit)
+    made_of_built b (chip_text ∷ c.args.texts.now) task c.in-Ok.built asked (c.requires.formed asked.circuit asked.is_circuit)
     (record { pins = c.pins_stay.ensures; reports = c.pin_reports_stay.ensures; shows = c.promoted_show_the_same.ensures }) (rw c.as_bytes-name.ensures.value at c.in-Ok.ensures.built)
     c.made_of.result c.in-Ok.ensures.circuit (rw c.netlist.ensures.netlist at e.texts) e.placement e.tallies e.read_back
