@@ -1,5 +1,5 @@
 //! What lines of a chip text say so far.
-ghost use Rattle.std.specs.Prelude.{◌≡◌, ℕ, Option, Result, Err, List, ◌∷◌, ◌++◌};
+ghost use Rattle.std.specs.Prelude.{◌≡◌, ℕ, Option, None, Result, Ok, Err, List, ◌∷◌, ◌++◌};
 ghost use Rattle.ice_chip.specs.declared.fault.ChipFault.{ChipFault};
 ghost use Rattle.ice_chip_read.specs.Reading as lines;
 ghost use Rattle.ice_chip_read.specs.declared.fault.ReadStop.{ReadStop};
@@ -21,26 +21,38 @@ pub enum Said {
     Stopped(ReadStop),
 }
 
+// The first line that has words. It stands apart, so that later lines don't pay for the room of what it makes.
+fn take_first_words(alloc: Global, said: &mut Said, line: PlainLine<'_>)
+    requires { said_view said.old ≡ Ok None }
+    ensures { HasSaid (said_view said.new) (with_line (Ok None) (line.entry.number, line.entry.first.now ∷ line.entry.others)) }
+{
+    *said = match take_first(alloc, line) {
+        Ok(reading) => Said::Rows(reading),
+        Err(fault) => Said::Stopped(ReadStop::Fault(fault)),
+    };
+}
+
+// The reading stopped.
+fn stop(said: &mut Said, stop: ReadStop)
+    ensures { said_view said.new ≡ Err stop }
+{
+    *said = Said::Stopped(stop);
+}
+
 // One line more that has words. What stopped stays so.
 fn take_words(alloc: Global, said: &mut Said, line: PlainLine<'_>)
     ensures said { (s : Result (Option lines.Reading) ChipFault) → HasSaid (said_view said.old) s → HasSaid (said_view said.new) (with_line s (line.entry.number, line.entry.first.now ∷ line.entry.others)) }
     ensures stopped { (stop : ReadStop) → said_view said.old ≡ Err stop → said_view said.new ≡ Err stop }
 {
-    let stop = match said {
-        Said::Nothing => match take_first(alloc, line) {
-            Ok(reading) => {
-                *said = Said::Rows(reading);
-                return;
+    match said {
+        Said::Nothing => take_first_words(alloc, said, line),
+        Said::Rows(reading) => {
+            if let Err(fault) = take_line(alloc, reading, line) {
+                stop(said, fault);
             }
-            Err(fault) => ReadStop::Fault(fault),
-        },
-        Said::Rows(reading) => match take_line(alloc, reading, line) {
-            Ok(()) => return,
-            Err(stop) => stop,
-        },
-        Said::Stopped(_) => return,
-    };
-    *said = Said::Stopped(stop);
+        }
+        Said::Stopped(_) => {}
+    }
 }
 
 /// One line more, of this number. What stopped stays so.
