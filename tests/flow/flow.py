@@ -1,9 +1,8 @@
 """What tests/flow/run does beside the program: cases to compare, netlists to play, and a plain reading of packed designs.
 
-words FOLDER [bits|rest]   says the names of the texts of each case of a folder, in order; of those of which the bits are known, or the rest
+words FOLDER               says the names of the texts of each case of a folder, in order
 netlists COUNT FOLDER      makes netlists at random, each with its text of levels; the same count makes the same netlists
-compare FOLDER SHOWN       compares what the program showed with the dumps and the texts of bits of a folder
-short ASC BITS             writes a text of bits without its rows of zeros, as tests/flow/cases keeps it
+compare FOLDER SHOWN       compares what the program showed with the dumps of a folder
 play FOLDER SHOWN PROGRAM  plays the designs that the program showed, and the netlists by play-net of PROGRAM
 """
 import pathlib
@@ -23,60 +22,28 @@ def shown(file):
     return cases
 
 
-COLUMNS = {".io_tile": 18, ".logic_tile": 54, ".ramb_tile": 42, ".ramt_tile": 42}
-
-
-def short(asc, bits):
-    """Writes a text of bits with the number of each row of a tile in front, and without the rows of zeros."""
-    lines, row = [], None
-    for line in open(asc).read().splitlines():
-        if line.startswith("."):
-            row = 0 if line.split()[0] in COLUMNS else None
-        elif row is not None:
-            line, row = f"{row} {line}" if "1" in line else None, row + 1
-        if line is not None:
-            lines.append(line)
-    pathlib.Path(bits).write_text("\n".join(lines) + "\n")
-
-
-def known_bits(dump):
-    """The lines of the text of bits of a case, or None: from the whole text, or from one without rows of zeros."""
-    whole, kept = dump.with_suffix(".asc"), dump.with_suffix(".bits")
-    if whole.exists():
-        return whole.read_text().splitlines()
-    if not kept.exists():
-        return None
-    lines, first = [], None
-    for line in kept.read_text().splitlines():
-        words = line.split()
-        if not line.startswith(".") and first is not None:
-            lines[first + int(words[0])] = words[1]
-            continue
+def wanted(dump):
+    """The lines of a dump that the program shows too."""
+    lines = []
+    for line in dump.read_text(encoding="latin-1").splitlines():
+        # From here on a dump says what isn't shown.
+        if line == "report" or line.startswith("error 9"):
+            break
         lines.append(line)
-        first = len(lines) if words[0] in COLUMNS else None
-        lines += ["0" * COLUMNS.get(words[0], 0)] * (16 if first else 0)
     return lines
 
 
-def wanted(dump):
-    """The lines that are to be shown of a case."""
-    bits = known_bits(dump)
-    return dump.read_text(encoding="latin-1").splitlines() + (["bits", *bits] if bits else [])
-
-
 def compare(folder, file):
-    cases, bad, lines, texts = shown(file), 0, 0, 0
+    cases, bad, lines = shown(file), 0, 0
     dumps = sorted(pathlib.Path(folder).glob("*.dump"))
     for dump in dumps:
         want, have = wanted(dump), cases.get(dump.stem, [])
-        # Those that were worked out by hand may end before the rounds do.
-        have = have if want[-1:] in (["routed"], ["gave up"]) or "bits" in want or want[-1].startswith("error") else have[: len(want)]
-        lines, texts = lines + len(want), texts + ("bits" in want)
+        lines += len(want)
         differing = [pair for pair in zip(want + [""] * len(have), have + [""] * len(want)) if pair[0] != pair[1]]
         if differing:
             bad += 1
             print(f"flow: {dump.stem}: {len(differing)} lines differ; the first is\n  '{differing[0][1]}', expected\n  '{differing[0][0]}'")
-    print(f"flow: {len(dumps) - bad} of {len(dumps)} cases as expected, {lines} lines, with {texts} whole texts of bits")
+    print(f"flow: {len(dumps) - bad} of {len(dumps)} cases as expected, {lines} lines")
     return bad == 0 and bool(dumps)
 
 
@@ -281,13 +248,12 @@ def netlists(count, folder):
         file.with_suffix(".levels").write_text("".join(step + "\n" for step in steps))
 
 
-def words(folder, which=None):
+def words(folder):
     for blif in sorted(pathlib.Path(folder).glob("*.blif")):
-        pcf, bits = blif.with_suffix(".pcf"), known_bits(blif) is not None
-        if which is None or bits == (which == "bits"):
-            print(blif, pcf if pcf.exists() else "-")
+        pcf = blif.with_suffix(".pcf")
+        print(blif, pcf if pcf.exists() else "-")
 
 
 if __name__ == "__main__":
-    done = {"words": words, "netlists": netlists, "compare": compare, "play": play, "short": short}[sys.argv[1]](*sys.argv[2:])
+    done = {"words": words, "netlists": netlists, "compare": compare, "play": play}[sys.argv[1]](*sys.argv[2:])
     sys.exit(done is False)

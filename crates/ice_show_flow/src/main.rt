@@ -1,59 +1,38 @@
 //! Shows for each netlist what stands between the passes: the packed design, its clusters, and with pin constraints pads and globals,
-//! the first placement, its wire length and its nets, the report on its routes and, where they are asked for, its bits; or the first
-//! refusal. It is for tests, and no part of the flow.
+//! the first placement, its wire length and its nets, or the first refusal. It is for tests, and no part of the flow.
 #![tactic(auto)]
 
-ghost use Rattle.std.specs.Prelude.{◌≡◌, IfOk, IfSome};
-ghost use Rattle.ice_build.specs.Laid.{plan_in};
+ghost use Rattle.std.specs.Prelude.{◌≡◌};
 ghost use Rattle.ice_cells.specs.Clusters.{clusters_of};
-ghost use Rattle.ice_cells.specs.Runs.{design_of};
-ghost use Rattle.ice_emit.specs.Placed.{IsPlacedOn};
-ghost use Rattle.ice_sites.specs.Stretches.{stretches_of};
-ghost use Rattle.ice_show_flow.specs.Standing.{ArePadsOf};
+ghost use Rattle.ice_place.specs.Place.{AreStretches};
 
 mod design;
 mod faults;
-mod laws;
 mod placed;
-mod routed;
 
 use anyhow::{Result, bail};
 use design::{say_clusters, say_design};
 use faults::{say_pin_fault, say_place_fault};
 use ice_blif::read_blif;
-use ice_build::Layout;
 use ice_carry::runs;
 use ice_cells::{Clusters, Design};
 use ice_check::{Sound, check};
 use ice_chip::Chip;
 use ice_chip_read::read_chip;
 use ice_cluster::cluster;
+use ice_net::Netlist;
 use ice_pack::pack;
 use ice_pads::{Pads, assign};
 use ice_pcf::{Pcf, read_pcf};
 use ice_place::first_place;
 use ice_sample::sample_chip;
 use ice_sites::{Sites, sites_of};
-use laws::designs_stand_on_their_chip;
 use placed::{say_pads, say_placed};
-use routed::say_routed;
 use std::alloc::Global;
-use std::fs::Files;
-use std::thread::Threads;
 use std::{env, fs};
 
-/// A chip with its sites, and whether bits are said.
-#[derive(Clone, Copy)]
-struct Board<'a> {
-    chip: &'a Chip,
-    sites: &'a Sites,
-    bits: bool,
-}
-
 // The packed design of a netlist with its runs.
-fn design_of(alloc: Global, sound: &Sound) -> Result<Design>
-    ensures { IfOk result (λ design. design ≡ design_of sound.now) }
-{
+fn design_of(alloc: Global, sound: &Sound) -> Result<Design> {
     let Ok(packed) = pack(alloc, sound) else {
         bail!("want of memory");
     };
@@ -63,98 +42,79 @@ fn design_of(alloc: Global, sound: &Sound) -> Result<Design>
     Ok(design)
 }
 
-// The design with its first placement, or nothing behind its refusal.
-fn lay_out(
+// The first placement of clusters and what comes of it, or its refusal.
+fn say_places(
+    rt: &impl Print,
+    alloc: Global,
+    chip: &Chip,
+    sites: &Sites,
+    design: &Design,
+    clusters: &Clusters,
+    pads: &Pads,
+) -> Result<()>
+    requires sites { AreStretches sites.now }
+    requires clusters { clusters.now ≡ clusters_of design.now }
+{
+    match first_place(alloc, sites, clusters, design) {
+        Ok(placement) => say_placed(rt, alloc, chip, clusters, design, &placement, pads),
+        Err(fault) => say_place_fault(rt, &fault),
+    }
+}
+
+// The clusters of a design; then, with pin constraints, what follows from them, up to the first refusal.
+fn say_clustered(
+    rt: &impl Print,
+    alloc: Global,
+    chip: &Chip,
+    sites: &Sites,
+    netlist: &Netlist,
+    design: &Design,
+    pcf: Option<&Pcf>,
+) -> Result<()>
+    requires { AreStretches sites.now }
+{
+    let Ok(clusters) = cluster(alloc, design) else {
+        bail!("want of memory");
+    };
+    say_clusters(rt, clusters.list())?;
+    let Some(pcf) = pcf else {
+        return Ok(());
+    };
+    match assign(alloc, chip, b"sample", pcf, netlist, design) {
+        Ok(pads) => {
+            say_pads(rt, &pads)?;
+            say_places(rt, alloc, chip, sites, design, &clusters, &pads)
+        }
+        Err(fault) => say_pin_fault(rt, &fault),
+    }
+}
+
+// The packed design of a netlist, and what follows from it.
+fn say_passes(
     rt: &impl Print,
     alloc: Global,
     chip: &Chip,
     sites: &Sites,
     sound: &Sound,
-    design: Design,
-    clusters: Clusters,
-    pads: Pads,
-) -> Result<Option<Layout>>
-    requires sites { sites.now ≡ stretches_of chip.now }
-    requires design { design ≡ design_of sound.now }
-    requires clusters { clusters ≡ clusters_of design }
-    requires pads { ArePadsOf chip.now sound.now design pads }
-    ensures { IfOk result (λ placed. IfSome placed (λ layout. IsPlacedOn chip.now (plan_in layout) layout.pads.pullups)) }
-{
-    designs_stand_on_their_chip(chip, sound);
-    match first_place(alloc, sites, &clusters, &design) {
-        Ok(placement) => Ok(Some(Layout {
-            design,
-            clusters,
-            pads,
-            placement,
-        })),
-        Err(fault) => {
-            say_place_fault(rt, &fault)?;
-            Ok(None)
-        }
-    }
-}
-
-// The pads of a design; then its first placement, its routes and its bits, or the first refusal.
-fn say_assigned<R: Print + Threads + Sync>(
-    rt: &R,
-    alloc: Global,
-    board: Board<'_>,
-    sound: &Sound,
-    design: Design,
-    clusters: Clusters,
-    pcf: &Pcf,
-) -> Result<()>
-    requires sites { board.sites.now ≡ stretches_of board.chip.now }
-    requires design { design ≡ design_of sound.now }
-    requires clusters { clusters ≡ clusters_of design }
-{
-    let pads = match assign(alloc, board.chip, b"sample", pcf, sound.netlist(), &design) {
-        Ok(pads) => pads,
-        Err(fault) => return say_pin_fault(rt, &fault),
-    };
-    say_pads(rt, &pads)?;
-    let (chip, sites) = (board.chip, board.sites);
-    match lay_out(rt, alloc, chip, sites, sound, design, clusters, pads)? {
-        None => Ok(()),
-        Some(layout) => {
-            say_placed(rt, alloc, chip, &layout)?;
-            say_routed(rt, alloc, chip, &layout, board.bits)
-        }
-    }
-}
-
-// The packed design of a netlist, its clusters, and with pin constraints what follows from them.
-fn say_passes<R: Print + Threads + Sync>(
-    rt: &R,
-    alloc: Global,
-    board: Board<'_>,
-    sound: &Sound,
     pcf: Option<&Pcf>,
 ) -> Result<()>
-    requires { board.sites.now ≡ stretches_of board.chip.now }
+    requires { AreStretches sites.now }
 {
     let design = design_of(alloc, sound)?;
     say_design(rt, &design)?;
-    let Ok(clusters) = cluster(alloc, &design) else {
-        bail!("want of memory");
-    };
-    say_clusters(rt, clusters.list())?;
-    match pcf {
-        None => Ok(()),
-        Some(pcf) => say_assigned(rt, alloc, board, sound, design, clusters, pcf),
-    }
+    say_clustered(rt, alloc, chip, sites, sound.netlist(), &design, pcf)
 }
 
 // The same for the text of a netlist.
-fn say_netlist<R: Print + Threads + Sync>(
-    rt: &R,
+fn say_netlist(
+    rt: &impl Print,
     alloc: Global,
-    board: Board<'_>,
+    chip: &Chip,
+    sites: &Sites,
     blif: &[u8],
     pcf: Option<&Pcf>,
 ) -> Result<()>
-    requires { board.sites.now ≡ stretches_of board.chip.now }
+    requires { AreStretches sites.now }
 {
     let Ok(netlist) = read_blif(alloc, blif) else {
         println!(rt; "error 3")?;
@@ -164,29 +124,30 @@ fn say_netlist<R: Print + Threads + Sync>(
         println!(rt; "error 6")?;
         return Ok(());
     };
-    say_passes(rt, alloc, board, &sound, pcf)
+    say_passes(rt, alloc, chip, sites, &sound, pcf)
 }
 
 // The same for two files: the text of the netlist, and, where its name isn't -, of the pin constraints.
-fn say_files<R: Print + Files + Alloc<A = Global> + Threads + Sync>(
-    rt: &R,
+fn say_files(
+    rt: &HostRuntime,
     alloc: Global,
-    board: Board<'_>,
+    chip: &Chip,
+    sites: &Sites,
     blif_name: &str,
     pcf_name: &str,
 ) -> Result<()>
-    requires { board.sites.now ≡ stretches_of board.chip.now }
+    requires { AreStretches sites.now }
 {
     println!(rt; "== {blif_name}")?;
     let blif = fs::read(rt, blif_name)?;
     if pcf_name == "-" {
-        return say_netlist(rt, alloc, board, &blif, None);
+        return say_netlist(rt, alloc, chip, sites, &blif, None);
     }
     let Ok(pcf) = read_pcf(alloc, &fs::read(rt, pcf_name)?) else {
         println!(rt; "error 4")?;
         return Ok(());
     };
-    say_netlist(rt, alloc, board, &blif, Some(&pcf))
+    say_netlist(rt, alloc, chip, sites, &blif, Some(&pcf))
 }
 
 // The sample chip of 14 by 18 tiles.
@@ -201,57 +162,37 @@ fn chip_of(alloc: Global) -> Result<Chip> {
     Ok(chip)
 }
 
-// What is shown for these names of files.
-fn say_cases<R: Print + Files + Alloc<A = Global> + Threads + Sync>(
-    rt: &R,
-    alloc: Global,
-    board: Board<'_>,
-    words: &[String],
-) -> Result<()>
-    requires { board.sites.now ≡ stretches_of board.chip.now }
-{
-    for names in words.chunks_exact(2) {
-        let [blif, pcf] = names else {
-            bail!("usage: ice_show_flow [BLIF PCF].. or ice_show_flow bits [BLIF PCF]..");
-        };
-        say_files(rt, alloc, board, blif.as_str(), pcf.as_str())?;
-    }
-    Ok(())
-}
-
-// The same by the words of the program: where the first is `bits`, the bits are said too.
-fn say_words<R: Print + Files + Alloc<A = Global> + Threads + Sync>(
-    rt: &R,
+// What is shown for these names of files, by a chip and its sites.
+fn say_cases(
+    rt: &HostRuntime,
     alloc: Global,
     chip: &Chip,
     sites: &Sites,
     words: &[String],
 ) -> Result<()>
-    requires { sites.now ≡ stretches_of chip.now }
+    requires { AreStretches sites.now }
 {
-    let mut names = words;
-    let mut bits = false;
-    if let [first, rest @ ..] = words
-        && first.as_str() == "bits"
-    {
-        names = rest;
-        bits = true;
+    for names in words.chunks_exact(2) {
+        let [blif, pcf] = names else {
+            bail!("usage: ice_show_flow [BLIF PCF]..");
+        };
+        say_files(rt, alloc, chip, sites, blif.as_str(), pcf.as_str())?;
     }
-    let board = Board { chip, sites, bits };
-    say_cases(rt, alloc, board, names)
+    Ok(())
+}
+
+// The same by the chip alone.
+fn say_on(rt: &HostRuntime, alloc: Global, chip: &Chip, words: &[String]) -> Result<()> {
+    match sites_of(alloc, chip) {
+        Ok(sites) => say_cases(rt, alloc, chip, &sites, words),
+        Err(_) => bail!("want of memory"),
+    }
 }
 
 // The same on the sample chip.
-fn say_all<R: Print + Files + Alloc<A = Global> + Threads + Sync>(
-    rt: &R,
-    alloc: Global,
-    words: &[String],
-) -> Result<()> {
+fn say_all(rt: &HostRuntime, alloc: Global, words: &[String]) -> Result<()> {
     let chip = chip_of(alloc)?;
-    let Ok(sites) = sites_of(alloc, &chip) else {
-        bail!("want of memory");
-    };
-    say_words(rt, alloc, &chip, &sites, words)
+    say_on(rt, alloc, &chip, words)
 }
 
 fn main(rt: HostRuntime) -> Result<()> {

@@ -1,12 +1,13 @@
 //! Pads, placements and nets, as they are said.
 use anyhow::{Result, bail};
 use ice_base::Sink;
-use ice_build::Layout;
+use ice_cells::{Clusters, Design};
 use ice_chip::Chip;
 use ice_core::Net;
 use ice_length::wire_length;
 use ice_nets::nets_of;
 use ice_pads::Pads;
+use ice_place::Placement;
 use std::alloc::Global;
 
 // The pad and the pull-up of each port, and the number of each global.
@@ -47,10 +48,11 @@ pub(crate) fn say_placed(
     rt: &impl Print,
     alloc: Global,
     chip: &Chip,
-    layout: &Layout,
+    clusters: &Clusters,
+    design: &Design,
+    placement: &Placement,
+    pads: &Pads,
 ) -> Result<()> {
-    let (design, clusters) = (&layout.design, &layout.clusters);
-    let (placement, pads) = (&layout.placement, &layout.pads);
     for (number, tile) in placement.tiles().iter().enumerate() {
         println!(rt; "place {number} at {} {}", tile.x, tile.y)?;
     }
