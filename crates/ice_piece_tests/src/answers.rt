@@ -42,14 +42,14 @@ fn by_pieces(alloc: Global, text: &[u8], size: usize) -> Result<Counts, ChipFaul
 // At most how many bytes a piece has that is cut at random.
 const MOST: u32 = 60;
 
-// The answer of a text in pieces that are cut at random, by this seed.
+// The answer of a text in pieces that are cut at random, by this seed, and in empty pieces behind them.
 fn by_random_pieces(alloc: Global, text: &[u8], seed: u64) -> Result<Counts, ChipFault> {
     let Ok(mut reader) = ChipReader::new(alloc) else {
         return Err(ChipFault::NoMemory);
     };
     let mut words = Pcg32::seed_from_u64(seed);
     let mut left = text;
-    while !left.is_empty() {
+    for _ in 0..text.len() {
         let size = left.len().min(1 + (words.next_word() % MOST) as usize);
         if reader.feed(&left[..size]).is_err() {
             return Err(ChipFault::NoMemory);
