@@ -10,5 +10,5 @@ mod routing;
 
 pub use answer::{BuildFault, Built, Effort, Layout};
 pub use building::build;
-pub use laying::lay_out;
+pub use laying::{design_of, lay_out};
 pub use routing::{nets_in, route};
