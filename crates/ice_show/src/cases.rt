@@ -72,7 +72,7 @@ fn show_each<R: Files + Print + Alloc<A = Global>, S: Show<R>>(
     chip: &Chip,
     words: &[String],
 ) -> Result<()> {
-    for names in words.chunks_exact(2) {
+    for names in words.chunks(2) {
         let [blif, pcf] = names else {
             bail!("each case has two files: BLIF PCF");
         };
