@@ -51,5 +51,5 @@ stands parts n order chip sound formed values fit legal name constraints layout 
     )
 
 -- a placed design is on sites
-pub on_sites : (task : Task) (layout : Layout) → IsLaidOut task layout → IsOnSites task layout
-on_sites task layout laid = record { design = laid.design; clusters = laid.clusters; pads = laid.pads; legal = laid.placed.legal }
+pub laid_on_sites : (task : Task) (layout : Layout) → IsLaidOut task layout → IsOnSites task layout
+laid_on_sites task layout laid = record { design = laid.design; clusters = laid.clusters; pads = laid.pads; legal = laid.placed.legal }
