@@ -30,7 +30,7 @@ fn lay(
     ensures design { IfOk result (λ layout. layout.design ≡ design) }
     ensures clusters { IfOk result (λ layout. layout.clusters ≡ clusters) }
     ensures pads { IfOk result (λ layout. layout.pads ≡ pads) }
-    ensures legal { IfOk result (λ layout. IsLegal (stretches_of chip.now) (chunks_of layout.clusters.list) layout.placement) }
+    ensures legal { IfOk result (λ layout. IsLegal (stretches_of chip.now) (chunks_of clusters.list) layout.placement) }
 {
     let placement = first_placement(alloc, chip, &clusters, &design)?;
     Ok(Layout {
