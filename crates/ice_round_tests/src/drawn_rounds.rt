@@ -149,6 +149,23 @@ fn compare_nets(
     }
 }
 
+// Draws the nets of a graph, and fails unless each of these numbers of workers answers as the plain program.
+fn compare_in(
+    rt: &(impl Abort + Threads + Sync),
+    alloc: Global,
+    words: &mut Pcg32,
+    graph: &Graph,
+    size: Size,
+    rounds: u32,
+    workers: &[u32],
+    ends: &mut Ends,
+)
+    requires { (1 ≤ rounds) × (rounds ≤ 64) }
+{
+    let nets = drawn_nets(rt, alloc, words, graph, size).expect(rt, "memory");
+    compare_nets(rt, alloc, graph, &nets, rounds, workers, ends);
+}
+
 // Draws a graph with this many edges and its nets, and fails unless each of these numbers of workers answers as the plain program.
 fn compare_drawn(
     rt: &(impl Abort + Threads + Sync),
@@ -162,10 +179,10 @@ fn compare_drawn(
 )
     requires { (1 ≤ rounds) × (rounds ≤ 64) }
 {
-    assert!(rt; size.nets < size.all());
-    let graph = drawn_graph(rt, alloc, words, edges, size.all(), size.nets);
-    let nets = drawn_nets(rt, alloc, words, &graph, size).expect(rt, "memory");
-    compare_nets(rt, alloc, &graph, &nets, rounds, workers, ends);
+    let wires = size.all();
+    assert!(rt; size.nets < wires);
+    let graph = drawn_graph(rt, alloc, words, edges, wires, size.nets);
+    compare_in(rt, alloc, words, &graph, size, rounds, workers, ends);
 }
 
 // Three nets in graphs of twelve wires.
