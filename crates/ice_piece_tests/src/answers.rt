@@ -1,8 +1,11 @@
-//! Chip texts whole and in pieces. The faults that are expected were worked out by hand.
+//! Chip texts whole and in pieces. The numbers and the faults that are expected were worked out by hand.
 use ice_chip::{Chip, ChipFault};
 use ice_chip_pieces::ChipReader;
 use ice_chip_read::read_chip;
 use ice_small_chips::{Change, Sample, text_with};
+use rand_core::SeedableRng;
+use rand_core::utils::NextWord;
+use rand_pcg::Pcg32;
 use std::alloc::{AllocError, Global};
 use std::process::Abort;
 use std::test::Fail;
@@ -36,6 +39,26 @@ fn by_pieces(alloc: Global, text: &[u8], size: usize) -> Result<Counts, ChipFaul
     counted(reader.finish())
 }
 
+// At most how many bytes a piece has that is cut at random.
+const MOST: u32 = 60;
+
+// The answer of a text in pieces that are cut at random, by this seed, and in empty pieces behind them.
+fn by_random_pieces(alloc: Global, text: &[u8], seed: u64) -> Result<Counts, ChipFault> {
+    let Ok(mut reader) = ChipReader::new(alloc) else {
+        return Err(ChipFault::NoMemory);
+    };
+    let mut words = Pcg32::seed_from_u64(seed);
+    let mut left = text;
+    for _ in 0..text.len() {
+        let size = left.len().min(1 + (words.next_word() % MOST) as usize);
+        if reader.feed(&left[..size]).is_err() {
+            return Err(ChipFault::NoMemory);
+        }
+        left = &left[size..];
+    }
+    counted(reader.finish())
+}
+
 // Fails unless an answer is as expected.
 fn expect_same(
     rt: &impl Abort,
@@ -51,6 +74,29 @@ fn expect_answer(rt: &impl Abort, alloc: Global, text: &[u8], expected: Result<C
     for size in [1, 7, 4096] {
         expect_same(rt, by_pieces(alloc, text, size), expected);
     }
+    for seed in 0..20 {
+        expect_same(rt, by_random_pieces(alloc, text, seed), expected);
+    }
+}
+
+// Whole chips without a fault.
+const CHIPS: [(Sample, Counts); 3] = [
+    (Sample::TwoTiles, (4, 3, 2, 16)),
+    (Sample::TwoWays, (7, 9, 2, 16)),
+    (Sample::OneWay, (5, 4, 2, 16)),
+];
+
+// Fails unless each chip is read.
+fn expect_chips(
+    rt: &impl Abort,
+    alloc: Global,
+    chips: &[(Sample, Counts)],
+) -> Result<(), AllocError> {
+    for (sample, counts) in chips {
+        let text = text_with(alloc, *sample, &[])?;
+        expect_answer(rt, alloc, &text, Ok(*counts));
+    }
+    Ok(())
 }
 
 // A line of the text of two tiles, what stands in its place, and the fault then.
@@ -97,8 +143,7 @@ fn expect_faults(
 #[test]
 fn pieces_give_the_answer_of_the_whole_text(rt: HostRuntime) -> Result<(), Fail> {
     let alloc = rt.alloc();
-    let text = text_with(alloc, Sample::TwoTiles, &[])?;
-    expect_answer(&rt, alloc, &text, Ok((4, 3, 2, 16)));
+    expect_chips(&rt, alloc, &CHIPS)?;
     expect_answer(&rt, alloc, b"", Err(ChipFault::NoDevice { line: 0 }));
     expect_faults(&rt, alloc, &FAULTS)?;
     Ok(())

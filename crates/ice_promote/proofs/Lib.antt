@@ -1,9 +1,9 @@
-mod Places
-mod Buffers
-mod NewDrivers
+pub mod Places
+pub mod Buffers
+pub mod NewDrivers
 mod NewValues
 mod NewSteps
-mod Clocks
+pub mod Clocks
 mod NewFormed
 mod NewSound
 mod PromotionExamples

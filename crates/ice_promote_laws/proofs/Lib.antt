@@ -1,0 +1,6 @@
+mod PadRoots
+mod PadReaders
+mod NewOrigins
+mod NewReaders
+mod Wanted
+mod Given

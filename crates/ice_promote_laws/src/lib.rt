@@ -1,0 +1,4 @@
+//! What promoted clocks leave as it is in the design of a netlist: what ports want of their pads.
+#![tactic(auto)]
+
+pub mod laws;
