@@ -3,7 +3,7 @@ use crate::plain_logs::{count, counts_of, log_of};
 use ice_base::{NetNo, WireNo};
 use ice_core::{Net, RoundLog};
 use ice_graph::{Edge, Tree};
-use ice_small_graphs::{is_marked, mark, marks_of, number_of, plain_price, plain_way};
+use ice_small_graphs::{mark, marks_of, number_of, plain_price, plain_way};
 use std::alloc::{AllocError, Global};
 
 /// What a round begins with: its number, what is kept of earlier rounds, and the nets that move.

@@ -12,4 +12,4 @@ pub use built::{
 };
 pub use claims::expect_that;
 pub use drawn::{draw, drawn_graph, number_of};
-pub use plain_search::{Way, is_marked, mark, marks_of, plain_price, plain_way};
+pub use plain_search::{Way, mark, marks_of, plain_price, plain_way};

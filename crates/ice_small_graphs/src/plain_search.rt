@@ -21,11 +21,6 @@ pub fn plain_price(round: u32, past: u64, others: u32) -> u64 {
         .saturating_mul(weight.saturating_add(1))
 }
 
-/// Whether a wire is marked.
-pub fn is_marked(marks: &[bool], wire: WireNo) -> bool {
-    marks.get(wire.0 as usize).copied().unwrap_or(false)
-}
-
 /// Marks a wire.
 pub fn mark(marks: &mut [bool], wire: WireNo) {
     if let Some(slot) = marks.get_mut(wire.0 as usize) {
