@@ -8,6 +8,8 @@ import subprocess
 import sys
 
 TURNS = 3
+# A turn that takes so many seconds is not taken again.
+LONG = 5
 ROUNDS = "64"
 
 
@@ -63,9 +65,10 @@ def main():
         for what, chosen in ("free", nets), ("one each", list(bound(nets))):
             path = f"{folder}/{name}.nets"
             write(chosen, path)
-            turns = [turn([f"{folder}/route_nets", chip, path, ROUNDS]) for _ in range(TURNS)]
-            answer, moves, held = turns[0][0]
-            print(f"| {name} | {what} | {answer} | {moves} | {held} | {min(time for _, time in turns):.2f} s |", flush=True)
+            (answer, moves, held), least = turn([f"{folder}/route_nets", chip, path, ROUNDS])
+            for _ in range(TURNS - 1 if least < LONG else 0):
+                least = min(least, turn([f"{folder}/route_nets", chip, path, ROUNDS])[1])
+            print(f"| {name} | {what} | {answer} | {moves} | {held} | {least:.2f} s |", flush=True)
 
 
 main()

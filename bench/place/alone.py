@@ -28,8 +28,8 @@ def turn(words, seed, files):
 
 def main():
     program, folder, chip, package, pcf, *names = sys.argv[1:]
-    print("| netlist | cells, runs, clusters | length, first fit | lengths by seeds | sites | first fit | improving, by seeds | wire length | nets |")
-    print("|---|---|---|---|---|---|---|---|---|")
+    print("| netlist | cells, runs, clusters | length, first fit | lengths by seeds | index | sites | first fit | improving, by seeds | wire length | nets |")
+    print("|---|---|---|---|---|---|---|---|---|---|")
     for name in names:
         files = [chip, pcf, f"{folder}/{name}.blif"]
         turns = {seed: [turn((program, package), seed, files) for _ in range(TURNS)] for seed in SEEDS}
@@ -39,7 +39,7 @@ def main():
         improving = " ".join(f"{stages['improve']:.0f}" for stages in least.values())
         most = {stage: max(stages[stage] for stages in least.values()) for stage in least[1]}
         counts = ", ".join(counts)
-        print(f"| {name} | {counts} | {first} | {lengths} | {most['sites']:.0f} ms | {most['first']:.1f} ms | {improving} ms | {most['measure']:.1f} ms | {most['nets']:.1f} ms |", flush=True)
+        print(f"| {name} | {counts} | {first} | {lengths} | {most['index']:.0f} ms | {most['sites']:.0f} ms | {most['first']:.2f} ms | {improving} ms | {most['measure']:.1f} ms | {most['nets']:.1f} ms |", flush=True)
 
 
 main()
