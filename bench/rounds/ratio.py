@@ -51,4 +51,5 @@ def main() -> None:
     print("  peak memory: " + ", ".join(f"{program} {much:.0f} MB" for program, much in memory.items()))
 
 
-main()
+if __name__ == "__main__":
+    main()

@@ -3,13 +3,15 @@ ghost use Rattle.std.specs.Prelude.{◌≡◌, ◌<◌, ◌≤◌, ℕ, length, 
 ghost use Rattle.ice_core.specs.Congestion.{ArePrices};
 ghost use Rattle.ice_path.specs.Room.{AreWires, IsFor};
 
-use crate::built::add_wire;
-use crate::claims::expect_that;
-use crate::drawn::{ByWire, Marks, Way, draw, drawn_graph, mark, plain_price, plain_way};
 use ice_base::WireNo;
 use ice_core::Prices;
 use ice_graph::{Edge, Graph, Tree};
 use ice_path::{Scratch, connect, path};
+use ice_small_graphs::{
+    Way, add_wire, draw, drawn_graph, expect_that, marks_of, plain_price, plain_way,
+};
+use rand_core::SeedableRng;
+use rand_pcg::Pcg32;
 use std::alloc::{AllocError, Global};
 use std::process::Abort;
 use std::test::Fail;
@@ -17,31 +19,41 @@ use std::test::Fail;
 const WIRES: u32 = 7;
 
 // Drawn histories of the wires.
-fn drawn_history(rt: &impl Abort, alloc: Global, seed: &mut u64) -> Vec<u64>
+fn drawn_history(rt: &impl Abort, alloc: Global, words: &mut Pcg32) -> Vec<u64>
     ensures length { length result.items ≡ 7 }
     ensures small { (w : ℕ) → slice_index result.items w ≤ 3 }
 {
-    let (a, b, c, d) = (draw(seed, 4), draw(seed, 4), draw(seed, 4), draw(seed, 4));
+    let (a, b, c, d) = (
+        draw(words, 4),
+        draw(words, 4),
+        draw(words, 4),
+        draw(words, 4),
+    );
     vec![in alloc; 0, a as u64, b as u64, 0, c as u64, d as u64, 1].expect(rt, "memory")
 }
 
 // Drawn numbers of the other nets on the wires.
-fn drawn_others(rt: &impl Abort, alloc: Global, seed: &mut u64) -> Vec<u32>
+fn drawn_others(rt: &impl Abort, alloc: Global, words: &mut Pcg32) -> Vec<u32>
     ensures length { length result.items ≡ 7 }
     ensures small { (w : ℕ) → slice_index result.items w ≤ 3 }
 {
-    let (a, b, c, d) = (draw(seed, 3), draw(seed, 3), draw(seed, 3), draw(seed, 3));
+    let (a, b, c, d) = (
+        draw(words, 3),
+        draw(words, 3),
+        draw(words, 3),
+        draw(words, 3),
+    );
     vec![in alloc; a, 0, b, 1, 0, c, d].expect(rt, "memory")
 }
 
 // Drawn prices of the wires.
-fn drawn_prices(rt: &impl Abort, alloc: Global, seed: &mut u64) -> Prices
+fn drawn_prices(rt: &impl Abort, alloc: Global, words: &mut Pcg32) -> Prices
     ensures prices { ArePrices result }
     ensures length { length result.history.items ≡ 7 }
 {
-    let round = draw(seed, 3) + 1;
-    let history = drawn_history(rt, alloc, seed);
-    let others = drawn_others(rt, alloc, seed);
+    let round = draw(words, 3) + 1;
+    let history = drawn_history(rt, alloc, words);
+    let others = drawn_others(rt, alloc, words);
     Prices {
         round,
         history,
@@ -52,7 +64,7 @@ fn drawn_prices(rt: &impl Abort, alloc: Global, seed: &mut u64) -> Prices
 // Drawn wires of a graph.
 fn drawn_wires(
     alloc: Global,
-    seed: &mut u64,
+    words: &mut Pcg32,
     count: u32,
     wires: u32,
 ) -> Result<Vec<WireNo>, AllocError>
@@ -61,37 +73,37 @@ fn drawn_wires(
 {
     let mut list = Vec::new(alloc);
     for _ in 0..count {
-        add_wire(&mut list, wires, draw(seed, wires))?;
+        add_wire(&mut list, wires, draw(words, wires))?;
     }
     Ok(list)
 }
 
 // What each wire costs, by the rule.
-fn plain_prices(prices: &Prices) -> ByWire {
-    let mut costs = [1; 12];
-    let mut place: usize = 0;
+fn plain_prices(alloc: Global, prices: &Prices) -> Result<Vec<u64>, AllocError> {
+    let mut costs = Vec::new(alloc);
     for (past, others) in prices.history.iter().zip(&prices.others) {
-        if let Some(slot) = costs.get_mut(place) {
-            *slot = plain_price(prices.round, *past, *others);
-        }
-        place = place.saturating_add(1);
+        costs.push(plain_price(prices.round, *past, *others))?;
     }
-    costs
+    Ok(costs)
 }
 
-// The wires of a tree.
-fn marks_of(tree: &Tree) -> Marks {
-    let mut marks = [false; 12];
-    for wire in &tree.wires {
-        mark(&mut marks, *wire);
-    }
-    marks
+// The path that the plain search takes.
+fn wanted_way(
+    alloc: Global,
+    graph: &Graph,
+    prices: &Prices,
+    tree: &Tree,
+    targets: &[WireNo],
+) -> Result<Option<Way>, AllocError> {
+    let costs = plain_prices(alloc, prices)?;
+    let marks = marks_of(alloc, graph.wires() as usize, &tree.wires)?;
+    plain_way(alloc, graph.edges(), &costs, &marks, targets)
 }
 
 // Fails unless these are the edges of a way.
 fn expect_edges(rt: &impl Abort, edges: &[Edge], way: &Way) {
-    expect_that(rt, edges.len() == way.count, b"edges");
-    let mut left = way.count;
+    expect_that(rt, edges.len() == way.edges.len(), b"edges");
+    let mut left = way.edges.len();
     for edge in edges {
         left = left.saturating_sub(1);
         expect_that(rt, way.edges.get(left).copied() == Some(*edge), b"edges");
@@ -109,6 +121,7 @@ fn expect_cost(rt: &impl Abort, found: Option<u64>, wanted: &Option<Way>) {
 // Fails unless both give the same cost and the same path to these targets.
 fn compare(
     rt: &impl Abort,
+    alloc: Global,
     graph: &Graph,
     prices: &Prices,
     tree: &Tree,
@@ -123,16 +136,11 @@ fn compare(
     requires scratch { IsFor graph.now scratch.old }
     ensures { IsFor graph.now scratch.new }
 {
-    let wanted = plain_way(
-        graph.edges(),
-        &plain_prices(prices),
-        &marks_of(tree),
-        targets,
-    );
+    let wanted = wanted_way(alloc, graph, prices, tree, targets).expect(rt, "memory");
     let found = connect(graph, prices, tree, targets, scratch);
     expect_cost(rt, found, &wanted);
-    if let (Some(_), Some(way)) = (found, wanted) {
-        expect_edges(rt, path(scratch), &way);
+    if let (Some(_), Some(way)) = (found, &wanted) {
+        expect_edges(rt, path(scratch), way);
     }
 }
 
@@ -143,7 +151,7 @@ fn compare_to(
     graph: &Graph,
     prices: &Prices,
     tree: &Tree,
-    seed: &mut u64,
+    words: &mut Pcg32,
     wanted: (u32, u32),
     scratch: &mut Scratch,
 )
@@ -155,10 +163,10 @@ fn compare_to(
 {
     let (count, target) = wanted;
     assert!(rt; target < graph.wires());
-    let mut targets = drawn_wires(alloc, seed, count, graph.wires()).expect(rt, "memory");
+    let mut targets = drawn_wires(alloc, words, count, graph.wires()).expect(rt, "memory");
     add_wire(&mut targets, graph.wires(), target).expect(rt, "memory");
     assert!(rt; !targets.is_empty());
-    compare(rt, graph, prices, tree, &targets, scratch);
+    compare(rt, alloc, graph, prices, tree, &targets, scratch);
 }
 
 // Compares the ways to each wire of the graph, alone and behind two drawn ones.
@@ -168,7 +176,7 @@ fn compare_all(
     graph: &Graph,
     prices: &Prices,
     tree: &Tree,
-    seed: &mut u64,
+    words: &mut Pcg32,
 )
     requires prices { ArePrices prices.now }
     requires wires { length prices.now.history.items ≡ graph.now.wires }
@@ -182,7 +190,7 @@ fn compare_all(
             graph,
             prices,
             tree,
-            seed,
+            words,
             (0, target),
             &mut scratch,
         );
@@ -192,7 +200,7 @@ fn compare_all(
             graph,
             prices,
             tree,
-            seed,
+            words,
             (2, target),
             &mut scratch,
         );
@@ -200,22 +208,22 @@ fn compare_all(
 }
 
 // Draws a graph with this many edges, prices and a tree of two wires, which may be one, and compares.
-fn compare_drawn(rt: &impl Abort, alloc: Global, seed: &mut u64, count: u32) {
-    let graph = drawn_graph(rt, alloc, seed, count, WIRES, 0);
-    let prices = drawn_prices(rt, alloc, seed);
-    let wires = drawn_wires(alloc, seed, 2, WIRES).expect(rt, "memory");
+fn compare_drawn(rt: &impl Abort, alloc: Global, words: &mut Pcg32, count: u32) {
+    let graph = drawn_graph(rt, alloc, words, count, WIRES, 0);
+    let prices = drawn_prices(rt, alloc, words);
+    let wires = drawn_wires(alloc, words, 2, WIRES).expect(rt, "memory");
     let tree = Tree {
         wires,
         rows: Vec::new(alloc),
     };
-    compare_all(rt, alloc, &graph, &prices, &tree, seed);
+    compare_all(rt, alloc, &graph, &prices, &tree, words);
 }
 
 #[test]
 fn generated_graphs_agree(rt: HostRuntime) {
     let alloc = rt.alloc();
-    let mut seed = 1;
+    let mut words = Pcg32::seed_from_u64(1);
     for turn in 0..400 {
-        compare_drawn(&rt, alloc, &mut seed, turn % 20);
+        compare_drawn(&rt, alloc, &mut words, turn % 20);
     }
 }

@@ -1,20 +1,16 @@
 //! The rows of each wire of a small graph, and how far its wires are apart.
-use crate::built::{graph_of, placed_graph, sink_of};
-use crate::claims::expect_that;
 use ice_base::WireNo;
 use ice_graph::{Edge, Graph};
 use ice_small_chips::{count_words, line_at, number_at};
+use ice_small_graphs::{TWO_WAYS, expect_that, graph_of, placed_graph, sink_of};
 use std::alloc::Global;
 use std::process::Abort;
 use std::test::Fail;
 
-/// Two wires from which two wires are reached over a short wire, 2, and over two more wires, 3 and 4.
-pub const TWO_WAYS: &[u8] = b"0 0 2  1 1 2  2 0 3  3 1 3  4 3 4  5 2 5  6 4 5  7 2 6  8 4 6";
-
-/// The columns of these edges in the chip with the short and the long way.
+/// The columns of the edges of the two ways in the chip with the short and the long way.
 pub const COLUMNS: &[u8] = b"0 0 0 0 1 1 1 1 1";
 
-// The same ways, whose rows are not all there.
+// The two ways, whose rows are not all there.
 const SPARSE: &[u8] = b"0 0 2  1 1 2  2 0 3  3 1 3  4 3 4  5 2 5  7 2 6  9 4 5  12 4 6";
 
 // On each line the rows into a wire.

@@ -3,14 +3,15 @@ ghost use Rattle.std.specs.Prelude.{◌≡◌, ◌≤◌, length, IsSome, OnSome
 ghost use Rattle.ice_core.specs.Congestion.{ArePrices};
 ghost use Rattle.ice_path.specs.Room.{IsFor};
 
-use crate::built::{graph_of, placed_graph, prices_at, sink_of, wires_of};
-use crate::claims::expect_that;
-use crate::graphs::{COLUMNS, TWO_WAYS};
+use crate::graphs::COLUMNS;
 use ice_base::WireNo;
 use ice_core::Prices;
 use ice_graph::{Edge, Graph, Tree};
 use ice_path::{Scratch, connect, path, settled};
 use ice_small_chips::{count_words, number_at};
+use ice_small_graphs::{
+    TWO_WAYS, expect_that, graph_of, placed_graph, prices_at, sink_of, wires_of,
+};
 use std::alloc::Global;
 use std::process::Abort;
 use std::test::Fail;

@@ -3,8 +3,6 @@ ghost use Rattle.std.specs.Prelude.{◌≡◌, ◌≤◌};
 ghost use Rattle.ice_negotiate.specs.Rounds.{AreNets};
 
 use crate::asked::{Asked, expect};
-use crate::built::{graph_of, nets_of};
-use crate::claims::expect_that;
 use crate::trees::{expect_rows, expect_wires};
 use crate::usable::next_number;
 use ice_base::{NetNo, WireNo, WordIter, lines_of, words_of};
@@ -14,6 +12,7 @@ use ice_graph::{Graph, Tree};
 use ice_negotiate::{RouteFault, Routed};
 use ice_rounds::negotiate;
 use ice_small_chips::Sample;
+use ice_small_graphs::{expect_that, graph_of, nets_of};
 use ice_words::Tally;
 use std::alloc::Global;
 use std::process::Abort;

@@ -1,14 +1,12 @@
 //! Trees of small nets.
 ghost use Rattle.ice_negotiate.specs.Trees.{AreSinks};
 
-use crate::built::{graph_of, prices_at, sinks_of};
-use crate::claims::expect_that;
-use crate::graphs::TWO_WAYS;
 use ice_base::{RowNo, Sink, WireNo};
 use ice_graph::{Graph, Tree};
 use ice_negotiate::{TreeStop, tree_of};
 use ice_path::Scratch;
 use ice_small_chips::{count_words, number_at};
+use ice_small_graphs::{TWO_WAYS, expect_that, graph_of, prices_at, sinks_of};
 use std::alloc::Global;
 use std::process::Abort;
 use std::test::Fail;

@@ -3,11 +3,11 @@ ghost use Rattle.std.specs.Prelude.{◌≡◌};
 ghost use Rattle.ice_words.specs.Grips.{IsHandOf};
 ghost use Rattle.ice_worker_tests.specs.Hands.{AreReady, AreStarted, IsFreshOf, HasWorked};
 
-use crate::graphs::graph_of;
 use crate::tasks::{first_round, second_round};
 use ice_core::{RoundPrices, Task};
 use ice_desk::{Gate, MeetGate};
 use ice_graph::Graph;
+use ice_small_graphs::{TWO_WAYS, graph_of};
 use ice_words::{Counts, Hand, Words};
 use ice_worker::{Kit, work};
 use std::alloc::Global;
@@ -94,23 +94,10 @@ fn expect_over(rt: &impl Abort, counts: &Counts, wanted: u64) {
     assert!(rt; over == wanted, "{over}");
 }
 
-// Wires 0 and 1 reach wires 5 and 6 over the short wire 2, or over wires 3 and 4.
-const TWO_WAYS: [(u32, u32); 9] = [
-    (0, 2),
-    (1, 2),
-    (0, 3),
-    (1, 3),
-    (3, 4),
-    (2, 5),
-    (4, 5),
-    (2, 6),
-    (4, 6),
-];
-
 #[test]
 fn overuse_comes_in_one_round_and_goes_in_the_next(rt: HostRuntime) {
     let alloc = rt.alloc();
-    let graph = graph_of(&rt, alloc, 7, &TWO_WAYS);
+    let graph = graph_of(&rt, alloc, 7, TWO_WAYS);
     let gate = MeetGate::new();
     let first = first_round(&rt, alloc, &graph);
     let counts = counts_behind(&rt, alloc, &graph, &first.prices, &first.tasks, &gate);

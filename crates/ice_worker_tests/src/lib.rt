@@ -4,6 +4,4 @@
 #[cfg(test)]
 mod by_hand;
 #[cfg(test)]
-mod graphs;
-#[cfg(test)]
 mod tasks;

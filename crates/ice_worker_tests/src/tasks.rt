@@ -3,20 +3,20 @@ ghost use Rattle.std.specs.Prelude.{◌≡◌, ◌<◌, ◌∷◌, [], map};
 ghost use Rattle.ice_worker.specs.Tasks.{IsTaskOf};
 ghost use Rattle.ice_worker_tests.specs.Hands.{AreReady};
 
-use crate::graphs::sinks_at;
 use ice_base::{NetNo, WireNo};
 use ice_core::{RoundPrices, Task};
 use ice_graph::Graph;
+use ice_small_graphs::sinks_of;
 use std::alloc::Global;
 use std::process::Abort;
 
-// The task of a net from the wire of its number to this wire, which has these old wires.
+// The task of a net from the wire of its number to a sink, which has these old wires.
 fn task_to(
     rt: &impl Abort,
     alloc: Global,
     graph: &Graph,
     net: u32,
-    sink: u32,
+    sink: &[u8],
     old: &[WireNo],
 ) -> Task
     ensures task { IsTaskOf graph.now result }
@@ -27,7 +27,7 @@ fn task_to(
     Task {
         net: NetNo(net),
         root: WireNo(net),
-        sinks: sinks_at(rt, alloc, wires, &[sink]).expect(rt, "memory"),
+        sinks: sinks_of(rt, alloc, wires, sink).expect(rt, "memory"),
         old: Vec::from_slice(alloc, old).expect(rt, "memory"),
     }
 }
@@ -67,8 +67,8 @@ pub fn first_round(rt: &impl Abort, alloc: Global, graph: &Graph) -> Play
     ensures { AreReady graph.now result.prices result.tasks.items }
 {
     let prices = prices_of(rt, alloc, 1, &[0, 0, 0, 0, 0, 0, 0], &[0, 0, 0, 0, 0, 0, 0]);
-    let one = task_to(rt, alloc, graph, 0, 5, &[]);
-    let other = task_to(rt, alloc, graph, 1, 6, &[]);
+    let one = task_to(rt, alloc, graph, 0, b"5", &[]);
+    let other = task_to(rt, alloc, graph, 1, b"6", &[]);
     let tasks = vec![in alloc; one, other].expect(rt, "memory");
     Play { prices, tasks }
 }
@@ -79,7 +79,14 @@ pub fn second_round(rt: &impl Abort, alloc: Global, graph: &Graph) -> Play
     ensures { AreReady graph.now result.prices result.tasks.items }
 {
     let prices = prices_of(rt, alloc, 2, &[0, 0, 1, 0, 0, 0, 0], &[1, 1, 2, 0, 0, 1, 1]);
-    let one = task_to(rt, alloc, graph, 0, 5, &[WireNo(0), WireNo(2), WireNo(5)]);
+    let one = task_to(
+        rt,
+        alloc,
+        graph,
+        0,
+        b"5",
+        &[WireNo(0), WireNo(2), WireNo(5)],
+    );
     let tasks = vec![in alloc; one].expect(rt, "memory");
     Play { prices, tasks }
 }

@@ -1,5 +1,0 @@
-use Rattle.ice_route_tests.specs.Rising.{AreRising}
-use Rattle.ice_route_tests.proofs.built.edges_of.Given as goal
-
-abbrev pub invariant-loop-place : goal.invariant-loop-place
-invariant-loop-place g l = AreRising l.wires l.least l.edges.items
