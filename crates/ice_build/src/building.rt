@@ -1,5 +1,6 @@
 //! From a netlist to the bits of a chip.
 ghost use Rattle.std.specs.Prelude.{IfOk, IfErr};
+ghost use Rattle.ice_rows.specs.Index.{IsIndexOf};
 ghost use Rattle.ice_build.specs.Answers.{IsBuilt, IsComplete, IsFault};
 ghost use Rattle.ice_build.specs.Laid.{task_of};
 ghost use Rattle.ice_build.specs.Shown.{IsCircuitOf};
@@ -8,14 +9,43 @@ ghost use Rattle.ice_build.specs.Stages.{IsPermitted};
 use crate::answer::{BuildFault, Built, Effort};
 use crate::checking::check_loops;
 use crate::laws::{layouts_stand_on_their_chip, realised_layouts_show_their_netlist};
-use crate::laying::lay_out;
+use crate::laying::indexed_lay_out;
 use crate::routing::finish;
+use ice_base::NoMemory;
 use ice_check::Sound;
 use ice_chip::Chip;
 use ice_desk::Gate;
 use ice_pcf::Pcf;
+use ice_rows::{Index, index_of};
 use std::alloc::Global;
 use std::thread::Threads;
+
+// Builds a netlist on a chip by the index of its groups.
+fn indexed_build<G: Gate + Sync, R: Threads + Sync>(
+    rt: &R,
+    alloc: Global,
+    chip: &Chip,
+    index: &Index<'_>,
+    name: &[u8],
+    pcf: &Pcf,
+    sound: &Sound,
+    effort: Effort,
+    gate: &G,
+) -> Result<Built, BuildFault>
+    requires index { IsIndexOf chip.now index.now }
+    requires effort { IsPermitted effort }
+    ensures built { IfOk result (IsBuilt (task_of chip.now name.now pcf.now sound.now) effort.rounds) }
+    ensures circuit { IfOk result (λ built. IsCircuitOf sound.now built.layout.pads.ports chip.now built.bits) }
+    ensures fault { IfErr result (IsFault (task_of chip.now name.now pcf.now sound.now) effort.rounds) }
+    ensures complete { IsComplete (task_of chip.now name.now pcf.now sound.now) result }
+{
+    layouts_stand_on_their_chip(chip, sound);
+    realised_layouts_show_their_netlist(sound);
+    let layout = indexed_lay_out(alloc, chip, index, name, pcf, sound, effort.seed)?;
+    let built = finish(rt, alloc, chip, index, layout, effort, gate)?;
+    check_loops(alloc, chip, &built.bits)?;
+    Ok(built)
+}
 
 /// Builds a netlist on a chip, in the package of that name: the bits, with the placed design and its trees. The netlist is packed, the
 /// runs of its carries are made, its cells are put into clusters, its ports get pads, its clusters get places, first by first fit and
@@ -46,10 +76,8 @@ pub fn build<G: Gate + Sync, R: Threads + Sync>(
     ensures fault { IfErr result (IsFault (task_of chip.now name.now pcf.now sound.now) effort.rounds) }
     ensures complete { IsComplete (task_of chip.now name.now pcf.now sound.now) result }
 {
-    layouts_stand_on_their_chip(chip, sound);
-    realised_layouts_show_their_netlist(sound);
-    let layout = lay_out(alloc, chip, name, pcf, sound, effort.seed)?;
-    let built = finish(rt, alloc, chip, layout, effort, gate)?;
-    check_loops(alloc, chip, &built.bits)?;
-    Ok(built)
+    match index_of(alloc, chip) {
+        Ok(index) => indexed_build(rt, alloc, chip, &index, name, pcf, sound, effort, gate),
+        Err(NoMemory) => Err(BuildFault::NoMemory),
+    }
 }

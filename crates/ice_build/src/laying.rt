@@ -2,22 +2,25 @@
 ghost use Rattle.std.specs.Prelude.{◌≡◌, IfOk, IfErr};
 ghost use Rattle.ice_cells.specs.Clusters.{clusters_of};
 ghost use Rattle.ice_cells.specs.Runs.{design_of};
+ghost use Rattle.ice_rows.specs.Index.{IsIndexOf};
 ghost use Rattle.ice_build.specs.Laid.{IsLaidOut, IsSettled, task_of};
 ghost use Rattle.ice_build.specs.Stages.{IsPlaceFault, IsLayFault};
 ghost use Rattle.ice_build.specs.declared.answer.BuildFault.TheVariants.{NoMemory as out_of_memory};
 
 use crate::answer::{BuildFault, Layout};
 use ice_anneal::improve;
+use ice_base::NoMemory;
 use ice_carry::runs;
 use ice_cells::{Clusters, Design};
 use ice_check::Sound;
 use ice_chip::Chip;
 use ice_cluster::cluster;
 use ice_pack::pack;
-use ice_pads::{Pads, assign};
+use ice_pads::{Pads, indexed_assign};
 use ice_pcf::Pcf;
 use ice_place::{Placement, first_place};
-use ice_sites::sites_of;
+use ice_rows::{Index, index_of};
+use ice_sites::indexed_sites;
 use std::alloc::Global;
 
 // The design of a netlist, its runs made.
@@ -34,16 +37,18 @@ fn design_of(alloc: Global, sound: &Sound) -> Result<Design, BuildFault>
 fn place(
     alloc: Global,
     chip: &Chip,
+    index: &Index<'_>,
     clusters: &Clusters,
     design: &Design,
     pads: &Pads,
     seed: u64,
 ) -> Result<Placement, BuildFault>
-    requires { clusters.now ≡ clusters_of design.now }
+    requires index { IsIndexOf chip.now index.now }
+    requires clusters { clusters.now ≡ clusters_of design.now }
     ensures placed { IfOk result (IsSettled chip.now clusters.now design.now pads.now) }
     ensures fault { IfErr result (IsPlaceFault chip.now clusters.now design.now) }
 {
-    let sites = sites_of(alloc, chip)?;
+    let sites = indexed_sites(alloc, chip, index)?;
     let first = first_place(alloc, &sites, clusters, design)?;
     let placement = improve(alloc, chip, first, &sites, clusters, design, pads, seed)?;
     Ok(placement)
@@ -53,25 +58,51 @@ fn place(
 fn lay(
     alloc: Global,
     chip: &Chip,
+    index: &Index<'_>,
     design: Design,
     clusters: Clusters,
     pads: Pads,
     seed: u64,
 ) -> Result<Layout, BuildFault>
-    requires { clusters ≡ clusters_of design }
+    requires index { IsIndexOf chip.now index.now }
+    requires clusters { clusters ≡ clusters_of design }
     ensures design { IfOk result (λ layout. layout.design ≡ design) }
     ensures clusters { IfOk result (λ layout. layout.clusters ≡ clusters) }
     ensures pads { IfOk result (λ layout. layout.pads ≡ pads) }
     ensures placed { IfOk result (λ layout. IsSettled chip.now clusters design pads layout.placement) }
     ensures fault { IfErr result (IsPlaceFault chip.now clusters design) }
 {
-    let placement = place(alloc, chip, &clusters, &design, &pads, seed)?;
+    let placement = place(alloc, chip, index, &clusters, &design, &pads, seed)?;
     Ok(Layout {
         design,
         clusters,
         pads,
         placement,
     })
+}
+
+/// The placed design of a netlist, as [`lay_out`] makes it, by the index of the chip's groups.
+///
+/// # Errors
+/// The fault of the pins, then that of the places; want of memory.
+pub fn indexed_lay_out(
+    alloc: Global,
+    chip: &Chip,
+    index: &Index<'_>,
+    name: &[u8],
+    pcf: &Pcf,
+    sound: &Sound,
+    seed: u64,
+) -> Result<Layout, BuildFault>
+    requires { IsIndexOf chip.now index.now }
+    ensures laid { IfOk result (IsLaidOut (task_of chip.now name.now pcf.now sound.now)) }
+    ensures fault { IfErr result (IsLayFault (task_of chip.now name.now pcf.now sound.now)) }
+{
+    let design = design_of(alloc, sound)?;
+    let clusters = cluster(alloc, &design)?;
+    let pads = indexed_assign(alloc, chip, index, name, pcf, sound.netlist(), &design)?;
+    let layout = lay(alloc, chip, index, design, clusters, pads, seed)?;
+    Ok(layout)
 }
 
 /// The placed design of a netlist: packed, its runs made, in clusters, with the assigned pads, and placed on the chip's sites.
@@ -89,9 +120,8 @@ pub fn lay_out(
     ensures laid { IfOk result (IsLaidOut (task_of chip.now name.now pcf.now sound.now)) }
     ensures fault { IfErr result (IsLayFault (task_of chip.now name.now pcf.now sound.now)) }
 {
-    let design = design_of(alloc, sound)?;
-    let clusters = cluster(alloc, &design)?;
-    let pads = assign(alloc, chip, name, pcf, sound.netlist(), &design)?;
-    let layout = lay(alloc, chip, design, clusters, pads, seed)?;
-    Ok(layout)
+    match index_of(alloc, chip) {
+        Ok(index) => indexed_lay_out(alloc, chip, &index, name, pcf, sound, seed),
+        Err(NoMemory) => Err(BuildFault::NoMemory),
+    }
 }

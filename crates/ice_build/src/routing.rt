@@ -5,6 +5,7 @@ ghost use Rattle.ice_decode.specs.Faults.{HasNoLoop};
 ghost use Rattle.ice_emit.specs.Placed.{IsPlacedOn};
 ghost use Rattle.ice_realised.specs.Feeds.{FeedsNoGlobal};
 ghost use Rattle.ice_routed_trees.specs.Routing.{AreNetsOf};
+ghost use Rattle.ice_rows.specs.Index.{IsIndexOf};
 ghost use Rattle.ice_written.specs.Realised.{Realises};
 ghost use Rattle.ice_written.specs.Routed.{AreTrees};
 ghost use Rattle.ice_written.specs.Written.{IsWritten, wanted_rows};
@@ -17,13 +18,14 @@ use ice_base::NoMemory;
 use ice_chip::Chip;
 use ice_core::Net;
 use ice_desk::Gate;
-use ice_emit::emit;
-use ice_fabric::fabric;
+use ice_emit::indexed_emit;
+use ice_fabric::indexed_fabric;
 use ice_negotiate::{RouteFault, Routed};
 use ice_nets::nets_of;
 use ice_rounds::negotiate;
 use ice_routable::laws::placed_nets_are_routable;
 use ice_routed_trees::laws::routed_nets_are_trees;
+use ice_rows::{Index, index_of};
 use std::alloc::Global;
 use std::thread::Threads;
 
@@ -54,6 +56,36 @@ pub fn nets_in(alloc: Global, chip: &Chip, layout: &Layout) -> Result<Vec<Net>, 
     Ok(nets)
 }
 
+/// The trees of the nets of a placed design, as [`route`] makes them, by the index of the chip's groups.
+///
+/// # Errors
+/// The first sink to which no walk leads; permitted rounds that all end with an overused wire; want of memory.
+pub fn indexed_route<G: Gate + Sync, R: Threads + Sync>(
+    rt: &R,
+    alloc: Global,
+    chip: &Chip,
+    index: &Index<'_>,
+    layout: &Layout,
+    nets: &[Net],
+    effort: Effort,
+    gate: &G,
+) -> Result<Routed, RouteFault>
+    requires index { IsIndexOf chip.now index.now }
+    requires placed { IsPlacedOn chip.now (plan_in layout.now) layout.now.pads.pullups }
+    requires nets { AreNetsOf chip.now (plan_in layout.now) nets.now }
+    requires few { length nets.now ≤ 65536 }
+    requires effort { IsPermitted effort }
+    ensures routed { IfOk result (IsRouted chip.now (plan_in layout.now) effort.rounds) }
+    ensures trees { IfOk result (λ routed. AreTrees chip.now (plan_in layout.now) (routes_in routed)) }
+    ensures fault { IfErr result (IsRouteFault chip.now (plan_in layout.now) effort.rounds) }
+{
+    let _wires = chip.wires();
+    placed_nets_are_routable();
+    routed_nets_are_trees();
+    let graph = indexed_fabric(alloc, chip, index)?;
+    negotiate(rt, alloc, &graph, nets, effort.rounds, effort.workers, gate)
+}
+
 /// The trees of the nets of a placed design, in at most so many rounds, from 1 to 64, by 1 to 8 workers, each in a thread, on whom
 /// nothing depends. No bits are set.
 ///
@@ -76,11 +108,10 @@ pub fn route<G: Gate + Sync, R: Threads + Sync>(
     ensures trees { IfOk result (λ routed. AreTrees chip.now (plan_in layout.now) (routes_in routed)) }
     ensures fault { IfErr result (IsRouteFault chip.now (plan_in layout.now) effort.rounds) }
 {
-    let _wires = chip.wires();
-    placed_nets_are_routable();
-    routed_nets_are_trees();
-    let graph = fabric(alloc, chip)?;
-    negotiate(rt, alloc, &graph, nets, effort.rounds, effort.workers, gate)
+    match index_of(alloc, chip) {
+        Ok(index) => indexed_route(rt, alloc, chip, &index, layout, nets, effort, gate),
+        Err(NoMemory) => Err(RouteFault::NoMemory),
+    }
 }
 
 // Why nothing is built of a placed design with so many nets that is not routed.
@@ -100,7 +131,14 @@ fn unrouted(layout: Layout, nets: u32, fault: RouteFault) -> BuildFault
 }
 
 // The bits of a placed and routed design.
-fn write(alloc: Global, chip: &Chip, layout: Layout, routed: Routed) -> Result<Built, NoMemory>
+fn write(
+    alloc: Global,
+    chip: &Chip,
+    index: &Index<'_>,
+    layout: Layout,
+    routed: Routed,
+) -> Result<Built, NoMemory>
+    requires index { IsIndexOf chip.now index.now }
     requires placed { IsPlacedOn chip.now (plan_in layout) layout.pads.pullups }
     requires trees { AreTrees chip.now (plan_in layout) (routes_in routed) }
     ensures layout { IfOk result (λ built. built.layout ≡ layout) }
@@ -109,9 +147,10 @@ fn write(alloc: Global, chip: &Chip, layout: Layout, routed: Routed) -> Result<B
     ensures loopless { IfOk result (λ built. FeedsNoGlobal chip.now → HasNoLoop chip.now (bits_of built.bits)) }
     ensures realised { IfOk result (λ built. HasNoLoop chip.now (bits_of built.bits) → Realises chip.now (plan_in layout) (wanted_rows chip.now (plan_in layout) (routes_in routed)) (bits_of built.bits)) }
 {
-    let bits = emit(
+    let bits = indexed_emit(
         alloc,
         chip,
+        index,
         &layout.design,
         &layout.clusters,
         &layout.placement,
@@ -133,10 +172,12 @@ pub fn finish<G: Gate + Sync, R: Threads + Sync>(
     rt: &R,
     alloc: Global,
     chip: &Chip,
+    index: &Index<'_>,
     layout: Layout,
     effort: Effort,
     gate: &G,
 ) -> Result<Built, BuildFault>
+    requires index { IsIndexOf chip.now index.now }
     requires placed { IsPlacedOn chip.now (plan_in layout) layout.pads.pullups }
     requires effort { IsPermitted effort }
     ensures finished { IfOk result (IsFinished chip.now effort.rounds layout) }
@@ -145,10 +186,19 @@ pub fn finish<G: Gate + Sync, R: Threads + Sync>(
     ensures fault { IfErr result (IsEndFault chip.now effort.rounds layout) }
 {
     let nets = nets_in(alloc, chip, &layout)?;
-    match route(rt, alloc, chip, &layout, nets.as_slice(), effort, gate) {
+    match indexed_route(
+        rt,
+        alloc,
+        chip,
+        index,
+        &layout,
+        nets.as_slice(),
+        effort,
+        gate,
+    ) {
         Err(fault) => Err(unrouted(layout, nets.len() as u32, fault)),
         Ok(routed) => {
-            let built = write(alloc, chip, layout, routed)?;
+            let built = write(alloc, chip, index, layout, routed)?;
             Ok(built)
         }
     }

@@ -1,3 +1,4 @@
 mod CutLaws
+mod FeedLaws
 mod SaidLaws
 mod Following

@@ -130,6 +130,7 @@ impl ChipReader {
     }
 
     // Takes bytes of the line that isn't ended.
+    #[inline(never)]
     fn keep(&mut self, bytes: &[u8])
         requires { IsLine bytes.now }
         ensures taken { TakesMore (Follows self.old) (Follows self.new) bytes.now }
@@ -144,7 +145,9 @@ impl ChipReader {
         }
     }
 
-    // Ends the line.
+    // Ends the line. It stands apart, as few lines lie in two pieces.
+    #[cold]
+    #[inline(never)]
     fn end(&mut self)
         ensures taken { TakesMore (Follows self.old) (Follows self.new) (10 ∷ []) }
         ensures out { IsSpent self.old → IsSpent self.new }
@@ -160,6 +163,7 @@ impl ChipReader {
     }
 
     // Takes the last bytes of the line that isn't ended, and ends it.
+    #[inline(always)]
     fn end_with(&mut self, line: &[u8])
         requires { IsLine line.now }
         ensures taken { TakesMore (Follows self.old) (Follows self.new) (line.now ++ 10 ∷ []) }

@@ -22,6 +22,8 @@ pub enum Said {
 }
 
 // The first line that has words. It stands apart, so that later lines don't pay for the room of what it makes.
+#[cold]
+#[inline(never)]
 fn take_first_words(alloc: Global, said: &mut Said, line: PlainLine<'_>)
     requires { said_view said.old ≡ Ok None }
     ensures { HasSaid (said_view said.new) (with_line (Ok None) (line.entry.number, line.entry.first.now ∷ line.entry.others)) }
@@ -33,6 +35,8 @@ fn take_first_words(alloc: Global, said: &mut Said, line: PlainLine<'_>)
 }
 
 // The reading stopped.
+#[cold]
+#[inline(never)]
 fn stop(said: &mut Said, stop: ReadStop)
     ensures { said_view said.new ≡ Err stop }
 {
@@ -40,6 +44,7 @@ fn stop(said: &mut Said, stop: ReadStop)
 }
 
 // One line more that has words. What stopped stays so.
+#[inline(always)]
 fn take_words(alloc: Global, said: &mut Said, line: PlainLine<'_>)
     ensures said { (s : Result (Option lines.Reading) ChipFault) → HasSaid (said_view said.old) s → HasSaid (said_view said.new) (with_line s (line.entry.number, line.entry.first.now ∷ line.entry.others)) }
     ensures stopped { (stop : ReadStop) → said_view said.old ≡ Err stop → said_view said.new ≡ Err stop }
@@ -56,6 +61,7 @@ fn take_words(alloc: Global, said: &mut Said, line: PlainLine<'_>)
 }
 
 /// One line more, of this number. What stopped stays so.
+#[inline(always)]
 pub fn take(alloc: Global, said: &mut Said, number: u32, line: &[u8])
     ensures said { (ls : List (ℕ × List (List ℕ))) → HasSaid (said_view said.old) (so_far ls) → HasSaid (said_view said.new) (so_far (ls ++ words_at number line.now)) }
     ensures stopped { (stop : ReadStop) → said_view said.old ≡ Err stop → said_view said.new ≡ Err stop }

@@ -8,13 +8,13 @@ ghost use Rattle.ice_answer.specs.Causes.{status_of};
 ghost use Rattle.ice_answer.specs.Reading.{TellsLong};
 ghost use Rattle.ice_answer.specs.Texts.{files_view, ArePermitted};
 ghost use Rattle.ice_answer.specs.Commands.{Output, command_of, Aloud, InFiles, IsRefusal, IsTrueOf};
-ghost use Rattle.ice_answer.specs.Ends.{unreported, IsMadeOf, IsToldLong};
+ghost use Rattle.ice_answer.specs.Ends.{IsMadeOf, IsToldLong};
 ghost use Rattle.ice_answer.specs.Rows.{SaidBy, KeptRow, MadeRow, SilentRow};
 ghost use Rattle.ice_chip_pieces.specs.Stands.{StandsFor};
 ghost use Rattle.ice_chip_texts.specs.ChipFiles.{with_chip, StandsForSome};
 
 use crate::texts::{ChipTexts, read_chip_and_texts};
-use ice_answer::{Cause, CommandFile, Done, Made, Refused, Texts, end_aloud, end_in_files};
+use ice_answer::{Cause, CommandFile, Done, Made, Texts, end_aloud, end_in_files, without_report};
 use ice_chip_pieces::ChipReader;
 use ice_desk::Desk;
 use std::alloc::Global;
@@ -76,20 +76,6 @@ pub fn say_made_on_chip<D: Desk, M: ChipMaking>(
 {
     let made = make_of(alloc, desk, chip, files, making);
     end_aloud(desk, made)
-}
-
-// What was made, or why nothing was made, with no text to be left.
-fn without_report(made: Result<Made, Cause>) -> Result<Made, Refused>
-    ensures same { unreported result ≡ made }
-    ensures none { IfErr result (λ refused. refused.report ≡ None) }
-{
-    match made {
-        Ok(made) => Ok(made),
-        Err(cause) => Err(Refused {
-            cause,
-            report: None,
-        }),
-    }
 }
 
 /// Reads the file of a chip database and other files, and writes what is made of their texts to the outputs, one after another, each with

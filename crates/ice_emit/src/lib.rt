@@ -14,4 +14,4 @@ mod routed;
 mod rows;
 mod writing;
 
-pub use writing::emit;
+pub use writing::{emit, indexed_emit};

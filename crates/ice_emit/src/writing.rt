@@ -6,6 +6,7 @@ ghost use Rattle.ice_negotiate.specs.Trees.{route_of};
 ghost use Rattle.ice_nets.specs.Plans.{plan_in, plan_of};
 ghost use Rattle.ice_written.specs.Functions.{settings};
 ghost use Rattle.ice_realised.specs.Feeds.{FeedsNoGlobal};
+ghost use Rattle.ice_rows.specs.Index.{IsIndexOf};
 ghost use Rattle.ice_written.specs.Realised.{Realises};
 ghost use Rattle.ice_written.specs.Routed.{AreTrees};
 ghost use Rattle.ice_written.specs.Written.{held_by, wanted_rows, IsWritten};
@@ -32,23 +33,28 @@ use ice_nets::{Placed, placed_of, wires_of};
 use ice_pads::Pads;
 use ice_place::Placement;
 use ice_realised::laws::{bits_have_no_loop, bits_realise_their_design};
-use ice_rows::index_of;
+use ice_rows::{Index, index_of};
 use ice_set::laws::designs_are_set;
 use ice_wiring::laws::wanted_rows_drive;
 use ice_writing::{Setting, set_all, turn_all_on};
 use std::alloc::Global;
 
 // The rows that are wanted: those of the trees, and those that carry runs.
-fn rows_of(alloc: Global, placed: &Placed<'_>, trees: &[Tree]) -> Result<Vec<RowNo>, NoMemory>
+fn rows_of(
+    alloc: Global,
+    placed: &Placed<'_>,
+    index: &Index<'_>,
+    trees: &[Tree],
+) -> Result<Vec<RowNo>, NoMemory>
+    requires { IsIndexOf placed.now.chip.now index.now }
     ensures { IfOk result (λ rows. switches placed.now.chip.now rows.items ≡ wanted_rows placed.now.chip.now (plan_in placed.now) (map route_of trees.now)) }
 {
-    let index = index_of(alloc, placed.chip)?;
     let mut rows = Vec::new(alloc);
     push_trees(&mut rows, trees)?;
     push_links(
         &mut rows,
         placed.chip,
-        &index,
+        index,
         placed.design.cells(),
         placed.tiles,
         placed.clusters,
@@ -111,6 +117,39 @@ fn bits_with(alloc: Global, chip: &Chip, rows: &[RowNo], made: &[Setting]) -> Re
     Ok(bits)
 }
 
+/// The bits of a placed and routed design, as [`emit`] makes them, by the index of the chip's groups.
+///
+/// # Errors
+/// Want of memory alone; more than 4,294,967,295 trees count as such.
+pub fn indexed_emit(
+    alloc: Global,
+    chip: &Chip,
+    index: &Index<'_>,
+    design: &Design,
+    clusters: &Clusters,
+    placement: &Placement,
+    pads: &Pads,
+    trees: &[Tree],
+) -> Result<Bits, NoMemory>
+    requires index { IsIndexOf chip.now index.now }
+    requires placed { IsPlacedOn chip.now (plan_of design.now clusters.now placement.now pads.now) pads.now.pullups }
+    requires trees { AreTrees chip.now (plan_of design.now clusters.now placement.now pads.now) (map route_of trees.now) }
+    ensures written { IfOk result (IsWritten chip.now (plan_of design.now clusters.now placement.now pads.now) pads.now.pullups (map route_of trees.now)) }
+    ensures loopless { IfOk result (λ bits. FeedsNoGlobal chip.now → HasNoLoop chip.now (bits_of bits)) }
+    ensures realised { IfOk result (λ bits. HasNoLoop chip.now (bits_of bits) → Realises chip.now (plan_of design.now clusters.now placement.now pads.now) (wanted_rows chip.now (plan_of design.now clusters.now placement.now pads.now) (map route_of trees.now)) (bits_of bits)) }
+{
+    roots_are_led_to_pins(chip);
+    designs_are_set(chip);
+    wanted_rows_drive(chip);
+    bits_have_no_loop(chip);
+    bits_realise_their_design(chip);
+    let placed = placed_of(chip, design, clusters, placement, pads);
+    let rows = rows_of(alloc, &placed, index, trees)?;
+    let made = settings_in(alloc, &placed, pads.pullups(), trees, rows.as_slice())?;
+    let bits = bits_with(alloc, chip, rows.as_slice(), made.as_slice())?;
+    Ok(bits)
+}
+
 /// The bits of a placed and routed design: of each tree's rows, and of the rows that carry runs into last inputs and across tiles; of
 /// cells, their tables rewired to the inputs at which their signals arrive; of clocks' edges and carries into runs; of the pads'
 /// types and pull-ups, of inputs that nothing reads, and of the column buffers that globals pass. No other bit is set.
@@ -136,14 +175,8 @@ pub fn emit(
     ensures loopless { IfOk result (λ bits. FeedsNoGlobal chip.now → HasNoLoop chip.now (bits_of bits)) }
     ensures realised { IfOk result (λ bits. HasNoLoop chip.now (bits_of bits) → Realises chip.now (plan_of design.now clusters.now placement.now pads.now) (wanted_rows chip.now (plan_of design.now clusters.now placement.now pads.now) (map route_of trees.now)) (bits_of bits)) }
 {
-    roots_are_led_to_pins(chip);
-    designs_are_set(chip);
-    wanted_rows_drive(chip);
-    bits_have_no_loop(chip);
-    bits_realise_their_design(chip);
-    let placed = placed_of(chip, design, clusters, placement, pads);
-    let rows = rows_of(alloc, &placed, trees)?;
-    let made = settings_in(alloc, &placed, pads.pullups(), trees, rows.as_slice())?;
-    let bits = bits_with(alloc, chip, rows.as_slice(), made.as_slice())?;
-    Ok(bits)
+    let index = index_of(alloc, chip)?;
+    indexed_emit(
+        alloc, chip, &index, design, clusters, placement, pads, trees,
+    )
 }

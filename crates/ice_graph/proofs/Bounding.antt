@@ -35,7 +35,7 @@ apart_none a b tile h k =
     let y = gap_none a.south a.north b.south b.north tile.y h.2 h.3 k.2 k.3 in
     omega (arith, x, y)
 
-div_le : (s x y : ℕ) → 0 < s → x ≤ y → x / s ≤ y / s
+pub div_le : (s x y : ℕ) → 0 < s → x ≤ y → x / s ≤ y / s
 div_le s x y pos le = le-div (x / s) y s pos (let d = div-mul-le_self x s in omega (arith, d))
 
 -- one greatest half perimeter further is one more

@@ -3,3 +3,4 @@ pub mod Placing
 pub mod Rising
 pub mod Growing
 pub mod Bounding
+pub mod Nearest

@@ -1,4 +1,5 @@
 pub mod Rows
 pub mod Boxes
 pub mod Network
+pub mod Nearest
 pub mod Sorting

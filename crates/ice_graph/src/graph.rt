@@ -3,7 +3,8 @@ ghost use Rattle.std.specs.Prelude.{◌≡◌, ◌+◌, ◌<◌, ◌≤◌, ◌^
 ghost use Rattle.ice_base.specs.declared.number.WireNo.{WireNo as Wire};
 ghost use Rattle.ice_graph.specs.Rows.{rows_into, rows_from};
 ghost use Rattle.ice_graph.specs.Boxes.{in_spreads};
-ghost use Rattle.ice_graph.specs.Network.{ArePlaces, AreBetween, BoundsFall, RowsRise, bound, least_bound, least_from};
+ghost use Rattle.ice_graph.specs.Network.{ArePlaces, AreBetween, BoundsFall, RowsRise, bound, least_bound};
+ghost use Rattle.ice_graph.specs.Nearest.{apart, nearest, nearest_from, bound_of};
 
 use crate::boxes::{boxes_of, spread_of};
 use crate::edge::{Edge, End};
@@ -71,6 +72,19 @@ fn in_spreads_of(spread: u32, distance: u32) -> u32
         return 0;
     }
     (distance + (spread - 1)) / spread
+}
+
+// What a walk to a target costs at least that is so far.
+fn bound_to(spread: u32, apart: u32) -> u64
+    requires spread { spread ≤ 131070 }
+    requires apart { apart ≤ 131071 }
+    ensures bound { result ≡ bound_of spread apart }
+    ensures small { result ≤ 131071 }
+{
+    if apart == 0 {
+        return 0;
+    }
+    1 + in_spreads_of(spread, apart - 1) as u64
 }
 
 impl Graph {
@@ -154,21 +168,47 @@ impl Graph {
     /// What a walk from one wire to another costs at least, where no step costs less than 1: 0 where they are
     /// the same, and else 1 and one more for each greatest half perimeter that lies between their boxes,
     /// rounded up. The wires are of the graph.
+    #[tactic(auto, using(crate::proofs::Nearest::bound_by))]
     pub fn bound(&self, wire: WireNo, target: WireNo) -> u64
         requires wire { wire.0 < self.now.wires }
         requires target { target.0 < self.now.wires }
         ensures bound { result ≡ bound self.now wire.0 target.0 }
         ensures small { result ≤ 131071 }
     {
+        bound_to(self.spread, self.apart(wire, target))
+    }
+
+    // How far a target is: 0 where it is the wire itself, and else 1 and the steps between the boxes.
+    fn apart(&self, wire: WireNo, target: WireNo) -> u32
+        requires wire { wire.0 < self.now.wires }
+        requires target { target.0 < self.now.wires }
+        ensures apart { result ≡ apart self.now wire.0 target.0 }
+        ensures small { result ≤ 131071 }
+    {
         if wire.0 == target.0 {
             return 0;
         }
-        let apart = distance(self.boxes[wire.0 as usize], self.boxes[target.0 as usize]);
-        1 + in_spreads_of(self.spread, apart) as u64
+        1 + distance(self.boxes[wire.0 as usize], self.boxes[target.0 as usize])
+    }
+
+    // How far the nearest of these targets is.
+    fn nearest(&self, wire: WireNo, targets: &[WireNo]) -> u32
+        requires wire { wire.0 < self.now.wires }
+        requires targets { (k : ℕ) (t : Wire) → slice_get targets.now k ≡ Some t → t.0 < self.now.wires }
+        requires some { 0 < length targets.now }
+        ensures nearest { result ≡ nearest self.now targets.now wire.0 }
+        ensures small { result ≤ 131071 }
+    {
+        let mut nearest = self.apart(wire, targets[0]);
+        for target in &targets[1..] {
+            nearest = nearest.min(self.apart(wire, *target));
+        }
+        nearest
     }
 
     /// The least of the bounds from a wire to these targets, of which there is one at least. The wires are of
     /// the graph.
+    #[tactic(auto, using(crate::proofs::Nearest::least_by))]
     pub fn least_bound(&self, wire: WireNo, targets: &[WireNo]) -> u64
         requires wire { wire.0 < self.now.wires }
         requires targets { (k : ℕ) (t : Wire) → slice_get targets.now k ≡ Some t → t.0 < self.now.wires }
@@ -176,10 +216,6 @@ impl Graph {
         ensures bound { result ≡ least_bound self.now targets.now wire.0 }
         ensures small { result ≤ 131071 }
     {
-        let mut least = self.bound(wire, targets[0]);
-        for target in &targets[1..] {
-            least = least.min(self.bound(wire, *target));
-        }
-        least
+        bound_to(self.spread, self.nearest(wire, targets))
     }
 }

@@ -354,8 +354,3 @@ enough parts ps le =
   where
     nat_above : (a b : ℕ) → b ≤ a → nat_lt a b ≡ false
     nat_above a b le = search (rules, tests)
-
--- ---- no global buffers
-pub none_chosen : (parts : Parts) (free chosen : List ℕ) (pins : List Pins) → length pins ≡ 0 → chosen ≡ [] → chosen ≡ chosen_from parts free pins
-none_chosen parts free chosen [] e f = f
-none_chosen parts free chosen (p ∷ pins) e f = absurd (omega arith)

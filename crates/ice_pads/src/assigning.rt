@@ -1,6 +1,7 @@
 //! The pads, pull-ups and globals of a design.
 ghost use Rattle.std.specs.Prelude.{◌≡◌, IfOk};
 ghost use Rattle.ice_chip.specs.Views.{package_view};
+ghost use Rattle.ice_rows.specs.Index.{IsIndexOf};
 ghost use Rattle.ice_pads.specs.Assign.{pads_with, chosen_by, assign_of};
 ghost use Rattle.ice_pads.specs.Answers.{Answers, Lists};
 
@@ -15,6 +16,7 @@ use ice_cells::Design;
 use ice_chip::{Chip, Package, Pad};
 use ice_net::Netlist;
 use ice_pcf::{Constraint, Pcf};
+use ice_rows::{Index, index_of};
 use std::alloc::Global;
 use std::marker::Model;
 
@@ -109,6 +111,28 @@ fn chosen_by(
     Ok(progress.chosen)
 }
 
+/// The pads, pull-ups and globals of a design of the netlist, or the fault, as [`assign`] answers, by the index of the chip's groups.
+pub fn indexed_assign(
+    alloc: Global,
+    chip: &Chip,
+    index: &Index,
+    name: &[u8],
+    pcf: &Pcf,
+    netlist: &Netlist,
+    design: &Design,
+) -> Result<Pads, PinFault>
+    requires { IsIndexOf chip.now index.now }
+    ensures { Answers result (assign_of chip.now name.now pcf.now netlist.now design.now) }
+{
+    let Some(bonded) = chip.package(name) else {
+        return Err(PinFault::NoPackage);
+    };
+    let wants = wants(alloc, design)?;
+    let chosen = chosen_by(alloc, chip, bonded, pcf.constraints(), netlist, &wants)?;
+    let globals = globals_of(alloc, chip, index, design)?;
+    Ok(pads_with(alloc, &chosen, globals)?)
+}
+
 /// The pads, pull-ups and globals of a design of the netlist, or the fault. Want of memory may be answered at any time;
 /// every other answer is the one of the definition: NoPackage before all, then the first fault of the constraints, then the
 /// first port for which no pad is left, then too few globals.
@@ -122,11 +146,6 @@ pub fn assign(
 ) -> Result<Pads, PinFault>
     ensures { Answers result (assign_of chip.now name.now pcf.now netlist.now design.now) }
 {
-    let Some(bonded) = chip.package(name) else {
-        return Err(PinFault::NoPackage);
-    };
-    let wants = wants(alloc, design)?;
-    let chosen = chosen_by(alloc, chip, bonded, pcf.constraints(), netlist, &wants)?;
-    let globals = globals_of(alloc, chip, design)?;
-    Ok(pads_with(alloc, &chosen, globals)?)
+    let index = index_of(alloc, chip)?;
+    indexed_assign(alloc, chip, &index, name, pcf, netlist, design)
 }

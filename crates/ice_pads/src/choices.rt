@@ -10,7 +10,7 @@ use crate::{PinFault, Pins, globals, pins_of, serves};
 use ice_base::NoMemory;
 use ice_cells::{Design, LogicCell};
 use ice_chip::Chip;
-use ice_rows::{Index, index_of};
+use ice_rows::Index;
 use std::alloc::Global;
 
 // As what each of so many global buffers is read by the flip-flops of these cells.
@@ -115,20 +115,14 @@ fn chosen_from(
     other_choices(alloc, &taken, &free)
 }
 
-// What each global buffer takes of these globals, which are enough. Without buffers the rows of the chip are not looked at.
-#[tactic(auto, using(crate::proofs::GlobalLaws::none_chosen))]
-fn choose(alloc: Global, chip: &Chip, pins: &[Pins], free: Vec<u8>) -> Result<Vec<u8>, NoMemory>
-    ensures { IfOk result (λ globals. globals.items ≡ chosen_from chip.now free.items pins.now) }
-{
-    if pins.is_empty() {
-        return Ok(Vec::new(alloc));
-    }
-    let index = index_of(alloc, chip)?;
-    chosen_from(alloc, chip, &index, pins, free)
-}
-
 /// The global of each global buffer, or that there are too few.
-pub fn globals_of(alloc: Global, chip: &Chip, design: &Design) -> Result<Vec<u8>, PinFault>
+pub fn globals_of(
+    alloc: Global,
+    chip: &Chip,
+    index: &Index,
+    design: &Design,
+) -> Result<Vec<u8>, PinFault>
+    requires { IsIndexOf chip.now index.now }
     ensures { Lists result (globals_of chip.now (pins design.now)) }
 {
     let free = globals(alloc, chip)?;
@@ -140,5 +134,5 @@ pub fn globals_of(alloc: Global, chip: &Chip, design: &Design) -> Result<Vec<u8>
         return Err(PinFault::TooManyGlobals { need, have });
     }
     let pins = pins(alloc, design.cells(), need)?;
-    Ok(choose(alloc, chip, &pins, free)?)
+    Ok(chosen_from(alloc, chip, index, &pins, free)?)
 }

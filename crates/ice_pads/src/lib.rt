@@ -16,7 +16,7 @@ mod tables;
 mod want;
 mod wires;
 
-pub use assigning::{Pads, assign};
+pub use assigning::{Pads, assign, indexed_assign};
 pub use fault::PinFault;
 pub use free_globals::{global_wire, globals, serves};
 pub use given::{Chosen, Given};

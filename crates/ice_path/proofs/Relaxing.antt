@@ -79,6 +79,11 @@ module _ (rows : List Edge) (price : ℕ → ℕ) (settled : List Bool) (c : ℕ
         ];
       }
 
+  -- an edge to a wire with a label that is no more than that of the wire from which it leads
+  pub relax_reached : (n : ℕ) (e : Edge) (new : List (Option ℕ)) → slice_get rows n ≡ Some e → done settled e.to.0 ≡ false → e.to.0 < length new
+      → AtMost new e.to.0 c → Far n new → Far (n + 1) new
+  relax_reached n e new here open' lt most h = relax_step n e new new here open' lt (inr (refl, (most.0, most.1, omega (arith, most.2)))) h
+
 pub relax_none : (rows : List Edge) (price : ℕ → ℕ) (settled : List Bool) (c : ℕ) (labels : List (Option ℕ)) → Relaxes rows price settled c 0 labels labels
 relax_none rows price settled c labels = record {
   lower = λ w l e. (l, e, omega arith);

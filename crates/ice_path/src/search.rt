@@ -6,7 +6,7 @@ ghost use Rattle.ice_graph.specs.declared.edge.Edge.{Edge as Row};
 ghost use Rattle.ice_base.specs.declared.number.WireNo.{WireNo as Wire};
 ghost use Rattle.ice_graph.specs.Network.{AreBetween, BoundsFall, least_bound};
 ghost use Rattle.ice_path.specs.Queue.{IsQueue, queue_len};
-ghost use Rattle.ice_path.specs.Search.{AreExact, IsNearest, IsNext, Lists, Lowers, Relaxes, Searches, Starts, Queues, Touches, is_beyond, nearest_after, open_edges, done, label};
+ghost use Rattle.ice_path.specs.Search.{AreExact, AtMost, IsNearest, IsNext, Lists, Lowers, Relaxes, Searches, Starts, Queues, Touches, is_beyond, nearest_after, open_edges, done, label};
 ghost use Rattle.ice_path.specs.Room.{AreWires};
 ghost use Rattle.ice_path.specs.Walks.{AreSettled, InTree, IsCostTo, NoWalkTo};
 ghost use Rattle.std.specs.List.{Contains};
@@ -84,8 +84,19 @@ fn lower(
     mark(graph, targets, labels, queue, wire, cost);
 }
 
-// Lowers the label behind one row of a wire with the label `cost`.
-#[tactic(auto, using(crate::proofs::Relaxing::relax_skip, crate::proofs::Relaxing::relax_step))]
+// Whether the wire has a label that is no more than this cost.
+fn is_reached(labels: &[Option<u64>], wire: u32, cost: u64) -> bool
+    requires within { wire < length labels.now }
+    ensures reached { result ≡ true → AtMost labels.now wire cost }
+{
+    let Some(label) = labels[wire as usize] else {
+        return false;
+    };
+    label <= cost
+}
+
+// Lowers the label behind one row of a wire with the label `cost`. What has a label up to that costs no more, at any price.
+#[tactic(auto, using(crate::proofs::Relaxing::relax_skip, crate::proofs::Relaxing::relax_reached, crate::proofs::Relaxing::relax_step))]
 fn relax_one(
     graph: &Graph,
     targets: &[WireNo],
@@ -117,6 +128,9 @@ fn relax_one(
     ensures space { vec_capacity touched.new ≡ vec_capacity touched.old }
 {
     if settled[row.to.0 as usize] {
+        return;
+    }
+    if is_reached(labels, row.to.0, cost) {
         return;
     }
     lower(

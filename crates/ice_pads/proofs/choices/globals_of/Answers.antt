@@ -32,4 +32,4 @@ returns c =
     let read : c.deref.result.now ≡ pins c.args.design.now =
     c.deref.ensures.value ∙ c.in_ok-pins.ensures ∙ ap (λ cells. map (pins_of cells) (range_with_len 0 c.in-Ok.need)) c.cells.ensures ∙ ap (λ n. map (pins_of c.args.design.now.cells) (range_with_len 0 n)) need in
     enough c.args.chip.now (pins c.args.design.now) all
-    ∙ ap Ok (sym (c.in_ok-choose.ensures ∙ ap (λ xs. chosen_from c.args.chip.now xs c.deref.result.now) c.in_ok-free.ensures ∙ ap (chosen_from c.args.chip.now (globals c.args.chip.now)) read))
+    ∙ ap Ok (sym (c.in_ok-chosen_from.ensures ∙ ap (λ xs. chosen_from c.args.chip.now xs c.deref.result.now) c.in_ok-free.ensures ∙ ap (chosen_from c.args.chip.now (globals c.args.chip.now)) read))

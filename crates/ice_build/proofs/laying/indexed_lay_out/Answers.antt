@@ -1,7 +1,7 @@
 use Rattle.std.proofs.lemmas.Result.{err_from_is_err_and}
 use Rattle.ice_build.proofs.Answering.{laid_out, lay_stops}
 use Rattle.ice_build.specs.Laid.{task_of}
-use Rattle.ice_build.proofs.laying.lay_out.Goals as goal
+use Rattle.ice_build.proofs.laying.indexed_lay_out.Goals as goal
 
 pub returns-in_err-layout-clause-fault : goal.returns-in_err-layout-clause-fault
 returns-in_err-layout-clause-fault c =

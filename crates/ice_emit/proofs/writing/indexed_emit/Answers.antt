@@ -3,7 +3,7 @@ use Rattle.ice_nets.specs.Plans.{plan_in, plan_of}
 use Rattle.ice_negotiate.specs.Trees.{route_of}
 use Rattle.ice_emit.proofs.Meant.{are_meant, have_no_loop}
 use Rattle.ice_emit.proofs.Ready.{written_for}
-use Rattle.ice_emit.proofs.writing.emit.Goals as goal
+use Rattle.ice_emit.proofs.writing.indexed_emit.Goals as goal
 
 pub returns : goal.returns
 returns c =

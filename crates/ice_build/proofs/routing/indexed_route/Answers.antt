@@ -4,7 +4,7 @@ use Rattle.ice_negotiate.specs.declared.fault.Routed.{Routed}
 use Rattle.ice_written.specs.Routed.{AreTrees}
 use Rattle.ice_build.specs.Answers.{routes_in}
 use Rattle.ice_build.specs.Laid.{plan_in}
-use Rattle.ice_build.proofs.routing.route.Goals as goal
+use Rattle.ice_build.proofs.routing.indexed_route.Goals as goal
 
 pub negotiate-requires-clause-nets : goal.negotiate-requires-clause-nets
 negotiate-requires-clause-nets g c κs within =

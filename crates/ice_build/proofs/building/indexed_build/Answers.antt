@@ -4,7 +4,7 @@ use Rattle.ice_bits.specs.Configuration.{bits_of}
 use Rattle.ice_build.proofs.Answering.{lay_fault, end_fault, bits_stop, built, circuit, no_loop, complete}
 use Rattle.ice_build.specs.Answers.{routes_in}
 use Rattle.ice_build.specs.Laid.{task_of}
-use Rattle.ice_build.proofs.building.build.Goals as goal
+use Rattle.ice_build.proofs.building.indexed_build.Goals as goal
 
 pub finish-requires-clause-placed : goal.finish-requires-clause-placed
 finish-requires-clause-placed g c κs within = let s = c.layouts_stand_on_their_chip.ensures c.args.name.now c.args.pcf.now c.in_ok-layout.layout c.in_ok-layout.ensures.laid in (s.0, s.2)
