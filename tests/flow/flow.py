@@ -1,9 +1,9 @@
-"""What tests/flow/run does beside the program: cases to compare, netlists to play, and a plain reading of packed designs.
+"""What tests/flow/run does beside the programs: cases to compare, netlists to play, and a plain reading of packed designs.
 
-words FOLDER               says the names of the texts of each case of a folder, in order
-netlists COUNT FOLDER      makes netlists at random, each with its text of levels; the same count makes the same netlists
-compare FOLDER SHOWN       compares what the program showed with the dumps of a folder
-play FOLDER SHOWN PROGRAM  plays the designs that the program showed, and the netlists by play-net of PROGRAM
+words FOLDER                   says the names of the texts of each case of a folder, in order
+netlists COUNT FOLDER          makes netlists at random, each with its text of levels; the same count makes the same netlists
+compare FOLDER PASSES ROUTES   compares what the two programs showed with the dumps and the texts of bits of a folder
+play FOLDER PASSES PROGRAM     plays the designs that ice_show_flow showed, and the netlists by play-net of PROGRAM
 """
 import pathlib
 import random
@@ -11,39 +11,67 @@ import subprocess
 import sys
 
 
+def lines_of(file):
+    """The lines of a file, with their ends."""
+    return list(open(file, encoding="latin-1", newline="\n"))
+
+
 def shown(file):
-    """The lines that the program showed of each case, by the case's name."""
+    """The lines that a program showed of each case, by the case's name."""
     cases, lines = {}, []
-    for line in open(file, encoding="latin-1").read().split("\n"):
+    for line in lines_of(file):
         if line.startswith("== "):
-            lines = cases.setdefault(pathlib.Path(line[3:]).stem, [])
-        elif line:
+            lines = cases.setdefault(pathlib.Path(line[3:].rstrip()).stem, [])
+        else:
             lines.append(line)
     return cases
 
 
-def wanted(dump):
-    """The lines of a dump that the program shows too."""
-    lines = []
-    for line in dump.read_text(encoding="latin-1").splitlines():
-        # From here on a dump says what isn't shown.
-        if line == "report" or line.startswith("error 9"):
-            break
-        lines.append(line)
-    return lines
+def begins_routing(line):
+    return line == "report\n" or line.startswith("error 9 ")
 
 
-def compare(folder, file):
-    cases, bad, lines = shown(file), 0, 0
+def begins_bits(line):
+    return line == "bits\n"
+
+
+def cut(lines, begins):
+    """The lines before the first one that begins something, and the others."""
+    place = next((k for k, line in enumerate(lines) if begins(line)), len(lines))
+    return lines[:place], lines[place:]
+
+
+def parts_of(dump, passes, routes):
+    """What is expected of a case and what was shown of it: in its dump, and in its text of bits where it has one."""
+    before, routing = cut(lines_of(dump), begins_routing)
+    routes, bits = cut(routes, begins_bits)
+    parts = [(before, passes)]
+    # A dump that was made by hand ends with the nets.
+    if routing or not before[-1].startswith("net "):
+        parts.append((routing, routes))
+    text = dump.with_suffix(".asc")
+    if text.exists():
+        parts.append((lines_of(text), bits[1:]))
+    return parts
+
+
+def is_same(name, want, have):
+    pairs = zip(want + [""] * len(have), have + [""] * len(want))
+    differing = [pair for pair in pairs if pair[0] != pair[1]]
+    if differing:
+        print(f"flow: {name}: {len(differing)} lines differ; the first is\n  {differing[0][1]!r}, expected\n  {differing[0][0]!r}")
+    return not differing
+
+
+def compare(folder, passes, routes):
+    passes, routes, bad, lines = shown(passes), shown(routes), 0, 0
     dumps = sorted(pathlib.Path(folder).glob("*.dump"))
     for dump in dumps:
-        want, have = wanted(dump), cases.get(dump.stem, [])
-        lines += len(want)
-        differing = [pair for pair in zip(want + [""] * len(have), have + [""] * len(want)) if pair[0] != pair[1]]
-        if differing:
-            bad += 1
-            print(f"flow: {dump.stem}: {len(differing)} lines differ; the first is\n  '{differing[0][1]}', expected\n  '{differing[0][0]}'")
-    print(f"flow: {len(dumps) - bad} of {len(dumps)} cases as expected, {lines} lines")
+        parts = parts_of(dump, passes.get(dump.stem, []), routes.get(dump.stem, []))
+        lines += sum(len(want) for want, _ in parts)
+        bad += not all([is_same(dump.stem, *part) for part in parts])
+    texts = sum(dump.with_suffix(".asc").exists() for dump in dumps)
+    print(f"flow: {len(dumps) - bad} of {len(dumps)} cases as expected, {texts} of them with their texts of bits, {lines} lines")
     return bad == 0 and bool(dumps)
 
 

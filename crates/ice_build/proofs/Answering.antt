@@ -13,14 +13,15 @@ use Rattle.ice_negotiate.specs.declared.fault.RouteFault.{RouteFault}
 use Rattle.ice_negotiate.specs.declared.fault.RouteFault.TheVariants as route
 use Rattle.ice_pads.specs.Assign.{PadsData, assign_of}
 use Rattle.ice_pads.specs.declared.fault.PinFault.{PinFault}
-use Rattle.ice_place.specs.Place.{place_of}
+use Rattle.ice_place.specs.Place.{chunks_of, place_of}
 use Rattle.ice_place.specs.declared.fault.PlaceFault.{PlaceFault}
 use Rattle.ice_realised.specs.Feeds.{FeedsNoGlobal}
+use Rattle.ice_sites.specs.Legal.{IsLegal}
 use Rattle.ice_sites.specs.Stretches.{stretches_of}
 use Rattle.ice_written.specs.Routed.{AreTrees}
 use Rattle.ice_written.specs.Written.{IsWritten}
 use Rattle.ice_build.specs.Answers.{IsBuilt, IsFault, IsComplete, IsRouted, net_count, pins_said, places_said, routes_in}
-use Rattle.ice_build.specs.Laid.{Task, IsLaidOut, IsSettled, StandsOn, plan_in}
+use Rattle.ice_build.specs.Laid.{Task, IsLaidOut, IsOnSites, IsSettled, StandsOn, plan_in}
 use Rattle.ice_build.specs.Shown.{IsCircuitOf}
 use Rattle.ice_build.specs.Stages.{IsPlaceFault, IsLayFault, IsRouteFault, IsFinished, IsEndFault, IsBitsFault, unrouted}
 use Rattle.ice_build.specs.declared.answer.Built.{Built}
@@ -72,17 +73,30 @@ bits_stop task rounds made (Bits fault) is stop = (made, is, stop)
 bits_stop task rounds made NoMemory is stop = tt
 
 -- ---- what is built
-pub laid_out : (task : Task) (n : NetlistData) (d : Design) (clusters : Clusters) (found : PadsData) (layout : Layout) → n ≡ task.circuit → d ≡ design_of task.circuit → clusters ≡ clusters_of d
-    → assign_of task.parts task.name task.constraints n d ≡ Ok found → layout.design ≡ d → layout.clusters ≡ clusters → layout.pads ≡ found → IsSettled task.parts clusters d found layout.placement → IsLaidOut task layout
-laid_out task n d clusters found layout same_net same_design same_clusters said design_is clusters_are pads_are settled =
+-- a design with its clusters and pads, on sites
+pub on_sites : (task : Task) (n : NetlistData) (d : Design) (clusters : Clusters) (found : PadsData) (layout : Layout) → n ≡ task.circuit → d ≡ design_of task.circuit → clusters ≡ clusters_of d
+    → assign_of task.parts task.name task.constraints n d ≡ Ok found → layout.design ≡ d → layout.clusters ≡ clusters → layout.pads ≡ found
+    → IsLegal (stretches_of task.parts) (chunks_of clusters.list) layout.placement → IsOnSites task layout
+on_sites task n d clusters found layout same_net same_design same_clusters said design_is clusters_are pads_are legal =
     let said_of_net = subst (λ (x : NetlistData). assign_of task.parts task.name task.constraints x d ≡ Ok found) same_net said in
     let said_of_pads = subst (λ (x : PadsData). assign_of task.parts task.name task.constraints task.circuit d ≡ Ok x) (sym pads_are) said_of_net in
-    let on_pads = subst (λ (x : PadsData). IsSettled task.parts clusters d x layout.placement) (sym pads_are) settled in
-    let of_clusters = subst (λ (x : Clusters). IsSettled task.parts x d layout.pads layout.placement) (sym clusters_are) on_pads in
     record {
       design = design_is ∙ same_design;
       clusters = clusters_are ∙ same_clusters ∙ ap clusters_of (sym design_is);
       pads = subst (λ (x : Design). assign_of task.parts task.name task.constraints task.circuit x ≡ Ok layout.pads) (sym design_is) said_of_pads;
+      legal = subst (λ (x : Clusters). IsLegal (stretches_of task.parts) (chunks_of x.list) layout.placement) (sym clusters_are) legal;
+    }
+
+pub laid_out : (task : Task) (n : NetlistData) (d : Design) (clusters : Clusters) (found : PadsData) (layout : Layout) → n ≡ task.circuit → d ≡ design_of task.circuit → clusters ≡ clusters_of d
+    → assign_of task.parts task.name task.constraints n d ≡ Ok found → layout.design ≡ d → layout.clusters ≡ clusters → layout.pads ≡ found → IsSettled task.parts clusters d found layout.placement → IsLaidOut task layout
+laid_out task n d clusters found layout same_net same_design same_clusters said design_is clusters_are pads_are settled =
+    let stands = on_sites task n d clusters found layout same_net same_design same_clusters said design_is clusters_are pads_are settled.legal in
+    let on_pads = subst (λ (x : PadsData). IsSettled task.parts clusters d x layout.placement) (sym pads_are) settled in
+    let of_clusters = subst (λ (x : Clusters). IsSettled task.parts x d layout.pads layout.placement) (sym clusters_are) on_pads in
+    record {
+      design = stands.design;
+      clusters = stands.clusters;
+      pads = stands.pads;
       placed = subst (λ (x : Design). IsSettled task.parts layout.clusters x layout.pads layout.placement) (sym design_is) of_clusters;
     }
 

@@ -20,7 +20,7 @@ use Rattle.ice_place.specs.Place.{chunks_of}
 use Rattle.ice_sites.specs.Legal.{IsLegal, IsLegalOn}
 use Rattle.ice_sites.specs.Stretches.{stretches_of}
 use Rattle.ice_base.specs.declared.number.TileAt.{TileAt}
-use Rattle.ice_build.specs.Laid.{IsLaidOut, StandsOn, task_of}
+use Rattle.ice_build.specs.Laid.{Task, IsLaidOut, IsOnSites, StandsOn, task_of}
 use Rattle.ice_build.specs.declared.answer.Layout.{Layout}
 
 -- where pads are assigned, the package is there
@@ -35,7 +35,7 @@ abbrev pub SitesAreLegal : Type 0
 SitesAreLegal = (parts : Parts) → (chunks : List (Option (ℕ × ℕ))) → (at : List TileAt) → IsLegal (stretches_of parts) chunks at → IsLegalOn parts chunks at
 
 pub stands : (parts : Parts) (n : NetlistData) (order : List ℕ) → IsChip parts → IsSoundInOrder n order → DesignsAreFormed → DesignsHaveValues → AssignedPadsFit → SitesAreLegal
-    → (name : List ℕ) (constraints : List Constraint) (layout : Layout) → IsLaidOut (task_of parts name constraints n) layout → StandsOn parts name layout
+    → (name : List ℕ) (constraints : List Constraint) (layout : Layout) → IsOnSites (task_of parts name constraints n) layout → StandsOn parts name layout
 stands parts n order chip sound formed values fit legal name constraints layout laid =
     let there = package_there parts name constraints n layout.design layout.pads laid.pads in (
       there.0,
@@ -44,8 +44,12 @@ stands parts n order chip sound formed values fit legal name constraints layout 
         formed = subst IsFormed (sym laid.design) (formed n order sound);
         values = subst HasValues (sym laid.design) (values n order sound);
         clusters = ap (λ (c : Clusters). c.list) laid.clusters;
-        legal = legal parts (chunks_of layout.clusters.list) layout.placement laid.placed.legal;
+        legal = legal parts (chunks_of layout.clusters.list) layout.placement laid.legal;
         «package» = (find_Has (λ (p : PackageRows). bytes_eq p.name name) parts.packages there.0 there.1).0;
         pads = fit parts name constraints n layout.design there.0 layout.pads chip there.1 laid.pads;
       },
     )
+
+-- a placed design is on sites
+pub laid_on_sites : (task : Task) (layout : Layout) → IsLaidOut task layout → IsOnSites task layout
+laid_on_sites task layout laid = record { design = laid.design; clusters = laid.clusters; pads = laid.pads; legal = laid.placed.legal }

@@ -43,6 +43,13 @@ pub record IsSettled (parts : Parts) (clusters : Clusters) (d : Design) (pads : 
   pub shorter : length_on parts clusters d pads at ≤ length_on parts clusters d pads first
   pub least : IsSwapLeast (length_on parts clusters d pads) (chunks_of clusters.list) (stretches_of parts) at
 
+-- the packed netlist with its runs made, in its clusters, on the assigned pads, and on sites of the chip
+pub record IsOnSites (task : Task) (layout : Layout) : Type 0 where
+  pub design : layout.design ≡ design_of task.circuit
+  pub clusters : layout.clusters ≡ clusters_of layout.design
+  pub pads : assign_of task.parts task.name task.constraints task.circuit layout.design ≡ Ok layout.pads
+  pub legal : IsLegal (stretches_of task.parts) (chunks_of layout.clusters.list) layout.placement
+
 abbrev pub plan_in : Layout → Plan
 plan_in layout = plan_of layout.design layout.clusters layout.placement layout.pads
 

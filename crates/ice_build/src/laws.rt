@@ -6,7 +6,7 @@ ghost use Rattle.ice_negotiate.specs.Trees.{Route};
 ghost use Rattle.ice_pcf.specs.declared.constraint.Constraint.{Constraint};
 ghost use Rattle.ice_written.specs.Realised.{Realises};
 ghost use Rattle.ice_written.specs.Written.{IsWritten, wanted_rows};
-ghost use Rattle.ice_build.specs.Laid.{IsLaidOut, StandsOn, plan_in, task_of};
+ghost use Rattle.ice_build.specs.Laid.{IsLaidOut, IsOnSites, StandsOn, plan_in, task_of};
 ghost use Rattle.ice_build.specs.Shown.{IsCircuitOf};
 ghost use Rattle.ice_build.specs.declared.answer.Layout.{Layout};
 
@@ -16,10 +16,10 @@ use ice_pack_form::laws::{designs_are_formed, designs_have_values, designs_show_
 use ice_pads::assigned_pads_fit;
 use ice_sites::clusters_stand_on_sites;
 
-/// The placed design of a sound netlist keeps to its form and has no loop; its clusters stand on sites of the chip, and its ports
-/// have pads of the package, with the wires that they need.
-pub fn layouts_stand_on_their_chip(chip: &Chip, sound: &Sound)
-    ensures { (name : List ℕ) (constraints : List Constraint) (layout : Layout) → IsLaidOut (task_of chip.now name constraints sound.now) layout → StandsOn chip.now name layout }
+/// The design of a sound netlist, wherever on sites of the chip its clusters are, keeps to its form and has no loop; its clusters stand
+/// on those sites, and its ports have pads of the package, with the wires that they need.
+pub fn designs_stand_on_their_chip(chip: &Chip, sound: &Sound)
+    ensures { (name : List ℕ) (constraints : List Constraint) (layout : Layout) → IsOnSites (task_of chip.now name constraints sound.now) layout → StandsOn chip.now name layout }
 {
     chip.wires();
     sound.netlist().cells();
@@ -28,6 +28,13 @@ pub fn layouts_stand_on_their_chip(chip: &Chip, sound: &Sound)
     designs_have_values();
     assigned_pads_fit();
     clusters_stand_on_sites();
+}
+
+/// The same of the placed design of a sound netlist.
+pub fn layouts_stand_on_their_chip(chip: &Chip, sound: &Sound)
+    ensures { (name : List ℕ) (constraints : List Constraint) (layout : Layout) → IsLaidOut (task_of chip.now name constraints sound.now) layout → StandsOn chip.now name layout }
+{
+    designs_stand_on_their_chip(chip, sound);
 }
 
 /// The bits of the placed and routed design of a sound netlist are a circuit that shows what the netlist shows, where they realise

@@ -23,8 +23,11 @@ use ice_rows::{Index, index_of};
 use ice_sites::indexed_sites;
 use std::alloc::Global;
 
-// The design of a netlist, its runs made.
-fn design_of(alloc: Global, sound: &Sound) -> Result<Design, BuildFault>
+/// The design of a netlist, its runs made.
+///
+/// # Errors
+/// Want of memory.
+pub fn design_of(alloc: Global, sound: &Sound) -> Result<Design, BuildFault>
     ensures design { IfOk result (λ design. design ≡ design_of sound.now) }
     ensures fault { IfErr result (λ fault. fault ≡ out_of_memory) }
 {

@@ -10,5 +10,5 @@ mod routing;
 
 pub use answer::{BuildFault, Built, Effort, Layout};
 pub use building::build;
-pub use laying::{indexed_lay_out, lay_out};
+pub use laying::{design_of, indexed_lay_out, lay_out};
 pub use routing::{indexed_route, nets_in, route};

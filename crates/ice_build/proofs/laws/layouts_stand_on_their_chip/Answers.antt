@@ -1,9 +1,6 @@
-use Rattle.std.proofs.Common.{subst}
-use Rattle.ice_net.specs.Formed.{IsFormed}
-use Rattle.ice_build.proofs.Standing.{stands}
+use Rattle.ice_build.proofs.Standing.{laid_on_sites}
+use Rattle.ice_build.specs.Laid.{task_of}
 use Rattle.ice_build.proofs.laws.layouts_stand_on_their_chip.Goals as goal
 
 pub returns : goal.returns
-returns c =
-    stands c.args.chip.now c.args.sound.now c.signal_order.result.now c.wires.ensures.chip (record { formed = subst IsFormed c.netlist.ensures.netlist c.cells.ensures.formed; sound = c.netlist.ensures.sound; sorted = c.signal_order.ensures })
-    c.designs_are_formed.ensures c.designs_have_values.ensures c.assigned_pads_fit.ensures c.clusters_stand_on_sites.ensures
+returns c = λ name constraints layout laid. c.designs_stand_on_their_chip.ensures name constraints layout (laid_on_sites (task_of c.args.chip.now name constraints c.args.sound.now) layout laid)
