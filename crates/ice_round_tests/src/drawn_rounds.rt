@@ -2,6 +2,7 @@
 ghost use Rattle.std.specs.Prelude.{◌≡◌, ◌≤◌};
 ghost use Rattle.ice_negotiate.specs.Rounds.{AreNets};
 
+use crate::claims::expect_that;
 use crate::drawn_nets::{Size, drawn_nets};
 use crate::plain_rounds::{Answer, End, plain_routes};
 use ice_base::NetNo;
@@ -10,7 +11,7 @@ use ice_desk::OpenGate;
 use ice_graph::{Graph, Tree};
 use ice_negotiate::{RouteFault, Routed};
 use ice_rounds::negotiate;
-use ice_small_graphs::{draw, drawn_graph, expect_that};
+use ice_small_graphs::{draw, drawn_graph};
 use rand_core::SeedableRng;
 use rand_pcg::Pcg32;
 use std::alloc::Global;
@@ -181,7 +182,7 @@ fn compare_drawn(
 {
     let wires = size.all();
     assert!(rt; size.nets < wires);
-    let graph = drawn_graph(rt, alloc, words, edges, wires, size.nets);
+    let graph = drawn_graph(alloc, words, edges, wires, size.nets).expect(rt, "memory");
     compare_in(rt, alloc, words, &graph, size, rounds, workers, ends);
 }
 

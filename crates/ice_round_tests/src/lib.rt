@@ -2,6 +2,8 @@
 #![tactic(auto)]
 
 #[cfg(test)]
+mod claims;
+#[cfg(test)]
 mod drawn_nets;
 #[cfg(test)]
 mod drawn_rounds;

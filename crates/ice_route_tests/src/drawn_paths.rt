@@ -3,13 +3,12 @@ ghost use Rattle.std.specs.Prelude.{◌≡◌, ◌<◌, ◌≤◌, ℕ, length, 
 ghost use Rattle.ice_core.specs.Congestion.{ArePrices};
 ghost use Rattle.ice_path.specs.Room.{AreWires, IsFor};
 
+use crate::claims::expect_that;
 use ice_base::WireNo;
 use ice_core::Prices;
 use ice_graph::{Edge, Graph, Tree};
 use ice_path::{Scratch, connect, path};
-use ice_small_graphs::{
-    Way, add_wire, draw, drawn_graph, expect_that, marks_of, plain_price, plain_way,
-};
+use ice_small_graphs::{Way, add_wire, draw, drawn_graph, marks_of, plain_price, plain_way};
 use rand_core::SeedableRng;
 use rand_pcg::Pcg32;
 use std::alloc::{AllocError, Global};
@@ -209,7 +208,7 @@ fn compare_all(
 
 // Draws a graph with this many edges, prices and a tree of two wires, which may be one, and compares.
 fn compare_drawn(rt: &impl Abort, alloc: Global, words: &mut Pcg32, count: u32) {
-    let graph = drawn_graph(rt, alloc, words, count, WIRES, 0);
+    let graph = drawn_graph(alloc, words, count, WIRES, 0).expect(rt, "memory");
     let prices = drawn_prices(rt, alloc, words);
     let wires = drawn_wires(alloc, words, 2, WIRES).expect(rt, "memory");
     let tree = Tree {

@@ -1,8 +1,9 @@
 //! The rows of each wire of a small graph, and how far its wires are apart.
+use crate::claims::expect_that;
 use ice_base::WireNo;
 use ice_graph::{Edge, Graph};
 use ice_small_chips::{count_words, line_at, number_at};
-use ice_small_graphs::{TWO_WAYS, expect_that, graph_of, placed_graph, sink_of};
+use ice_small_graphs::{TWO_WAYS, graph_of, placed_graph, sink_of};
 use std::alloc::Global;
 use std::process::Abort;
 use std::test::Fail;
@@ -71,7 +72,7 @@ fn expect_apart(rt: &impl Abort, graph: &Graph, cases: &[(u32, u32, u64)]) {
 
 // Fails unless the least of the bounds to three wires is that of the nearest.
 fn expect_least(rt: &impl Abort, alloc: Global, graph: &Graph) {
-    let sink = sink_of(rt, alloc, graph.wires(), b"5 2 6");
+    let sink = sink_of(alloc, graph.wires(), b"5 2 6").expect(rt, "a sink");
     assert!(rt; graph.wires() > 0);
     expect_that(
         rt,
@@ -83,8 +84,8 @@ fn expect_least(rt: &impl Abort, alloc: Global, graph: &Graph) {
 #[test]
 fn rows_and_bounds_are_those_of_the_edges(rt: HostRuntime) {
     let alloc = rt.alloc();
-    expect_graph(&rt, &graph_of(&rt, alloc, 7, SPARSE));
-    let graph = placed_graph(&rt, alloc, 7, TWO_WAYS, COLUMNS);
+    expect_graph(&rt, &graph_of(alloc, 7, SPARSE).expect(&rt, "a graph"));
+    let graph = placed_graph(alloc, 7, TWO_WAYS, COLUMNS).expect(&rt, "a graph");
     expect_apart(&rt, &graph, &APART);
     expect_least(&rt, alloc, &graph);
 }

@@ -4,6 +4,8 @@
 #[cfg(test)]
 mod asked;
 #[cfg(test)]
+mod claims;
+#[cfg(test)]
 mod drawn_paths;
 #[cfg(test)]
 mod fabrics;

@@ -3,15 +3,14 @@ ghost use Rattle.std.specs.Prelude.{◌≡◌, ◌≤◌, length, IsSome, OnSome
 ghost use Rattle.ice_core.specs.Congestion.{ArePrices};
 ghost use Rattle.ice_path.specs.Room.{IsFor};
 
+use crate::claims::expect_that;
 use crate::graphs::COLUMNS;
 use ice_base::WireNo;
 use ice_core::Prices;
 use ice_graph::{Edge, Graph, Tree};
 use ice_path::{Scratch, connect, path, settled};
 use ice_small_chips::{count_words, number_at};
-use ice_small_graphs::{
-    TWO_WAYS, expect_that, graph_of, placed_graph, prices_at, sink_of, wires_of,
-};
+use ice_small_graphs::{TWO_WAYS, graph_of, placed_graph, prices_at, sink_of, wires_of};
 use std::alloc::Global;
 use std::process::Abort;
 use std::test::Fail;
@@ -44,12 +43,12 @@ fn cost_of(
     ensures scratch { IsFor graph.now scratch.new }
     ensures path { OnSome result (IsSome scratch.new.path) }
 {
-    let wires = wires_of(rt, alloc, graph.wires(), way.0).expect(rt, "memory");
+    let wires = wires_of(alloc, graph.wires(), way.0).expect(rt, "wires");
     let tree = Tree {
         wires,
         rows: Vec::new(alloc),
     };
-    let sink = sink_of(rt, alloc, graph.wires(), way.1);
+    let sink = sink_of(alloc, graph.wires(), way.1).expect(rt, "a sink");
     connect(graph, prices, &tree, sink.targets(), scratch)
 }
 
@@ -80,7 +79,7 @@ fn expect_way(
 // is held by so many others.
 fn expect_ways(rt: &impl Abort, alloc: Global, graph: &Graph, at: (u32, u8, u8), ways: &[Way]) {
     assert!(rt; graph.wires() == 7 && at.0 >= 1 && at.0 <= 64);
-    let prices = prices_at(rt, alloc, at.0, at.1, at.2);
+    let prices = prices_at(alloc, at.0, at.1, at.2).expect(rt, "memory");
     let mut scratch = Scratch::new(alloc, graph).expect(rt, "memory");
     for way in ways {
         expect_way(rt, alloc, graph, &prices, *way, &mut scratch);
@@ -119,13 +118,13 @@ const FIRST_ROW: [Way; 1] = [(b"0", b"4", b"3", b"3 4 6")];
 #[test]
 fn the_cheapest_way_is_taken(rt: HostRuntime) {
     let alloc = rt.alloc();
-    let graph = graph_of(&rt, alloc, 7, TWO_WAYS);
+    let graph = graph_of(alloc, 7, TWO_WAYS).expect(&rt, "a graph");
     expect_ways(&rt, alloc, &graph, (1, 0, 0), &PLAIN);
     expect_ways(&rt, alloc, &graph, (2, 1, 0), &TIED);
     expect_ways(&rt, alloc, &graph, (2, 1, 1), &CROWDED);
-    let graph = graph_of(&rt, alloc, 7, b"0 0 2  1 1 2  5 2 5  7 2 6");
+    let graph = graph_of(alloc, 7, b"0 0 2  1 1 2  5 2 5  7 2 6").expect(&rt, "a graph");
     expect_ways(&rt, alloc, &graph, (2, 1, 1), &SHORT);
-    let graph = graph_of(&rt, alloc, 7, b"3 0 1  4 1 3  6 3 4  7 0 2  9 2 4");
+    let graph = graph_of(alloc, 7, b"3 0 1  4 1 3  6 3 4  7 0 2  9 2 4").expect(&rt, "a graph");
     expect_ways(&rt, alloc, &graph, (1, 1, 0), &FIRST_ROW);
 }
 
@@ -141,8 +140,8 @@ fn expect_settled(rt: &impl Abort, found: &[WireNo], wires: &[u8]) {
 #[test]
 fn wires_within_the_cost_are_settled(rt: HostRuntime) {
     let alloc = rt.alloc();
-    let graph = placed_graph(&rt, alloc, 7, TWO_WAYS, COLUMNS);
-    let prices = prices_at(&rt, alloc, 1, 0, 0);
+    let graph = placed_graph(alloc, 7, TWO_WAYS, COLUMNS).expect(&rt, "a graph");
+    let prices = prices_at(alloc, 1, 0, 0).expect(&rt, "memory");
     let mut scratch = Scratch::new(alloc, &graph).expect(&rt, "memory");
     let way: Way = (b"0", b"5", b"2", b"0 5");
     let cost = cost_of(&rt, alloc, &graph, &prices, way, &mut scratch);

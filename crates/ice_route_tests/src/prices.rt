@@ -1,10 +1,10 @@
 //! Prices, histories, holders and movers of a few wires and nets.
 ghost use Rattle.std.specs.Prelude.{◌≡◌};
 
+use crate::claims::expect_that;
 use ice_base::WireNo;
 use ice_core::{Prices, holders, movers, raise};
 use ice_graph::Tree;
-use ice_small_graphs::expect_that;
 use std::alloc::Global;
 use std::process::Abort;
 use std::test::Fail;

@@ -3,6 +3,7 @@ ghost use Rattle.std.specs.Prelude.{◌≡◌, ◌≤◌};
 ghost use Rattle.ice_negotiate.specs.Rounds.{AreNets};
 
 use crate::asked::{Asked, expect};
+use crate::claims::expect_that;
 use crate::trees::{expect_rows, expect_wires};
 use crate::usable::next_number;
 use ice_base::{NetNo, WireNo, WordIter, lines_of, words_of};
@@ -12,7 +13,7 @@ use ice_graph::{Graph, Tree};
 use ice_negotiate::{RouteFault, Routed};
 use ice_rounds::negotiate;
 use ice_small_chips::Sample;
-use ice_small_graphs::{expect_that, graph_of, nets_of};
+use ice_small_graphs::{graph_of, nets_of};
 use ice_words::Tally;
 use std::alloc::Global;
 use std::process::Abort;
@@ -92,7 +93,7 @@ fn expect_tree(rt: &impl Abort, trees: &[Tree], number: usize, wires: &[u8], row
 fn some_nets(rt: &impl Abort, alloc: Global, graph: &Graph, sinks: &[&[u8]]) -> Vec<Net>
     ensures { AreNets graph.now result.items }
 {
-    nets_of(rt, alloc, graph, sinks).expect(rt, "memory")
+    nets_of(alloc, graph, sinks).expect(rt, "nets")
 }
 
 // What the nets are answered.
@@ -254,7 +255,7 @@ pub fn expect_answer(
 
 // Fails unless the net of the least number is named, and of it the first target of the first sink.
 fn expect_least_cut(rt: &(impl Abort + Threads + Sync), alloc: Global) {
-    let graph = graph_of(rt, alloc, 5, b"0 0 2");
+    let graph = graph_of(alloc, 5, b"0 0 2").expect(rt, "a graph");
     expect_cut(rt, alloc, &graph, &[b"2", b"4 3\n3"], (NetNo(1), WireNo(4)));
     expect_cut(
         rt,

@@ -1,12 +1,13 @@
 //! Trees of small nets.
 ghost use Rattle.ice_negotiate.specs.Trees.{AreSinks};
 
+use crate::claims::expect_that;
 use ice_base::{RowNo, Sink, WireNo};
 use ice_graph::{Graph, Tree};
 use ice_negotiate::{TreeStop, tree_of};
 use ice_path::Scratch;
 use ice_small_chips::{count_words, number_at};
-use ice_small_graphs::{TWO_WAYS, expect_that, graph_of, prices_at, sinks_of};
+use ice_small_graphs::{TWO_WAYS, graph_of, prices_at, sinks_of};
 use std::alloc::Global;
 use std::process::Abort;
 use std::test::Fail;
@@ -55,20 +56,20 @@ fn expect_joined(rt: &impl Abort, alloc: Global, graph: &Graph, sinks: &[Sink], 
 {
     assert!(rt; graph.wires() == 7);
     let mut scratch = Scratch::new(alloc, graph).expect(rt, "memory");
-    let prices = prices_at(rt, alloc, 1, 0, 0);
+    let prices = prices_at(alloc, 1, 0, 0).expect(rt, "memory");
     let answer = tree_of(alloc, graph, &prices, WireNo(0), sinks, &mut scratch);
     expect_answer(rt, answer, case);
 }
 
 // Fails unless the net from wire 0 has the tree of a case in the first round.
 fn expect_tree(rt: &impl Abort, alloc: Global, graph: &Graph, case: Case) {
-    let sinks = sinks_of(rt, alloc, graph.wires(), case.0).expect(rt, "memory");
+    let sinks = sinks_of(alloc, graph.wires(), case.0).expect(rt, "sinks");
     expect_joined(rt, alloc, graph, &sinks, case);
 }
 
 // Fails unless each net has its tree in a graph of these edges.
 fn expect_trees(rt: &impl Abort, alloc: Global, edges: &[u8], cases: &[Case]) {
-    let graph = graph_of(rt, alloc, 7, edges);
+    let graph = graph_of(alloc, 7, edges).expect(rt, "a graph");
     for case in cases {
         expect_tree(rt, alloc, &graph, *case);
     }

@@ -1,9 +1,9 @@
 //! Usable rows, as numbers in a text.
 use crate::asked::{Asked, expect};
+use crate::claims::expect_that;
 use ice_base::{WordIter, number_of, words_of};
 use ice_graph::{Edge, Graph};
 use ice_small_chips::Sample;
-use ice_small_graphs::expect_that;
 use std::alloc::{AllocError, Global};
 use std::process::Abort;
 use std::thread::Threads;

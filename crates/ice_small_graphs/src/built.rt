@@ -1,5 +1,5 @@
-//! Graphs, wires, sinks, nets and prices from texts of numbers.
-ghost use Rattle.std.specs.Prelude.{◌≡◌, ◌<◌, ◌≤◌, ◌+◌, length, IfOk, OnOk};
+//! Graphs, wires, sinks, nets and prices from texts of numbers. There is none where a number is out of its range, or memory lacks.
+ghost use Rattle.std.specs.Prelude.{◌≡◌, ◌<◌, ◌≤◌, ◌+◌, length, IfOk, IfSome, OnOk};
 ghost use Rattle.ice_core.specs.Congestion.{ArePrices};
 ghost use Rattle.ice_graph.specs.Network.{AreBetween, RowsRise};
 ghost use Rattle.ice_negotiate.specs.Rounds.{AreNets};
@@ -12,28 +12,28 @@ use ice_core::{Net, Prices};
 use ice_graph::{Edge, Graph};
 use ice_small_chips::{count_lines, count_words, line_at, number_at};
 use std::alloc::{AllocError, Global};
-use std::process::Abort;
 
 /// Two wires from which two wires are reached over a short wire, 2, and over two more wires, 3 and 4.
 pub const TWO_WAYS: &[u8] = b"0 0 2  1 1 2  2 0 3  3 1 3  4 3 4  5 2 5  6 4 5  7 2 6  8 4 6";
 
 // The edge at a place of rows of numbers: its row, which is this one at least, and its two wires.
-fn edge_at(rt: &impl Abort, wires: u32, least: u32, numbers: &[u8], place: usize) -> Edge
-    ensures least { least ≤ result.row.0 }
-    ensures row { result.row.0 < 4294967295 }
-    ensures between { (result.from.0 < wires) × (result.to.0 < wires) }
+fn edge_at(wires: u32, least: u32, numbers: &[u8], place: usize) -> Option<Edge>
+    ensures least { IfSome result (λ edge. least ≤ edge.row.0) }
+    ensures row { IfSome result (λ edge. edge.row.0 < 4294967295) }
+    ensures between { IfSome result (λ edge. (edge.from.0 < wires) × (edge.to.0 < wires)) }
 {
     let first = place.saturating_mul(3);
     let row = number_at(numbers, first);
     let from = number_at(numbers, first.saturating_add(1));
     let to = number_at(numbers, first.saturating_add(2));
-    assert!(rt; least <= row && row < u32::MAX, "row {row}");
-    assert!(rt; from < wires && to < wires, "row {row}");
-    Edge {
+    if row < least || row == u32::MAX || from >= wires || to >= wires {
+        return None;
+    }
+    Some(Edge {
         row: RowNo(row),
         from: WireNo(from),
         to: WireNo(to),
-    }
+    })
 }
 
 /// Adds an edge, and tells the least row of the next.
@@ -55,30 +55,31 @@ pub fn add_edge(
 }
 
 // Edges by their rows and wires: three numbers for each.
-fn edges_of(
-    rt: &impl Abort,
-    alloc: Global,
-    wires: u32,
-    numbers: &[u8],
-) -> Result<Vec<Edge>, AllocError>
-    ensures between { IfOk result (λ edges. AreBetween wires edges.items) }
-    ensures rise { IfOk result (λ edges. RowsRise edges.items) }
+fn edges_of(alloc: Global, wires: u32, numbers: &[u8]) -> Option<Vec<Edge>>
+    ensures between { IfSome result (λ edges. AreBetween wires edges.items) }
+    ensures rise { IfSome result (λ edges. RowsRise edges.items) }
 {
     let mut edges = Vec::new(alloc);
     let mut least = 0;
     for place in 0..count_words(numbers) / 3 {
-        let edge = edge_at(rt, wires, least, numbers, place);
-        least = add_edge(&mut edges, wires, least, edge)?;
+        let edge = edge_at(wires, least, numbers, place)?;
+        match add_edge(&mut edges, wires, least, edge) {
+            Ok(next) => least = next,
+            Err(_) => return None,
+        }
     }
-    Ok(edges)
+    Some(edges)
 }
 
 /// A graph of this many wires and of these edges: three numbers for each.
-pub fn graph_of(rt: &impl Abort, alloc: Global, wires: u32, numbers: &[u8]) -> Graph
-    ensures { result.wires ≡ wires }
+pub fn graph_of(alloc: Global, wires: u32, numbers: &[u8]) -> Option<Graph>
+    ensures { IfSome result (λ graph. graph.wires ≡ wires) }
 {
-    let edges = edges_of(rt, alloc, wires, numbers).expect(rt, "memory");
-    Graph::new(alloc, wires, edges).expect(rt, "memory")
+    let edges = edges_of(alloc, wires, numbers)?;
+    match Graph::new(alloc, wires, edges) {
+        Ok(graph) => Some(graph),
+        Err(_) => None,
+    }
 }
 
 // Tiles of row 0 by their columns.
@@ -91,20 +92,30 @@ fn places_of(alloc: Global, columns: &[u8]) -> Result<Vec<TileAt>, AllocError> {
     Ok(places)
 }
 
-/// A graph of this many wires and of these edges, which stand in these columns of row 0.
-pub fn placed_graph(
-    rt: &impl Abort,
-    alloc: Global,
-    wires: u32,
-    numbers: &[u8],
-    columns: &[u8],
-) -> Graph
-    ensures { result.wires ≡ wires }
+// A graph of this many wires and of these edges at these places, of which there are as many.
+fn graph_at(alloc: Global, wires: u32, edges: Vec<Edge>, places: Vec<TileAt>) -> Option<Graph>
+    requires between { AreBetween wires edges.items }
+    requires rise { RowsRise edges.items }
+    ensures { IfSome result (λ graph. graph.wires ≡ wires) }
 {
-    let edges = edges_of(rt, alloc, wires, numbers).expect(rt, "memory");
-    let places = places_of(alloc, columns).expect(rt, "memory");
-    assert!(rt; places.len() == edges.len(), "of columns");
-    Graph::placed(alloc, wires, edges, places).expect(rt, "memory")
+    if places.len() != edges.len() {
+        return None;
+    }
+    match Graph::placed(alloc, wires, edges, places) {
+        Ok(graph) => Some(graph),
+        Err(_) => None,
+    }
+}
+
+/// A graph of this many wires and of these edges, which stand in these columns of row 0.
+pub fn placed_graph(alloc: Global, wires: u32, numbers: &[u8], columns: &[u8]) -> Option<Graph>
+    ensures { IfSome result (λ graph. graph.wires ≡ wires) }
+{
+    let edges = edges_of(alloc, wires, numbers)?;
+    match places_of(alloc, columns) {
+        Ok(places) => graph_at(alloc, wires, edges, places),
+        Err(_) => None,
+    }
 }
 
 /// Adds a wire of a graph.
@@ -119,31 +130,29 @@ pub fn add_wire(list: &mut Vec<WireNo>, wires: u32, wire: u32) -> Result<(), All
 }
 
 /// Wires of a graph by their numbers.
-pub fn wires_of(
-    rt: &impl Abort,
-    alloc: Global,
-    wires: u32,
-    numbers: &[u8],
-) -> Result<Vec<WireNo>, AllocError>
-    ensures { IfOk result (λ list. AreWires wires list.items) }
+pub fn wires_of(alloc: Global, wires: u32, numbers: &[u8]) -> Option<Vec<WireNo>>
+    ensures { IfSome result (λ list. AreWires wires list.items) }
 {
     let mut list = Vec::new(alloc);
     for place in 0..count_words(numbers) {
         let wire = number_at(numbers, place);
-        assert!(rt; wire < wires, "wire {wire}");
-        add_wire(&mut list, wires, wire)?;
+        if wire >= wires || add_wire(&mut list, wires, wire).is_err() {
+            return None;
+        }
     }
-    Ok(list)
+    Some(list)
 }
 
 /// A sink by the numbers of its targets, of which there is one at least.
-pub fn sink_of(rt: &impl Abort, alloc: Global, wires: u32, numbers: &[u8]) -> Sink
-    ensures some { 0 < length result }
-    ensures targets { AreWires wires result }
+pub fn sink_of(alloc: Global, wires: u32, numbers: &[u8]) -> Option<Sink>
+    ensures some { IfSome result (λ sink. 0 < length sink) }
+    ensures targets { IfSome result (λ sink. AreWires wires sink) }
 {
-    let targets = wires_of(rt, alloc, wires, numbers).expect(rt, "memory");
-    assert!(rt; !targets.is_empty(), "no target");
-    Sink::from_targets(targets)
+    let targets = wires_of(alloc, wires, numbers)?;
+    if targets.is_empty() {
+        return None;
+    }
+    Some(Sink::from_targets(targets))
 }
 
 /// Adds a sink of a net.
@@ -158,34 +167,33 @@ pub fn add_sink(sinks: &mut Vec<Sink>, _wires: u32, sink: Sink) -> Result<(), Al
 }
 
 /// The sinks of a net: on each line the targets of one.
-pub fn sinks_of(
-    rt: &impl Abort,
-    alloc: Global,
-    wires: u32,
-    lines: &[u8],
-) -> Result<Vec<Sink>, AllocError>
-    ensures { IfOk result (λ sinks. AreSinks wires sinks.items) }
+pub fn sinks_of(alloc: Global, wires: u32, lines: &[u8]) -> Option<Vec<Sink>>
+    ensures { IfSome result (λ sinks. AreSinks wires sinks.items) }
 {
     let mut sinks = Vec::new(alloc);
     for place in 0..count_lines(lines) {
-        let sink = sink_of(rt, alloc, wires, line_at(lines, place));
-        add_sink(&mut sinks, wires, sink)?;
+        let sink = sink_of(alloc, wires, line_at(lines, place))?;
+        if add_sink(&mut sinks, wires, sink).is_err() {
+            return None;
+        }
     }
-    Ok(sinks)
+    Some(sinks)
 }
 
 // The net of a number from the wire of that number to these sinks.
-fn net_of(rt: &impl Abort, alloc: Global, wires: u32, number: u32, lines: &[u8]) -> Net
-    requires { number < wires }
-    ensures root { result.root.0 < wires }
-    ensures sinks { AreSinks wires result.sinks.items }
+fn net_of(alloc: Global, wires: u32, number: u32, lines: &[u8]) -> Option<Net>
+    ensures root { IfSome result (λ net. net.root.0 < wires) }
+    ensures sinks { IfSome result (λ net. AreSinks wires net.sinks.items) }
 {
-    let sinks = sinks_of(rt, alloc, wires, lines).expect(rt, "memory");
-    Net {
+    if number >= wires {
+        return None;
+    }
+    let sinks = sinks_of(alloc, wires, lines)?;
+    Some(Net {
         net: NetNo(number),
         root: WireNo(number),
         sinks,
-    }
+    })
 }
 
 /// Adds a net.
@@ -201,34 +209,32 @@ pub fn add_net(nets: &mut Vec<Net>, _graph: &Graph, net: Net) -> Result<(), Allo
 }
 
 /// Nets by their sinks, the net of each number from the wire of that number.
-pub fn nets_of(
-    rt: &impl Abort,
-    alloc: Global,
-    graph: &Graph,
-    nets: &[&[u8]],
-) -> Result<Vec<Net>, AllocError>
-    ensures { IfOk result (λ list. AreNets graph.now list.items) }
+pub fn nets_of(alloc: Global, graph: &Graph, nets: &[&[u8]]) -> Option<Vec<Net>>
+    ensures { IfSome result (λ list. AreNets graph.now list.items) }
 {
     let mut list = Vec::new(alloc);
-    let mut number = 0;
+    let mut number: u32 = 0;
     for lines in nets {
-        assert!(rt; number < graph.wires(), "net {number}");
-        let net = net_of(rt, alloc, graph.wires(), number, lines);
-        number += 1;
-        add_net(&mut list, graph, net)?;
+        let net = net_of(alloc, graph.wires(), number, lines)?;
+        if add_net(&mut list, graph, net).is_err() {
+            return None;
+        }
+        number = number.saturating_add(1);
     }
-    Ok(list)
+    Some(list)
 }
 
 /// What seven wires cost, of which wire 2 has a history and is held by others.
-pub fn prices_at(rt: &impl Abort, alloc: Global, round: u32, history: u8, others: u8) -> Prices
+pub fn prices_at(alloc: Global, round: u32, history: u8, others: u8) -> Result<Prices, AllocError>
     requires { (1 ≤ round) × (round ≤ 64) }
-    ensures prices { ArePrices result }
-    ensures length { length result.history.items ≡ 7 }
+    ensures prices { IfOk result ArePrices }
+    ensures length { IfOk result (λ prices. length prices.history.items ≡ 7) }
 {
-    Prices {
+    let history = vec![in alloc; 0, 0, history as u64, 0, 0, 0, 0]?;
+    let others = vec![in alloc; 0, 0, others as u32, 0, 0, 0, 0]?;
+    Ok(Prices {
         round,
-        history: vec![in alloc; 0, 0, history as u64, 0, 0, 0, 0].expect(rt, "memory"),
-        others: vec![in alloc; 0, 0, others as u32, 0, 0, 0, 0].expect(rt, "memory"),
-    }
+        history,
+        others,
+    })
 }

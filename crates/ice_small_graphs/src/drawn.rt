@@ -1,5 +1,5 @@
 //! Numbers and graphs that are drawn.
-ghost use Rattle.std.specs.Prelude.{◌≡◌, ◌<◌, ◌≤◌, IfOk};
+ghost use Rattle.std.specs.Prelude.{◌≡◌, ◌<◌, ◌≤◌, IfOk, IfSome};
 ghost use Rattle.ice_small_graphs.specs.Rising.{AreRising};
 
 use crate::built::add_edge;
@@ -8,7 +8,6 @@ use ice_graph::{Edge, Graph};
 use rand_core::utils::NextWord;
 use rand_pcg::Pcg32;
 use std::alloc::{AllocError, Global};
-use std::process::Abort;
 
 /// A number below the bound, from the next word of a generator.
 pub fn draw(words: &mut Pcg32, bound: u32) -> u32
@@ -52,20 +51,24 @@ fn drawn_edges(
     Ok(edges)
 }
 
-/// A graph with this many drawn edges, none of which enters one of the first wires.
+/// A graph with this many drawn edges, none of which enters one of the first wires. There is none where memory lacks.
 pub fn drawn_graph(
-    rt: &impl Abort,
     alloc: Global,
     words: &mut Pcg32,
     count: u32,
     wires: u32,
     roots: u32,
-) -> Graph
+) -> Option<Graph>
     requires { roots < wires }
-    ensures { result.wires ≡ wires }
+    ensures { IfSome result (λ graph. graph.wires ≡ wires) }
 {
-    let edges = drawn_edges(alloc, words, count, wires, roots).expect(rt, "memory");
-    Graph::new(alloc, wires, edges).expect(rt, "memory")
+    let Ok(edges) = drawn_edges(alloc, words, count, wires, roots) else {
+        return None;
+    };
+    match Graph::new(alloc, wires, edges) {
+        Ok(graph) => Some(graph),
+        Err(_) => None,
+    }
 }
 
 /// The number of a wire or a net at a place.

@@ -2,7 +2,6 @@
 #![tactic(auto)]
 
 mod built;
-mod claims;
 mod drawn;
 mod plain_search;
 
@@ -10,6 +9,5 @@ pub use built::{
     TWO_WAYS, add_net, add_sink, add_wire, graph_of, nets_of, placed_graph, prices_at, sink_of,
     sinks_of, wires_of,
 };
-pub use claims::expect_that;
 pub use drawn::{draw, drawn_graph, number_of};
 pub use plain_search::{Way, mark, marks_of, plain_price, plain_way};

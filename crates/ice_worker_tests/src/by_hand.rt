@@ -97,7 +97,7 @@ fn expect_over(rt: &impl Abort, counts: &Counts, wanted: u64) {
 #[test]
 fn overuse_comes_in_one_round_and_goes_in_the_next(rt: HostRuntime) {
     let alloc = rt.alloc();
-    let graph = graph_of(&rt, alloc, 7, TWO_WAYS);
+    let graph = graph_of(alloc, 7, TWO_WAYS).expect(&rt, "a graph");
     let gate = MeetGate::new();
     let first = first_round(&rt, alloc, &graph);
     let counts = counts_behind(&rt, alloc, &graph, &first.prices, &first.tasks, &gate);

@@ -27,7 +27,7 @@ fn task_to(
     Task {
         net: NetNo(net),
         root: WireNo(net),
-        sinks: sinks_of(rt, alloc, wires, sink).expect(rt, "memory"),
+        sinks: sinks_of(alloc, wires, sink).expect(rt, "sinks"),
         old: Vec::from_slice(alloc, old).expect(rt, "memory"),
     }
 }
