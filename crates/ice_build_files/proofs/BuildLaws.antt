@@ -1,5 +1,5 @@
 -- When each answer of `build` comes, from how its texts stand.
-use Rattle.std.proofs.Common.{◌≡◌, ◌≢◌, ◌∙◌, ℕ, true, List, Result, Ok, Err, inl, inr, refl, sym, ap, subst}
+use Rattle.std.proofs.Common.{◌≡◌, ◌≢◌, ◌∙◌, ℕ, true, List, Result, Err, inl, inr, refl, sym, ap, subst}
 use Rattle.std.specs.Global.{Vec}
 use Rattle.ice_base.specs.declared.number.NetNo.{NetNo}
 use Rattle.ice_base.specs.declared.number.TileAt.{TileAt}
@@ -43,8 +43,6 @@ use Rattle.ice_answer.proofs.Standings.{fault_alone, of_done}
 use Rattle.ice_answer.proofs.TextFacts.{at_files, of_weaker, holds_read}
 use Rattle.ice_build_files.specs.Asked.{Build, files_of, file_asked, outputs_of, parting_of, IsAsked, Asks}
 use Rattle.ice_build_files.specs.BuildRows.{ChipRow, HasChipFault, PcfRow, HasPcfFault, BlifRow, HasBlifFault, SaysNetlist, IsNetFault, NetRow, PinRow, PlaceRow, HasPlaceFault, IsPlaceable, IsTried, TriedRow, IsAbout, IsGood, BuiltRow, IsUnreachable, UnreachableRow, HasGivenUp, GaveUpRow, BitsRow, HeadlineRow, IsWritten, WrittenRow, HoldsReport, ReportedRow, IsBuildAnswer}
-use Rattle.ice_cells.specs.Runs.{design_of}
-use Rattle.ice_pads.specs.Assign.{assign_of}
 use Rattle.ice_build_files.specs.Command.{build_files}
 use Rattle.ice_build_files.specs.Headline.{IsShown}
 use Rattle.ice_build_files.specs.Made.{IsMade, IsBuiltOn, IsTalliedOn, IsStuckOn, IsGivenUpOn, HasBadBits}
@@ -278,13 +276,13 @@ made_shown b t made on counted g = record {
   parts = g.task.parts;
   constraints = g.task.constraints;
   circuit = g.is_asked.circuit;
-  pads = g.built.layout.pads;
+  pads = record { ports = g.built.layout.pads.ports; pullups = g.built.layout.pads.pullups; globals = g.are_pads.0 };
   configuration = g.built.bits;
   is_chip = g.is_asked.is_chip;
   are_constraints = g.is_asked.are_constraints;
   is_circuit = g.is_asked.is_circuit;
   is_sound = g.is_asked.is_sound;
-  are_pads = subst (λ (n : NetlistData). assign_of g.task.parts b.package_name g.task.constraints g.is_asked.circuit (design_of n) ≡ Ok g.built.layout.pads) g.is_asked.is_promoted g.are_pads;
+  are_pads = g.are_pads.1;
   decodes = g.is_read_back;
   shows = g.is_shown;
 }

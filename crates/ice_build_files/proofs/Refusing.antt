@@ -1,6 +1,6 @@
 -- From what building answers to what the texts give, or why they are refused.
 use Rattle.std.proofs.Common.{◌≡◌, ◌∙◌, ℕ, Bool, true, false, Option, Some, None, List, length, map, Result, Ok, Err, IfOk, IfErr, inl, inr, refl, sym, ap, subst}
-use Rattle.std.specs.Prelude.{option_map}
+use Rattle.std.specs.Prelude.{◌<◌, option_map}
 use Rattle.std.specs.Global.{Vec}
 use Rattle.std.proofs.lemmas.List.{length-map}
 use Rattle.ice_base.specs.declared.number.TileAt.{TileAt}
@@ -24,7 +24,8 @@ use Rattle.ice_pads.specs.Assign.{assign_of}
 use Rattle.ice_pads.specs.declared.fault.PinFault.{PinFault}
 use Rattle.ice_pcf.specs.declared.fault.PcfFault.{PcfFault}
 use Rattle.ice_place.specs.declared.fault.PlaceFault.{PlaceFault}
-use Rattle.ice_promote.specs.PromotionLaws.{PromotedShowTheSame}
+use Rattle.ice_promote.specs.PromotionLaws.{PromotedShowTheSame, most_cells_before}
+use Rattle.ice_promote_laws.specs.PadLaws.{IsGivenAlike, PadsAreGivenAlike}
 use Rattle.ice_report.specs.PinReport.{pin_text}
 use Rattle.ice_report.specs.RouteReport.{route_text}
 use Rattle.ice_clocks.specs.Clocks.{free_globals, promoted_on}
@@ -186,13 +187,20 @@ pub record StaysSo : Type 0 where
   pub pins : PinsStay
   pub reports : PinReportsStay
   pub shows : PromotedShowTheSame
+  pub given : PadsAreGivenAlike
 
-module _ (b : Build) (t : List (List ℕ)) (task : Task) (built : Built) (asked : IsAsked b.package_name t task) (formed : IsFormed asked.circuit) (stays : StaysSo) (is : IsBuilt task b.effort.rounds built) where
+module _ (b : Build) (t : List (List ℕ)) (task : Task) (built : Built) (asked : IsAsked b.package_name t task) (formed : IsFormed asked.circuit) (room : length asked.circuit.cells < most_cells_before) (stays : StaysSo) (is : IsBuilt task b.effort.rounds built) where
   pads_are : assign_of task.parts b.package_name task.constraints asked.circuit (design_of task.circuit) ≡ Ok built.layout.pads
   pads_are =
       sym (stays.pins asked.circuit (free_globals task.parts asked.circuit) task.parts b.package_name task.constraints (design_of task.circuit) formed)
       ∙ ap (λ (n : NetlistData). assign_of task.parts b.package_name task.constraints n (design_of task.circuit)) (sym asked.is_promoted)
       ∙ subst (λ (name : List ℕ). assign_of task.parts name task.constraints task.circuit (design_of task.circuit) ≡ Ok built.layout.pads) asked.is_name (pins_good task built.layout is.laid)
+
+  -- and so are those by the design of the netlist read
+  given_read : IsGivenAlike task.parts b.package_name task.constraints asked.circuit built.layout.pads
+  given_read =
+      stays.given asked.circuit (free_globals task.parts asked.circuit) task.parts b.package_name task.constraints built.layout.pads formed room
+      (subst (λ (n : NetlistData). assign_of task.parts b.package_name task.constraints asked.circuit (design_of n) ≡ Ok built.layout.pads) asked.is_promoted pads_are)
 
   shown_read : IsCircuitOf task.circuit built.layout.pads.ports task.parts built.bits → IsCircuitOf asked.circuit built.layout.pads.ports task.parts built.bits
   shown_read shown =
@@ -236,7 +244,7 @@ module _ (b : Build) (t : List (List ℕ)) (task : Task) (built : Built) (asked 
     are_texts = texts ∙ ap (λ (pins : List ℕ). texts_here pins (length built.routed.trees.items)) pins_told
         ∙ ap (λ (nets : ℕ). texts_here (pin_text asked.circuit is.stands.0 built.layout.pads.ports) nets) trees_told;
     is_read_back = read_back shown.form;
-    are_pads = pads_are;
+    are_pads = given_read;
     is_shown = shown_read shown;
   }
 

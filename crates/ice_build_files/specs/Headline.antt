@@ -11,7 +11,6 @@ use Rattle.ice_bits.specs.Configuration.{Configuration}
 use Rattle.ice_asc.specs.Grammar.{asc_in}
 use Rattle.ice_cells.specs.Runs.{design_of}
 use Rattle.ice_pads.specs.Assign.{PadsData, assign_of}
-use Rattle.ice_clocks.specs.Clocks.{promoted_on}
 use Rattle.ice_build.specs.Shown.{IsCircuitOf}
 use Rattle.ice_answer.specs.Texts.{text_at}
 
@@ -28,6 +27,6 @@ pub record IsShown (name : List ℕ) (texts : List (List ℕ)) (text : List ℕ)
   pub are_constraints : text_says (text_at texts 2) ≡ Ok constraints
   pub is_circuit : netlist_of (text_at texts 3) ≡ Ok circuit
   pub is_sound : IsSound circuit
-  pub are_pads : assign_of parts name constraints circuit (design_of (promoted_on parts circuit)) ≡ Ok pads
+  pub are_pads : assign_of parts name constraints circuit (design_of circuit) ≡ Ok pads
   pub decodes : asc_in parts text ≡ Ok configuration
   pub shows : IsCircuitOf circuit pads.ports parts configuration

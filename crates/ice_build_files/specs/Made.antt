@@ -3,12 +3,11 @@ use Rattle.std.specs.Prelude.{◌≡◌, ℕ, true, false, Some, List, Ok}
 use Rattle.ice_base.specs.declared.number.TileAt.{TileAt}
 use Rattle.ice_asc.specs.Grammar.{asc_in}
 use Rattle.ice_asc.specs.Text.{asc_text}
-use Rattle.ice_cells.specs.Runs.{design_of}
 use Rattle.ice_chip.specs.Database.{PackageRows}
 use Rattle.ice_chip.specs.Lookups.{package_of}
 use Rattle.ice_core.specs.declared.log.RoundLog.{RoundLog}
 use Rattle.ice_decode.specs.declared.fault.DecodeFault.{DecodeFault}
-use Rattle.ice_pads.specs.Assign.{assign_of}
+use Rattle.ice_promote_laws.specs.PadLaws.{IsGivenAlike}
 use Rattle.ice_report.specs.PinReport.{pin_text}
 use Rattle.ice_words.specs.Grips.{Shut}
 use Rattle.ice_build.specs.Answers.{IsBuilt, IsGivenUp, IsUndecoded}
@@ -34,7 +33,7 @@ pub record IsMade (b : Build) (texts made : List (List ℕ)) (placement : List T
   pub are_tallies : tallies ≡ built.routed.tallies.items
   pub are_texts : made ≡ texts_of b (asc_text task.parts built.bits) (pin_text is_asked.circuit bonded built.layout.pads.ports) (routes_text task.parts built.layout built.routed.logs.items true)
   pub is_read_back : asc_in task.parts (asc_text task.parts built.bits) ≡ Ok built.bits
-  pub are_pads : assign_of task.parts b.package_name task.constraints is_asked.circuit (design_of task.circuit) ≡ Ok built.layout.pads
+  pub are_pads : IsGivenAlike task.parts b.package_name task.constraints is_asked.circuit built.layout.pads
   pub is_shown : IsCircuitOf is_asked.circuit built.layout.pads.ports task.parts built.bits
 
 -- ---- of a placement

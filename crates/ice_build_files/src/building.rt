@@ -1,5 +1,5 @@
 //! Building: three texts are read, the netlist is built, and the text of its bits is written, with the reports that are asked for.
-ghost use Rattle.std.specs.Prelude.{◌≡◌, ◌∷◌, ℕ, List, true, Ok, IfOk, IfErr};
+ghost use Rattle.std.specs.Prelude.{◌≡◌, ◌<◌, ◌∷◌, ℕ, List, length, true, Ok, IfOk, IfErr};
 ghost use Rattle.ice_answer.specs.Causes.{status_of};
 ghost use Rattle.ice_answer.specs.Commands.{InFiles, IsTrueOf};
 ghost use Rattle.ice_answer.specs.Ends.{IsEndInFiles, IsMadeOf, IsReported, IsToldLong, unreported};
@@ -17,6 +17,7 @@ ghost use Rattle.ice_desk.specs.Desk.{SameButReading, SameTest};
 ghost use Rattle.ice_net.specs.Formed.{IsFormed};
 ghost use Rattle.ice_net.specs.NetlistData.{NetlistData};
 ghost use Rattle.ice_promote.specs.Promotable.{CanBePromoted};
+ghost use Rattle.ice_promote.specs.PromotionLaws.{most_cells_before};
 ghost use Rattle.ice_build_files.specs.Asked.{IsAsked, outputs_of, parting_of};
 ghost use Rattle.ice_build_files.specs.BuildRows.{IsRead, IsBuildAnswer};
 ghost use Rattle.ice_build_files.specs.Command.{build_files};
@@ -45,6 +46,7 @@ use ice_desk::{Desk, Gate};
 use ice_net::Netlist;
 use ice_pcf::{Pcf, read_pcf};
 use ice_promote::laws::{netlists_of_words_can_be_promoted, promoted_show_the_same};
+use ice_promote_laws::laws::pads_are_given_alike;
 use std::alloc::Global;
 use std::thread::Threads;
 
@@ -53,6 +55,7 @@ fn can_be_promoted(texts: &Texts, sound: &Sound)
     requires netlist { netlist_of (text_at texts.now 2) ≡ Ok sound.now }
     requires limits { IsWithinLimits sound.now }
     ensures formed { IsFormed sound.now }
+    ensures room { length sound.now.cells < most_cells_before }
     ensures sound { IsSound sound.now }
     ensures promotable { CanBePromoted sound.now }
 {
@@ -74,11 +77,13 @@ fn build_promoted<G: Gate + Sync, R: Threads + Sync>(
     sound: &Sound,
 ) -> Result<Made, Refused>
     requires formed { (n : NetlistData) → netlist_of (text_at texts.now 2) ≡ Ok n → IsFormed n }
+    requires room { (n : NetlistData) → netlist_of (text_at texts.now 2) ≡ Ok n → length n.cells < most_cells_before }
     requires effort { IsPermitted request.now.effort }
     ensures made { (chip_text : List ℕ) → IsAsked request.now.package_name.now (chip_text ∷ texts.now) (task_of chip.now request.now.package_name.now pcf.now sound.now) → IfOk result (λ made. IsMade (request_view request.now) (chip_text ∷ texts.now) made.texts made.placement made.tallies.items) }
     ensures refused { (chip_text : List ℕ) → IsAsked request.now.package_name.now (chip_text ∷ texts.now) (task_of chip.now request.now.package_name.now pcf.now sound.now) → IfErr result (IsRefusedWith (request_view request.now) (chip_text ∷ texts.now)) }
 {
     pins_stay();
+    pads_are_given_alike();
     pin_reports_stay();
     promoted_show_the_same();
     let name = request.package_name.as_bytes();

@@ -18,6 +18,6 @@ returns-in-Ok-clause-made g c = λ chip_text asked.
     let b = request_view c.args.request.now in
     let task = task_of c.args.chip.now b.package_name c.args.pcf.now c.args.sound.now in
     let e = c.made_of.ensures in
-    made_of_built b (chip_text ∷ c.args.texts.now) task c.in-Ok.built asked (c.requires.formed asked.circuit asked.is_circuit)
-    (record { pins = c.pins_stay.ensures; reports = c.pin_reports_stay.ensures; shows = c.promoted_show_the_same.ensures }) (rw c.as_bytes-name.ensures.value at c.in-Ok.ensures.built)
+    made_of_built b (chip_text ∷ c.args.texts.now) task c.in-Ok.built asked (c.requires.formed asked.circuit asked.is_circuit) (c.requires.room asked.circuit asked.is_circuit)
+    (record { pins = c.pins_stay.ensures; reports = c.pin_reports_stay.ensures; shows = c.promoted_show_the_same.ensures; given = c.pads_are_given_alike.ensures }) (rw c.as_bytes-name.ensures.value at c.in-Ok.ensures.built)
     c.made_of.result c.in-Ok.ensures.circuit (rw c.netlist.ensures.netlist at e.texts) e.placement e.tallies e.read_back
