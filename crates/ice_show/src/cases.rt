@@ -1,4 +1,4 @@
-//! The cases that a program is called with, each of which it shows.
+//! The cases that a program is called with, and their chip.
 use anyhow::{Result, bail};
 use ice_blif::read_blif;
 use ice_check::{Sound, check};
@@ -11,104 +11,75 @@ use std::env::{self, Env};
 use std::fs::{self, Files};
 use std::io::Print;
 
-/// What a program shows.
-pub trait Show<R> {
-    /// Shows what comes of a sound netlist on a chip, with constraints of its pins where there are any.
-    fn show(
-        &self,
-        rt: &R,
-        alloc: Global,
-        chip: &Chip,
-        sound: &Sound,
-        pcf: Option<&Pcf>,
-    ) -> Result<()>;
+/// A sound netlist, with constraints of its pins where it has some.
+#[derive(Drop)]
+pub struct Case {
+    /// The netlist.
+    pub sound: Sound,
+    /// The constraints.
+    pub pcf: Option<Pcf>,
 }
 
-// Shows what comes of the text of a netlist, or the status of its refusal.
-fn show_netlist<R: Print, S: Show<R>>(
+// The case of the netlist in a file, with these constraints.
+fn read_netlist<R: Files + Print + Alloc<A = Global>>(
     rt: &R,
-    alloc: Global,
-    shows: &S,
-    chip: &Chip,
-    blif: &[u8],
-    pcf: Option<&Pcf>,
-) -> Result<()> {
-    let Ok(netlist) = read_blif(alloc, blif) else {
+    blif: &str,
+    pcf: Option<Pcf>,
+) -> Result<Option<Case>> {
+    let alloc = rt.alloc();
+    let Ok(netlist) = read_blif(alloc, &fs::read(rt, blif)?) else {
         println!(rt; "error 3")?;
-        return Ok(());
+        return Ok(None);
     };
     let Ok(sound) = check(alloc, netlist) else {
         println!(rt; "error 6")?;
-        return Ok(());
+        return Ok(None);
     };
-    shows.show(rt, alloc, chip, &sound, pcf)
+    Ok(Some(Case { sound, pcf }))
 }
 
-// The same for two files: the text of the netlist, and, where its name isn't -, of the pin constraints.
-fn show_files<R: Files + Print + Alloc<A = Global>, S: Show<R>>(
+/// Reads the case of two files, that of a netlist and that of pin constraints; where the second one's name is -, it has none. It says a
+/// line with the name of the first file, and, where a text or the netlist has a fault, the status of its refusal: then there is no case.
+///
+/// # Errors
+/// Another number of names; what the outside refuses; want of memory.
+pub fn read_case<R: Files + Print + Alloc<A = Global>>(
     rt: &R,
-    shows: &S,
-    chip: &Chip,
-    blif_name: &str,
-    pcf_name: &str,
-) -> Result<()> {
-    let alloc = rt.alloc();
-    println!(rt; "== {blif_name}")?;
-    let blif = fs::read(rt, blif_name)?;
-    if pcf_name == "-" {
-        return show_netlist(rt, alloc, shows, chip, &blif, None);
+    names: &[String],
+) -> Result<Option<Case>> {
+    let [blif, pcf] = names else {
+        bail!("each case has two files: BLIF PCF");
+    };
+    println!(rt; "== {blif}")?;
+    if pcf.as_str() == "-" {
+        return read_netlist(rt, blif.as_str(), None);
     }
-    let Ok(pcf) = read_pcf(alloc, &fs::read(rt, pcf_name)?) else {
+    let Ok(pcf) = read_pcf(rt.alloc(), &fs::read(rt, pcf.as_str())?) else {
         println!(rt; "error 4")?;
-        return Ok(());
+        return Ok(None);
     };
-    show_netlist(rt, alloc, shows, chip, &blif, Some(&pcf))
+    read_netlist(rt, blif.as_str(), Some(pcf))
 }
 
-// The same for each two of these names of files.
-fn show_each<R: Files + Print + Alloc<A = Global>, S: Show<R>>(
-    rt: &R,
-    shows: &S,
-    chip: &Chip,
-    words: &[String],
-) -> Result<()> {
-    for names in words.chunks(2) {
-        let [blif, pcf] = names else {
-            bail!("each case has two files: BLIF PCF");
-        };
-        show_files(rt, shows, chip, blif.as_str(), pcf.as_str())?;
-    }
-    Ok(())
-}
-
-// The sample chip of 14 by 18 tiles.
-fn chip_of(alloc: Global) -> Result<Chip> {
+/// The sample chip of 14 by 18 tiles.
+///
+/// # Errors
+/// A fault of its text; want of memory.
+pub fn read_chip_of_cases(alloc: Global) -> Result<Chip> {
     let mut text = Vec::new(alloc);
     sample_chip(alloc, 14, 18, &mut text)?;
     let chip = read_chip(alloc, &text)?;
     Ok(chip)
 }
 
-// The words after the program's name.
-fn words_of<R: Env + Alloc<A = Global>>(rt: &R) -> Result<Vec<String>> {
+/// The words after the program's name.
+///
+/// # Errors
+/// Words that are not UTF-8; want of memory.
+pub fn words_of<R: Env + Alloc<A = Global>>(rt: &R) -> Result<Vec<String>> {
     let mut words = Vec::new(rt.alloc());
     for word in env::args(rt)?.skip(1) {
         words.push(word)?;
     }
     Ok(words)
-}
-
-/// Shows each case of the words after the program's name, BLIF PCF for each, on the sample chip of 14 by 18 tiles: first a line with the
-/// name of the netlist's file. Where a text or a netlist has a fault, the status of its refusal is shown. A case whose PCF is - has no
-/// constraints.
-///
-/// # Errors
-/// What the outside refuses; want of memory.
-pub fn show_cases<R: Env + Files + Print + Alloc<A = Global>, S: Show<R>>(
-    rt: &R,
-    shows: &S,
-) -> Result<()> {
-    let words = words_of(rt)?;
-    let chip = chip_of(rt.alloc())?;
-    show_each(rt, shows, &chip, &words)
 }

@@ -12,10 +12,11 @@ use ice_build::BuildFault;
 use ice_check::Sound;
 use ice_chip::Chip;
 use ice_pcf::Pcf;
-use ice_show::{Show, show_cases};
+use ice_show::{Case, read_case, read_chip_of_cases, words_of};
 use layout::lay_first;
 use routes::say_routes;
 use std::alloc::Global;
+use std::fs::Files;
 use std::io::Print;
 use std::thread::Threads;
 
@@ -34,25 +35,35 @@ fn say_placed<R: Print + Threads + Sync>(
     }
 }
 
-// Routes and bits.
-struct Bits;
-
-impl<R: Print + Threads + Sync> Show<R> for Bits {
-    fn show(
-        &self,
-        rt: &R,
-        alloc: Global,
-        chip: &Chip,
-        sound: &Sound,
-        pcf: Option<&Pcf>,
-    ) -> Result<()> {
-        match pcf {
-            Some(pcf) => say_placed(rt, alloc, chip, sound, pcf),
-            None => Ok(()),
-        }
+// Says what comes of a case.
+fn say_case<R: Print + Threads + Sync>(
+    rt: &R,
+    alloc: Global,
+    chip: &Chip,
+    case: &Case,
+) -> Result<()> {
+    match &case.pcf {
+        Some(pcf) => say_placed(rt, alloc, chip, &case.sound, pcf),
+        None => Ok(()),
     }
 }
 
+// Says what is shown for these names of files, by a chip.
+fn say_cases<R: Files + Print + Alloc<A = Global> + Threads + Sync>(
+    rt: &R,
+    chip: &Chip,
+    words: &[String],
+) -> Result<()> {
+    for names in words.chunks(2) {
+        if let Some(case) = read_case(rt, names)? {
+            say_case(rt, rt.alloc(), chip, &case)?;
+        }
+    }
+    Ok(())
+}
+
 fn main(rt: HostRuntime) -> Result<()> {
-    show_cases(&rt, &Bits)
+    let words = words_of(&rt)?;
+    let chip = read_chip_of_cases(rt.alloc())?;
+    say_cases(&rt, &chip, &words)
 }

@@ -14,15 +14,15 @@ use design::{say_clusters, say_design};
 use faults::{say_pin_fault, say_place_fault};
 use ice_build::design_of;
 use ice_cells::{Clusters, Design};
-use ice_check::Sound;
 use ice_chip::Chip;
 use ice_cluster::cluster;
 use ice_net::Netlist;
 use ice_pads::{Pads, assign};
 use ice_pcf::Pcf;
-use ice_show::{Show, first_placement, show_cases};
+use ice_show::{Case, first_placement, read_case, read_chip_of_cases, words_of};
 use placed::{say_pads, say_placed};
 use std::alloc::Global;
+use std::fs::Files;
 use std::io::Print;
 
 // The first placement of clusters and what comes of it, or its refusal.
@@ -65,24 +65,36 @@ fn say_clustered(
     }
 }
 
-// What stands between the passes.
-struct Passes;
+// The packed design of a case, and what follows from it.
+fn say_case(rt: &impl Print, alloc: Global, chip: &Chip, case: &Case) -> Result<()> {
+    let design = design_of(alloc, &case.sound)?;
+    say_design(rt, &design)?;
+    say_clustered(
+        rt,
+        alloc,
+        chip,
+        case.sound.netlist(),
+        &design,
+        case.pcf.as_ref(),
+    )
+}
 
-impl<R: Print> Show<R> for Passes {
-    fn show(
-        &self,
-        rt: &R,
-        alloc: Global,
-        chip: &Chip,
-        sound: &Sound,
-        pcf: Option<&Pcf>,
-    ) -> Result<()> {
-        let design = design_of(alloc, sound)?;
-        say_design(rt, &design)?;
-        say_clustered(rt, alloc, chip, sound.netlist(), &design, pcf)
+// What is shown for these names of files, by a chip.
+fn say_cases<R: Files + Print + Alloc<A = Global>>(
+    rt: &R,
+    chip: &Chip,
+    words: &[String],
+) -> Result<()> {
+    for names in words.chunks(2) {
+        if let Some(case) = read_case(rt, names)? {
+            say_case(rt, rt.alloc(), chip, &case)?;
+        }
     }
+    Ok(())
 }
 
 fn main(rt: HostRuntime) -> Result<()> {
-    show_cases(&rt, &Passes)
+    let words = words_of(&rt)?;
+    let chip = read_chip_of_cases(rt.alloc())?;
+    say_cases(&rt, &chip, &words)
 }
