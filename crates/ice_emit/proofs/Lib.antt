@@ -1,12 +1,9 @@
-mod Ranges
 mod Rooted
 mod Owning
 mod Arrived
 mod Beside
 mod Listed
-mod Buffered
 mod Holdings
-mod Enabling
 mod Wanting
 mod Slotless
 mod Ready

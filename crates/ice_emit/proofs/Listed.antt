@@ -1,10 +1,8 @@
 -- Rows that are listed by their numbers.
 use Rattle.std.proofs.Common.{◌≡◌, ℕ, zero, suc, Option, None, Some, List, [], ◌∷◌, ◌++◌, refl, ap, sym, ◌∙◌}
 use Rattle.std.specs.Prelude.{option_map}
-use Rattle.std.specs.List.{filter_map, cons_option}
 use Rattle.std.specs.Option.{option_and_then}
 use Rattle.std.proofs.lemmas.List.{append-nil}
-use Rattle.std.proofs.lemmas.List.Elements.{filter_map-append}
 use Rattle.ice_base.specs.declared.number.RowNo.{RowNo}
 use Rattle.ice_base.specs.declared.number.TileAt.{TileAt}
 use Rattle.ice_base.specs.declared.number.WireNo.{WireNo}
@@ -15,14 +13,8 @@ use Rattle.ice_decode.specs.declared.driver.Switch.{Switch}
 use Rattle.ice_rows.specs.FirstSound.{first_sound}
 use Rattle.ice_written.specs.Links.{tree_switch, switch_numbered, listed, link_into, link, chunk_links}
 use Rattle.ice_emit.specs.Links.{number}
-use Rattle.ice_emit.specs.Views.{switches}
-
-one_listed : (o : Option Switch) → cons_option o [] ≡ listed o
-one_listed None = refl
-one_listed (Some s) = refl
-
-pub last_row : (parts : Parts) (rows : List RowNo) (row : RowNo) → switches parts (rows ++ row ∷ []) ≡ switches parts rows ++ listed (tree_switch parts row)
-last_row parts rows row = filter_map-append (tree_switch parts) rows (row ∷ []) ∙ ap (λ xs. switches parts rows ++ xs) (one_listed (tree_switch parts row))
+use Rattle.ice_settings.specs.Views.{switches}
+use Rattle.ice_settings.proofs.Listed.{last_row}
 
 -- one row more, if there is one
 pub one_more : (parts : Parts) (old new : List RowNo) (row : Option RowNo) (r : RowNo) → row ≡ Some r → new ≡ old ++ r ∷ [] → switches parts new ≡ switches parts old ++ listed (option_and_then (tree_switch parts) row)

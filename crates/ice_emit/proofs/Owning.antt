@@ -1,7 +1,6 @@
 -- Which tree holds a wire.
 use Rattle.std.proofs.Common.{◌≡◌, ◌⊎◌, ℕ, zero, suc, ◌+◌, ◌<◌, ◌≤◌, Bool, true, false, Option, None, Some, List, [], ◌∷◌, inl, inr, refl, sym, ap, ◌∙◌, subst, arith}
-use Rattle.std.specs.Prelude.{nat_eq, slice_get, slice_index_or, option_map, if◌then◌else◌}
-use Rattle.std.specs.List.{list_any}
+use Rattle.std.specs.Prelude.{nat_eq, slice_get, slice_index_or, if◌then◌else◌}
 use Rattle.std.specs.Option.{option_map_or, option_and_then}
 use Rattle.std.proofs.lemmas.Bool.{eqb-true, eq-eqb, ne_eqb}
 use Rattle.std.proofs.lemmas.Option.{same_Some}
@@ -9,12 +8,11 @@ use Rattle.ice_base.specs.declared.number.WireNo.{WireNo}
 use Rattle.ice_value.specs.Order.{At, Has}
 use Rattle.ice_value.proofs.Members.{any_Has, Has_any}
 use Rattle.ice_negotiate.specs.Trees.{Route}
-use Rattle.ice_cells.specs.Tables.{table}
 use Rattle.ice_nets.specs.Ends.{wire_no}
 use Rattle.ice_written.specs.Arrivals.{holds}
 use Rattle.ice_written.specs.Written.{starts_at, tree_from, held_from}
 use Rattle.ice_emit.specs.Owners.{begins_at, number_if, tree_no, is_number, is_in}
-use Rattle.ice_emit.specs.Routed.{AreApart, AreWithin, IsRouted, owner_from, routes_in}
+use Rattle.ice_emit.specs.Routed.{AreApart, IsRouted, owner_from, routes_in}
 use Rattle.ice_emit.specs.declared.routed.Routed.{Routed}
 use Rattle.ice_emit.proofs.Rooted.{table_look}
 

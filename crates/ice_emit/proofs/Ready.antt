@@ -1,5 +1,5 @@
 -- What is looked up in a placed and routed design, and the bits of lists of rows and settings.
-use Rattle.std.proofs.Common.{◌≡◌, ℕ, zero, suc, Bool, true, false, cond, Option, None, Some, List, [], ◌∷◌, length, map, get_or, replicate, refl, sym, ap, ◌∙◌, subst}
+use Rattle.std.proofs.Common.{◌≡◌, ℕ, zero, suc, Bool, true, false, cond, Option, None, Some, List, [], ◌∷◌, map, get_or, replicate, refl, sym, ap, ◌∙◌, subst}
 use Rattle.std.specs.Prelude.{◌||◌, slice_get, option_map}
 use Rattle.std.specs.List.{list_any, cons_option}
 use Rattle.std.specs.Map.{lookup}
@@ -10,27 +10,27 @@ use Rattle.ice_chip.specs.Database.{Parts, SwitchGroup, SwitchRow}
 use Rattle.ice_chip.specs.Lookups.{rows_of}
 use Rattle.ice_chip.specs.Places.{same_tile, columns}
 use Rattle.ice_chip.specs.declared.parts.TileLine.{TileLine}
-use Rattle.ice_bits.specs.Configuration.{Configuration, bits_of, bit_at, blank, blank_rows, blank_tile, IsOf}
+use Rattle.ice_bits.specs.Configuration.{Configuration, bits_of, bit_at, blank, blank_rows, blank_tile}
 use Rattle.ice_cells.specs.Clusters.{clusters_of}
 use Rattle.ice_cells.specs.Tables.{table}
 use Rattle.ice_cluster.specs.Slots.{CellsStandInOneSlot}
-use Rattle.ice_decode.specs.declared.driver.Switch.{Switch}
 use Rattle.ice_negotiate.specs.Trees.{route_of}
 use Rattle.ice_nets.specs.Plans.{plan_in}
 use Rattle.ice_nets.specs.Rooted.{wires_in, root_wires}
 use Rattle.ice_plan.specs.Plan.{Plan, slot_among}
 use Rattle.ice_wiring.specs.Settings.{function_bits}
-use Rattle.ice_wiring.specs.Wanted.{sets_of, sets_switch, set_bits}
-use Rattle.ice_writing.specs.Adds.{Adds, row_bits}
+use Rattle.ice_wiring.specs.Wanted.{sets_of, sets_switch}
+use Rattle.ice_writing.specs.Adds.{Adds}
 use Rattle.ice_writing.specs.Lists.{setting_view, all_rows}
 use Rattle.ice_writing.specs.declared.settings.Setting.{Setting}
 use Rattle.ice_written.specs.Functions.{settings}
-use Rattle.ice_written.specs.Links.{tree_switch, switch_of_row}
+use Rattle.ice_written.specs.Links.{switch_of_row}
 use Rattle.ice_written.specs.Routed.{AreTrees}
-use Rattle.ice_written.specs.Written.{held_by, wanted_rows, written_bits, IsWritten}
+use Rattle.ice_written.specs.Written.{held_by, wanted_rows, IsWritten}
 use Rattle.ice_emit.specs.Placed.{IsPlacedOn}
 use Rattle.ice_emit.specs.Routed.{IsRouted, owner_from, routes_in}
-use Rattle.ice_emit.specs.Views.{views, switches, AreBitsWith}
+use Rattle.ice_emit.specs.Views.{AreBitsWith}
+use Rattle.ice_settings.specs.Views.{views, switches}
 use Rattle.ice_emit.specs.declared.routed.Routed.{Routed}
 use Rattle.ice_graph.specs.declared.tree.Tree.{Tree}
 use Rattle.ice_emit.proofs.Slotless.{no_slot}

@@ -1,21 +1,20 @@
 -- The wires of roots, as they are looked up.
-use Rattle.std.proofs.Common.{◌≡◌, ℕ, ◌<◌, ◌≤◌, Option, None, Some, List, length, get_or, inl, inr, refl, sym, ap, ◌∙◌, arith}
-use Rattle.std.specs.Prelude.{slice_index_or, slice_get, option_map}
+use Rattle.std.proofs.Common.{◌≡◌, ℕ, ◌≤◌, Option, None, length, inl, inr, sym, ap, ◌∙◌, arith}
+use Rattle.std.specs.Prelude.{slice_index_or, option_map}
 use Rattle.std.specs.Option.{option_and_then}
 use Rattle.std.proofs.lemmas.Bool.{cases_lt}
 use Rattle.std.proofs.lemmas.List.{get_or_past}
 use Rattle.std.proofs.lemmas.Option.{slice_get_past}
-use Rattle.ice_base.specs.declared.number.WireNo.{WireNo}
 use Rattle.ice_cells.specs.declared.root.Root.TheVariants.{PadIn, CellOut, GlobalOut}
 use Rattle.ice_cells.specs.Tables.{table}
 use Rattle.ice_cells.proofs.TableLaws.{length-table, get_or-table}
 use Rattle.ice_chip.specs.Database.{Parts}
 use Rattle.ice_pads.specs.Globals.{global_wire}
-use Rattle.ice_plan.specs.Plan.{Plan, slot_of}
+use Rattle.ice_plan.specs.Plan.{Plan}
 use Rattle.ice_nets.specs.Ends.{wire_no}
 use Rattle.ice_nets.specs.Nets.{root_wire, pad_wire, slot_wire, pad_root, cell_root, global_root}
 use Rattle.ice_nets.specs.Plans.{plan_in}
-use Rattle.ice_nets.specs.Rooted.{root_no, wires_in, root_wires}
+use Rattle.ice_nets.specs.Rooted.{root_no}
 use Rattle.ice_emit.specs.Routed.{IsRouted}
 use Rattle.ice_emit.specs.declared.routed.Routed.{Routed}
 

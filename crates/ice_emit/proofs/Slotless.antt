@@ -1,6 +1,6 @@
 -- A number that no cell has stands in no slot.
-use Rattle.std.proofs.Common.{◌≡◌, ℕ, ◌≤◌, ◌<◌, true, Bool, false, Option, None, Some, List, [], ◌∷◌, length, get_or, zero, suc, refl, sym, ap, ◌∙◌, subst, arith}
-use Rattle.std.specs.Prelude.{position, option_map, nat_eq}
+use Rattle.std.proofs.Common.{◌≡◌, ℕ, ◌≤◌, ◌<◌, true, Option, None, Some, List, [], ◌∷◌, length, get_or, suc, refl, ap, ◌∙◌, arith}
+use Rattle.std.specs.Prelude.{option_map}
 use Rattle.std.proofs.lemmas.Bool.{eqb-true}
 use Rattle.std.proofs.lemmas.List.Quantifiers.{position-Some}
 use Rattle.std.proofs.lemmas.Option.{slice_get-get_or}
@@ -10,7 +10,7 @@ use Rattle.ice_cells.specs.declared.cluster.Cluster.{Cluster}
 use Rattle.ice_cells.specs.declared.cluster.Clusters.{Clusters}
 use Rattle.ice_cells.specs.declared.design.Design.{Design}
 use Rattle.ice_cells.specs.Tables.{is_place}
-use Rattle.ice_cluster.specs.Slots.{Stands, AreSlots}
+use Rattle.ice_cluster.specs.Slots.{AreSlots}
 use Rattle.ice_plan.specs.Plan.{slot_in, slot_among, in_tile, first_slot}
 
 placed : (c : ℕ) (x : Option ℕ) → is_place c x ≡ true → x ≡ Some c

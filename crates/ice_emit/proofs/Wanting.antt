@@ -1,7 +1,6 @@
 -- All rows and all settings, from their parts.
-use Rattle.std.proofs.Common.{◌≡◌, Bool, List, [], ◌∷◌, ◌++◌, map, refl, ap, sym, ◌∙◌}
+use Rattle.std.proofs.Common.{◌≡◌, Bool, List, [], ◌∷◌, ◌++◌, map, refl, ap, ◌∙◌}
 use Rattle.std.specs.Prelude.{flat_map}
-use Rattle.std.proofs.lemmas.List.{append_assoc}
 use Rattle.ice_base.specs.declared.number.RowNo.{RowNo}
 use Rattle.ice_graph.specs.declared.tree.Tree.{Tree}
 use Rattle.ice_chip.specs.Database.{Parts}
@@ -14,7 +13,8 @@ use Rattle.ice_written.specs.Arrivals.{Held}
 use Rattle.ice_written.specs.Functions.{settings, clusters_settings, ports_settings, enable_settings, read_pads, buffer_settings}
 use Rattle.ice_written.specs.Links.{all_links}
 use Rattle.ice_written.specs.Written.{route_rows, wanted_rows}
-use Rattle.ice_emit.specs.Views.{rows_in, switches}
+use Rattle.ice_emit.specs.Views.{rows_in}
+use Rattle.ice_settings.specs.Views.{switches}
 
 tree_rows : (trees : List Tree) → flat_map rows_in trees ≡ flat_map (λ (rows : List RowNo). rows) (map route_rows (map route_of trees))
 tree_rows [] = refl

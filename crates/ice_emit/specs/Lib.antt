@@ -1,10 +1,6 @@
 pub mod Views
-pub mod Cells
 pub mod Routed
 pub mod Owners
-pub mod Ports
 pub mod Links
-pub mod Buffers
 pub mod Holding
-pub mod Enables
 pub mod Placed

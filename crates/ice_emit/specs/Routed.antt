@@ -1,12 +1,10 @@
 -- Placed and routed designs, by their parts.
 use Rattle.std.specs.Prelude.{◌≡◌, ℕ, ◌<◌, ◌≤◌, suc, Option, None, Some, List, [], ◌∷◌, length, map, if◌then◌else◌}
-use Rattle.std.specs.List.{list_any}
 use Rattle.ice_base.specs.declared.number.TileAt.{TileAt}
 use Rattle.ice_base.specs.declared.number.WireNo.{WireNo}
 use Rattle.ice_value.specs.Order.{At, Has}
 use Rattle.ice_cells.specs.declared.cluster.Cluster.{Cluster}
 use Rattle.ice_cells.specs.Tables.{table}
-use Rattle.ice_graph.specs.declared.tree.Tree.{Tree}
 use Rattle.ice_negotiate.specs.Trees.{Route, route_of}
 use Rattle.ice_plan.specs.Plan.{slot_of}
 use Rattle.ice_nets.specs.Plans.{plan_in}

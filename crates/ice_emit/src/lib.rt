@@ -2,14 +2,9 @@
 #![tactic(auto)]
 
 mod arriving;
-mod buffers;
-mod cells;
 mod clusters;
-mod enables;
 mod links;
-mod making;
 mod owners;
-mod ports;
 mod routed;
 mod rows;
 mod writing;

@@ -8,7 +8,7 @@ ghost use Rattle.ice_plan.specs.Loads.{slot_gives, slots_give};
 ghost use Rattle.ice_rows.specs.Index.{IsIndexOf};
 ghost use Rattle.ice_written.specs.Links.{tree_switch, link_into, carry_source, cell_links, chunk_links, cluster_links, all_links};
 ghost use Rattle.ice_emit.specs.Links.{number, cluster_link};
-ghost use Rattle.ice_emit.specs.Views.{switches};
+ghost use Rattle.ice_settings.specs.Views.{switches};
 
 use crate::routed::tile_at;
 use crate::rows::push_row;

@@ -2,7 +2,7 @@ use Rattle.std.proofs.Common.{◌≡◌, ◌++◌, drop}
 use Rattle.ice_plan.specs.Loads.{slots_give}
 use Rattle.ice_written.specs.Functions.{cell_settings}
 use Rattle.ice_emit.specs.Routed.{held_in}
-use Rattle.ice_emit.specs.Views.{views}
+use Rattle.ice_settings.specs.Views.{views}
 use Rattle.ice_emit.proofs.clusters.push_slots.Given as goal
 
 abbrev pub invariant-loop-i : goal.invariant-loop-i

@@ -1,0 +1,5 @@
+mod Ranges
+mod Beside
+pub mod Listed
+mod Buffered
+mod Enabling

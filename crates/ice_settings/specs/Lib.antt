@@ -1,0 +1,5 @@
+pub mod Views
+pub mod Cells
+pub mod Ports
+pub mod Enables
+pub mod Buffers
