@@ -2,3 +2,4 @@ mod Finish
 mod Fullness
 mod Wider
 pub mod Measured
+mod Repeats

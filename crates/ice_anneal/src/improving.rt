@@ -11,6 +11,7 @@ ghost use Rattle.ice_anneal.specs.Least.{IsFull, IsSwapLeast};
 
 use crate::free::{chunks_of, free_of};
 use crate::full::full_of;
+use crate::once::nets_once;
 use crate::shake::anneal;
 use ice_base::{NoMemory, TileAt};
 use ice_board::{Board, Net, Wiring, wiring_of};
@@ -204,6 +205,7 @@ pub fn improve_nets(
     }
     let number = short(nets.len())?;
     let tiles = placement.tiles();
-    let found = improve_some(alloc, nets, sites, chunks.as_slice(), tiles, seed)?;
+    let once = nets_once(alloc, nets.as_slice())?;
+    let found = improve_some(alloc, once, sites, chunks.as_slice(), tiles, seed)?;
     Ok(Placement::from_vec(found))
 }

@@ -4,6 +4,7 @@
 mod free;
 mod full;
 mod improving;
+mod once;
 mod placing;
 mod shake;
 mod trial;

@@ -3,7 +3,7 @@ ghost use Rattle.std.specs.Prelude.{◌≡◌, ◌<◌, ◌≤◌, ◌^◌, leng
 ghost use Rattle.ice_board.specs.Wiring.{IsWiring};
 ghost use Rattle.ice_board.specs.Board.{IsBoard, IsFree, Keeps};
 
-use crate::trial::trial;
+use crate::trial::{is_within, length_now};
 use ice_board::{Board, Wiring};
 use rand_core::utils::NextWord;
 use rand_pcg::Pcg32;
@@ -20,12 +20,12 @@ fn below(words: &mut Pcg32, m: usize) -> usize
     ((u64::from(words.next_word()) * m as u64) >> 32) as usize
 }
 
-// Whether an exchange is kept: where the length grows by no more than a random part of the heat, which is in parts of 256.
-fn is_kept(now: u64, after: u64, heat: u64, word: u32) -> bool {
-    after.saturating_sub(now).saturating_mul(256) <= heat.wrapping_mul(u64::from(word)) >> 32
+// By how much an exchange that is kept may lengthen a placement: a random part of the heat, which is in parts of 256.
+fn spare(heat: u64, word: u32) -> u64 {
+    heat.wrapping_mul(u64::from(word)) >> 40
 }
 
-// Exchanges two, where that is kept.
+// Exchanges two, where that is kept. For a look at the lengths the two change places and back, which the board's lengths do not see.
 fn try_exchange(
     board: &mut Board,
     wiring: &Wiring,
@@ -44,8 +44,11 @@ fn try_exchange(
     ensures board { IsBoard wiring.now board.new }
     ensures keeps { Keeps free.now board.old.place.items board.new.place.items }
 {
-    let (now, after) = trial(board, wiring, c, d);
-    if is_kept(now, after, heat, word) {
+    let limit = length_now(board, wiring, c, d).saturating_add(spare(heat, word));
+    board.place.swap(c, d);
+    let is_kept = is_within(&board.place, wiring, c, d, limit);
+    board.place.swap(c, d);
+    if is_kept {
         board.exchange(wiring, c, d);
     }
 }

@@ -44,7 +44,7 @@ pub fn length_of_net(at: &[TileAt], nodes: &[Node]) -> u64
         return 0;
     }
     let mut span = span_at(node_tile(at, nodes[0]));
-    for node in nodes {
+    for node in &nodes[1..] {
         span = with_tile(span, node_tile(at, *node));
     }
     half_perimeter(span)
