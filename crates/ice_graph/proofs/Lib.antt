@@ -3,4 +3,5 @@ pub mod Placing
 pub mod Rising
 pub mod Growing
 pub mod Bounding
+pub mod Beside
 pub mod Nearest

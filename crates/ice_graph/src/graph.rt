@@ -2,13 +2,13 @@
 ghost use Rattle.std.specs.Prelude.{◌≡◌, ◌+◌, ◌<◌, ◌≤◌, ◌^◌, ℕ, Some, length, replicate, slice_get, IfOk, List};
 ghost use Rattle.ice_base.specs.declared.number.WireNo.{WireNo as Wire};
 ghost use Rattle.ice_graph.specs.Rows.{rows_into, rows_from};
-ghost use Rattle.ice_graph.specs.Boxes.{in_spreads};
+ghost use Rattle.ice_graph.specs.Boxes.{box_of, in_spreads, same_box};
 ghost use Rattle.ice_graph.specs.Network.{ArePlaces, AreBetween, BoundsFall, RowsRise, bound, least_bound};
 ghost use Rattle.ice_graph.specs.Nearest.{apart, nearest, nearest_from, bound_of};
 
 use crate::boxes::{boxes_of, spread_of};
 use crate::edge::{Edge, End};
-use crate::extent::{Extent, distance};
+use crate::extent::{Extent, distance, same_box};
 use crate::index::Index;
 use ice_base::{NoMemory, RowNo, TileAt, WireNo};
 use std::alloc::Global;
@@ -176,6 +176,16 @@ impl Graph {
         ensures small { result ≤ 131071 }
     {
         bound_to(self.spread, self.apart(wire, target))
+    }
+
+    /// Whether the boxes of two wires are the same, so that all other wires are as far from one as from the other. The wires
+    /// are of the graph.
+    pub fn is_beside(&self, wire: WireNo, other: WireNo) -> bool
+        requires wire { wire.0 < self.now.wires }
+        requires other { other.0 < self.now.wires }
+        ensures { result ≡ same_box (box_of self.now.boxes wire.0) (box_of self.now.boxes other.0) }
+    {
+        same_box(self.boxes[wire.0 as usize], self.boxes[other.0 as usize])
     }
 
     // How far a target is: 0 where it is the wire itself, and else 1 and the steps between the boxes.

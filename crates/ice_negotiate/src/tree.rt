@@ -10,7 +10,7 @@ use crate::stop::TreeStop;
 use ice_base::{NoMemory, Sink, WireNo};
 use ice_core::Prices;
 use ice_graph::{Edge, Graph, Tree};
-use ice_path::{Scratch, connect, path};
+use ice_path::{Scratch, connect_ahead, path};
 use std::alloc::Global;
 
 // Appends the wires that the edges enter, and their rows.
@@ -49,7 +49,7 @@ fn join(
     ensures scratch { IsFor graph.now scratch.new }
 {
     let (_root, _edges) = (root, graph.edges());
-    let Some(_cost) = connect(graph, prices, tree, targets, scratch) else {
+    let Some(_cost) = connect_ahead(graph, prices, tree, targets, scratch) else {
         return Err(TreeStop::Unreachable { sink: targets[0] });
     };
     extend(tree, path(scratch))?;

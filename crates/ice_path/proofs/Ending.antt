@@ -1,18 +1,17 @@
 -- What is known when a search ends, and how far it has come until then.
-use Rattle.std.proofs.Common.{◌≡◌, ◌≢◌, ℕ, zero, suc, ◌+◌, ◌≤◌, ◌<◌, Bool, true, false, not, cond, List, [], ◌∷◌, ◌++◌, Option, Some, None, length, get_or, slice_set, refl, sym, ap, ◌∙◌, subst, arith, inl, inr, ◌⊎◌, get_or-set_same, get_or-set_other, length-set}
+use Rattle.std.proofs.Common.{◌≡◌, ◌≢◌, ℕ, zero, suc, ◌+◌, ◌*◌, ◌≤◌, ◌<◌, Bool, true, false, not, cond, List, [], ◌∷◌, ◌++◌, Option, Some, None, length, get_or, slice_set, refl, sym, ap, ◌∙◌, subst, arith, inl, inr, ◌⊎◌, get_or-set_same, get_or-set_other, length-set}
 use Rattle.std.specs.Prelude.{eqb, IfSome, IfNone}
 use Rattle.std.proofs.lemmas.Bool.{cases_lt, cases_eq, false≢true, eq-eqb, eqb-true, ltb-false, ltb-true}
 use Rattle.std.proofs.lemmas.List.{length_push}
 use Rattle.std.proofs.lemmas.List.Sums.{sum_by-set, sum_by-cons, count_by-le-length}
 use Rattle.ice_base.specs.declared.number.WireNo.{WireNo}
 use Rattle.ice_graph.specs.declared.edge.Edge.{Edge}
-use Rattle.ice_core.specs.declared.prices.Prices.{Prices}
-use Rattle.ice_core.specs.Congestion.{price as price_of}
-use Rattle.ice_graph.specs.Network.{Network, BoundsFall, least_bound}
+use Rattle.ice_graph.specs.Network.{Network, least_bound}
 use Rattle.ice_graph.proofs.Bounding.{least_home, least_found}
-use Rattle.ice_path.specs.Walks.{InTree, IsWalk, IsTarget, IsCostTo, NoWalkTo, FallsBy, AreSettled, cost}
+use Rattle.ice_path.specs.Aims.{IsAim}
+use Rattle.ice_path.specs.Walks.{HasEdge, InTree, IsWalk, IsTarget, IsCostTo, NoWalkTo, FallsBy, AreSettled, cost}
 use Rattle.ice_path.specs.Search.{label, done, AreExact, IsLeastOpen, IsNearest, IsNext, Lists, Searches, nearest_after, is_beyond, opens}
-use Rattle.ice_path.proofs.Settling.{one_label, bounds_fall_by}
+use Rattle.ice_path.proofs.Settling.{one_label}
 use Rattle.ice_value.proofs.Places.{At_push_cases, At_push_old, At_push_new}
 
 -- along a walk the bound falls by no more than the walk costs
@@ -24,30 +23,48 @@ bound_walks edges price bound falls (e ∷ path) a b w =
     let from : bound e.from.0 ≡ bound a = ap bound w.1 in
     omega (arith, step, rest, from)
 
-module _ (edges : List Edge) (price : ℕ → ℕ) (tree : List WireNo) (bound : ℕ → ℕ) (falls : FallsBy edges price bound) (most count : ℕ) (labels : List (Option ℕ)) (settled : List Bool) (h : Searches edges price tree bound most count labels settled) where
+-- a walk to a wire that leads on comes through such wires alone
+pub walk_leads : (edges : List Edge) (leads : ℕ → Bool) → ((e : Edge) → HasEdge edges e → leads e.to.0 ≡ true → leads e.from.0 ≡ true) → (path : List Edge) (a b : ℕ) → IsWalk edges a path b → leads b ≡ true → leads a ≡ true
+walk_leads edges leads back [] a b w on = ap leads w ∙ on
+walk_leads edges leads back (e ∷ path) a b w on = ap leads (sym w.1) ∙ back e w.0 (walk_leads edges leads back path e.to.0 b w.2 on)
+
+module _ (edges : List Edge) (price : ℕ → ℕ) (tree targets : List WireNo) (bound : ℕ → ℕ) (leads : ℕ → Bool) (aim : IsAim edges price targets bound leads) (most count : ℕ) (labels : List (Option ℕ)) (settled : List Bool)
+    (h : Searches edges price tree bound leads most count labels settled) where
+  -- a wire of a bound below 2^64 leads on, and so does each target
+  leads_by : (w : ℕ) → bound w < 18446744073709551616 → leads w ≡ true
+  leads_by w less = by (leads w) refl
+    where
+      by : (b : Bool) → leads w ≡ b → b ≡ true
+      by true is = refl
+      by false is = absurd (let much = aim.astray w is in omega (arith, much, less))
+
+  target_leads : (w : ℕ) → IsTarget targets w → leads w ≡ true
+  target_leads w target = leads_by w (let z = aim.home w target in omega (arith, z))
+
   -- a wire with a label from which it is no further than the walk is long: an open one, or the end
   abbrev Escapes : ℕ → List Edge → ℕ → Type 0
   Escapes l path b = (x : ℕ) × (k : ℕ) × (label labels x ≡ Some k) × (k + bound x ≤ l + cost price path + bound b) × ((done settled x ≡ false) ⊎ (x ≡ b))
 
-  escapes_by : (e : Edge) (path : List Edge) (a b l : ℕ) → label labels a ≡ Some l → IsWalk edges a (e ∷ path) b
+  escapes_by : (e : Edge) (path : List Edge) (a b l : ℕ) → label labels a ≡ Some l → IsWalk edges a (e ∷ path) b → leads e.to.0 ≡ true
       → ((k : ℕ) → label labels e.to.0 ≡ Some k → Escapes k path b) → (d : Bool) → done settled a ≡ d → Escapes l (e ∷ path) b
-  escapes_by e path a b l at w go false is = (a, l, at, (let le = bound_walks edges price bound falls (e ∷ path) a b w in omega (arith, le)), inl is)
-  escapes_by e path a b l at w go true is =
+  escapes_by e path a b l at w on go false is = (a, l, at, (let le = bound_walks edges price bound aim.falls (e ∷ path) a b w in omega (arith, le)), inl is)
+  escapes_by e path a b l at w on go true is =
       let c = h.closed a is in
       let same = one_label labels a c.0 l c.1 at in
-      let next = c.2 e w.0 w.1 in
+      let next = c.2 e w.0 w.1 on in
       let t = go next.0 next.1 in
       (t.0, t.1, t.2, omega (arith, t.3, next.2, same), t.4)
 
   -- a walk from a labelled wire comes to one that isn't settled, or is labelled at its end
-  escapes : (path : List Edge) (a b l : ℕ) → label labels a ≡ Some l → IsWalk edges a path b → Escapes l path b
-  escapes [] a b l at w = (a, l, at, (let e : bound a ≡ bound b = ap bound w in omega (arith, e)), inr w)
-  escapes (e ∷ path) a b l at w = escapes_by e path a b l at w (λ k here. escapes path e.to.0 b k here w.2) (done settled a) refl
+  escapes : (path : List Edge) (a b l : ℕ) → label labels a ≡ Some l → IsWalk edges a path b → leads b ≡ true → Escapes l path b
+  escapes [] a b l at w on = (a, l, at, (let e : bound a ≡ bound b = ap bound w in omega (arith, e)), inr w)
+  escapes (e ∷ path) a b l at w on = escapes_by e path a b l at w (walk_leads edges leads aim.back path e.to.0 b w.2 on) (λ k here. escapes path e.to.0 b k here w.2 on) (done settled a) refl
 
   -- where no open wire has a label, and no target is settled, no walk leads to a target
-  pub has_none : (targets : List WireNo) → IsLeastOpen bound labels settled None → IsNearest bound targets labels settled None → NoWalkTo edges tree targets
-  has_none targets best open' w target start path root walk =
-      let t = escapes path start w 0 (h.rooted start root) walk in
+  pub has_none : IsLeastOpen bound labels settled None → IsNearest bound targets labels settled None → NoWalkTo edges tree targets
+  has_none best open' w target start path root walk =
+      let on = target_leads w target in
+      let t = escapes path start w 0 (h.rooted start root (walk_leads edges leads aim.back path start w walk on)) walk on in
       let shut = best t.0 t.1 t.2 in
       elim t.4 [
         | inl still ↦ false≢true (sym still ∙ shut)
@@ -58,12 +75,13 @@ module _ (edges : List Edge) (price : ℕ → ℕ) (tree : List WireNo) (bound :
   abbrev Beyond : ℕ → Type 0
   Beyond c = (w k : ℕ) → label labels w ≡ Some k → done settled w ≡ false → c < k + bound w
 
-  module _ (c : ℕ) (beyond : Beyond c) where
+  module _ (c : ℕ) (low : c < 18446744073709551616) (beyond : Beyond c) where
     -- a walk that makes with the bound of its end at most c leads to a settled wire with a label of at most its cost
     arrives : (w start : ℕ) (walk : List Edge) → InTree tree start → IsWalk edges start walk w → cost price walk + bound w ≤ c
         → (k : ℕ) × (label labels w ≡ Some k) × (k ≤ cost price walk) × (done settled w ≡ true)
     arrives w start walk root is near =
-        let t = escapes walk start w 0 (h.rooted start root) is in
+        let on = leads_by w (omega (arith, near, low)) in
+        let t = escapes walk start w 0 (h.rooted start root (walk_leads edges leads aim.back walk start w is on)) is on in
         elim t.4 [
           | inl open' ↦ absurd (let far = beyond t.0 t.1 t.2 open' in omega (arith, far, t.3))
           | inr same ↦ (
@@ -88,14 +106,14 @@ module _ (edges : List Edge) (price : ℕ → ℕ) (tree : List WireNo) (bound :
           t.1 ∙ ap (λ k. Some k) same;
     }
 
-    module _ (targets : List WireNo) (home : (w : ℕ) → IsTarget targets w → bound w ≡ 0) (near : IsNearest bound targets labels settled (Some c)) where
+    module _ (near : IsNearest bound targets labels settled (Some c)) where
       pub is_cost : IsCostTo edges price tree targets c
       is_cost = (
         (near.0.0, near.0.1, h.attained near.0.0 c near.0.3),
         λ w target start walk root is. elim (cases_lt (cost price walk) c) [
           | inr le ↦ le
           | inl less ↦ absurd (
-              let t = arrives w start walk root is (let z = home w target in omega (arith, z, less)) in
+              let t = arrives w start walk root is (let z = aim.home w target in omega (arith, z, less)) in
               let le = near.1 w t.0 target t.3 t.1 in
               omega (arith, le, t.2, less))
         ],
@@ -289,21 +307,19 @@ nearest_low None c sum most h le = by_test (eqb sum c)
     by_test false = tt
 
 -- what a search has found when it ends
-pub record Ends (graph : Network) (p : Prices) (tree targets : List WireNo) (labels : List (Option ℕ)) (order : List WireNo) (nearest : Option ℕ) : Type 0 where
-  pub some : IfSome nearest (IsCostTo graph.edges (price_of p) tree targets)
-  pub exact : IfSome nearest (λ c. AreExact graph.edges (price_of p) tree (least_bound graph targets) c labels)
-  pub settled : IfSome nearest (λ c. AreSettled graph.edges (price_of p) tree (least_bound graph targets) c order)
+pub record Ends (edges : List Edge) (price : ℕ → ℕ) (tree targets : List WireNo) (bound : ℕ → ℕ) (labels : List (Option ℕ)) (order : List WireNo) (nearest : Option ℕ) : Type 0 where
+  pub some : IfSome nearest (IsCostTo edges price tree targets)
+  pub exact : IfSome nearest (λ c. AreExact edges price tree bound c labels)
+  pub settled : IfSome nearest (λ c. AreSettled edges price tree bound c order)
 
-pub ends : (graph : Network) (p : Prices) (tree targets : List WireNo) → BoundsFall graph → (count : ℕ) (labels : List (Option ℕ)) (settled : List Bool) (order : List WireNo) (nearest : Option ℕ)
-    → Searches graph.edges (price_of p) tree (least_bound graph targets) 17046213234436 count labels settled → IsNearest (least_bound graph targets) targets labels settled nearest → Lists order settled
-    → ((c : ℕ) → nearest ≡ Some c → (w k : ℕ) → label labels w ≡ Some k → done settled w ≡ false → c < k + least_bound graph targets w) → Ends graph p tree targets labels order nearest
-ends graph p tree targets falls count labels settled order nearest h near list far =
-    let bound : ℕ → ℕ = least_bound graph targets in
-    let by : FallsBy graph.edges (price_of p) bound = bounds_fall_by graph targets p falls in
-    let home = targets_home graph targets in
+pub ends : (edges : List Edge) (price : ℕ → ℕ) (tree targets : List WireNo) (bound : ℕ → ℕ) (leads : ℕ → Bool) → IsAim edges price targets bound leads → (count : ℕ) (labels : List (Option ℕ)) (settled : List Bool) (order : List WireNo) (nearest : Option ℕ)
+    → Searches edges price tree bound leads 17046213234436 count labels settled → IsNearest bound targets labels settled nearest → IfSome nearest (λ c. c ≤ 1048575 * 17046213234436) → Lists order settled
+    → ((c : ℕ) → nearest ≡ Some c → (w k : ℕ) → label labels w ≡ Some k → done settled w ≡ false → c < k + bound w) → Ends edges price tree targets bound labels order nearest
+ends edges price tree targets bound leads aim count labels settled order nearest h near few list far =
     let here = λ (c : ℕ) (is : nearest ≡ Some c). subst (IsNearest bound targets labels settled) is near in
+    let low : (c : ℕ) → nearest ≡ Some c → c < 18446744073709551616 = λ (c : ℕ) (is : nearest ≡ Some c). (let le : c ≤ 1048575 * 17046213234436 = subst (λ (o : Option ℕ). IfSome o (λ n. n ≤ 1048575 * 17046213234436)) is few in omega (arith, le)) in
     record {
-      some = if_some nearest (λ c is. is_cost graph.edges (price_of p) tree bound by 17046213234436 count labels settled h c (far c is) targets home (here c is));
-      exact = if_some nearest (λ c is. exact graph.edges (price_of p) tree bound by 17046213234436 count labels settled h c (far c is));
-      settled = if_some nearest (λ c is. are_settled graph.edges (price_of p) tree bound by 17046213234436 count labels settled h c (far c is) targets home (here c is) order list);
+      some = if_some nearest (λ c is. is_cost edges price tree targets bound leads aim 17046213234436 count labels settled h c (low c is) (far c is) (here c is));
+      exact = if_some nearest (λ c is. exact edges price tree targets bound leads aim 17046213234436 count labels settled h c (low c is) (far c is));
+      settled = if_some nearest (λ c is. are_settled edges price tree targets bound leads aim 17046213234436 count labels settled h c (low c is) (far c is) (here c is) order list);
     }

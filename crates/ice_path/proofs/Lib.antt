@@ -1,3 +1,6 @@
+pub mod Aiming
+pub mod Leaving
+pub mod Looking
 pub mod Listing
 pub mod Queueing
 pub mod Relaxing

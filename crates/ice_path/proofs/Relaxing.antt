@@ -43,19 +43,32 @@ lowered_made ls new w d x l lt (inl t) e = elim (cases_eq x w) [
 ]
 lowered_made ls new w d x l lt (inr t) e = inl (sym (ap (λ xs. label xs x) t.0) ∙ e)
 
-module _ (rows : List Edge) (price : ℕ → ℕ) (settled : List Bool) (c : ℕ) (old : List (Option ℕ)) where
+module _ (rows : List Edge) (price : ℕ → ℕ) (leads : ℕ → Bool) (settled : List Bool) (c : ℕ) (old : List (Option ℕ)) where
   abbrev Far : ℕ → List (Option ℕ) → Type 0
-  Far n new = Relaxes rows price settled c n old new
+  Far n new = Relaxes rows price leads settled c n old new
 
   -- an edge to a settled wire
   pub relax_skip : (n : ℕ) (e : Edge) (new : List (Option ℕ)) → slice_get rows n ≡ Some e → done settled e.to.0 ≡ true → Far n new → Far (n + 1) new
   relax_skip n e new here shut h = record {
     lower = h.lower;
     fixed = h.fixed;
-    reached = λ k f lt at open'. elim (cases_eq k n) [
+    reached = λ k f lt at on open'. elim (cases_eq k n) [
       | inl same ↦ (let eq : Some f ≡ Some e = sym at ∙ (ap (λ i. slice_get rows i) same ∙ here) in let is : f ≡ e = (cc) in
           absurd (false≢true (sym open' ∙ (ap (λ (g : Edge). done settled g.to.0) is ∙ shut))))
-      | inr other ↦ h.reached k f (grind arith) at open'
+      | inr other ↦ h.reached k f (grind arith) at on open'
+    ];
+    made = h.made;
+  }
+
+  -- an edge to a wire that leads nowhere
+  pub relax_astray : (n : ℕ) (e : Edge) (new : List (Option ℕ)) → slice_get rows n ≡ Some e → leads e.to.0 ≡ false → Far n new → Far (n + 1) new
+  relax_astray n e new here off h = record {
+    lower = h.lower;
+    fixed = h.fixed;
+    reached = λ k f lt at on open'. elim (cases_eq k n) [
+      | inl same ↦ (let eq : Some f ≡ Some e = sym at ∙ (ap (λ i. slice_get rows i) same ∙ here) in let is : f ≡ e = (cc) in
+          absurd (false≢true (sym off ∙ (ap (λ (g : Edge). leads g.to.0) (sym is) ∙ on))))
+      | inr other ↦ h.reached k f (grind arith) at on open'
     ];
     made = h.made;
   }
@@ -68,10 +81,10 @@ module _ (rows : List Edge) (price : ℕ → ℕ) (settled : List Bool) (c : ℕ
       let d : ℕ = c + price t in record {
         lower = λ w l at. (let a = h.lower w l at in let s = lowered_all mid new t d w a.0 lt low a.1 in (s.0, s.1, omega (arith, s.2, a.2)));
         fixed = λ w shut. lowered_else mid new t d w (λ same. false≢true (sym open' ∙ (ap (done settled) (sym same) ∙ shut))) low ∙ h.fixed w shut;
-        reached = λ k f less at open''. elim (cases_eq k n) [
+        reached = λ k f less at on open''. elim (cases_eq k n) [
           | inl same ↦ (let eq : Some f ≡ Some e = sym at ∙ (ap (λ i. slice_get rows i) same ∙ here) in let is : f ≡ e = (cc) in
               subst (λ (g : Edge). AtMost new g.to.0 (c + price g.to.0)) (sym is) (lowered_at mid new t d lt low))
-          | inr other ↦ (let a = h.reached k f (grind arith) at open'' in let s = lowered_all mid new t d f.to.0 a.0 lt low a.1 in (s.0, s.1, omega (arith, s.2, a.2)))
+          | inr other ↦ (let a = h.reached k f (grind arith) at on open'' in let s = lowered_all mid new t d f.to.0 a.0 lt low a.1 in (s.0, s.1, omega (arith, s.2, a.2)))
         ];
         made = λ w l at. elim (lowered_made mid new t d w l lt low at) [
           | inl before ↦ h.made w l before
@@ -84,10 +97,10 @@ module _ (rows : List Edge) (price : ℕ → ℕ) (settled : List Bool) (c : ℕ
       → AtMost new e.to.0 c → Far n new → Far (n + 1) new
   relax_reached n e new here open' lt most h = relax_step n e new new here open' lt (inr (refl, (most.0, most.1, omega (arith, most.2)))) h
 
-pub relax_none : (rows : List Edge) (price : ℕ → ℕ) (settled : List Bool) (c : ℕ) (labels : List (Option ℕ)) → Relaxes rows price settled c 0 labels labels
-relax_none rows price settled c labels = record {
+pub relax_none : (rows : List Edge) (price : ℕ → ℕ) (leads : ℕ → Bool) (settled : List Bool) (c : ℕ) (labels : List (Option ℕ)) → Relaxes rows price leads settled c 0 labels labels
+relax_none rows price leads settled c labels = record {
   lower = λ w l e. (l, e, omega arith);
   fixed = λ w shut. refl;
-  reached = λ k e lt at open'. absurd (omega arith);
+  reached = λ k e lt at on open'. absurd (omega arith);
   made = λ w l e. inl e;
 }

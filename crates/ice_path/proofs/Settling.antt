@@ -34,19 +34,19 @@ pub rows_to : (edges : List Edge) (n u k : ℕ) (e : Edge) → AreBetween n edge
 rows_to edges n u k e between at = let t = from_rows edges u e (k, at) in (between t.0.0 e t.0.1).1
 
 -- before anything is settled
-pub starts : (edges : List Edge) (price : ℕ → ℕ) (tree : List WireNo) (bound : ℕ → ℕ) (most : ℕ) (labels : List (Option ℕ)) (settled : List Bool) → Starts tree (length tree) labels settled → Searches edges price tree bound most 0 labels settled
-starts edges price tree bound most labels settled s = record {
+pub starts : (edges : List Edge) (price : ℕ → ℕ) (tree : List WireNo) (bound : ℕ → ℕ) (leads : ℕ → Bool) (most : ℕ) (labels : List (Option ℕ)) (settled : List Bool) → Starts tree leads (length tree) labels settled → Searches edges price tree bound leads most 0 labels settled
+starts edges price tree bound leads most labels settled s = record {
   attained = λ w l e. (let t = s.made w l e in (w, [], t.0, refl, sym t.1));
   closed = λ w is. absurd (false≢true (sym (s.fresh w) ∙ is));
-  rooted = λ w root. ap (label labels) (sym root.3) ∙ s.rooted root.0 root.1 (slice_get_within tree root.0 root.1 root.2) root.2;
+  rooted = λ w root on. ap (label labels) (sym root.3) ∙ s.rooted root.0 root.1 (slice_get_within tree root.0 root.1 root.2) root.2 (ap leads root.3 ∙ on);
   order = λ a b la lb a_shut b_open at bt. absurd (false≢true (sym (s.fresh a) ∙ a_shut));
   low = λ w l e. (let t = s.made w l e in omega (arith, t.1));
 }
 
-module _ (edges : List Edge) (price : ℕ → ℕ) (tree : List WireNo) (bound : ℕ → ℕ) (falls : FallsBy edges price bound) (most count : ℕ) (labels : List (Option ℕ)) (settled : List Bool) where
+module _ (edges : List Edge) (price : ℕ → ℕ) (tree : List WireNo) (bound : ℕ → ℕ) (leads : ℕ → Bool) (falls : FallsBy edges price bound) (most count : ℕ) (labels : List (Option ℕ)) (settled : List Bool) where
   -- u is settled, and its edges have lowered the labels behind it
-  pub settles : Searches edges price tree bound most count labels settled → (u c : ℕ) (new : List (Option ℕ)) → u < length settled → ((w : ℕ) → price w ≤ most) → IsNext bound labels settled u c
-      → Relaxes (rows_from edges u) price (slice_set settled u true) c (length (rows_from edges u)) labels new → Searches edges price tree bound most (count + 1) new (slice_set settled u true)
+  pub settles : Searches edges price tree bound leads most count labels settled → (u c : ℕ) (new : List (Option ℕ)) → u < length settled → ((w : ℕ) → price w ≤ most) → IsNext bound labels settled u c
+      → Relaxes (rows_from edges u) price leads (slice_set settled u true) c (length (rows_from edges u)) labels new → Searches edges price tree bound leads most (count + 1) new (slice_set settled u true)
   settles h u c new lt small best r =
       let shut : List Bool = slice_set settled u true in
       let u_shut : done shut u ≡ true = get_or-set_same settled u true false lt in
@@ -70,13 +70,13 @@ module _ (edges : List Edge) (price : ℕ → ℕ) (tree : List WireNo) (bound :
           | inl same ↦ (
             c,
             (r.fixed w is ∙ (ap (label labels) same ∙ best.has)),
-            λ e has leaves. by_target e has (leaves ∙ same) (done shut e.to.0) refl,
+            λ e has leaves on. by_target e has (leaves ∙ same) on (done shut e.to.0) refl,
           )
           | inr other ↦ (
               let old = h.closed w (sym (else_shut w other) ∙ is) in
-              (old.0, r.fixed w is ∙ old.1, λ e has leaves. (let t = old.2 e has leaves in let s = r.lower e.to.0 t.0 t.1 in (s.0, s.1, omega (arith, s.2, t.2)))))
+              (old.0, r.fixed w is ∙ old.1, λ e has leaves on. (let t = old.2 e has leaves on in let s = r.lower e.to.0 t.0 t.1 in (s.0, s.1, omega (arith, s.2, t.2)))))
         ];
-        rooted = λ w root. (let s = r.lower w 0 (h.rooted w root) in let zero' : s.0 ≡ 0 = omega (arith, s.2) in s.1 ∙ ap (λ k. Some k) zero');
+        rooted = λ w root on. (let s = r.lower w 0 (h.rooted w root on) in let zero' : s.0 ≡ 0 = omega (arith, s.2) in s.1 ∙ ap (λ k. Some k) zero');
         order = λ a b la lb a_shut b_open at bt.
             let before : label labels a ≡ Some la = sym (r.fixed a a_shut) ∙ at in
             let le = low a la a_shut before in
@@ -97,9 +97,9 @@ module _ (edges : List Edge) (price : ℕ → ℕ) (tree : List WireNo) (bound :
         ];
       }
     where
-      by_target : (e : Edge) → HasEdge edges e → e.from.0 ≡ u → (d : Bool) → done (slice_set settled u true) e.to.0 ≡ d → AtMost new e.to.0 (c + price e.to.0)
-      by_target e has leaves false is = (let row = in_rows edges u e has leaves in r.reached row.0 e (slice_get_within (rows_from edges u) row.0 e row.1) row.1 is)
-      by_target e has leaves true is = elim (cases_eq e.to.0 u) [
+      by_target : (e : Edge) → HasEdge edges e → e.from.0 ≡ u → leads e.to.0 ≡ true → (d : Bool) → done (slice_set settled u true) e.to.0 ≡ d → AtMost new e.to.0 (c + price e.to.0)
+      by_target e has leaves on false is = (let row = in_rows edges u e has leaves in r.reached row.0 e (slice_get_within (rows_from edges u) row.0 e row.1) row.1 on is)
+      by_target e has leaves on true is = elim (cases_eq e.to.0 u) [
         | inl same ↦ (c, r.fixed e.to.0 is ∙ (ap (label labels) same ∙ best.has), omega arith)
         | inr other ↦ (
             let was : done settled e.to.0 ≡ true = sym (get_or-set_other settled u e.to.0 true false other) ∙ is in

@@ -3,4 +3,6 @@ pub mod Search
 pub mod Paths
 pub mod Queue
 pub mod Room
+pub mod Aims
+pub mod Leaving
 pub mod Bounds

@@ -32,24 +32,24 @@ pub record IsNext (bound : ℕ → ℕ) (labels : List (Option ℕ)) (settled : 
 abbrev pub Lowers : List (Option ℕ) → List (Option ℕ) → ℕ → ℕ → Type 0
 Lowers old new w d = (new ≡ slice_set old w (Some d)) × ((l : ℕ) → label old w ≡ Some l → d < l) ⊎ (new ≡ old) × AtMost old w d
 
--- the first n of the rows that leave a wire of label c have lowered the labels of wires that aren't settled
-pub record Relaxes (rows : List Edge) (price : ℕ → ℕ) (settled : List Bool) (c n : ℕ) (old new : List (Option ℕ)) : Type 0 where
+-- the first n of the rows that leave a wire of label c have lowered the labels of wires that lead on and aren't settled
+pub record Relaxes (rows : List Edge) (price : ℕ → ℕ) (leads : ℕ → Bool) (settled : List Bool) (c n : ℕ) (old new : List (Option ℕ)) : Type 0 where
   pub lower : (w l : ℕ) → label old w ≡ Some l → AtMost new w l
   pub fixed : (w : ℕ) → done settled w ≡ true → label new w ≡ label old w
-  pub reached : (k : ℕ) (e : Edge) → k < n → slice_get rows k ≡ Some e → done settled e.to.0 ≡ false → AtMost new e.to.0 (c + price e.to.0)
+  pub reached : (k : ℕ) (e : Edge) → k < n → slice_get rows k ≡ Some e → leads e.to.0 ≡ true → done settled e.to.0 ≡ false → AtMost new e.to.0 (c + price e.to.0)
   pub made : (w l : ℕ) → label new w ≡ Some l → (label old w ≡ Some l) ⊎ ((e : Edge) × HasEdge rows e × (e.to.0 ≡ w) × (l ≡ c + price w))
 
--- the search so far, with this many wires settled
-pub record Searches (edges : List Edge) (price : ℕ → ℕ) (tree : List WireNo) (bound : ℕ → ℕ) (most count : ℕ) (labels : List (Option ℕ)) (settled : List Bool) : Type 0 where
+-- the search so far, with this many wires settled; of wires that lead to no target nothing is known
+pub record Searches (edges : List Edge) (price : ℕ → ℕ) (tree : List WireNo) (bound : ℕ → ℕ) (leads : ℕ → Bool) (most count : ℕ) (labels : List (Option ℕ)) (settled : List Bool) : Type 0 where
   pub attained : (w l : ℕ) → label labels w ≡ Some l → HasWalk edges price tree w l
-  pub closed : (w : ℕ) → done settled w ≡ true → (l : ℕ) × (label labels w ≡ Some l) × ((e : Edge) → HasEdge edges e → e.from.0 ≡ w → AtMost labels e.to.0 (l + price e.to.0))
-  pub rooted : (w : ℕ) → InTree tree w → label labels w ≡ Some 0
+  pub closed : (w : ℕ) → done settled w ≡ true → (l : ℕ) × (label labels w ≡ Some l) × ((e : Edge) → HasEdge edges e → e.from.0 ≡ w → leads e.to.0 ≡ true → AtMost labels e.to.0 (l + price e.to.0))
+  pub rooted : (w : ℕ) → InTree tree w → leads w ≡ true → label labels w ≡ Some 0
   pub order : (a b la lb : ℕ) → done settled a ≡ true → done settled b ≡ false → label labels a ≡ Some la → label labels b ≡ Some lb → la + bound a ≤ lb + bound b
   pub low : (w l : ℕ) → label labels w ≡ Some l → l ≤ count * most
 
--- the first n wires of the tree have the label 0, no other wire has one, and none is settled
-pub record Starts (tree : List WireNo) (n : ℕ) (labels : List (Option ℕ)) (settled : List Bool) : Type 0 where
-  pub rooted : (k : ℕ) (v : WireNo) → k < n → slice_get tree k ≡ Some v → label labels v.0 ≡ Some 0
+-- those of the first n wires of the tree that lead on have the label 0, no other wire has one, and none is settled
+pub record Starts (tree : List WireNo) (leads : ℕ → Bool) (n : ℕ) (labels : List (Option ℕ)) (settled : List Bool) : Type 0 where
+  pub rooted : (k : ℕ) (v : WireNo) → k < n → slice_get tree k ≡ Some v → leads v.0 ≡ true → label labels v.0 ≡ Some 0
   pub made : (w l : ℕ) → label labels w ≡ Some l → InTree tree w × (l ≡ 0)
   pub fresh : (w : ℕ) → done settled w ≡ false
 
@@ -135,3 +135,8 @@ abbrev pub IsFirstLabelled : List (Option ℕ) → ℕ → List WireNo → Optio
 IsFirstLabelled labels l targets None = (k : ℕ) (t : WireNo) → slice_get targets k ≡ Some t → label labels t.0 ≡ Some l → ⊥
 IsFirstLabelled labels l targets (Some t) = (k : ℕ) × (slice_get targets k ≡ Some t) × (label labels t.0 ≡ Some l)
     × ((j : ℕ) (u : WireNo) → j < k → slice_get targets j ≡ Some u → label labels u.0 ≡ Some l → ⊥)
+
+-- the wires that are marked lead nowhere but to wires that no edge leaves, and these are marked, too
+pub record AreEnds (edges : List Edge) (ends : List Bool) : Type 0 where
+  pub last : (e f : Edge) → HasEdge edges e → HasEdge edges f → e.to.0 ≡ f.from.0 → done ends e.from.0 ≡ true → ⊥
+  pub left : (e : Edge) → HasEdge edges e → done ends e.to.0 ≡ false → (f : Edge) × HasEdge edges f × (f.from.0 ≡ e.to.0)

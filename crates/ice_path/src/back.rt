@@ -3,11 +3,12 @@ ghost use Rattle.std.specs.Prelude.{◌≡◌, ◌+◌, ◌<◌, ◌≤◌, ℕ,
 ghost use Rattle.ice_core.specs.Congestion.{ArePrices, price};
 ghost use Rattle.ice_graph.specs.declared.edge.Edge.{Edge as Row};
 ghost use Rattle.ice_path.specs.Search.{AreExact, AreExactBehind, IsFirstFrom, IsFirstLabelled, label};
-ghost use Rattle.ice_graph.specs.Network.{least_bound};
+ghost use Rattle.ice_path.specs.Aims.{IsAim, bound_in, leads};
 ghost use Rattle.ice_path.specs.Room.{AreWires};
 ghost use Rattle.ice_path.specs.Walks.{IsCostTo, IsLabel};
 ghost use Rattle.ice_path.specs.Paths.{IsStepBack, IsTaken, IsTakenTo, IsTargetTaken};
 
+use crate::aim::Aim;
 use ice_base::WireNo;
 use ice_core::Prices;
 use ice_graph::{Edge, Graph};
@@ -103,18 +104,19 @@ fn taken_target(
     graph: &Graph,
     prices: &Prices,
     tree: &[WireNo],
-    targets: &[WireNo],
+    aim: &Aim,
     labels: &[Option<u64>],
     cost: u64,
 ) -> WireNo
     requires lengths { length labels.now ≡ graph.now.wires }
-    requires targets { AreWires graph.now.wires targets.now }
-    requires cost { IsCostTo graph.now.edges (price prices.now) tree.now targets.now cost }
-    requires exact { AreExact graph.now.edges (price prices.now) tree.now (least_bound graph.now targets.now) cost labels.now }
-    ensures { IsTargetTaken graph.now.edges (price prices.now) tree.now targets.now result cost }
+    requires targets { AreWires graph.now.wires aim.now.targets.now }
+    requires aim { IsAim graph.now.edges (price prices.now) aim.now.targets.now (bound_in graph.now aim.now) (leads aim.now) }
+    requires cost { IsCostTo graph.now.edges (price prices.now) tree.now aim.now.targets.now cost }
+    requires exact { AreExact graph.now.edges (price prices.now) tree.now (bound_in graph.now aim.now) cost labels.now }
+    ensures { IsTargetTaken graph.now.edges (price prices.now) tree.now aim.now.targets.now result cost }
 {
     let (_graph, _prices, _tree) = (graph, prices, tree);
-    let Some(target) = first_labelled(targets, labels, cost) else {
+    let Some(target) = first_labelled(aim.targets, labels, cost) else {
         unreachable!()
     };
     target
@@ -125,25 +127,26 @@ pub fn take_path(
     graph: &Graph,
     prices: &Prices,
     tree: &[WireNo],
-    targets: &[WireNo],
+    aim: &Aim,
     labels: &[Option<u64>],
     cost: Option<u64>,
     path: &mut Vec<Edge>,
 )
     requires prices { ArePrices prices.now }
     requires lengths { (length prices.now.history.items ≡ graph.now.wires) × (length labels.now ≡ graph.now.wires) }
-    requires targets { AreWires graph.now.wires targets.now }
-    requires cost { IfSome cost (IsCostTo graph.now.edges (price prices.now) tree.now targets.now) }
-    requires exact { IfSome cost (λ c. AreExact graph.now.edges (price prices.now) tree.now (least_bound graph.now targets.now) c labels.now) }
+    requires targets { AreWires graph.now.wires aim.now.targets.now }
+    requires aim { IsAim graph.now.edges (price prices.now) aim.now.targets.now (bound_in graph.now aim.now) (leads aim.now) }
+    requires cost { IfSome cost (IsCostTo graph.now.edges (price prices.now) tree.now aim.now.targets.now) }
+    requires exact { IfSome cost (λ c. AreExact graph.now.edges (price prices.now) tree.now (bound_in graph.now aim.now) c labels.now) }
     requires path { path.old.items ≡ [] }
     requires space { graph.now.wires ≤ vec_capacity path.old }
-    ensures taken { OnSome cost (IsTakenTo graph.now.edges (price prices.now) tree.now targets.now path.new.items) }
+    ensures taken { OnSome cost (IsTakenTo graph.now.edges (price prices.now) tree.now aim.now.targets.now path.new.items) }
     ensures space { vec_capacity path.new ≡ vec_capacity path.old }
 {
     let Some(cost) = cost else {
         return;
     };
     let _edges = graph.edges();
-    let target = taken_target(graph, prices, tree, targets, labels, cost);
+    let target = taken_target(graph, prices, tree, aim, labels, cost);
     walk_back(graph, prices, tree, labels, target.0, cost, path);
 }

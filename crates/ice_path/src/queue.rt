@@ -3,11 +3,12 @@ ghost use Rattle.std.specs.Prelude.{◌≡◌, ◌+◌, ◌<◌, ◌≤◌, ℕ,
 ghost use Rattle.std.specs.BinaryHeap.{IsHeap, IsUpperBound, heap_items, heap_len, heap_capacity};
 ghost use Rattle.std.specs.List.{All, Contains};
 ghost use Rattle.std.specs.List.Sorted.{IsPermutation};
-ghost use Rattle.ice_graph.specs.Network.{least_bound};
+ghost use Rattle.ice_path.specs.Aims.{bound_in};
 ghost use Rattle.ice_path.specs.Queue.{Adds, AreLists, Entry, IsEmpty, IsFirstFar, IsFirstListed, IsFirstOpen, IsQueue, LeadDown, Listed, OnList, Waits, queue_len, sooner, entry, done};
 ghost use Rattle.ice_path.specs.Search.{IsLeastOpen, Queues};
 
-use ice_base::{NoMemory, WireNo};
+use crate::aim::Aim;
+use ice_base::NoMemory;
 use ice_graph::Graph;
 use std::alloc::Global;
 use std::cmp::Reverse;
@@ -199,22 +200,22 @@ fn next_far(far: &mut Far, settled: &[bool]) -> Option<(u32, u64)>
 /// since they were put in.
 pub fn next_open(
     graph: &Graph,
-    targets: &[WireNo],
+    aim: &Aim,
     queue: &mut Queue,
     labels: &[Option<u64>],
     settled: &[bool],
 ) -> Option<(u32, u64)>
     requires order { IsQueue queue.old }
     requires lengths { length settled.now ≡ length labels.now }
-    requires waits { Queues (least_bound graph.now targets.now) settled.now labels.now queue.old }
+    requires waits { Queues (bound_in graph.now aim.now) settled.now labels.now queue.old }
     ensures order { IsQueue queue.new }
-    ensures least { IsLeastOpen (least_bound graph.now targets.now) labels.now settled.now result }
-    ensures waits { IfSome result (λ r. Queues (least_bound graph.now targets.now) (slice_set settled.now r.0 true) labels.now queue.new) }
+    ensures least { IsLeastOpen (bound_in graph.now aim.now) labels.now settled.now result }
+    ensures waits { IfSome result (λ r. Queues (bound_in graph.now aim.now) (slice_set settled.now r.0 true) labels.now queue.new) }
     ensures within { IfSome result (λ r. r.0 < length labels.now) }
     ensures shorter { queue_len queue.new ≤ queue_len queue.old }
     ensures room { queue.new.room ≡ queue.old.room }
 {
-    let (_graph, _targets, _labels) = (graph, targets, labels);
+    let (_graph, _aim, _labels) = (graph, aim, labels);
     let listed = first_listed(&queue.heads, &queue.entries, settled, queue.low);
     let Some((sum, wire, behind)) = listed else {
         queue.low = 1024;

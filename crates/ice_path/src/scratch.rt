@@ -1,15 +1,19 @@
 //! The memory of a search.
 ghost use Rattle.std.specs.Prelude.{◌≡◌, ◌+◌, ◌*◌, ◌<◌, ◌≤◌, ◌^◌, ℕ, [], Bool, List, Option, None, false, length, vec_capacity, Some, is_some, IsSome, OnSome, IfOk, IfSome, IfNone};
 ghost use Rattle.ice_path.specs.Queue.{IsEmpty, IsQueue, queue_len};
-ghost use Rattle.ice_path.specs.Search.{label, done};
+ghost use Rattle.ice_path.specs.Aims.{Fits, IsAim, bound_in, leads};
+ghost use Rattle.ice_path.specs.Search.{AreEnds, label, done};
 ghost use Rattle.ice_core.specs.Congestion.{ArePrices, price};
 ghost use Rattle.ice_path.specs.Room.{IsFor, AreWires};
 ghost use Rattle.ice_graph.specs.Network.{least_bound};
 ghost use Rattle.ice_path.specs.Walks.{AreSettled, IsCostTo, NoWalkTo};
 ghost use Rattle.ice_path.specs.Paths.{IsTakenTo};
 
+use crate::ahead::{guides_of, look_back};
+use crate::aim::Aim;
 use crate::back::take_path;
 use crate::clear::wipe;
+use crate::ends::ends_of;
 use crate::queue::{Queue, clear, queue_for};
 use crate::search::search;
 use crate::start::root_all;
@@ -31,6 +35,19 @@ pub struct Scratch {
     order: Vec<WireNo>,
     path: Vec<Edge>,
     found: bool,
+    ahead: Ahead,
+}
+
+/// What a search may know of the way before it begins: which wires are near a target, the marked ones among them, and which
+/// wires of the graph lead nowhere.
+#[derive(Drop)]
+pub struct Ahead {
+    /// Of each wire near a target what a walk to a target costs at least.
+    pub near: Vec<Option<u64>>,
+    /// The wires that are near.
+    pub marked: Vec<u32>,
+    /// The wires that lead nowhere but to wires that no edge leaves.
+    pub ends: Vec<bool>,
 }
 
 impl Model for Scratch {
@@ -55,6 +72,7 @@ impl Scratch {
         let (labels, done) = marks(alloc, wires)?;
         let (touched, order, path) = lists(alloc, wires)?;
         let edges = graph.edges().len();
+        let ahead = ahead_of(alloc, graph)?;
         let queue = queue_for(alloc, wires + edges)?;
         Ok(Scratch {
             labels,
@@ -65,6 +83,7 @@ impl Scratch {
             order,
             path,
             found: false,
+            ahead,
         })
     }
 }
@@ -97,11 +116,20 @@ pub fn connect(
     ensures settled { IfSome result (λ cost. AreSettled graph.now.edges (price prices.now) tree.now.wires.items (least_bound graph.now targets.now) cost scratch.new.settled) }
     ensures scratch { IsFor graph.now scratch.new }
 {
+    let _edges = graph.edges();
+    let aim = Aim {
+        targets,
+        guides: targets,
+        near: &scratch.ahead.near,
+        ends: &[],
+        far: 0,
+        depth: 0,
+    };
     let cost = find(
         graph,
         prices,
         &tree.wires,
-        targets,
+        &aim,
         &mut scratch.labels,
         &mut scratch.done,
         &mut scratch.order,
@@ -111,6 +139,66 @@ pub fn connect(
     );
     scratch.found = cost.is_some();
     cost
+}
+
+/// The same as `connect`, found sooner where targets or the ways into them are dear: it first looks three steps back from the
+/// targets. It says nothing of the wires that it settles.
+pub fn connect_ahead(
+    graph: &Graph,
+    prices: &Prices,
+    tree: &Tree,
+    targets: &[WireNo],
+    scratch: &mut Scratch,
+) -> Option<u64>
+    requires prices { ArePrices prices.now }
+    requires wires { length prices.now.history.items ≡ graph.now.wires }
+    requires tree { AreWires graph.now.wires tree.now.wires.items }
+    requires targets { AreWires graph.now.wires targets.now }
+    requires some { 0 < length targets.now }
+    requires scratch { IsFor graph.now scratch.old }
+    ensures some { IfSome result (IsCostTo graph.now.edges (price prices.now) tree.now.wires.items targets.now) }
+    ensures bound { IfSome result (λ cost. cost + 17046213234436 + 131071 < 2 ^ 64) }
+    ensures none { IfNone result (NoWalkTo graph.now.edges tree.now.wires.items targets.now) }
+    ensures found { is_some scratch.new.path ≡ is_some result }
+    ensures path { IfSome scratch.new.path (IsTakenTo graph.now.edges (price prices.now) tree.now.wires.items targets.now) }
+    ensures scratch { IsFor graph.now scratch.new }
+{
+    let _edges = graph.edges();
+    let far = look_back(
+        graph,
+        prices,
+        targets,
+        &mut scratch.ahead.near,
+        &mut scratch.ahead.marked,
+    );
+    let aim = Aim {
+        targets,
+        guides: guides_of(graph, targets),
+        near: &scratch.ahead.near,
+        ends: &scratch.ahead.ends,
+        far,
+        depth: 3,
+    };
+    let least = find(
+        graph,
+        prices,
+        &tree.wires,
+        &aim,
+        &mut scratch.labels,
+        &mut scratch.done,
+        &mut scratch.order,
+        &mut scratch.touched,
+        &mut scratch.queue,
+        &mut scratch.path,
+    );
+    wipe(
+        &mut scratch.ahead.near,
+        &mut scratch.done,
+        &scratch.ahead.marked,
+    );
+    scratch.ahead.marked.clear();
+    scratch.found = least.is_some();
+    least
 }
 
 /// The path of the last search, which found one: the edges of the taken path in order, from the tree to the
@@ -154,6 +242,19 @@ fn lists(alloc: Global, wires: usize) -> Result<(Vec<u32>, Vec<WireNo>, Vec<Edge
     Ok((touched, order, path))
 }
 
+// What a search may know of the way, where it knows nothing yet.
+fn ahead_of(alloc: Global, graph: &Graph) -> Result<Ahead, NoMemory>
+    ensures near { IfOk result (λ a. (length a.near.items ≡ graph.now.wires) × ((w : ℕ) → label a.near.items w ≡ None)) }
+    ensures marked { IfOk result (λ a. (a.marked.items ≡ []) × (graph.now.wires ≤ vec_capacity a.marked)) }
+    ensures ends { IfOk result (λ a. AreEnds graph.now.edges a.ends.items) }
+{
+    let wires = graph.wires() as usize;
+    let ends = ends_of(alloc, graph)?;
+    let near = vec![in alloc; None; wires]?;
+    let marked = Vec::with_capacity(alloc, wires)?;
+    Ok(Ahead { near, marked, ends })
+}
+
 // The least cost of a walk to one of the targets, from memory that is clear. It leaves the memory clear but for the
 // wires that were settled, and the taken path where there is one.
 #[tactic(auto, using(crate::proofs::Touching::touches_none, crate::proofs::Touching::only_at))]
@@ -161,7 +262,7 @@ fn find(
     graph: &Graph,
     prices: &Prices,
     tree: &[WireNo],
-    targets: &[WireNo],
+    aim: &Aim,
     labels: &mut [Option<u64>],
     settled: &mut [bool],
     order: &mut Vec<WireNo>,
@@ -172,8 +273,8 @@ fn find(
     requires prices { ArePrices prices.now }
     requires lengths { (length prices.now.history.items ≡ graph.now.wires) × (length labels.old ≡ graph.now.wires) × (length settled.old ≡ graph.now.wires) }
     requires tree { AreWires graph.now.wires tree.now }
-    requires targets { AreWires graph.now.wires targets.now }
-    requires some { 0 < length targets.now }
+    requires fits { Fits graph.now aim.now }
+    requires aim { IsAim graph.now.edges (price prices.now) aim.now.targets.now (bound_in graph.now aim.now) (leads aim.now) }
     requires labels { (w : ℕ) → label labels.old w ≡ None }
     requires settled { (w : ℕ) → done settled.old w ≡ false }
     requires list { graph.now.wires ≤ vec_capacity order.old }
@@ -182,12 +283,12 @@ fn find(
     requires queue { IsEmpty queue.old × (queue_len queue.old ≡ 0) × IsQueue queue.old }
     requires room { graph.now.wires + length graph.now.edges ≤ queue.old.room }
     requires path { graph.now.wires ≤ vec_capacity path.old }
-    ensures some { IfSome result (IsCostTo graph.now.edges (price prices.now) tree.now targets.now) }
+    ensures some { IfSome result (IsCostTo graph.now.edges (price prices.now) tree.now aim.now.targets.now) }
     ensures bound { IfSome result (λ cost. cost ≤ 1048575 * 17046213234436) }
-    ensures taken { OnSome result (IsTakenTo graph.now.edges (price prices.now) tree.now targets.now path.new.items) }
+    ensures taken { OnSome result (IsTakenTo graph.now.edges (price prices.now) tree.now aim.now.targets.now path.new.items) }
     ensures path { vec_capacity path.new ≡ vec_capacity path.old }
-    ensures none { IfNone result (NoWalkTo graph.now.edges tree.now targets.now) }
-    ensures listed { IfSome result (λ cost. AreSettled graph.now.edges (price prices.now) tree.now (least_bound graph.now targets.now) cost order.new.items) }
+    ensures none { IfNone result (NoWalkTo graph.now.edges tree.now aim.now.targets.now) }
+    ensures listed { IfSome result (λ cost. AreSettled graph.now.edges (price prices.now) tree.now (bound_in graph.now aim.now) cost order.new.items) }
     ensures list { vec_capacity order.new ≡ vec_capacity order.old }
     ensures labels { (w : ℕ) → label labels.new w ≡ None }
     ensures settled { (w : ℕ) → done settled.new w ≡ false }
@@ -198,11 +299,11 @@ fn find(
 {
     path.clear();
     order.clear();
-    root_all(graph, targets, labels, touched, queue, tree, settled);
+    root_all(graph, aim, labels, touched, queue, tree, settled);
     let cost = search(
-        graph, prices, tree, targets, labels, settled, order, touched, queue,
+        graph, prices, tree, aim, labels, settled, order, touched, queue,
     );
-    take_path(graph, prices, tree, targets, labels, cost, path);
+    take_path(graph, prices, tree, aim, labels, cost, path);
     wipe(labels, settled, touched);
     touched.clear();
     clear(queue);

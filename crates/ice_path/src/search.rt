@@ -4,13 +4,14 @@ ghost use Rattle.std.specs.Prelude.{◌≡◌, ◌+◌, ◌*◌, ◌<◌, ◌≤
 ghost use Rattle.ice_core.specs.Congestion.{ArePrices, price};
 ghost use Rattle.ice_graph.specs.declared.edge.Edge.{Edge as Row};
 ghost use Rattle.ice_base.specs.declared.number.WireNo.{WireNo as Wire};
-ghost use Rattle.ice_graph.specs.Network.{AreBetween, BoundsFall, least_bound};
+ghost use Rattle.ice_graph.specs.Network.{AreBetween};
+ghost use Rattle.ice_path.specs.Aims.{Fits, IsAim, bound_in, leads};
 ghost use Rattle.ice_path.specs.Queue.{IsQueue, queue_len};
 ghost use Rattle.ice_path.specs.Search.{AreExact, AtMost, IsNearest, IsNext, Lists, Lowers, Relaxes, Searches, Starts, Queues, Touches, is_beyond, nearest_after, open_edges, done, label};
-ghost use Rattle.ice_path.specs.Room.{AreWires};
 ghost use Rattle.ice_path.specs.Walks.{AreSettled, InTree, IsCostTo, NoWalkTo};
 ghost use Rattle.std.specs.List.{Contains};
 
+use crate::aim::Aim;
 use crate::queue::{Queue, next_open, push};
 use ice_base::WireNo;
 use ice_core::Prices;
@@ -20,36 +21,36 @@ use ice_graph::{Edge, Graph};
 #[tactic(auto, using(crate::proofs::Queueing::marked, crate::proofs::Queueing::lowers_by_set))]
 pub fn mark(
     graph: &Graph,
-    targets: &[WireNo],
+    aim: &Aim,
     labels: &mut [Option<u64>],
     queue: &mut Queue,
     wire: u32,
     cost: u64,
 )
     requires wires { length labels.old ≡ graph.now.wires }
-    requires targets { AreWires graph.now.wires targets.now }
-    requires some { 0 < length targets.now }
+    requires fits { Fits graph.now aim.now }
     requires cost { cost ≤ 1048576 * 17046213234436 }
     requires within { wire < length labels.old }
+    requires leads { leads aim.now wire ≡ true }
     requires lower { (l : ℕ) → label labels.old wire ≡ Some l → cost < l }
     requires order { IsQueue queue.old }
     requires room { queue_len queue.old < queue.old.room }
     ensures labels { labels.new ≡ slice_set labels.old wire (Some cost) }
     ensures lowers { Lowers labels.old labels.new wire cost }
-    ensures waits { (settled : List Bool) → Queues (least_bound graph.now targets.now) settled labels.old queue.old → Queues (least_bound graph.now targets.now) settled labels.new queue.new }
+    ensures waits { (settled : List Bool) → Queues (bound_in graph.now aim.now) settled labels.old queue.old → Queues (bound_in graph.now aim.now) settled labels.new queue.new }
     ensures order { IsQueue queue.new }
     ensures len { queue_len queue.new ≡ queue_len queue.old + 1 }
     ensures capacity { queue.new.room ≡ queue.old.room }
 {
     labels[wire as usize] = Some(cost);
-    push(queue, cost + graph.least_bound(WireNo(wire), targets), wire);
+    push(queue, cost + aim.bound(graph, WireNo(wire)), wire);
 }
 
 // Lowers the label of a wire to this cost, unless it is no more than that.
 #[tactic(auto, using(crate::proofs::Touching::touched_new, crate::proofs::Touching::touched_again, crate::proofs::Touching::room_left, crate::proofs::Touching::no_label, crate::proofs::Touching::one_label, crate::proofs::Relaxing::lowers_not))]
 fn lower(
     graph: &Graph,
-    targets: &[WireNo],
+    aim: &Aim,
     labels: &mut [Option<u64>],
     touched: &mut Vec<u32>,
     queue: &mut Queue,
@@ -57,16 +58,16 @@ fn lower(
     cost: u64,
 )
     requires wires { length labels.old ≡ graph.now.wires }
-    requires targets { AreWires graph.now.wires targets.now }
-    requires some { 0 < length targets.now }
+    requires fits { Fits graph.now aim.now }
     requires cost { cost ≤ 1048576 * 17046213234436 }
     requires within { wire < length labels.old }
+    requires leads { leads aim.now wire ≡ true }
     requires order { IsQueue queue.old }
     requires room { queue_len queue.old < queue.old.room }
     requires touches { Touches labels.old touched.old.items }
     requires space { length labels.old ≤ vec_capacity touched.old }
     ensures lowers { Lowers labels.old labels.new wire cost }
-    ensures waits { (settled : List Bool) → Queues (least_bound graph.now targets.now) settled labels.old queue.old → Queues (least_bound graph.now targets.now) settled labels.new queue.new }
+    ensures waits { (settled : List Bool) → Queues (bound_in graph.now aim.now) settled labels.old queue.old → Queues (bound_in graph.now aim.now) settled labels.new queue.new }
     ensures order { IsQueue queue.new }
     ensures len { queue_len queue.new ≤ queue_len queue.old + 1 }
     ensures capacity { queue.new.room ≡ queue.old.room }
@@ -75,13 +76,13 @@ fn lower(
 {
     let Some(label) = labels[wire as usize] else {
         touched.push_reserved(wire);
-        mark(graph, targets, labels, queue, wire, cost);
+        mark(graph, aim, labels, queue, wire, cost);
         return;
     };
     if label <= cost {
         return;
     }
-    mark(graph, targets, labels, queue, wire, cost);
+    mark(graph, aim, labels, queue, wire, cost);
 }
 
 // Whether the wire has a label that is no more than this cost.
@@ -96,10 +97,10 @@ fn is_reached(labels: &[Option<u64>], wire: u32, cost: u64) -> bool
 }
 
 // Lowers the label behind one row of a wire with the label `cost`. What has a label up to that costs no more, at any price.
-#[tactic(auto, using(crate::proofs::Relaxing::relax_skip, crate::proofs::Relaxing::relax_reached, crate::proofs::Relaxing::relax_step))]
+#[tactic(auto, using(crate::proofs::Relaxing::relax_astray, crate::proofs::Relaxing::relax_skip, crate::proofs::Relaxing::relax_reached, crate::proofs::Relaxing::relax_step))]
 fn relax_one(
     graph: &Graph,
-    targets: &[WireNo],
+    aim: &Aim,
     row: Edge,
     prices: &Prices,
     settled: &[bool],
@@ -109,8 +110,7 @@ fn relax_one(
     queue: &mut Queue,
 )
     requires wires { length labels.old ≡ graph.now.wires }
-    requires targets { AreWires graph.now.wires targets.now }
-    requires some { 0 < length targets.now }
+    requires fits { Fits graph.now aim.now }
     requires row { row.to.0 < length labels.old }
     requires prices { ArePrices prices.now }
     requires lengths { (length prices.now.history.items ≡ length labels.old) × (length settled.now ≡ length labels.old) }
@@ -119,14 +119,17 @@ fn relax_one(
     requires room { queue_len queue.old < queue.old.room }
     requires touches { Touches labels.old touched.old.items }
     requires space { length labels.old ≤ vec_capacity touched.old }
-    ensures relaxes { (rows : List Row) (k : ℕ) (first : List (Option ℕ)) → slice_get rows k ≡ Some row → Relaxes rows (price prices.now) settled.now cost k first labels.old → Relaxes rows (price prices.now) settled.now cost (k + 1) first labels.new }
-    ensures waits { (now : List Bool) → Queues (least_bound graph.now targets.now) now labels.old queue.old → Queues (least_bound graph.now targets.now) now labels.new queue.new }
+    ensures relaxes { (rows : List Row) (k : ℕ) (first : List (Option ℕ)) → slice_get rows k ≡ Some row → Relaxes rows (price prices.now) (leads aim.now) settled.now cost k first labels.old → Relaxes rows (price prices.now) (leads aim.now) settled.now cost (k + 1) first labels.new }
+    ensures waits { (now : List Bool) → Queues (bound_in graph.now aim.now) now labels.old queue.old → Queues (bound_in graph.now aim.now) now labels.new queue.new }
     ensures order { IsQueue queue.new }
     ensures len { queue_len queue.new ≤ queue_len queue.old + 1 }
     ensures capacity { queue.new.room ≡ queue.old.room }
     ensures touches { Touches labels.new touched.new.items }
     ensures space { vec_capacity touched.new ≡ vec_capacity touched.old }
 {
+    if !aim.leads(row.to) {
+        return;
+    }
     if settled[row.to.0 as usize] {
         return;
     }
@@ -135,7 +138,7 @@ fn relax_one(
     }
     lower(
         graph,
-        targets,
+        aim,
         labels,
         touched,
         queue,
@@ -148,7 +151,7 @@ fn relax_one(
 #[tactic(auto, using(crate::proofs::Relaxing::relax_none))]
 fn relax(
     graph: &Graph,
-    targets: &[WireNo],
+    aim: &Aim,
     rows: &[Edge],
     prices: &Prices,
     settled: &[bool],
@@ -158,8 +161,7 @@ fn relax(
     queue: &mut Queue,
 )
     requires wires { length labels.old ≡ graph.now.wires }
-    requires targets { AreWires graph.now.wires targets.now }
-    requires some { 0 < length targets.now }
+    requires fits { Fits graph.now aim.now }
     requires rows { (k : ℕ) (e : Row) → slice_get rows.now k ≡ Some e → e.to.0 < length labels.old }
     requires prices { ArePrices prices.now }
     requires lengths { (length prices.now.history.items ≡ length labels.old) × (length settled.now ≡ length labels.old) }
@@ -168,9 +170,9 @@ fn relax(
     requires room { queue_len queue.old + length rows.now ≤ queue.old.room }
     requires touches { Touches labels.old touched.old.items }
     requires space { length labels.old ≤ vec_capacity touched.old }
-    requires waits { Queues (least_bound graph.now targets.now) settled.now labels.old queue.old }
-    ensures relaxes { Relaxes rows.now (price prices.now) settled.now cost (length rows.now) labels.old labels.new }
-    ensures waits { Queues (least_bound graph.now targets.now) settled.now labels.new queue.new }
+    requires waits { Queues (bound_in graph.now aim.now) settled.now labels.old queue.old }
+    ensures relaxes { Relaxes rows.now (price prices.now) (leads aim.now) settled.now cost (length rows.now) labels.old labels.new }
+    ensures waits { Queues (bound_in graph.now aim.now) settled.now labels.new queue.new }
     ensures order { IsQueue queue.new }
     ensures len { queue_len queue.new ≤ queue_len queue.old + length rows.now }
     ensures capacity { queue.new.room ≡ queue.old.room }
@@ -179,7 +181,7 @@ fn relax(
 {
     for row in rows {
         relax_one(
-            graph, targets, *row, prices, settled, cost, labels, touched, queue,
+            graph, aim, *row, prices, settled, cost, labels, touched, queue,
         );
     }
 }
@@ -189,7 +191,7 @@ fn relax(
 fn settle(
     graph: &Graph,
     prices: &Prices,
-    targets: &[WireNo],
+    aim: &Aim,
     wire: u32,
     cost: u64,
     labels: &mut [Option<u64>],
@@ -199,22 +201,21 @@ fn settle(
 )
     requires prices { ArePrices prices.now }
     requires lengths { (length prices.now.history.items ≡ graph.now.wires) × (length labels.old ≡ graph.now.wires) × (length settled.old ≡ graph.now.wires) }
-    requires targets { AreWires graph.now.wires targets.now }
-    requires some { 0 < length targets.now }
+    requires fits { Fits graph.now aim.now }
     requires between { AreBetween graph.now.wires graph.now.edges }
-    requires falls { BoundsFall graph.now }
-    requires next { IsNext (least_bound graph.now targets.now) labels.old settled.old wire cost }
+    requires aim { IsAim graph.now.edges (price prices.now) aim.now.targets.now (bound_in graph.now aim.now) (leads aim.now) }
+    requires next { IsNext (bound_in graph.now aim.now) labels.old settled.old wire cost }
     requires wire { wire < graph.now.wires }
     requires cost { cost ≤ 1048575 * 17046213234436 }
     requires order { IsQueue queue.old }
     requires room { queue_len queue.old + open_edges settled.old graph.now.edges ≤ queue.old.room }
     requires touches { Touches labels.old touched.old.items }
     requires space { graph.now.wires ≤ vec_capacity touched.old }
-    requires waits { Queues (least_bound graph.now targets.now) (slice_set settled.old wire true) labels.old queue.old }
+    requires waits { Queues (bound_in graph.now aim.now) (slice_set settled.old wire true) labels.old queue.old }
     ensures settled { settled.new ≡ slice_set settled.old wire true }
     ensures fixed { (w : ℕ) → done settled.new w ≡ true → label labels.new w ≡ label labels.old w }
-    ensures searches { (tree : List Wire) (count : ℕ) → Searches graph.now.edges (price prices.now) tree (least_bound graph.now targets.now) 17046213234436 count labels.old settled.old → Searches graph.now.edges (price prices.now) tree (least_bound graph.now targets.now) 17046213234436 (count + 1) labels.new settled.new }
-    ensures waits { Queues (least_bound graph.now targets.now) settled.new labels.new queue.new }
+    ensures searches { (tree : List Wire) (count : ℕ) → Searches graph.now.edges (price prices.now) tree (bound_in graph.now aim.now) (leads aim.now) 17046213234436 count labels.old settled.old → Searches graph.now.edges (price prices.now) tree (bound_in graph.now aim.now) (leads aim.now) 17046213234436 (count + 1) labels.new settled.new }
+    ensures waits { Queues (bound_in graph.now aim.now) settled.new labels.new queue.new }
     ensures order { IsQueue queue.new }
     ensures room { queue_len queue.new + open_edges settled.new graph.now.edges ≤ queue.new.room }
     ensures capacity { queue.new.room ≡ queue.old.room }
@@ -224,7 +225,7 @@ fn settle(
     settled[wire as usize] = true;
     relax(
         graph,
-        targets,
+        aim,
         graph.rows_from(WireNo(wire)),
         prices,
         settled,
@@ -273,7 +274,7 @@ pub fn search(
     graph: &Graph,
     prices: &Prices,
     tree: &[WireNo],
-    targets: &[WireNo],
+    aim: &Aim,
     labels: &mut [Option<u64>],
     settled: &mut [bool],
     order: &mut Vec<WireNo>,
@@ -282,22 +283,22 @@ pub fn search(
 ) -> Option<u64>
     requires prices { ArePrices prices.now }
     requires lengths { (length prices.now.history.items ≡ graph.now.wires) × (length labels.old ≡ graph.now.wires) × (length settled.old ≡ graph.now.wires) }
-    requires targets { AreWires graph.now.wires targets.now }
-    requires some { 0 < length targets.now }
-    requires starts { Starts tree.now (length tree.now) labels.old settled.old }
+    requires fits { Fits graph.now aim.now }
+    requires aim { IsAim graph.now.edges (price prices.now) aim.now.targets.now (bound_in graph.now aim.now) (leads aim.now) }
+    requires starts { Starts tree.now (leads aim.now) (length tree.now) labels.old settled.old }
     requires listed { order.old.items ≡ [] }
     requires list { graph.now.wires ≤ vec_capacity order.old }
     requires order { IsQueue queue.old }
     requires room { queue_len queue.old + length graph.now.edges ≤ queue.old.room }
     requires touches { Touches labels.old touched.old.items }
     requires space { graph.now.wires ≤ vec_capacity touched.old }
-    requires waits { Queues (least_bound graph.now targets.now) settled.old labels.old queue.old }
-    ensures some { IfSome result (IsCostTo graph.now.edges (price prices.now) tree.now targets.now) }
-    ensures exact { IfSome result (λ c. AreExact graph.now.edges (price prices.now) tree.now (least_bound graph.now targets.now) c labels.new) }
-    ensures settled { IfSome result (λ c. AreSettled graph.now.edges (price prices.now) tree.now (least_bound graph.now targets.now) c order.new.items) }
+    requires waits { Queues (bound_in graph.now aim.now) settled.old labels.old queue.old }
+    ensures some { IfSome result (IsCostTo graph.now.edges (price prices.now) tree.now aim.now.targets.now) }
+    ensures exact { IfSome result (λ c. AreExact graph.now.edges (price prices.now) tree.now (bound_in graph.now aim.now) c labels.new) }
+    ensures settled { IfSome result (λ c. AreSettled graph.now.edges (price prices.now) tree.now (bound_in graph.now aim.now) c order.new.items) }
     ensures bound { IfSome result (λ c. c ≤ 1048575 * 17046213234436) }
     ensures length { length labels.new ≡ length labels.old }
-    ensures none { IfNone result (NoWalkTo graph.now.edges tree.now targets.now) }
+    ensures none { IfNone result (NoWalkTo graph.now.edges tree.now aim.now.targets.now) }
     ensures list { vec_capacity order.new ≡ vec_capacity order.old }
     ensures order { IsQueue queue.new }
     ensures capacity { queue.new.room ≡ queue.old.room }
@@ -309,7 +310,7 @@ pub fn search(
     let rounds = settled.len() + 1;
     let mut nearest = None;
     for _round in 0..rounds {
-        let Some((wire, sum)) = next_open(graph, targets, queue, labels, settled) else {
+        let Some((wire, sum)) = next_open(graph, aim, queue, labels, settled) else {
             return nearest;
         };
         if is_past(nearest, sum) {
@@ -319,7 +320,7 @@ pub fn search(
         nearest = nearest_with(nearest, cost, sum);
         order.push_reserved(WireNo(wire));
         settle(
-            graph, prices, targets, wire, cost, labels, settled, touched, queue,
+            graph, prices, aim, wire, cost, labels, settled, touched, queue,
         );
     }
     unreachable!()

@@ -1,9 +1,9 @@
 use Rattle.std.proofs.Common.{◌+◌, subst}
-use Rattle.ice_graph.specs.Network.{least_bound}
+use Rattle.ice_path.specs.Aims.{bound_in}
 use Rattle.ice_path.specs.Queue.{Adds}
 use Rattle.ice_path.proofs.Queueing.{marked}
 use Rattle.ice_path.proofs.search.mark.Goals as goal
 
 pub returns-clause-waits : goal.returns-clause-waits
-returns-clause-waits c = marked (least_bound c.args.graph.now c.args.targets.now) c.args.labels.now c.args.wire c.args.cost c.args.queue.now c.push.new.queue c.requires.within c.requires.lower
-    (subst (λ b. Adds c.args.queue.now c.push.new.queue (c.args.cost + b) c.args.wire) c.least_bound.ensures.bound c.push.ensures.adds)
+returns-clause-waits c = marked (bound_in c.args.graph.now c.args.aim.now) c.args.labels.now c.args.wire c.args.cost c.args.queue.now c.push.new.queue c.requires.within c.requires.lower
+    (subst (λ b. Adds c.args.queue.now c.push.new.queue (c.args.cost + b) c.args.wire) c.bound.ensures.bound c.push.ensures.adds)

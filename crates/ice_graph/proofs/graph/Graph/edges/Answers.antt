@@ -1,4 +1,4 @@
-use Rattle.std.proofs.Common.{sym, subst}
+use Rattle.std.proofs.Common.{subst}
 use Rattle.ice_graph.specs.Network.{BoundsFall, network_of}
 use Rattle.ice_graph.proofs.Bounding.{bounds_fall}
 use Rattle.ice_graph.proofs.graph.Graph.edges.Goals as goal
