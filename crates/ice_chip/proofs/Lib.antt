@@ -13,6 +13,8 @@ mod WireNamesRead
 mod FunctionNamesRead
 mod DerivedEquality
 mod SharedLaws
+mod PlacedTexts
+mod FirstBytes
 mod FirstOfAll
 mod EachNumber
 mod NeededNames

@@ -1,5 +1,5 @@
 -- What is known of the uses of bits so far gives the first two lines of all uses that clash.
-use Rattle.std.proofs.Common.{◌≡◌, ℕ, Bool, true, false, Option, None, Some, List, [], ◌∷◌, ◌++◌, fold, refl, sym, ap, ◌∙◌, true≢false, nat_lt, ◌==◌, ◌&&◌, ◌||◌, if◌then◌else◌, arith, eqb-true}
+use Rattle.std.proofs.Common.{◌≡◌, ℕ, Bool, true, false, Option, None, Some, List, [], ◌∷◌, ◌++◌, fold, map, refl, sym, ap, ◌∙◌, true≢false, nat_lt, ◌==◌, ◌&&◌, ◌||◌, if◌then◌else◌, arith, eqb-true}
 use Rattle.std.proofs.Math.Path.{fun_ext}
 use Rattle.std.proofs.lemmas.Grind.{common_steps}
 use Rattle.std.proofs.lemmas.List.Sums.{fold-append}
@@ -7,12 +7,13 @@ use Rattle.std.specs.List.{flat_map}
 use Rattle.std.specs.Map.{lookup}
 use Rattle.indexmap.specs.IndexMap.{insert_entry}
 use Rattle.ice_base.specs.declared.number.TileAt.{TileAt}
-use Rattle.ice_chip.specs.BitsUsed.{BitsUsed, none_used, with_line, with_clash, with_use, with_uses, with_functions, with_groups}
+use Rattle.ice_base.specs.declared.number.BitAt.{BitAt}
+use Rattle.ice_chip.specs.BitsUsed.{BitsUsed, none_used, with_line, with_clash, with_use, with_uses, with_functions, with_groups, with_others, groups_shared}
 use Rattle.ice_chip.specs.Database.{Parts, FunctionRow, SwitchGroup}
 use Rattle.ice_chip.specs.Functions.{same_kind}
 use Rattle.ice_chip.specs.Places.{tile_known}
 use Rattle.ice_chip.specs.LeastLine.{least_of}
-use Rattle.ice_chip.specs.SharedFunction.{same_bit, bit_uses, function_uses, group_uses, clash, two_lines, clashes_with, clashes, first_of, shared_function}
+use Rattle.ice_chip.specs.SharedFunction.{same_bit, bit_use, bit_uses, function_uses, group_uses, clash, two_lines, clashes_with, clashes, first_of, shared_function}
 use Rattle.ice_chip.specs.declared.parts.TileLine.{TileLine}
 use Rattle.ice_chip.specs.declared.rows.TileKind.{TileKind}
 use Rattle.ice_chip.specs.declared.rows.TileKind.TheVariants.{Io, Logic, RamBottom, RamTop}
@@ -183,3 +184,30 @@ shared_is_first parts =
     ∙ ap (λ s. with_uses s groups) (functions_are_uses none_used parts.functions)
     ∙ sym (with_uses-append none_used functions groups))
     ∙ first_of_uses none_used [] (bit_uses parts) (record { any = λ p. refl; read = λ p. refl })
+
+-- ---- groups, of which none is a read function
+others_read : (s : BitsUsed) (kind : TileKind) (line : ℕ) (bits : List BitAt) → (with_uses s (map (bit_use kind false line) bits)).read ≡ s.read
+others_read s kind line [] = refl
+others_read s kind line (b ∷ bits) = others_read (with_use s (bit_use kind false line b) false) kind line bits
+
+others_shared : (s : BitsUsed) (kind : TileKind) (line : ℕ) (bits : List BitAt) → (with_uses s (map (bit_use kind false line) bits)).shared ≡ with_others s.read s.shared (map (bit_use kind false line) bits)
+others_shared s kind line [] = refl
+others_shared s kind line (b ∷ bits) = others_shared (with_use s (bit_use kind false line b) false) kind line bits
+
+group_read : (s : BitsUsed) (tile : Option TileLine) (g : SwitchGroup) → (with_uses s (group_uses tile g)).read ≡ s.read
+group_read s None g = refl
+group_read s (Some tile) g = others_read s tile.kind g.line g.bits
+
+group_shared : (s : BitsUsed) (tile : Option TileLine) (g : SwitchGroup) → (with_uses s (group_uses tile g)).shared ≡ with_others s.read s.shared (group_uses tile g)
+group_shared s None g = refl
+group_shared s (Some tile) g = others_shared s tile.kind g.line g.bits
+
+groups_are_shared : (tiles : List (TileAt × TileLine)) (s : BitsUsed) (gs : List SwitchGroup) → (with_groups tiles s gs).shared ≡ groups_shared tiles s.read s.shared gs
+groups_are_shared tiles s [] = refl
+groups_are_shared tiles s (g ∷ gs) =
+    groups_are_shared tiles (with_uses s (group_uses (tile_known tiles g.tile) g)) gs
+    ∙ ap (λ read. groups_shared tiles read (with_uses s (group_uses (tile_known tiles g.tile) g)).shared gs) (group_read s (tile_known tiles g.tile) g)
+    ∙ ap (λ shared. groups_shared tiles s.read shared gs) (group_shared s (tile_known tiles g.tile) g)
+
+pub groups_first : (parts : Parts) → groups_shared parts.tiles (with_functions none_used parts.functions).read (with_functions none_used parts.functions).shared parts.groups ≡ shared_function parts
+groups_first parts = sym (groups_are_shared parts.tiles (with_functions none_used parts.functions) parts.groups) ∙ shared_is_first parts

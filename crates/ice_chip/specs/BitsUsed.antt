@@ -52,3 +52,12 @@ with_functions s (f ∷ fs) = with_functions (with_uses s (function_uses f)) fs
 abbrev pub with_groups : List (TileAt × TileLine) → BitsUsed → List SwitchGroup → BitsUsed
 with_groups tiles s [] = s
 with_groups tiles s (g ∷ gs) = with_groups tiles (with_uses s (group_uses (tile_known tiles g.tile) g)) gs
+
+-- ---- the first two lines alone, where no read function follows
+abbrev pub with_others : List (KindBit × ℕ) → Option (ℕ × ℕ) → List BitUse → Option (ℕ × ℕ)
+with_others read shared [] = shared
+with_others read shared (u ∷ us) = with_others read (with_clash shared u.line (lookup (same_bit u.place) read)) us
+
+abbrev pub groups_shared : List (TileAt × TileLine) → List (KindBit × ℕ) → Option (ℕ × ℕ) → List SwitchGroup → Option (ℕ × ℕ)
+groups_shared tiles read shared [] = shared
+groups_shared tiles read shared (g ∷ gs) = groups_shared tiles read (with_others read shared (group_uses (tile_known tiles g.tile) g)) gs

@@ -27,3 +27,5 @@ pub mod UsedViews
 pub mod LacksFunction
 pub mod FirstShared
 pub mod FirstLacking
+pub mod PlacedTexts
+pub mod FirstBytes

@@ -64,7 +64,7 @@ impl NameIndex {
     {
         let mut names = NameIndex {
             texts: IndexSet::new(alloc),
-            wires: IndexMap::new(alloc),
+            wires: IndexMap::with_capacity(alloc, parts.names.len())?,
         };
         for row in &parts.names {
             if parts.tile_at(row.tile).is_some() {

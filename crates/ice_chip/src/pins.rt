@@ -1,12 +1,14 @@
 //! Wires that lead to two pins.
 ghost use Rattle.std.specs.Prelude.{◌≡◌, IfOk, nat_eq};
 ghost use Rattle.std.specs.Map.{lookup};
+ghost use Rattle.ice_chip.specs.Places.{tile_known};
 ghost use Rattle.ice_chip.specs.SharedPins.{is_pin, same_pin, with_pin, with_pin_name, shared_pin};
 ghost use Rattle.ice_chip.specs.WholeFaults.{clash_or};
 ghost use Rattle.ice_chip.specs.Views.{name_view, parts_view};
 
 use crate::{
     ChipParts, NameRow, PlacedName, TileLine, is_global_name, is_input_name, is_output_name,
+    tile_wire,
 };
 use ice_base::{NoMemory, name_of};
 use indexmap::IndexMap;
@@ -28,6 +30,16 @@ fn is_pin(tile: Option<TileLine>, name: &[u8]) -> bool
     match tile {
         None => false,
         Some(tile) => is_input_name(tile.kind, name) || is_output_name(tile.kind, name),
+    }
+}
+
+// Whether the name of a row is one of a pin of the tile at its place. Most names are those of no pin, whatever the tile.
+fn is_pin_there(parts: &ChipParts, row: &NameRow) -> bool
+    ensures { result ≡ is_pin (tile_known (parts_view parts.now).tiles row.now.tile) row.now.name }
+{
+    match tile_wire(row.name.as_bytes()) {
+        None => false,
+        Some(_) => is_pin(parts.tile_at(row.tile), row.name.as_bytes()),
     }
 }
 
@@ -59,13 +71,13 @@ fn note_pin(
 // Notes a name of a wire, where it is one of a pin; or the lines of two pins of the wire, the later one first.
 fn note_pin_name(
     alloc: Global,
-    tile: Option<TileLine>,
+    parts: &ChipParts,
     seen: &mut IndexMap<u32, PinLine>,
     row: &NameRow,
 ) -> Result<Option<(u32, u32)>, NoMemory>
-    ensures { IfOk result (λ lines. with_pin_name tile seen.old.entries (name_view row.now) ≡ clash_or lines seen.new.entries) }
+    ensures { IfOk result (λ lines. with_pin_name (tile_known (parts_view parts.now).tiles row.now.tile) seen.old.entries (name_view row.now) ≡ clash_or lines seen.new.entries) }
 {
-    if !is_pin(tile, row.name.as_bytes()) {
+    if !is_pin_there(parts, row) {
         return Ok(None);
     }
     let name = name_of(alloc, row.name.as_bytes())?;
@@ -91,7 +103,7 @@ impl ChipParts {
     {
         let mut seen = IndexMap::new(alloc);
         for name in &self.names {
-            let lines = note_pin_name(alloc, self.tile_at(name.tile), &mut seen, name)?;
+            let lines = note_pin_name(alloc, self, &mut seen, name)?;
             if lines.is_some() {
                 return Ok(lines);
             }

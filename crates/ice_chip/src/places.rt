@@ -19,12 +19,21 @@ fn add_rows(places: &mut Vec<RowPlace>, group: usize, rows: usize) -> Result<(),
     Ok(())
 }
 
+// How many rows the groups have together, or the most that can be said.
+fn count_of(groups: &[Group]) -> usize {
+    let mut count = 0usize;
+    for group in groups {
+        count = count.saturating_add(group.rows.len());
+    }
+    count
+}
+
 /// The place of each row of these groups, in order.
 #[tactic(auto, using(crate::proofs::RowPlaces::next_group))]
 pub fn row_places(alloc: Global, groups: &[Group]) -> Result<Vec<RowPlace>, NoMemory>
     ensures { IfOk result (λ places. map (row_at (map group_view groups.now)) places.items ≡ map Some (rows_of (map group_view groups.now))) }
 {
-    let mut places = Vec::new(alloc);
+    let mut places = Vec::with_capacity(alloc, count_of(groups))?;
     for (number, group) in groups.iter().enumerate() {
         add_rows(&mut places, number, group.rows.len())?;
     }

@@ -1,14 +1,15 @@
 //! Bits that a read function shares with another function, with a group or with itself.
 ghost use Rattle.std.specs.Prelude.{◌≡◌, None, map, true, false, IfOk, OnOk};
 ghost use Rattle.std.specs.Map.{lookup};
-ghost use Rattle.ice_chip.specs.BitsUsed.{none_used, with_line, with_clash, with_use, with_uses, with_functions, with_groups};
-ghost use Rattle.ice_chip.specs.SharedFunction.{bit_use, function_uses, group_uses, two_lines, precedes, first_of, shared_function};
+ghost use Rattle.ice_chip.specs.BitsUsed.{none_used, with_line, with_clash, with_use, with_uses, with_functions, with_others, groups_shared};
+ghost use Rattle.ice_chip.specs.SharedFunction.{same_bit, bit_use, function_uses, group_uses, two_lines, precedes, first_of, shared_function};
 ghost use Rattle.ice_chip.specs.UsedViews.{used_view};
 ghost use Rattle.ice_chip.specs.Views.{function_view, group_view, parts_view};
 
 use crate::least::least_of;
+use crate::whole::{placed_tile, tile_again};
 use crate::{ChipParts, Function, Group, TileKind, TileLine, is_foreign, is_read};
-use ice_base::{BitAt, NoMemory};
+use ice_base::{BitAt, NoMemory, TileAt};
 use indexmap::IndexMap;
 use std::alloc::Global;
 
@@ -165,15 +166,50 @@ impl UsedBits {
         }
         Ok(())
     }
+}
 
-    // Notes the bits of a group, where a tile stands at its place.
-    fn note_group(&mut self, tile: Option<TileLine>, group: &Group) -> Result<(), NoMemory>
-        ensures { OnOk result (used_view self.new ≡ with_uses (used_view self.old) (group_uses tile (group_view group.now))) }
-    {
-        match tile {
-            None => Ok(()),
-            Some(tile) => self.note_bits(tile.kind, false, group.line, &group.bits),
-        }
+// The first two lines of uses that clash, with those of another use than one of a read function.
+fn with_other(
+    read: &IndexMap<KindBit, u32>,
+    known: Option<(u32, u32)>,
+    place: KindBit,
+    line: u32,
+) -> Option<(u32, u32)>
+    ensures { result ≡ with_clash known line (lookup (same_bit place) read.now.entries) }
+{
+    with_clash(known, line, read.get(&place).copied())
+}
+
+// The first two lines of uses that clash, with those of other uses of these bits.
+fn with_others(
+    read: &IndexMap<KindBit, u32>,
+    known: Option<(u32, u32)>,
+    kind: TileKind,
+    line: u32,
+    bits: &[BitAt],
+) -> Option<(u32, u32)>
+    ensures { result ≡ with_others read.now.entries known (map (bit_use kind false line) bits.now) }
+{
+    let mut first = known;
+    for bit in bits {
+        let place = KindBit { kind, bit: *bit };
+        first = with_other(read, first, place, line);
+    }
+    first
+}
+
+// The first two lines of uses that clash, with those of a group, where a tile stands at its place.
+fn with_group(
+    read: &IndexMap<KindBit, u32>,
+    known: Option<(u32, u32)>,
+    tile: Option<TileLine>,
+    group: &Group,
+) -> Option<(u32, u32)>
+    ensures { result ≡ with_others read.now.entries known (group_uses tile (group_view group.now)) }
+{
+    match tile {
+        None => known,
+        Some(tile) => with_others(read, known, tile.kind, group.line, &group.bits),
     }
 }
 
@@ -188,14 +224,21 @@ fn note_functions(used: &mut UsedBits, functions: &[Function]) -> Result<(), NoM
 }
 
 impl ChipParts {
-    // Notes the bits of all groups.
-    fn note_groups(&self, used: &mut UsedBits) -> Result<(), NoMemory>
-        ensures { OnOk result (used_view used.new ≡ with_groups (parts_view self.now).tiles (used_view used.old) (parts_view self.now).groups) }
+    // The first two lines of uses that clash, with those of all groups. No read function is among these.
+    fn with_groups(
+        &self,
+        read: &IndexMap<KindBit, u32>,
+        known: Option<(u32, u32)>,
+    ) -> Option<(u32, u32)>
+        ensures { result ≡ groups_shared (parts_view self.now).tiles read.now.entries known (parts_view self.now).groups }
     {
+        let mut first = known;
+        let mut last = placed_tile(self, TileAt { x: 0, y: 0 });
         for group in &self.groups {
-            used.note_group(self.tile_at(group.tile), group)?;
+            last = tile_again(self, last, group.tile);
+            first = with_group(read, first, last.1, group);
         }
-        Ok(())
+        first
     }
 
     /// The later and the earlier line of a bit that a read function shares: with another function of the kind that is
@@ -207,7 +250,6 @@ impl ChipParts {
     {
         let mut used = UsedBits::new(alloc);
         note_functions(&mut used, &self.functions)?;
-        self.note_groups(&mut used)?;
-        Ok(used.shared)
+        Ok(self.with_groups(&used.read, used.shared))
     }
 }

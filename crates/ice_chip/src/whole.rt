@@ -3,10 +3,11 @@ ghost use Rattle.std.specs.Prelude.{◌≡◌, [], IfOk};
 ghost use Rattle.std.specs.Map.{lookup};
 ghost use Rattle.ice_chip.specs.Places.{columns, tile_known};
 ghost use Rattle.ice_chip.specs.WholeFaults.{group_without_tile, has_bit_beyond, exceeds, group_beyond_tile, same_placed, with_placed, with_name, clash_or, name_of_two_wires};
+ghost use Rattle.ice_chip.specs.PlacedTexts.{by_placed, placed_text};
 ghost use Rattle.ice_chip.specs.Views.{name_view, parts_view};
 
 use crate::{ChipParts, NameRow, TileKind, TileLine};
-use ice_base::{BitAt, Name, NoMemory, TileAt, name_of};
+use ice_base::{BitAt, Name, NoMemory, TileAt};
 use indexmap::IndexMap;
 use std::alloc::Global;
 
@@ -17,6 +18,15 @@ pub struct PlacedName {
     pub tile: TileAt,
     /// The name.
     pub name: Name,
+}
+
+/// A name at a place, as it stands in a row.
+#[derive(Clone, Copy, PartialEq, Eq, Hash)]
+pub struct PlacedText<'a> {
+    /// The place.
+    pub tile: TileAt,
+    /// The bytes of the name.
+    pub text: &'a [u8],
 }
 
 /// A wire and the line of one of its names.
@@ -42,6 +52,31 @@ impl TileKind {
     }
 }
 
+/// A place with the tile there.
+pub fn placed_tile(parts: &ChipParts, tile: TileAt) -> (TileAt, Option<TileLine>)
+    ensures place { result.0 ≡ tile }
+    ensures tile { result.1 ≡ tile_known (parts_view parts.now).tiles tile }
+{
+    (tile, parts.tile_at(tile))
+}
+
+/// A place with the tile there, by those of the last place, where that is the same. Most groups stand where the one before
+/// them does.
+pub fn tile_again(
+    parts: &ChipParts,
+    last: (TileAt, Option<TileLine>),
+    tile: TileAt,
+) -> (TileAt, Option<TileLine>)
+    requires { last.1 ≡ tile_known (parts_view parts.now).tiles last.0 }
+    ensures place { result.0 ≡ tile }
+    ensures tile { result.1 ≡ tile_known (parts_view parts.now).tiles tile }
+{
+    if last.0 == tile {
+        return last;
+    }
+    placed_tile(parts, tile)
+}
+
 impl ChipParts {
     /// The tile at a place, or None exactly where no tile stands there. It takes no memory.
     pub fn tile_at(&self, tile: TileAt) -> Option<TileLine>
@@ -54,8 +89,10 @@ impl ChipParts {
     pub fn group_without_tile(&self) -> Option<u32>
         ensures { result ≡ group_without_tile (parts_view self.now).tiles (parts_view self.now).groups }
     {
+        let mut last = placed_tile(self, TileAt { x: 0, y: 0 });
         for group in &self.groups {
-            if self.tile_at(group.tile).is_none() {
+            last = tile_again(self, last, group.tile);
+            if last.1.is_none() {
                 return Some(group.line);
             }
         }
@@ -67,9 +104,9 @@ impl ChipParts {
     pub fn name_of_two_wires(&self, alloc: Global) -> Result<Option<(u32, u32)>, NoMemory>
         ensures { IfOk result (λ lines. lines ≡ name_of_two_wires (parts_view self.now).tiles [] (parts_view self.now).names) }
     {
-        let mut seen = IndexMap::new(alloc);
+        let mut seen = IndexMap::with_capacity(alloc, self.names.len())?;
         for name in &self.names {
-            let lines = note_name(alloc, self.tile_at(name.tile), &mut seen, name)?;
+            let lines = note_name(self.tile_at(name.tile), &mut seen, name)?;
             if lines.is_some() {
                 return Ok(lines);
             }
@@ -81,8 +118,10 @@ impl ChipParts {
     pub fn group_beyond_tile(&self) -> Option<u32>
         ensures { result ≡ group_beyond_tile (parts_view self.now).tiles (parts_view self.now).groups }
     {
+        let mut last = placed_tile(self, TileAt { x: 0, y: 0 });
         for group in &self.groups {
-            if exceeds(self.tile_at(group.tile), &group.bits) {
+            last = tile_again(self, last, group.tile);
+            if exceeds(last.1, &group.bits) {
                 return Some(group.line);
             }
         }
@@ -113,12 +152,13 @@ fn exceeds(tile: Option<TileLine>, bits: &[BitAt]) -> bool
 }
 
 // Notes a name in a tile; or the lines of two wires with this name, the later one first.
-fn note_placed(
-    seen: &mut IndexMap<PlacedName, WireLine>,
-    placed: PlacedName,
+#[tactic(auto, using(crate::proofs::PlacedTexts::found))]
+fn note_placed<'a>(
+    seen: &mut IndexMap<PlacedText<'a>, WireLine>,
+    placed: PlacedText<'a>,
     known: WireLine,
 ) -> Result<Option<(u32, u32)>, NoMemory>
-    ensures { IfOk result (λ lines. with_placed seen.old.entries placed known (lookup (same_placed placed) seen.old.entries) ≡ clash_or lines seen.new.entries) }
+    ensures { IfOk result (λ lines. with_placed (by_placed seen.old.entries) (placed_text placed.entry) known (lookup (same_placed (placed_text placed.entry)) (by_placed seen.old.entries)) ≡ clash_or lines (by_placed seen.new.entries)) }
 {
     if let Some(old) = seen.get(&placed) {
         if old.wire == known.wire {
@@ -131,23 +171,21 @@ fn note_placed(
 }
 
 // Notes a name at a place, where a tile stands there; or the lines of two wires with this name, the later one first.
-fn note_name(
-    alloc: Global,
+fn note_name<'a>(
     tile: Option<TileLine>,
-    seen: &mut IndexMap<PlacedName, WireLine>,
-    row: &NameRow,
+    seen: &mut IndexMap<PlacedText<'a>, WireLine>,
+    row: &'a NameRow,
 ) -> Result<Option<(u32, u32)>, NoMemory>
-    ensures { IfOk result (λ lines. with_name tile seen.old.entries (name_view row.now) ≡ clash_or lines seen.new.entries) }
+    ensures { IfOk result (λ lines. with_name tile (by_placed seen.old.entries) (name_view row.now) ≡ clash_or lines (by_placed seen.new.entries)) }
 {
     if tile.is_none() {
         return Ok(None);
     }
-    let name = name_of(alloc, row.name.as_bytes())?;
     note_placed(
         seen,
-        PlacedName {
+        PlacedText {
             tile: row.tile,
-            name,
+            text: row.name.as_bytes(),
         },
         WireLine {
             wire: row.wire.0,

@@ -22,6 +22,7 @@ ghost use Rattle.ice_chip.specs.WireNames.{
   tile_wire,
   WireNamesAreRead,
 };
+ghost use Rattle.ice_chip.specs.FirstBytes.{may_be_wire};
 
 use crate::digits::{digit, number_behind, number_within};
 
@@ -233,8 +234,18 @@ fn lone_wire(name: &[u8]) -> Option<TileWire>
     None
 }
 
-/// The wire that a name in a tile is of, or None exactly where it is no such name.
-pub fn tile_wire(name: &[u8]) -> Option<TileWire>
+// Whether the name has the first byte of a name of such a wire. Most names of wires haven't.
+fn may_be_wire(name: &[u8]) -> bool
+    ensures { result ≡ may_be_wire name.now }
+{
+    match name {
+        [] => false,
+        [a, ..] => *a == b'l' || *a == b'i' || *a == b'g' || *a == b'c' || *a == b'f',
+    }
+}
+
+// The wire that a name in a tile is of.
+fn named_wire(name: &[u8]) -> Option<TileWire>
     ensures { result ≡ tile_wire name.now }
 {
     if let Some((cell, pin)) = number_within(8, b"lutff_", name) {
@@ -247,6 +258,16 @@ pub fn tile_wire(name: &[u8]) -> Option<TileWire>
         return Some(TileWire::Global(n));
     }
     lone_wire(name)
+}
+
+/// The wire that a name in a tile is of, or None exactly where it is no such name.
+pub fn tile_wire(name: &[u8]) -> Option<TileWire>
+    ensures { result ≡ tile_wire name.now }
+{
+    if !may_be_wire(name) {
+        return None;
+    }
+    named_wire(name)
 }
 
 /// The names of the wires of a tile are read as these wires, and no other names are: makers and reader are inverse. The

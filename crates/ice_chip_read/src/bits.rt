@@ -8,6 +8,9 @@ use ice_base::{BitAt, PlainWords, bit_named, digit_value};
 use ice_chip::ChipFault;
 use std::alloc::Global;
 
+// Room for the bits of most groups and functions. Allocators take no more memory for it than for one bit.
+const ROOM: usize = 12;
+
 /// The places of the bits with these names, among 16 rows and so many columns.
 #[tactic(auto, using(ice_base::proofs::KnownLists::all_begin, ice_base::proofs::KnownLists::known_joins))]
 pub fn bits(
@@ -18,7 +21,7 @@ pub fn bits(
 ) -> Result<Vec<BitAt>, ReadStop>
     ensures { Gives (λ bits. bits.items) result (bits_at line (bits_named columns names.entry)) }
 {
-    let mut bits = Vec::new(alloc);
+    let mut bits = Vec::with_capacity(alloc, ROOM)?;
     while let Some(name) = names.next() {
         let Some(bit) = bit_named(columns, name) else {
             return Err(ReadStop::Fault(ChipFault::BadBit { line }));

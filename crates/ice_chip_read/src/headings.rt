@@ -180,6 +180,16 @@ fn net_heading(reading: &mut Reading, line: u32, mut words: PlainWords<'_>) -> R
     Ok(())
 }
 
+// Room for the rows of a group of so many bits, as the known databases have them; for more it is found as they come.
+fn room_for_rows(bits: usize) -> usize {
+    match bits {
+        0 | 1 => 1,
+        2 => 4,
+        3 | 4 => 8,
+        _ => 16,
+    }
+}
+
 // `.buffer X Y DST B..` and `.routing X Y DST B..`
 fn switches_heading(
     alloc: Global,
@@ -193,12 +203,13 @@ fn switches_heading(
     let tile = tile_in(line, &reading.parts, x, y)?;
     let wire = wire_in(line, &reading.parts, wire)?;
     let bits = group_bits(alloc, line, words)?;
+    let rows = Vec::with_capacity(alloc, room_for_rows(bits.len()))?;
     reading.group = Group {
         tile,
         wire: WireNo(wire),
         bits,
         first: RowNo(reading.rows),
-        rows: Vec::new(alloc),
+        rows,
         line,
     };
     reading.section = Section::Switches;

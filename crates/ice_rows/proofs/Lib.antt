@@ -2,6 +2,10 @@ mod OneOn
 mod Listing
 mod Values
 mod Shares
+mod Foreign
+mod Own
+mod Alike
+mod Pins
 pub mod Sourcing
 pub mod Taken
 pub mod Known

@@ -8,3 +8,4 @@ pub mod Lists
 pub mod Owners
 pub mod Index
 pub mod Alone
+pub mod Own

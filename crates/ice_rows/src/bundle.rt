@@ -1,7 +1,8 @@
 //! Bundles: the groups of a tile into a wire.
-ghost use Rattle.std.specs.Prelude.{◌≡◌, ◌&&◌, map};
+ghost use Rattle.std.specs.Prelude.{◌≡◌, ◌&&◌, Some, map};
 ghost use Rattle.std.specs.List.{list_any};
 ghost use Rattle.ice_chip.specs.Functions.{same_kind, is_foreign};
+ghost use Rattle.ice_chip.specs.Lookups.{kind_at};
 ghost use Rattle.ice_chip.specs.Views.{function_view, group_view};
 ghost use Rattle.ice_rows.specs.Bundles.{has_bit, is_of_function, is_shared, shares_bit, is_private};
 ghost use Rattle.ice_rows.specs.Lists.{views};
@@ -30,8 +31,8 @@ fn is_foreign_with(function: &Function, kind: TileKind, bit: BitAt) -> bool
     ensures { result ≡ (same_kind function.now.kind kind && (is_foreign function.now.kind function.now.name && has_bit function.now.bits.items bit)) }
 {
     same_kind(function.kind, kind)
-        && is_foreign(function.kind, function.name.as_bytes())
         && has_bit(&function.bits, bit)
+        && is_foreign(function.kind, function.name.as_bytes())
 }
 
 // Whether a foreign function of a kind of tile has the bit.
@@ -46,23 +47,42 @@ fn is_of_kind(functions: &[Function], kind: TileKind, bit: BitAt) -> bool
     false
 }
 
+// Whether a foreign function of a kind of tile has the bit. Of all kinds IO tiles alone have foreign functions.
+fn is_of_known(functions: &[Function], kind: TileKind, bit: BitAt) -> bool
+    ensures { result ≡ is_of_function (map function_view functions.now) (Some kind) bit }
+{
+    match kind {
+        TileKind::Io => is_of_kind(functions, kind, bit),
+        TileKind::Logic => false,
+        TileKind::RamBottom => false,
+        TileKind::RamTop => false,
+    }
+}
+
 // Whether a foreign function of the tile's kind has the bit.
 fn is_of_function(functions: &[Function], kind: Option<TileKind>, bit: BitAt) -> bool
     ensures { result ≡ is_of_function (map function_view functions.now) kind bit }
 {
     match kind {
         None => false,
-        Some(kind) => is_of_kind(functions, kind, bit),
+        Some(kind) => is_of_known(functions, kind, bit),
     }
 }
 
 // Whether the bit is in another bundle of the tile or in a foreign function of its kind.
-fn is_shared(chip: &Chip, index: &Index, tile: TileAt, wire: WireNo, bit: BitAt) -> bool
-    requires { IsIndexOf chip.now index.now }
+fn is_shared(
+    chip: &Chip,
+    index: &Index,
+    tile: TileAt,
+    kind: Option<TileKind>,
+    wire: WireNo,
+    bit: BitAt,
+) -> bool
+    requires index { IsIndexOf chip.now index.now }
+    requires kind { kind ≡ kind_at chip.now tile }
     ensures { result ≡ is_shared chip.now tile wire.0 bit }
 {
-    is_other(index.owners.get(&(tile, bit)), wire)
-        || is_of_function(chip.functions(), chip.kind_at(tile), bit)
+    is_other(index.owners.get(&(tile, bit)), wire) || is_of_function(chip.functions(), kind, bit)
 }
 
 // Whether the group has such a bit.
@@ -70,8 +90,9 @@ fn shares_bit(chip: &Chip, index: &Index, group: &Group) -> bool
     requires { IsIndexOf chip.now index.now }
     ensures { result ≡ shares_bit chip.now (group_view group.now) }
 {
+    let kind = chip.kind_at(group.tile);
     for bit in &group.bits {
-        if is_shared(chip, index, group.tile, group.wire, *bit) {
+        if is_shared(chip, index, group.tile, kind, group.wire, *bit) {
             return true;
         }
     }

@@ -1,9 +1,12 @@
 //! Names of wires that routes may not leave or enter.
 ghost use Rattle.std.specs.Prelude.{◌≡◌, ◌<◌};
+ghost use Rattle.ice_chip.specs.Lookups.{kind_at};
 ghost use Rattle.ice_rows.specs.WireNames.{is_closed_name, is_input_in, is_output_in, has_memory_name, has_closed_name, has_input_name, has_output_name, may_leave, may_enter};
 
-use ice_base::WireNo;
-use ice_chip::{Chip, TileKind, cell_pin, is_input_name, is_memory_name, is_output_name};
+use ice_base::{TileAt, WireNo};
+use ice_chip::{
+    Chip, TileKind, cell_pin, is_input_name, is_memory_name, is_output_name, tile_wire,
+};
 
 // Whether this is the name of a wire that no route uses.
 fn is_closed_name(name: &[u8]) -> bool
@@ -29,6 +32,26 @@ fn is_output_in(kind: Option<TileKind>, name: &[u8]) -> bool
     match kind {
         None => false,
         Some(kind) => is_output_name(kind, name),
+    }
+}
+
+// Whether this is an input name of the tile at a place. Most names are those of no pin, whatever the tile.
+fn is_input_there(chip: &Chip, tile: TileAt, name: &[u8]) -> bool
+    ensures { result ≡ is_input_in (kind_at chip.now tile) name.now }
+{
+    match tile_wire(name) {
+        None => false,
+        Some(_) => is_input_in(chip.kind_at(tile), name),
+    }
+}
+
+// Whether this is an output name of the tile at a place. Most names are those of no pin, whatever the tile.
+fn is_output_there(chip: &Chip, tile: TileAt, name: &[u8]) -> bool
+    ensures { result ≡ is_output_in (kind_at chip.now tile) name.now }
+{
+    match tile_wire(name) {
+        None => false,
+        Some(_) => is_output_in(chip.kind_at(tile), name),
     }
 }
 
@@ -64,7 +87,7 @@ fn has_input_name(chip: &Chip, wire: WireNo) -> bool
     ensures { result ≡ has_input_name chip.now wire.0 }
 {
     for placed in chip.names(wire) {
-        if is_input_in(chip.kind_at(placed.tile), placed.name.as_bytes()) {
+        if is_input_there(chip, placed.tile, placed.name.as_bytes()) {
             return true;
         }
     }
@@ -77,7 +100,7 @@ fn has_output_name(chip: &Chip, wire: WireNo) -> bool
     ensures { result ≡ has_output_name chip.now wire.0 }
 {
     for placed in chip.names(wire) {
-        if is_output_in(chip.kind_at(placed.tile), placed.name.as_bytes()) {
+        if is_output_there(chip, placed.tile, placed.name.as_bytes()) {
             return true;
         }
     }

@@ -1,5 +1,5 @@
 //! Which wires' groups have a bit of a tile.
-ghost use Rattle.std.specs.Prelude.{◌≡◌, ℕ, OnOk, IfOk, List, Some, if◌then◌else◌, map};
+ghost use Rattle.std.specs.Prelude.{◌≡◌, ℕ, OnOk, IfOk, List, None, Some, if◌then◌else◌, map};
 ghost use Rattle.std.specs.Option.{option_copied};
 ghost use Rattle.ice_base.specs.declared.number.TileAt.{TileAt};
 ghost use Rattle.ice_base.specs.declared.number.BitAt.{BitAt};
@@ -47,7 +47,21 @@ pub fn is_other(owner: Option<&Owner>, wire: WireNo) -> bool
     }
 }
 
-// Notes that a group into the wire has the bit.
+// Puts what is held of a bit in the place of what was, which is the answer.
+fn put(
+    owners: &mut HashMap<(TileAt, BitAt), Owner>,
+    tile: TileAt,
+    bit: BitAt,
+    owner: Owner,
+) -> Result<Option<Owner>, NoMemory>
+    ensures known { IfOk result (λ known. known ≡ owner_at owners.old tile bit) }
+    ensures held { OnOk result ((t : TileAt) (b : BitAt) → owner_at owners.new t b ≡ (if same_key tile bit t b then Some owner else owner_at owners.old t b)) }
+{
+    let known = owners.insert((tile, bit), owner)?;
+    Ok(known)
+}
+
+// Notes that a group into the wire has the bit. Few bits have more than one such wire.
 fn note(
     owners: &mut HashMap<(TileAt, BitAt), Owner>,
     tile: TileAt,
@@ -56,8 +70,10 @@ fn note(
 ) -> Result<(), NoMemory>
     ensures { OnOk result ((t : TileAt) (b : BitAt) → owner_at owners.new t b ≡ (if same_key tile bit t b then Some (owner_with wire.0 (owner_at owners.old tile bit)) else owner_at owners.old t b)) }
 {
-    let owner = owner_with(owners.get(&(tile, bit)), wire);
-    owners.insert((tile, bit), owner)?;
+    let first = owner_with(None, wire);
+    if let Some(owner) = put(owners, tile, bit, first)? {
+        put(owners, tile, bit, owner_with(Some(&owner), wire))?;
+    }
     Ok(())
 }
 
@@ -71,6 +87,22 @@ fn note_group(owners: &mut HashMap<(TileAt, BitAt), Owner>, group: &Group) -> Re
     Ok(())
 }
 
+// How many bits the groups have together, or the most that can be said.
+fn count_of(groups: &[Group]) -> usize {
+    let mut count = 0usize;
+    for group in groups {
+        count = count.saturating_add(group.bits.len());
+    }
+    count
+}
+
+// No wires, with room for the bits of these groups.
+fn no_owners(alloc: Global, groups: &[Group]) -> Result<HashMap<(TileAt, BitAt), Owner>, NoMemory>
+    ensures { IfOk result (λ owners. (t : TileAt) (b : BitAt) → owner_at owners t b ≡ None) }
+{
+    Ok(HashMap::with_capacity(alloc, count_of(groups))?)
+}
+
 /// The wires of each bit that a group has.
 pub fn owners_of(
     alloc: Global,
@@ -78,7 +110,7 @@ pub fn owners_of(
 ) -> Result<HashMap<(TileAt, BitAt), Owner>, NoMemory>
     ensures { IfOk result (λ owners. AreOwners (map group_view groups.now) owners) }
 {
-    let mut owners = HashMap::new(alloc);
+    let mut owners = no_owners(alloc, groups)?;
     for group in groups {
         note_group(&mut owners, group)?;
     }

@@ -1,11 +1,12 @@
 //! Rows that are on under the values of one row.
-ghost use Rattle.std.specs.Prelude.{◌≡◌, ◌&&◌, drop};
+ghost use Rattle.std.specs.Prelude.{◌≡◌, ◌<◌, ◌&&◌, None, drop, true, if◌then◌else◌};
 ghost use Rattle.std.specs.Bool.{beq};
 ghost use Rattle.std.specs.List.{list_any};
 ghost use Rattle.std.specs.Cmp.Lexicographic.{pointwise};
 ghost use Rattle.ice_chip.specs.Views.{row_view, group_view};
 ghost use Rattle.ice_bits.specs.RowsOn.{values_of, number_with, row_on, rows_on};
 ghost use Rattle.ice_base.specs.Places.{same_place};
+ghost use Rattle.ice_rows.specs.Own.{place_code, rises_from};
 ghost use Rattle.ice_rows.specs.Sound.{value_at, sets};
 
 use ice_base::{BitAt, TileAt};
@@ -78,12 +79,125 @@ fn number_with(group: &Group, row: &Row, other: &Group) -> Option<usize>
     None
 }
 
-/// The number of the row of a group that is on under the values of a row, where one is.
-pub fn row_on(group: &Group, row: &Row, other: &Group) -> Option<usize>
+// The place of a bit as one number.
+fn place_code(bit: BitAt) -> u32
+    ensures code { result ≡ place_code bit }
+    ensures below { result < 65536 }
+{
+    u32::from(bit.row) * 256 + u32::from(bit.col)
+}
+
+// Whether the bits stand in the order of their places, so that none stands twice.
+fn are_rising(bits: &[BitAt]) -> bool
+    ensures { result ≡ rises_from 0 bits.now }
+{
+    let mut low = 0u32;
+    for bit in bits {
+        let code = place_code(*bit);
+        if code < low {
+            return false;
+        }
+        low = code + 1;
+    }
+    true
+}
+
+// Whether the lists of bits are the same.
+#[tactic(auto, using(crate::proofs::Alike::next, crate::proofs::Alike::end, crate::proofs::Alike::unlike))]
+fn are_same(bits: &[BitAt], others: &[BitAt]) -> bool
+    ensures { result ≡ pointwise same_place bits.now others.now }
+{
+    if bits.len() != others.len() {
+        return false;
+    }
+    for k in 0..bits.len() {
+        if bits[k] != others[k] {
+            return false;
+        }
+    }
+    true
+}
+
+// Whether the lists of values are the same. Most differ in the first values.
+#[tactic(auto, using(crate::proofs::Alike::next, crate::proofs::Alike::end, crate::proofs::Alike::unlike))]
+fn are_alike(values: &[bool], others: &[bool]) -> bool
+    ensures { result ≡ pointwise beq values.now others.now }
+{
+    if values.len() != others.len() {
+        return false;
+    }
+    for k in 0..values.len() {
+        if values[k] != others[k] {
+            return false;
+        }
+    }
+    true
+}
+
+// Whether another group plainly has the values of the row itself: it has the bits of the row's group, in the order of
+// their places, and the row one value for each.
+fn has_own_values(group: &Group, row: &Row, other: &Group) -> bool
+    ensures { result ≡ true → values_of (sets (group_view group.now) (row_view row.now)) (group_view other.now) ≡ row.now.values.items }
+{
+    if group.tile != other.tile || row.values.len() != group.bits.len() {
+        return false;
+    }
+    if !are_same(&group.bits, &other.bits) {
+        return false;
+    }
+    are_rising(&group.bits)
+}
+
+// Whether one of the values is 1.
+fn has_one(values: &[bool]) -> bool
+    ensures { result ≡ list_any (λ v. v) values.now }
+{
+    for value in values {
+        if *value {
+            return true;
+        }
+    }
+    false
+}
+
+// The number of the first row of a group that has the values.
+fn number_of(values: &[bool], other: &Group) -> Option<usize>
+    ensures { result ≡ number_with values.now (group_view other.now).first (group_view other.now).rows }
+{
+    for k in 0..other.rows.len() {
+        if are_alike(&other.rows[k].values, values) {
+            return Some(other.first.0 as usize + k);
+        }
+    }
+    None
+}
+
+// The number of the row of a group that is on where the group's bits have these values.
+fn row_with(values: &[bool], other: &Group) -> Option<usize>
+    ensures { result ≡ (if list_any (λ v. v) values.now then number_with values.now (group_view other.now).first (group_view other.now).rows else None) }
+{
+    if !has_one(values) {
+        return None;
+    }
+    number_of(values, other)
+}
+
+// The number of the row of a group that is on under the values of a row, where one is, as for any group.
+fn any_row_on(group: &Group, row: &Row, other: &Group) -> Option<usize>
     ensures { result ≡ row_on (sets (group_view group.now) (row_view row.now)) (group_view other.now) }
 {
     if !sets_some(group, row, other) {
         return None;
     }
     number_with(group, row, other)
+}
+
+/// The number of the row of a group that is on under the values of a row, where one is.
+pub fn row_on(group: &Group, row: &Row, other: &Group) -> Option<usize>
+    ensures { result ≡ row_on (sets (group_view group.now) (row_view row.now)) (group_view other.now) }
+{
+    if has_own_values(group, row, other) {
+        return row_with(&row.values, other);
+    }
+    any_row_on(group, row, other)
 }
