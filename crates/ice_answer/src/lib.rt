@@ -17,7 +17,7 @@ pub use cause::{Cause, Done, FileRole, no_placement, no_tallies};
 pub use end::{done, finish};
 pub use files::{CommandFile, Texts, one_text, read_texts};
 pub use giving::{Made, Refused, end_aloud, end_in_files, made_text};
-pub use making::{Making, say_made, without_report, write_made};
+pub use making::{Making, say_made, without_report};
 pub use refusal::{
     asc_refusal, bits_refusal, blif_refusal, chip_refusal, net_refusal, pcf_refusal, pin_refusal,
     place_refusal,

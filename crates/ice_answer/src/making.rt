@@ -7,13 +7,13 @@ ghost use Rattle.ice_answer.specs.declared.cause.Cause.{Cause};
 ghost use Rattle.ice_answer.specs.Causes.{status_of};
 ghost use Rattle.ice_answer.specs.Reading.{TellsLong};
 ghost use Rattle.ice_answer.specs.Texts.{files_view, ArePermitted};
-ghost use Rattle.ice_answer.specs.Commands.{Output, command_of, Aloud, InFiles, IsRefusal, IsTrueOf};
+ghost use Rattle.ice_answer.specs.Commands.{Output, command_of, Aloud, IsRefusal, IsTrueOf};
 ghost use Rattle.ice_answer.specs.Ends.{unreported, IsMadeOf, IsToldLong};
-ghost use Rattle.ice_answer.specs.Rows.{SaidBy, KeptRow, MadeRow, SilentRow};
+ghost use Rattle.ice_answer.specs.Rows.{SaidBy, KeptRow};
 
 use crate::cause::{Cause, Done};
 use crate::files::{CommandFile, Texts, read_texts};
-use crate::giving::{Made, Refused, end_aloud, end_in_files};
+use crate::giving::{Made, Refused, end_aloud};
 use ice_desk::Desk;
 use std::alloc::Global;
 
@@ -83,27 +83,4 @@ pub fn say_made<D: Desk, M: Making>(
 {
     let made = make_of(alloc, desk, files, making);
     end_aloud(desk, made)
-}
-
-/// Reads files, and writes what is made of their texts to the outputs, one after another, each with the text of its place; or says the
-/// line of a refusal.
-pub fn write_made<D: Desk, M: Making>(
-    alloc: Global,
-    desk: &mut D,
-    files: &[CommandFile<'_>],
-    making: &M,
-    outputs: &[CommandFile<'_>],
-) -> Done
-    requires names { ArePermitted (D.may_read desk.old) (files_view files.now) }
-    requires outputs { ArePermitted (D.may_write desk.old) (files_view outputs.now) }
-    ensures status { result.status ≡ status_of result.cause }
-    ensures cause { IsTrueOf (command_of (files_view files.now) (M.stands making.now) (M.gives making.now) (InFiles (files_view outputs.now))) (D.seen desk.old) (D.seen desk.new) result.cause }
-    ensures said { (D.seen desk.old).tells ≡ true → SaidBy (InFiles (files_view outputs.now)) (D.seen desk.old) (D.seen desk.new) result.cause }
-    ensures kept { (D.seen desk.old).tells ≡ true → KeptRow (InFiles (files_view outputs.now)) None (D.seen desk.old) (D.seen desk.new) result.cause }
-    ensures made { MadeRow (InFiles (files_view outputs.now)) None (D.seen desk.old) (D.seen desk.new) result.cause }
-    ensures silent { SilentRow (InFiles (files_view outputs.now)) (D.seen desk.old) (D.seen desk.new) result.cause }
-    ensures given { 0 < length files.now → TellsLong (D.seen desk.new) result.cause }
-{
-    let made = make_of(alloc, desk, files, making);
-    end_in_files(desk, without_report(made), outputs, None)
 }

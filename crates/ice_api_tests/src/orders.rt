@@ -241,6 +241,5 @@ fn laws_hold_of_levels(_rt: HostRuntime) {
     laws::cycles_have_no_value::<usize, bool>();
     laws::orders_have_no_cycle();
     laws::bare_inputs_read_bare::<usize, bool>();
-    laws::carried_values_arrive::<usize, u32, bool>();
     laws::simulations_show_the_same::<usize, u32, bool, bool>();
 }

@@ -9,6 +9,5 @@ pub mod Turns
 pub mod Places
 pub mod SearchSteps
 pub mod FillingSteps
-pub mod Carrying
 pub mod Enough
 pub mod Arriving

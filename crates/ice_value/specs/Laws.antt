@@ -1,11 +1,10 @@
 -- The laws of values, of orders and of machines, each as one sentence. P names points, and A is what a point has for a value.
-use Rattle.std.specs.Prelude.{◌≡◌, ℕ, ◌+◌, ◌*◌, ◌<◌, Bool, true, None, Some, Option, List, [], length, map, option_map}
+use Rattle.std.specs.Prelude.{◌≡◌, ℕ, ◌+◌, ◌<◌, Bool, true, None, Some, Option, List, [], length, map, option_map}
 use Rattle.std.specs.List.{AllByRecursion}
 use Rattle.std.proofs.Common.{◌⊎◌, suc}
 use Rattle.ice_base.specs.Lists.{all_known}
 use Rattle.ice_value.specs.System.{System, value, MeetsEquation}
-use Rattle.ice_value.specs.Inputs.{reading, try_reading, gapped}
-use Rattle.ice_value.specs.Carrying.{Moves, level}
+use Rattle.ice_value.specs.Inputs.{try_reading, gapped}
 use Rattle.ice_value.specs.Machine.{shows, Simulates}
 use Rattle.ice_value.specs.Order.{Has, IsOrder, IsCycle, IsCycleBelow}
 
@@ -46,17 +45,6 @@ abbrev pub BareInputsReadBare : Type 0 → Type 0 → Type 0
 BareInputsReadBare P A = (inputs : P → List (Option P)) (bare : A) (local : P → List A → A) (steps : ℕ) (point : P)
     → value (gapped inputs bare local) (suc steps) point
     ≡ option_map (local point) (all_known (map (try_reading bare (λ read. value (gapped inputs bare local) steps read)) (inputs point)))
-
--- Points that carry the nodes of another system have the nodes' values. `carries` tells what carries what and at which depth,
--- which is below `depths`. The other system has no loop, since ranks fall along its inputs, and v meets its equations.
-abbrev pub CarriedValuesArrive : Type 0 → Type 0 → Type 0 → Type 0
-CarriedValuesArrive P Q A = (inputs : P → List (Option P)) (outer : Q → List (Option Q)) (bare : A)
-    (local : P → List A → A) (made : Q → List A → A) (carries : ℕ → P → Option Q → Bool) (v : Q → A) (rank : Q → ℕ) (depths : ℕ)
-    → ((q r : Q) → Has (outer q) (Some r) → rank r < rank q)
-    → ((q : Q) → v q ≡ made q (map (reading bare v) (outer q)))
-    → ((d : ℕ) (p : P) (q : Option Q) → carries d p q ≡ true → (d < depths) × Moves inputs outer bare local made (λ e r s. carries e r s ≡ true) d p q)
-    → (steps d : ℕ) (p : P) (q : Option Q) → carries d p q ≡ true → level rank q * depths + d < steps
-    → value (gapped inputs bare local) steps p ≡ Some (reading bare v q)
 
 -- Two machines show the same for every list of levels that are allowed, where each step from states that are tied shows the
 -- same and leads to states that are tied. `tied` and `allowed` tell which they are.

@@ -2,7 +2,6 @@ pub mod System
 pub mod Inputs
 pub mod Order
 pub mod Machine
-pub mod Carrying
 pub mod Graph
 pub mod Search
 pub mod SearchState

@@ -1,6 +1,6 @@
 //! The laws of values, orders and machines, each as the contract of a function that does nothing. A type of points is
 //! written `P`, and a type of values `A`.
-ghost use Rattle.ice_value.specs.Laws.{MoreStepsKeepValues, OrderedPointsHaveValues, ValuesAreUnique, PointsAndOneAreEnough, CyclesHaveNoValue, OrdersHaveNoCycle, BareInputsReadBare, CarriedValuesArrive, SimulationsShowTheSame};
+ghost use Rattle.ice_value.specs.Laws.{MoreStepsKeepValues, OrderedPointsHaveValues, ValuesAreUnique, PointsAndOneAreEnough, CyclesHaveNoValue, OrdersHaveNoCycle, BareInputsReadBare, SimulationsShowTheSame};
 
 /// More steps change no value that is there.
 pub fn more_steps_keep_values<P, A>()
@@ -35,11 +35,6 @@ pub fn orders_have_no_cycle()
 /// An input that is connected to nothing reads the one value that stands for it.
 pub fn bare_inputs_read_bare<P, A>()
     ensures { BareInputsReadBare P A }
-{}
-
-/// Points that carry the nodes of another system have the nodes' values.
-pub fn carried_values_arrive<P, Q, A>()
-    ensures { CarriedValuesArrive P Q A }
 {}
 
 /// Two machines show the same where one simulates the other.
