@@ -3,7 +3,7 @@ use crate::asked::{Asked, expect};
 use crate::claims::expect_that;
 use crate::found::kind_of;
 use ice_base::{BitAt, Line, NoMemory, TileAt, lines_of, name_of, words_of};
-use ice_chip::{ChipFault, ChipParts, Function, TileKind, TileLine};
+use ice_chip::{BitList, ChipFault, ChipParts, Function, TileKind, TileLine};
 use ice_small_chips::{Change, Sample, number_at, word_at};
 use std::alloc::{AllocError, Global};
 use std::process::Abort;
@@ -103,8 +103,8 @@ fn small(number: u32) -> u8 {
 }
 
 // Two bits of row 3.
-fn two_bits(alloc: Global, first: u8, second: u8) -> Result<Vec<BitAt>, NoMemory> {
-    let mut bits = Vec::new(alloc);
+fn two_bits(alloc: Global, first: u8, second: u8) -> Result<BitList, NoMemory> {
+    let mut bits = BitList::new(alloc);
     bits.push(BitAt { row: 3, col: first })?;
     bits.push(BitAt {
         row: 3,
@@ -119,7 +119,7 @@ fn add(
     parts: &mut ChipParts,
     kind: TileKind,
     word: &[u8],
-    bits: Vec<BitAt>,
+    bits: BitList,
     line: u32,
 ) -> Result<(), NoMemory> {
     let name = name_of(alloc, word)?;

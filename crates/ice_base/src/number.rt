@@ -26,7 +26,7 @@ pub struct TileAt {
 }
 
 /// The place of a configuration bit in its tile.
-#[derive(Clone, Copy, Debug, PartialEq, Eq, Hash)]
+#[derive(Clone, Copy, Debug, Default, PartialEq, Eq, Hash)]
 pub struct BitAt {
     /// The line of the tile's bits, from 0.
     pub row: u8,

@@ -25,6 +25,7 @@ mod shared;
 mod tile;
 mod whole;
 mod wire_names;
+mod wire_text;
 
 pub use chip::{Chip, build};
 pub use digits::{digit, number_behind, number_within};
@@ -39,7 +40,7 @@ pub use functions::{function_line, is_foreign, is_read, same_kind};
 pub use parts::{ChipParts, Package, TileLine};
 pub use pin_names::{cell_pin, is_global_name, is_input_name, is_memory_name, is_output_name};
 pub use pins::PinLine;
-pub use rows::{Function, Group, NameRow, Pad, Row, TileKind};
+pub use rows::{BitList, Function, Group, NameRow, Pad, Row, TileKind, ValueList};
 pub use shared::{BitUse, KindBit};
 pub use tile::Tile;
 pub use whole::{PlacedName, WireLine};
@@ -48,3 +49,4 @@ pub use wire_names::{
     first_carry_name, global_name, input_name, look_up_name, output_enable_name, output_name,
     pad_input_name, pad_output_name, set_reset_name, tile_wire, wire_names_are_read,
 };
+pub use wire_text::WireText;

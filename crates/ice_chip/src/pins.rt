@@ -7,10 +7,10 @@ ghost use Rattle.ice_chip.specs.WholeFaults.{clash_or};
 ghost use Rattle.ice_chip.specs.Views.{name_view, parts_view};
 
 use crate::{
-    ChipParts, NameRow, PlacedName, TileLine, is_global_name, is_input_name, is_output_name,
-    tile_wire,
+    ChipParts, NameRow, PlacedName, TileLine, WireText, is_global_name, is_input_name,
+    is_output_name, tile_wire,
 };
-use ice_base::{NoMemory, name_of};
+use ice_base::NoMemory;
 use indexmap::IndexMap;
 use std::alloc::Global;
 
@@ -47,7 +47,8 @@ fn is_pin_there(parts: &ChipParts, row: &NameRow) -> bool
 fn same_pin(a: &PlacedName, b: &PlacedName) -> bool
     ensures { result ≡ same_pin a.now b.now }
 {
-    a.name == b.name && (a.tile == b.tile || is_global_name(a.name.as_bytes()))
+    a.name.as_bytes() == b.name.as_bytes()
+        && (a.tile == b.tile || is_global_name(a.name.as_bytes()))
 }
 
 // Notes a pin of a wire; or the lines of two pins of it, the later one first.
@@ -80,7 +81,7 @@ fn note_pin_name(
     if !is_pin_there(parts, row) {
         return Ok(None);
     }
-    let name = name_of(alloc, row.name.as_bytes())?;
+    let name = WireText::new(alloc, row.name.as_bytes())?;
     let pin = PlacedName {
         tile: row.tile,
         name,

@@ -1,6 +1,14 @@
 //! The rows of a chip database.
 
+use crate::WireText;
 use ice_base::{BitAt, Name, RowNo, TileAt, WireNo};
+use smallvec::SmallVec;
+
+/// Bits, in the order in which the database names them. A few need no memory of their own.
+pub type BitList = SmallVec<BitAt, 8>;
+
+/// One value for each bit of a group. A few need no memory of their own.
+pub type ValueList = SmallVec<bool, 8>;
 
 /// The kinds of tiles that hold configuration bits.
 #[derive(Clone, Copy, Debug, PartialEq, Eq, Hash)]
@@ -32,7 +40,7 @@ pub struct Function {
     /// The name, as in `LC_0` or `IoCtrl.IE_1`.
     pub name: Name,
     /// The bits in the order in which the database names them.
-    pub bits: Vec<BitAt>,
+    pub bits: BitList,
     /// The number of its line.
     pub line: u32,
 }
@@ -45,7 +53,7 @@ pub struct NameRow {
     /// The place, at which there need not be a tile.
     pub tile: TileAt,
     /// The name.
-    pub name: Name,
+    pub name: WireText,
     /// The number of its line.
     pub line: u32,
 }
@@ -54,7 +62,7 @@ pub struct NameRow {
 #[derive(Drop)]
 pub struct Row {
     /// One value for each bit of the group.
-    pub values: Vec<bool>,
+    pub values: ValueList,
     /// The wire whose value is taken.
     pub source: WireNo,
     /// The number of its line.
@@ -69,7 +77,7 @@ pub struct Group {
     /// The wire that the switches drive.
     pub wire: WireNo,
     /// The bits that choose among the rows; one bit or more.
-    pub bits: Vec<BitAt>,
+    pub bits: BitList,
     /// The number of its first row, which is the number of rows of the groups before it.
     pub first: RowNo,
     /// The rows in the order of the text.

@@ -6,18 +6,18 @@ ghost use Rattle.ice_chip.specs.WholeFaults.{group_without_tile, has_bit_beyond,
 ghost use Rattle.ice_chip.specs.PlacedTexts.{by_placed, placed_text};
 ghost use Rattle.ice_chip.specs.Views.{name_view, parts_view};
 
-use crate::{ChipParts, NameRow, TileKind, TileLine};
-use ice_base::{BitAt, Name, NoMemory, TileAt};
+use crate::{ChipParts, NameRow, TileKind, TileLine, WireText};
+use ice_base::{BitAt, NoMemory, TileAt};
 use indexmap::IndexMap;
 use std::alloc::Global;
 
 /// A name at a place.
-#[derive(Drop, PartialEq, Eq, Hash)]
+#[derive(Drop)]
 pub struct PlacedName {
     /// The place.
     pub tile: TileAt,
     /// The name.
-    pub name: Name,
+    pub name: WireText,
 }
 
 /// A name at a place, as it stands in a row.

@@ -4,12 +4,9 @@ ghost use Rattle.ice_chip_read.specs.Lines.{bits_at, group_bits, values_at, know
 ghost use Rattle.ice_chip_read.specs.Views.{Gives};
 
 use crate::ReadStop;
-use ice_base::{BitAt, PlainWords, bit_named, digit_value};
-use ice_chip::ChipFault;
+use ice_base::{PlainWords, bit_named, digit_value};
+use ice_chip::{BitList, ChipFault, ValueList};
 use std::alloc::Global;
-
-// Room for the bits of most groups and functions. Allocators take no more memory for it than for one bit.
-const ROOM: usize = 12;
 
 /// The places of the bits with these names, among 16 rows and so many columns.
 #[tactic(auto, using(ice_base::proofs::KnownLists::all_begin, ice_base::proofs::KnownLists::known_joins))]
@@ -18,10 +15,10 @@ pub fn bits(
     line: u32,
     columns: u8,
     mut names: PlainWords<'_>,
-) -> Result<Vec<BitAt>, ReadStop>
+) -> Result<BitList, ReadStop>
     ensures { Gives (λ bits. bits.items) result (bits_at line (bits_named columns names.entry)) }
 {
-    let mut bits = Vec::with_capacity(alloc, ROOM)?;
+    let mut bits = BitList::new(alloc);
     while let Some(name) = names.next() {
         let Some(bit) = bit_named(columns, name) else {
             return Err(ReadStop::Fault(ChipFault::BadBit { line }));
@@ -32,7 +29,7 @@ pub fn bits(
 }
 
 /// The bits of a group, one or more.
-pub fn group_bits(alloc: Global, line: u32, names: PlainWords<'_>) -> Result<Vec<BitAt>, ReadStop>
+pub fn group_bits(alloc: Global, line: u32, names: PlainWords<'_>) -> Result<BitList, ReadStop>
     ensures { Gives (λ bits. bits.items) result (group_bits line names.entry) }
 {
     let bits = bits(alloc, line, 54, names)?;
@@ -44,10 +41,10 @@ pub fn group_bits(alloc: Global, line: u32, names: PlainWords<'_>) -> Result<Vec
 
 // The values that these digits write.
 #[tactic(auto, using(ice_base::proofs::KnownLists::all_begin, ice_base::proofs::KnownLists::value_joins, ice_base::proofs::KnownLists::value_stops, ice_base::proofs::KnownLists::values_end))]
-fn known_values(alloc: Global, line: u32, digits: &[u8]) -> Result<Vec<bool>, ReadStop>
+fn known_values(alloc: Global, line: u32, digits: &[u8]) -> Result<ValueList, ReadStop>
     ensures { Gives (λ values. values.items) result (known_values line (values_in digits.now)) }
 {
-    let mut values = Vec::with_capacity(alloc, digits.len())?;
+    let mut values = ValueList::with_capacity(alloc, digits.len())?;
     for digit in digits {
         let Some(value) = digit_value(*digit) else {
             return Err(ReadStop::Fault(ChipFault::BadValues { line }));
@@ -58,7 +55,7 @@ fn known_values(alloc: Global, line: u32, digits: &[u8]) -> Result<Vec<bool>, Re
 }
 
 /// The values of a row, one for each of its group's bits.
-pub fn values(alloc: Global, line: u32, bits: usize, digits: &[u8]) -> Result<Vec<bool>, ReadStop>
+pub fn values(alloc: Global, line: u32, bits: usize, digits: &[u8]) -> Result<ValueList, ReadStop>
     ensures { Gives (λ values. values.items) result (values_at line bits digits.now) }
 {
     if digits.len() != bits {

@@ -1,7 +1,7 @@
 //! Reading a chip text to the rows of its database.
-ghost use Rattle.std.specs.Prelude.{◌≡◌, ◌∷◌};
+ghost use Rattle.std.specs.Prelude.{◌≡◌, ◌∷◌, OnOk};
 ghost use Rattle.ice_chip.specs.Answers.{Answers, chip_of};
-ghost use Rattle.ice_chip_read.specs.Lines.{line_says, lines_say, first_says, plain_says};
+ghost use Rattle.ice_chip_read.specs.Lines.{line_says, lines_say, first_says, plain_says, with_closed};
 ghost use Rattle.ice_chip_read.specs.Reading.{closed};
 ghost use Rattle.ice_chip_read.specs.Whole.{chip_says, AreReadOfLines};
 ghost use Rattle.ice_chip_read.specs.Views.{Says, Gives, reading_view};
@@ -11,7 +11,7 @@ use crate::headings::{device_first, heading_line};
 use crate::reading::{Reading, close};
 use crate::rows::row_line;
 use crate::section::heading_named;
-use ice_base::{PlainLine, PlainLines, begins_with, lines_of, plain_lines};
+use ice_base::{NoMemory, PlainLine, PlainLines, begins_with, lines_of, plain_lines};
 use ice_chip::{Chip, ChipFault, build};
 use std::alloc::Global;
 
@@ -72,6 +72,16 @@ fn read_lines(alloc: Global, mut lines: PlainLines<'_>) -> Result<Reading, ReadS
     }
 }
 
+// Ends the section that is open behind the last line.
+fn close_last(alloc: Global, reading: &mut Reading) -> Result<(), NoMemory>
+    ensures { OnOk result (with_closed (reading_view reading.old) ≡ reading_view reading.new) }
+{
+    match close(alloc, reading) {
+        Ok(()) => Ok(()),
+        Err(_) => Err(NoMemory),
+    }
+}
+
 /// The chip of the rows that are read of all lines, or the first fault of the whole.
 ///
 /// # Errors
@@ -80,9 +90,7 @@ pub fn finish(alloc: Global, mut reading: Reading) -> Result<Chip, ChipFault>
     requires { AreReadOfLines (reading_view reading) }
     ensures { Answers result (chip_of (closed (reading_view reading))) }
 {
-    if let Err(stop) = close(alloc, &mut reading) {
-        return Err(ChipFault::from(stop));
-    }
+    close_last(alloc, &mut reading)?;
     build(alloc, reading.parts)
 }
 

@@ -8,7 +8,7 @@ ghost use Rattle.ice_chip_read.specs.Views.{Gives, reading_view};
 use crate::ReadStop;
 use crate::section::Section;
 use ice_base::{Name, RowNo, TileAt, WireNo};
-use ice_chip::{ChipParts, Group, Package};
+use ice_chip::{BitList, ChipParts, Group, Package};
 use indexmap::{IndexMap, IndexSet};
 use std::alloc::Global;
 use std::mem;
@@ -39,7 +39,7 @@ fn no_group(alloc: Global) -> Group
     Group {
         tile: TileAt { x: 0, y: 0 },
         wire: WireNo(0),
-        bits: Vec::new(alloc),
+        bits: BitList::new(alloc),
         first: RowNo(0),
         rows: Vec::new(alloc),
         line: 0,

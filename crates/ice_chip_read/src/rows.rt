@@ -25,7 +25,8 @@ use crate::section::Section;
 use crate::words::{ended, number, one_word, three, three_from, two, two_from};
 use ice_base::{PlainWords, WireNo, name_of};
 use ice_chip::{
-    ChipFault, Function, NameRow, Package, Pad, Row, TileKind, function_line, is_foreign, is_read,
+    ChipFault, Function, NameRow, Package, Pad, Row, TileKind, WireText, function_line, is_foreign,
+    is_read,
 };
 use std::alloc::Global;
 
@@ -191,7 +192,7 @@ fn name_row(
     let (x, y) = two_from(line, first, &mut words)?;
     let name = one_word(line, words)?;
     let tile = tile_in(line, &reading.parts, x, y)?;
-    let name = name_of(alloc, name)?;
+    let name = WireText::new(alloc, name)?;
     reading.parts.names.push(NameRow {
         wire: WireNo(wire),
         tile,

@@ -1,5 +1,6 @@
 //! The graph of the usable rows of a chip.
 ghost use Rattle.std.specs.Prelude.{◌≡◌, ◌<◌, ◌≤◌, ◌+◌, ◌++◌, [], ◌∷◌, List, length, IfOk, OnOk, if◌then◌else◌};
+ghost use Rattle.std.specs.List.{Contains};
 ghost use Rattle.ice_chip.specs.IsRead.{HasWiresBelow};
 ghost use Rattle.ice_chip.specs.Limits.{most_rows};
 ghost use Rattle.ice_chip.specs.Views.{row_view, group_view};
@@ -11,7 +12,7 @@ ghost use Rattle.ice_fabric.specs.Edges.{edges_of, places_of, usable_places, usa
 use ice_base::{NoMemory, RowNo, TileAt};
 use ice_chip::{Chip, Group};
 use ice_graph::{Edge, Graph};
-use ice_rows::{Index, index_of, is_open, is_taken, sources_of};
+use ice_rows::{Index, index_of, is_open, is_plain, is_taken, sources_of};
 use std::alloc::Global;
 
 // Adds an edge and the tile of its group, where its row is taken.
@@ -46,16 +47,18 @@ fn add_group(
     requires sources { AreSources chip.now sources.now }
     requires wires { HasWiresBelow chip.now.wires (group_view group.now) }
     requires few { group.now.first.0 + length group.now.rows.items ≤ most_rows }
+    requires member { Contains chip.now.groups (group_view group.now) }
     ensures edges { OnOk result (edges.new.items ≡ edges.old.items ++ edges_of chip.now (group_view group.now) group.now.first.0 (group_view group.now).rows) }
     ensures places { OnOk result (places.new.items ≡ places.old.items ++ places_of chip.now (group_view group.now) group.now.first.0 (group_view group.now).rows) }
 {
     if !is_open(chip, index, group) {
         return Ok(());
     }
+    let plain = is_plain(chip, index, group);
     for k in 0..group.rows.len() {
         let row = &group.rows[k];
         let number = group.first.0 + k as u32;
-        let taken = is_taken(chip, index, sources, group, number, row);
+        let taken = is_taken(chip, index, sources, group, plain, number, row);
         let edge = Edge {
             row: RowNo(number),
             from: row.source,

@@ -1,9 +1,12 @@
 -- What is known of each group of a chip.
-use Rattle.std.proofs.Common.{◌≡◌, ℕ, zero, suc, ◌+◌, ◌<◌, ◌≤◌, All, List, [], ◌∷◌, map, length, get_or, ◌==◌, refl, ap, sym, subst, ◌∙◌, arith}
+use Rattle.std.proofs.Common.{◌≡◌, ℕ, zero, suc, ◌+◌, ◌<◌, ◌≤◌, true, Some, All, List, [], ◌∷◌, map, length, get_or, ◌==◌, refl, ap, sym, subst, ◌∙◌, arith}
+use Rattle.std.specs.List.{Contains}
+use Rattle.std.specs.Option.{option_map}
 use Rattle.std.specs.Borrow.{Bor}
 use Rattle.std.proofs.lemmas.List.{length-map, length-append}
+use Rattle.std.proofs.lemmas.Option.{slice_get-map, slice_get-get_or}
 use Rattle.std.proofs.lemmas.List.Elements.{All-get_or, All-tail, All-head, All-cons, All-nil, All-filter}
-use Rattle.ice_chip.specs.Database.{Parts, SwitchRow, SwitchGroup}
+use Rattle.ice_chip.specs.Database.{Parts, SwitchGroup}
 use Rattle.ice_chip.specs.IsRead.{HasWiresBelow, AreNumbered, IsRead}
 use Rattle.ice_chip.specs.Limits.{most_rows}
 use Rattle.ice_chip.specs.Lookups.{rows_of, in_group}
@@ -12,6 +15,8 @@ use Rattle.ice_chip.specs.declared.rows.Row.{Row}
 use Rattle.ice_chip.specs.declared.rows.Group.{Group}
 use Rattle.ice_rows.specs.Bundles.{groups_into}
 use Rattle.ice_rows.specs.Lists.{views}
+use Rattle.ice_rows.specs.Plain.{AreAlone}
+use Rattle.ice_rows.specs.Sound.{is_alone}
 
 -- the source of each row of a group is one of the chip's wires
 pub source_below : (wires : ℕ) (rows : List Row) (k : ℕ) (d : Row) → All (λ r. r.source < wires) (map row_view rows) → k < length rows → (get_or rows k d).source.0 < wires
@@ -66,3 +71,18 @@ group_known parts groups i d read are lt = known_at groups i (subst (λ gs. All 
     known_at [] k all lt = absurd (omega arith)
     known_at (g ∷ gs) zero all lt = All-head (IsKnown parts.wires) (group_view g) (map group_view gs) all
     known_at (g ∷ gs) (suc k) all lt = known_at gs k (All-tail (IsKnown parts.wires) (group_view g) (map group_view gs) all) (omega arith)
+
+-- a group that stands at a place is one of the chip's
+pub group_there : (parts : Parts) (groups : List Group) (i : ℕ) (d : Group) → map group_view groups ≡ parts.groups → i < length groups → Contains parts.groups (group_view (get_or groups i d))
+group_there parts groups i d are lt = subst (λ gs. Contains gs (group_view (get_or groups i d))) are (there groups i lt)
+  where
+    there : (gs : List Group) (k : ℕ) → k < length gs → Contains (map group_view gs) (group_view (get_or gs k d))
+    there [] k less = absurd (omega arith)
+    there (g ∷ gs) zero less = (0, omega arith, refl)
+    there (g ∷ gs) (suc k) less = let c = there gs k (omega arith) in let within = c.1 in (suc c.0, omega (arith, within), c.2)
+
+-- a row of a group whose rows are alone
+pub alone_row : (all : List SwitchGroup) (g : Group) (k : ℕ) (r d : Row) → AreAlone all (group_view g) → r ≡ get_or g.rows.items k d → k < length g.rows.items
+    → is_alone all (group_view g) (g.first.0 + k) (row_view r) ≡ true
+alone_row all g k r d alone at lt =
+    alone k (row_view r) (slice_get-map row_view g.rows.items k ∙ ap (option_map row_view) (slice_get-get_or g.rows.items k d lt) ∙ ap (λ (x : Row). Some (row_view x)) (sym at))

@@ -6,6 +6,8 @@ mod Foreign
 mod Own
 mod Alike
 mod Pins
+mod Ascent
+mod Meeting
 pub mod Sourcing
 pub mod Taken
 pub mod Known

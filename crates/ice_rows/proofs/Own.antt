@@ -29,7 +29,7 @@ same_flip p q e = by (same_place q p) refl
     by true is = absurd (true≢false (sym (ap (λ (x : BitAt). same_place x q) (sym (place_same q p is)) ∙ place_self q) ∙ e))
 
 -- a bit that isn't in the list has no value there
-no_value : (bits : List BitAt) (values : List Bool) (b : BitAt) → has_bit bits b ≡ false → value_at bits values b ≡ false
+pub no_value : (bits : List BitAt) (values : List Bool) (b : BitAt) → has_bit bits b ≡ false → value_at bits values b ≡ false
 no_value [] values b e = refl
 no_value (p ∷ bits) [] b e = refl
 no_value (p ∷ bits) (v ∷ values) b e =

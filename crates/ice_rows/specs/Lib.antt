@@ -9,3 +9,4 @@ pub mod Owners
 pub mod Index
 pub mod Alone
 pub mod Own
+pub mod Plain

@@ -15,7 +15,7 @@ use ice_base::{BitAt, TileAt, WireNo};
 use ice_chip::{Chip, Function, Group, TileKind, is_foreign, same_kind};
 
 // Whether the bit is among these.
-fn has_bit(bits: &[BitAt], bit: BitAt) -> bool
+pub fn has_bit(bits: &[BitAt], bit: BitAt) -> bool
     ensures { result ≡ has_bit bits.now bit }
 {
     for own in bits {
@@ -91,7 +91,7 @@ fn shares_bit(chip: &Chip, index: &Index, group: &Group) -> bool
     ensures { result ≡ shares_bit chip.now (group_view group.now) }
 {
     let kind = chip.kind_at(group.tile);
-    for bit in &group.bits {
+    for bit in group.bits.as_slice() {
         if is_shared(chip, index, group.tile, kind, group.wire, *bit) {
             return true;
         }

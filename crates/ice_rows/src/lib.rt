@@ -9,11 +9,13 @@ mod index;
 mod lists;
 mod names;
 mod owners;
+mod plain;
 mod rows;
 mod sound;
 mod sources;
 
 pub use first::{first_sound, is_joined};
 pub use index::{Index, index_of};
+pub use plain::is_plain;
 pub use sound::{is_open, is_sound, is_taken, is_usable};
 pub use sources::sources_of;

@@ -81,7 +81,7 @@ fn note(
 fn note_group(owners: &mut HashMap<(TileAt, BitAt), Owner>, group: &Group) -> Result<(), NoMemory>
     ensures { OnOk result ((t : TileAt) (b : BitAt) (w : ℕ) → is_other w (owner_at owners.new t b) ≡ holds_more (group_view group.now) t w b (is_other w (owner_at owners.old t b))) }
 {
-    for bit in &group.bits {
+    for bit in group.bits.as_slice() {
         note(owners, group.tile, *bit, group.wire)?;
     }
     Ok(())

@@ -43,7 +43,7 @@ fn sets(group: &Group, row: &Row, tile: TileAt, bit: BitAt) -> bool
 fn sets_some(group: &Group, row: &Row, other: &Group) -> bool
     ensures { result ≡ list_any (λ v. v) (values_of (sets (group_view group.now) (row_view row.now)) (group_view other.now)) }
 {
-    for bit in &other.bits {
+    for bit in other.bits.as_slice() {
         if sets(group, row, other.tile, *bit) {
             return true;
         }
@@ -88,7 +88,7 @@ fn place_code(bit: BitAt) -> u32
 }
 
 // Whether the bits stand in the order of their places, so that none stands twice.
-fn are_rising(bits: &[BitAt]) -> bool
+pub fn are_rising(bits: &[BitAt]) -> bool
     ensures { result ≡ rises_from 0 bits.now }
 {
     let mut low = 0u32;
@@ -149,7 +149,7 @@ fn has_own_values(group: &Group, row: &Row, other: &Group) -> bool
 }
 
 // Whether one of the values is 1.
-fn has_one(values: &[bool]) -> bool
+pub fn has_one(values: &[bool]) -> bool
     ensures { result ≡ list_any (λ v. v) values.now }
 {
     for value in values {

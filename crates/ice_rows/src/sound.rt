@@ -1,5 +1,5 @@
 //! Rows that are sound, and those of them that a route may take.
-ghost use Rattle.std.specs.Prelude.{◌≡◌, ◌<◌, ◌&&◌};
+ghost use Rattle.std.specs.Prelude.{◌≡◌, ◌<◌, ◌&&◌, true};
 ghost use Rattle.ice_chip.specs.Views.{row_view, group_view};
 ghost use Rattle.ice_rows.specs.Bundles.{is_private};
 ghost use Rattle.ice_rows.specs.Sound.{is_alone, is_sound};
@@ -21,6 +21,22 @@ fn is_alone(chip: &Chip, index: &Index, group: &Group, number: u32, row: &Row) -
 {
     let groups = groups_into(chip, index, group.wire);
     alone::is_alone(groups, group, number as usize, row)
+}
+
+// Whether the row of a number is the one row of its bundle that is on under its values. Where its group is plain it is.
+fn is_alone_in(
+    chip: &Chip,
+    index: &Index,
+    group: &Group,
+    plain: bool,
+    number: u32,
+    row: &Row,
+) -> bool
+    requires index { IsIndexOf chip.now index.now }
+    requires plain { plain ≡ true → is_alone chip.now.groups (group_view group.now) number (row_view row.now) ≡ true }
+    ensures { result ≡ is_alone chip.now.groups (group_view group.now) number (row_view row.now) }
+{
+    plain || is_alone(chip, index, group, number, row)
 }
 
 /// Whether the row of a group is sound: no other bundle of its tile and no foreign function has a bit of its bundle, its
@@ -46,22 +62,25 @@ pub fn is_open(chip: &Chip, index: &Index, group: &Group) -> bool
 }
 
 /// Whether the row of an open group is usable: its values turn it on alone in its bundle, its source is no memory's wire,
-/// and a route may leave that, by what was noted of all wires. The number is that of the row.
+/// and a route may leave that, by what was noted of all wires. The number is that of the row. The group may be known to
+/// be plain, so that each of its rows is alone.
 #[tactic(auto, using(crate::proofs::Sourcing::taken_by_source))]
 pub fn is_taken(
     chip: &Chip,
     index: &Index,
     sources: &[bool],
     group: &Group,
+    plain: bool,
     number: u32,
     row: &Row,
 ) -> bool
     requires index { IsIndexOf chip.now index.now }
     requires sources { AreSources chip.now sources.now }
     requires source { row.now.source.0 < chip.now.wires }
+    requires plain { plain ≡ true → is_alone chip.now.groups (group_view group.now) number (row_view row.now) ≡ true }
     ensures { result ≡ is_taken chip.now (group_view group.now) number (row_view row.now) }
 {
-    is_noted(chip, sources, row.source) && is_alone(chip, index, group, number, row)
+    is_noted(chip, sources, row.source) && is_alone_in(chip, index, group, plain, number, row)
 }
 
 /// Whether the row of a group is usable: it is sound, and a route may leave its source and enter its wire. The number is

@@ -8,5 +8,5 @@ use Rattle.ice_chip_read.proofs.read.finish.Goals as goal
 
 pub build-requires : goal.build-requires
 build-requires c =
-    let same : closed (reading_view c.args.reading) ≡ parts_view c.close.new.reading.parts = search rules in
+    let same : closed (reading_view c.args.reading) ≡ parts_view c.close_last.new.reading.parts = search rules in
     subst IsRead same (rows_are_read (reading_view c.args.reading) c.requires)

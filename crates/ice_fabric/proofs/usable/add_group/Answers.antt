@@ -1,5 +1,6 @@
 use Rattle.std.proofs.lemmas.List.{drop_more}
 use Rattle.ice_rows.proofs.Taken.{taken}
+use Rattle.ice_rows.proofs.Known.{alone_row}
 use Rattle.std.proofs.Common.{arith, ℕ, ◌≡◌, ◌<◌, length, ◌+◌, ◌++◌, ◌∷◌, List, append-nil, drop, map, ap, sym, subst, ◌∙◌}
 use Rattle.ice_chip.specs.declared.rows.Row.{Row}
 use Rattle.ice_chip.specs.Database.{SwitchGroup}
@@ -17,6 +18,11 @@ pub returns-then-not-is_open-clause-places : goal.returns-then-not-is_open-claus
 returns-then-not-is_open-clause-places c =
     sym (ap (λ xs. c.args.places.now.items ++ xs) (none_placed c.args.chip.now (group_view c.args.group.now) c.args.group.now.first.0 (map row_view c.args.group.now.rows.items) (sym c.is_open.ensures ∙ c.if-not-is_open.true))
     ∙ append-nil c.args.places.now.items)
+
+pub is_taken-taken-requires-clause-plain : goal.is_taken-taken-requires-clause-plain
+is_taken-taken-requires-clause-plain c = λ e.
+    let lt : c.loop-k.k < length c.args.group.now.rows.items = omega (arith, c.loop-k-test.true, c.len-k-end.ensures) in
+    alone_row c.args.chip.now.groups c.args.group.now c.loop-k.k c.index-row.result.now c.index-row.result.now (c.is_plain-plain.ensures e) c.index-row.ensures lt
 
 pub loop-k-preserved : goal.loop-k-preserved
 loop-k-preserved c =
