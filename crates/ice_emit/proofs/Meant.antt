@@ -60,6 +60,9 @@ module _ (parts : Parts) (rows : PackageRows) (plan : Plan) (pullups : List Bool
   wired : IsWired parts (set_bits parts wanted own) wanted
   wired = drives wanted own led.rows (apart rows plan pullups held wanted placed)
 
+  pub are_wired : IsWired parts (bits_of k) wanted
+  are_wired = subst (λ (bits : Bits). IsWired parts bits wanted) same wired
+
   pub are_meant : Means parts → HasNoLoop parts (bits_of k) → Realises parts plan wanted (bits_of k)
   are_meant means loopless =
       subst (λ (bits : Bits). Realises parts plan wanted bits) same

@@ -7,6 +7,7 @@ ghost use Rattle.ice_nets.specs.Plans.{plan_in, plan_of};
 ghost use Rattle.ice_written.specs.Functions.{settings};
 ghost use Rattle.ice_realised.specs.Feeds.{FeedsNoGlobal};
 ghost use Rattle.ice_rows.specs.Index.{IsIndexOf};
+ghost use Rattle.ice_wiring.specs.Wanted.{IsWired};
 ghost use Rattle.ice_written.specs.Realised.{Realises};
 ghost use Rattle.ice_written.specs.Routed.{AreTrees};
 ghost use Rattle.ice_written.specs.Written.{held_by, wanted_rows, IsWritten};
@@ -78,7 +79,7 @@ fn settings_of(
     push_clusters(&mut made, routed)?;
     push_ports(&mut made, chip, routed.placed.ports, pullups, ports)?;
     push_enables(alloc, &mut made, chip, routed.placed.ports, ports)?;
-    push_buffers(&mut made, chip, rows)?;
+    push_buffers(alloc, &mut made, chip, rows)?;
     Ok(made)
 }
 
@@ -134,6 +135,7 @@ pub fn indexed_emit(
     requires placed { IsPlacedOn chip.now (plan_of design.now clusters.now placement.now pads.now) pads.now.pullups }
     requires trees { AreTrees chip.now (plan_of design.now clusters.now placement.now pads.now) (map route_of trees.now) }
     ensures written { IfOk result (IsWritten chip.now (plan_of design.now clusters.now placement.now pads.now) pads.now.pullups (map route_of trees.now)) }
+    ensures driven { IfOk result (λ bits. IsWired chip.now (bits_of bits) (wanted_rows chip.now (plan_of design.now clusters.now placement.now pads.now) (map route_of trees.now))) }
     ensures loopless { IfOk result (λ bits. FeedsNoGlobal chip.now → HasNoLoop chip.now (bits_of bits)) }
     ensures realised { IfOk result (λ bits. HasNoLoop chip.now (bits_of bits) → Realises chip.now (plan_of design.now clusters.now placement.now pads.now) (wanted_rows chip.now (plan_of design.now clusters.now placement.now pads.now) (map route_of trees.now)) (bits_of bits)) }
 {
@@ -153,9 +155,9 @@ pub fn indexed_emit(
 /// cells, their tables rewired to the inputs at which their signals arrive; of clocks' edges and carries into runs; of the pads'
 /// types and pull-ups, of inputs that nothing reads, and of the column buffers that globals pass. No other bit is set.
 ///
-/// Decoding these bits gives no fault but a loop, and no loop where no global of the chip is fed by a global, as where each is fed in an
-/// IO tile. Where they have no loop each wanted row drives its wire and no other wire has a driver, the ports' pads show for every list
-/// of levels what the design shows, and every other pad is off.
+/// Each wanted row drives its wire, and no other wire has a driver. Decoding these bits gives no fault but a loop, and no loop where no
+/// global of the chip is fed by a global, as where each is fed in an IO tile. Where they have no loop the ports' pads show for every
+/// list of levels what the design shows, and every other pad is off.
 ///
 /// # Errors
 /// Want of memory alone; more than 4,294,967,295 trees count as such.
@@ -171,6 +173,7 @@ pub fn emit(
     requires placed { IsPlacedOn chip.now (plan_of design.now clusters.now placement.now pads.now) pads.now.pullups }
     requires trees { AreTrees chip.now (plan_of design.now clusters.now placement.now pads.now) (map route_of trees.now) }
     ensures written { IfOk result (IsWritten chip.now (plan_of design.now clusters.now placement.now pads.now) pads.now.pullups (map route_of trees.now)) }
+    ensures driven { IfOk result (λ bits. IsWired chip.now (bits_of bits) (wanted_rows chip.now (plan_of design.now clusters.now placement.now pads.now) (map route_of trees.now))) }
     ensures loopless { IfOk result (λ bits. FeedsNoGlobal chip.now → HasNoLoop chip.now (bits_of bits)) }
     ensures realised { IfOk result (λ bits. HasNoLoop chip.now (bits_of bits) → Realises chip.now (plan_of design.now clusters.now placement.now pads.now) (wanted_rows chip.now (plan_of design.now clusters.now placement.now pads.now) (map route_of trees.now)) (bits_of bits)) }
 {

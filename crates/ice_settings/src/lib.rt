@@ -5,6 +5,7 @@
 mod buffers;
 mod cells;
 mod enables;
+mod globals;
 mod making;
 mod ports;
 

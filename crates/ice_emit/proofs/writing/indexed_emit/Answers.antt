@@ -1,7 +1,7 @@
 use Rattle.std.proofs.Common.{map}
 use Rattle.ice_nets.specs.Plans.{plan_in, plan_of}
 use Rattle.ice_negotiate.specs.Trees.{route_of}
-use Rattle.ice_emit.proofs.Meant.{are_meant, have_no_loop}
+use Rattle.ice_emit.proofs.Meant.{are_wired, are_meant, have_no_loop}
 use Rattle.ice_emit.proofs.Ready.{written_for}
 use Rattle.ice_emit.proofs.writing.indexed_emit.Goals as goal
 
@@ -14,6 +14,8 @@ returns c =
     c.placed_of-placed.ensures.chip c.placed_of-placed.ensures.plan c.pullups.ensures c.as_slice.ensures.value c.as_slice-2.ensures.value c.as_slice-3.ensures.value c.in_ok-rows.ensures c.in_ok-made.ensures c.in_ok-bits.ensures in
     record {
       written = written;
+      driven = are_wired parts c.requires.placed.0 plan c.args.pads.now.pullups (map route_of c.args.trees.now) c.in_ok-bits.bits c.roots_are_led_to_pins.ensures c.designs_are_set.ensures.apart c.designs_are_set.ensures.set
+          c.wanted_rows_drive.ensures c.requires.placed.1 c.requires.trees written;
       loopless = have_no_loop parts c.requires.placed.0 plan c.args.pads.now.pullups (map route_of c.args.trees.now) c.in_ok-bits.bits c.roots_are_led_to_pins.ensures c.designs_are_set.ensures.apart c.designs_are_set.ensures.set
           c.wanted_rows_drive.ensures c.requires.placed.1 c.requires.trees written c.bits_have_no_loop.ensures;
       realised = are_meant parts c.requires.placed.0 plan c.args.pads.now.pullups (map route_of c.args.trees.now) c.in_ok-bits.bits c.roots_are_led_to_pins.ensures c.designs_are_set.ensures.apart c.designs_are_set.ensures.set

@@ -1,7 +1,7 @@
 use Rattle.std.proofs.Common.{refl, arith}
 use Rattle.ice_settings.specs.Views.{views}
 use Rattle.ice_settings.proofs.Buffered.{next_buffers}
-use Rattle.ice_settings.proofs.buffers.push_buffers.Goals as goal
+use Rattle.ice_settings.proofs.buffers.push_rows.Goals as goal
 
 pub loop-k-preserved : goal.loop-k-preserved
 loop-k-preserved c =
