@@ -9,6 +9,7 @@ ghost use Rattle.ice_chip.specs.Places.{same_pad};
 ghost use Rattle.ice_chip.specs.Lookups.{tile_of, kind_at, names_of, wire_named, rows_of, package_of, global_of, ieren_of, colbuf_of, function_of};
 ghost use Rattle.ice_chip.specs.Views.{function_view, row_view, group_view, package_view, parts_view};
 
+use crate::both::both;
 use crate::index::RowPlace;
 use crate::indices::{PlaceIndex, ServerIndex, WireIndex};
 use crate::name_places::place_of;
@@ -185,10 +186,13 @@ pub fn build(alloc: Global, parts: ChipParts) -> Result<Chip, ChipFault>
     requires { IsRead (parts_view parts) }
     ensures { Answers result (chip_of (parts_view parts)) }
 {
-    if let Some(fault) = parts.whole_fault(alloc)? {
-        return Err(fault);
-    }
-    Ok(indexed(alloc, parts)?)
+    let fault = match parts.whole_fault(alloc) {
+        Ok(None) => return Ok(indexed(alloc, parts)?),
+        Ok(Some(fault)) => fault,
+        Err(NoMemory) => ChipFault::NoMemory,
+    };
+    drop(parts);
+    Err(fault)
 }
 
 // The chip of rows without a fault.
@@ -197,9 +201,12 @@ fn indexed(alloc: Global, parts: ChipParts) -> Result<Chip, NoMemory>
     requires faultless { whole_fault (parts_view parts) ≡ None }
     ensures { IfOk result (λ chip. chip ≡ parts_view parts) }
 {
-    let wires = WireIndex::new(alloc, &parts)?;
-    let servers = ServerIndex::new(alloc, &parts)?;
-    let places = PlaceIndex::new(alloc, &parts)?;
+    let wires = WireIndex::new(alloc, &parts);
+    let servers = both(wires, ServerIndex::new(alloc, &parts));
+    let Ok(((wires, servers), places)) = both(servers, PlaceIndex::new(alloc, &parts)) else {
+        drop(parts);
+        return Err(NoMemory);
+    };
     Ok(Chip {
         parts,
         wires,

@@ -3,6 +3,7 @@ ghost use Rattle.std.specs.Prelude.{◌<◌, All, IfOk};
 ghost use Rattle.ice_chip.specs.IndexForms.{IsWireIndex, IsServerIndex, IsPlaceIndex};
 ghost use Rattle.ice_chip.specs.Views.{parts_view};
 
+use crate::both::both;
 use crate::index::{RowPlace, column_buffers, globals, input_enables, tiles};
 use crate::lists::names_by_wire;
 use crate::name_places::{FunctionPlaces, places_of_packages};
@@ -52,9 +53,8 @@ impl WireIndex {
         requires { All (λ n. n.wire < parts.now.wires) (parts_view parts.now).names }
         ensures { IfOk result (IsWireIndex (parts_view parts.now)) }
     {
-        let tiles = tiles(alloc, parts)?;
-        let lists = names_by_wire(alloc, parts)?;
-        let names = NameIndex::new(alloc, parts)?;
+        let lists = both(tiles(alloc, parts), names_by_wire(alloc, parts));
+        let ((tiles, lists), names) = both(lists, NameIndex::new(alloc, parts))?;
         Ok(WireIndex {
             tiles,
             lists,
@@ -68,9 +68,8 @@ impl ServerIndex {
     pub fn new(alloc: Global, parts: &ChipParts) -> Result<ServerIndex, NoMemory>
         ensures { IfOk result (IsServerIndex (parts_view parts.now)) }
     {
-        let globals = globals(alloc, parts)?;
-        let enables = input_enables(alloc, parts)?;
-        let buffers = column_buffers(alloc, parts)?;
+        let pads = both(globals(alloc, parts), input_enables(alloc, parts));
+        let ((globals, enables), buffers) = both(pads, column_buffers(alloc, parts))?;
         Ok(ServerIndex {
             globals,
             enables,
@@ -84,9 +83,9 @@ impl PlaceIndex {
     pub fn new(alloc: Global, parts: &ChipParts) -> Result<PlaceIndex, NoMemory>
         ensures { IfOk result (IsPlaceIndex (parts_view parts.now)) }
     {
-        let rows = row_places(alloc, &parts.groups)?;
-        let functions = FunctionPlaces::new(alloc, &parts.functions)?;
-        let packages = places_of_packages(alloc, &parts.packages)?;
+        let functions = FunctionPlaces::new(alloc, &parts.functions);
+        let rows = both(row_places(alloc, &parts.groups), functions);
+        let ((rows, functions), packages) = both(rows, places_of_packages(alloc, &parts.packages))?;
         Ok(PlaceIndex {
             rows,
             functions,

@@ -2,6 +2,7 @@
 //! and the rows of global buffers, input enables and column buffers.
 #![tactic(auto)]
 
+mod both;
 mod chip;
 mod digits;
 mod fault;

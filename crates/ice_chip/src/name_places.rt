@@ -61,8 +61,18 @@ impl FunctionPlaces {
         }
     }
 
-    /// The places of these functions.
+    // Notes where these functions stand, in order.
     #[tactic(auto, using(crate::proofs::NamePlaces::next_function))]
+    fn note_all(&mut self, alloc: Global, functions: &[Function]) -> Result<(), NoMemory>
+        ensures { OnOk result (by_kind self.new ≡ function_places (by_kind self.old) 0 (map function_view functions.now)) }
+    {
+        for (place, function) in functions.iter().enumerate() {
+            self.note(alloc, function, place)?;
+        }
+        Ok(())
+    }
+
+    /// The places of these functions.
     pub fn new(alloc: Global, functions: &[Function]) -> Result<FunctionPlaces, NoMemory>
         ensures { IfOk result (λ places. by_kind places ≡ function_places no_places 0 (map function_view functions.now)) }
     {
@@ -72,10 +82,7 @@ impl FunctionPlaces {
             ram_bottom: IndexMap::new(alloc),
             ram_top: IndexMap::new(alloc),
         };
-        for (place, function) in functions.iter().enumerate() {
-            places.note(alloc, function, place)?;
-        }
-        Ok(places)
+        places.note_all(alloc, functions).and(Ok(places))
     }
 
     /// The place of the function of the kind and name, or None exactly where there is none.

@@ -58,20 +58,26 @@ fn note_wire(alloc: Global, names: &mut NameIndex, row: &NameRow) -> Result<(), 
 }
 
 impl NameIndex {
+    // Notes the names of these rows at places with a tile, in order.
+    fn note_all(&mut self, alloc: Global, parts: &ChipParts) -> Result<(), NoMemory>
+        ensures { OnOk result (numbered_of self.new ≡ numbered (numbered_of self.old) (map placed_wire (placed_names (parts_view parts.now)))) }
+    {
+        for row in &parts.names {
+            if parts.tile_at(row.tile).is_some() {
+                note_wire(alloc, self, row)?;
+            }
+        }
+        Ok(())
+    }
+
     /// The names of these rows at places with a tile.
     pub fn new(alloc: Global, parts: &ChipParts) -> Result<NameIndex, NoMemory>
         ensures { IfOk result (λ names. numbered_of names ≡ numbered no_names (map placed_wire (placed_names (parts_view parts.now)))) }
     {
-        let mut names = NameIndex {
-            texts: IndexSet::new(alloc),
-            wires: IndexMap::with_capacity(alloc, parts.names.len())?,
-        };
-        for row in &parts.names {
-            if parts.tile_at(row.tile).is_some() {
-                note_wire(alloc, &mut names, row)?;
-            }
-        }
-        Ok(names)
+        let wires = IndexMap::with_capacity(alloc, parts.names.len())?;
+        let texts = IndexSet::new(alloc);
+        let mut names = NameIndex { texts, wires };
+        names.note_all(alloc, parts).and(Ok(names))
     }
 
     /// The wire that has the name at the place.

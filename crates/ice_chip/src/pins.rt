@@ -2,7 +2,7 @@
 ghost use Rattle.std.specs.Prelude.{◌≡◌, IfOk, nat_eq};
 ghost use Rattle.std.specs.Map.{lookup};
 ghost use Rattle.ice_chip.specs.Places.{tile_known};
-ghost use Rattle.ice_chip.specs.SharedPins.{is_pin, same_pin, with_pin, with_pin_name, shared_pin};
+ghost use Rattle.ice_chip.specs.SharedPins.{is_pin, same_pin, with_pin, with_pin_name, shared_pin, shared_from};
 ghost use Rattle.ice_chip.specs.WholeFaults.{clash_or};
 ghost use Rattle.ice_chip.specs.Views.{name_view, parts_view};
 
@@ -97,18 +97,29 @@ fn note_pin_name(
 }
 
 impl ChipParts {
+    // The lines of a wire that has another pin on an earlier line, also on one that was seen before.
+    fn pin_again(
+        &self,
+        alloc: Global,
+        seen: &mut IndexMap<u32, PinLine>,
+    ) -> Result<Option<(u32, u32)>, NoMemory>
+        ensures { IfOk result (λ lines. lines ≡ shared_from (parts_view self.now).tiles seen.old.entries (parts_view self.now).names) }
+    {
+        for name in &self.names {
+            let lines = note_pin_name(alloc, self, seen, name)?;
+            if lines.is_some() {
+                return Ok(lines);
+            }
+        }
+        Ok(None)
+    }
+
     /// The first line that gives a wire another input or output name than an earlier line does, and the first line
     /// that gives it one. One global in several tiles is one name. It fails for want of memory alone.
     pub fn shared_pin(&self, alloc: Global) -> Result<Option<(u32, u32)>, NoMemory>
         ensures { IfOk result (λ lines. lines ≡ shared_pin (parts_view self.now)) }
     {
         let mut seen = IndexMap::new(alloc);
-        for name in &self.names {
-            let lines = note_pin_name(alloc, self, &mut seen, name)?;
-            if lines.is_some() {
-                return Ok(lines);
-            }
-        }
-        Ok(None)
+        self.pin_again(alloc, &mut seen)
     }
 }

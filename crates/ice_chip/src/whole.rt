@@ -99,19 +99,29 @@ impl ChipParts {
         None
     }
 
+    // The lines of a name in a tile that another wire has on an earlier line, also on one that was seen before.
+    fn name_again<'a>(
+        &'a self,
+        seen: &mut IndexMap<PlacedText<'a>, WireLine>,
+    ) -> Result<Option<(u32, u32)>, NoMemory>
+        ensures { IfOk result (λ lines. lines ≡ name_of_two_wires (parts_view self.now).tiles (by_placed seen.old.entries) (parts_view self.now).names) }
+    {
+        for name in &self.names {
+            let lines = note_name(self.tile_at(name.tile), seen, name)?;
+            if lines.is_some() {
+                return Ok(lines);
+            }
+        }
+        Ok(None)
+    }
+
     /// The first line that gives a name in a tile to another wire than an earlier line does, and the first such
     /// earlier line. It fails for want of memory alone.
     pub fn name_of_two_wires(&self, alloc: Global) -> Result<Option<(u32, u32)>, NoMemory>
         ensures { IfOk result (λ lines. lines ≡ name_of_two_wires (parts_view self.now).tiles [] (parts_view self.now).names) }
     {
         let mut seen = IndexMap::with_capacity(alloc, self.names.len())?;
-        for name in &self.names {
-            let lines = note_name(self.tile_at(name.tile), &mut seen, name)?;
-            if lines.is_some() {
-                return Ok(lines);
-            }
-        }
-        Ok(None)
+        self.name_again(&mut seen)
     }
 
     /// The line of the first group with a bit in a column that its tile doesn't have. It takes no memory.
