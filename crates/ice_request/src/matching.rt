@@ -18,10 +18,10 @@ fn matches_in<'a>(alloc: Global, words: &'a [String]) -> Result<ArgMatches<'a>, 
     ensures ok { IfOk result (λ m. (is_taken (map string_bytes words.now) ≡ true) × (subcommand_rows_of m ≡ subcommand_of command (map string_bytes words.now))) }
     ensures usage { IsErrOf result WordsFault.Usage → (is_taken (map string_bytes words.now) ≡ false) × (takes command (map string_bytes words.now) ≡ false) }
 {
-    let Ok(mut command) = tool_command(alloc) else {
+    let Ok(command) = tool_command(alloc) else {
         return Err(WordsFault::NoMemory);
     };
-    match command.try_get_matches_from_mut(words) {
+    match command.try_get_matches_from(words) {
         Ok(found) => Ok(found),
         Err(e) => {
             if e.kind() == ErrorKind::OutOfMemory {

@@ -3,10 +3,10 @@ use Rattle.clap.specs.Words.{app_of, kind_of}
 use Rattle.ice_request.proofs.Taking.{refused, taken, never_taken}
 use Rattle.ice_request.proofs.matching.matches_in.Goals as goal
 
-pub returns-in-Ok-try_get_matches_from_mut-clause-ok : goal.returns-in-Ok-try_get_matches_from_mut-clause-ok
-returns-in-Ok-try_get_matches_from_mut-clause-ok c =
-    taken (app_of c.in-Ok.command) (map string_bytes c.args.words.now) c.in-Ok-try_get_matches_from_mut.found c.in-Ok.ensures
-    c.in-Ok-try_get_matches_from_mut.ensures.kinds c.in-Ok-try_get_matches_from_mut.ensures.ok.2
+pub returns-in-Ok-try_get_matches_from-clause-ok : goal.returns-in-Ok-try_get_matches_from-clause-ok
+returns-in-Ok-try_get_matches_from-clause-ok c =
+    taken (app_of c.in-Ok.command) (map string_bytes c.args.words.now) c.in-Ok-try_get_matches_from.found c.in-Ok.ensures
+    c.in-Ok-try_get_matches_from.ensures.kinds c.in-Ok-try_get_matches_from.ensures.matches
 
 pub returns-clause-usage : goal.returns-clause-usage
 returns-clause-usage c = λ _. (
