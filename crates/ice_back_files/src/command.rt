@@ -87,7 +87,11 @@ impl<'a> ChipMaking for BackRequest<'a> {
 
     fn make(&self, alloc: Global, reader: ChipReader, texts: &Texts) -> Result<Made, Cause> {
         match reader.finish() {
-            Ok(chip) => back_on(alloc, self.package_name, texts, &chip),
+            Ok(chip) => {
+                let made = back_on(alloc, self.package_name, texts, &chip);
+                drop(chip);
+                made
+            }
             Err(fault) => Err(chip_refusal(fault)),
         }
     }

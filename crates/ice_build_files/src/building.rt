@@ -112,7 +112,11 @@ fn build_sound<G: Gate + Sync, R: Threads + Sync>(
 {
     can_be_promoted(texts, &sound);
     match promote_clocks(alloc, chip, sound) {
-        Ok(promoted) => build_promoted(rt, alloc, gate, request, texts, chip, pcf, &promoted),
+        Ok(promoted) => {
+            let made = build_promoted(rt, alloc, gate, request, texts, chip, pcf, &promoted);
+            drop(promoted);
+            made
+        }
         Err(NoMemory) => Err(without_report(Cause::NoMemory)),
     }
 }
@@ -193,7 +197,11 @@ fn build_texts<G: Gate + Sync, R: Threads + Sync>(
     ensures refused { (chip_text : List ℕ) → StandsFor reader chip_text → IfErr result (IsRefusedWith (request_view request.now) (chip_text ∷ texts.now)) }
 {
     match reader.finish() {
-        Ok(chip) => build_on(rt, alloc, gate, request, texts, &chip),
+        Ok(chip) => {
+            let made = build_on(rt, alloc, gate, request, texts, &chip);
+            drop(chip);
+            made
+        }
         Err(fault) => Err(without_report(chip_refusal(fault))),
     }
 }

@@ -18,9 +18,25 @@ use ice_base::NoMemory;
 use ice_build::{BuildFault, Built, Layout};
 use ice_chip::Chip;
 use ice_core::RoundLog;
+use ice_negotiate::Routed;
 use ice_net::Netlist;
+use ice_place::Placement;
 use ice_words::Tally;
 use std::alloc::Global;
+
+// The placement of a placed design, of which the rest is let go.
+fn placement_of(layout: Layout) -> Placement
+    ensures { result ≡ layout.placement }
+{
+    layout.placement
+}
+
+// What is told of the rounds of routes, of which the rest is let go.
+fn tallies_of(routed: Routed) -> Vec<Tally>
+    ensures { result ≡ routed.tallies }
+{
+    routed.tallies
+}
 
 /// What is made of what was built of a netlist: the texts that are asked for, with the placement and the tallies. Where the bits are of
 /// the chip, their text says them.
@@ -43,15 +59,22 @@ pub fn made_of(
 {
     match texts_of(alloc, chip, request, netlist, &built) {
         Ok(texts) => {
-            let layout = built.layout;
-            let routed = built.routed;
+            let Built {
+                layout,
+                routed,
+                bits,
+            } = built;
+            drop(bits);
             Ok(Made {
                 texts,
-                placement: layout.placement,
-                tallies: routed.tallies,
+                placement: placement_of(layout),
+                tallies: tallies_of(routed),
             })
         }
-        Err(NoMemory) => Err(without_report(Cause::NoMemory)),
+        Err(NoMemory) => {
+            drop(built);
+            Err(without_report(Cause::NoMemory))
+        }
     }
 }
 
@@ -69,13 +92,16 @@ fn gave_up(
     match parting_text(alloc, request, &layout, nets, &logs) {
         Ok(report) => Refused {
             cause: Cause::GaveUp {
-                placement: layout.placement,
+                placement: placement_of(layout),
                 logs,
                 tallies,
             },
             report,
         },
-        Err(NoMemory) => without_report(Cause::NoMemory),
+        Err(NoMemory) => {
+            drop(layout);
+            without_report(Cause::NoMemory)
+        }
     }
 }
 
@@ -99,7 +125,7 @@ pub fn build_refusal(alloc: Global, request: &BuildRequest<'_>, fault: BuildFaul
         BuildFault::Pins(fault) => pin_refusal(fault),
         BuildFault::Places(fault) => place_refusal(fault),
         BuildFault::Unreachable { layout, net, sink } => Cause::Unreachable {
-            placement: layout.placement,
+            placement: placement_of(layout),
             net,
             sink,
         },

@@ -72,8 +72,14 @@ pub fn read_chip_and_texts<D: Desk>(
     match read_chip_text(desk, chip, &mut reader) {
         Ok(()) => match read_texts(alloc, desk, files) {
             Ok(texts) => Ok(ChipTexts { reader, texts }),
-            Err(cause) => Err(cause),
+            Err(cause) => {
+                drop(reader);
+                Err(cause)
+            }
         },
-        Err(cause) => Err(cause),
+        Err(cause) => {
+            drop(reader);
+            Err(cause)
+        }
     }
 }

@@ -71,7 +71,9 @@ fn expect_built(
     gate: &MeetGate,
 ) {
     let done = run(rt, alloc, words, desk, gate);
-    assert!(rt; done.status == 0, "status {}", done.status);
+    let status = done.status;
+    drop(done);
+    assert!(rt; status == 0, "status {status}");
     assert!(rt; desk.file("routes") == Some(ROUTES), "routes");
 }
 

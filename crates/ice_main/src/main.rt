@@ -41,5 +41,7 @@ fn main(rt: HostRuntime) -> ExitCode {
     };
     let mut desk = HostDesk::new(&rt);
     let done = run(&rt, alloc, &words, &mut desk, &OpenGate);
-    ExitCode::from(done.status)
+    let status = done.status;
+    drop(done);
+    ExitCode::from(status)
 }

@@ -85,7 +85,11 @@ impl<'a> ChipMaking for BitsRequest<'a> {
 
     fn make(&self, alloc: Global, reader: ChipReader, texts: &Texts) -> Result<Made, Cause> {
         match reader.finish() {
-            Ok(chip) => play_on(alloc, self.package_name, texts, &chip),
+            Ok(chip) => {
+                let made = play_on(alloc, self.package_name, texts, &chip);
+                drop(chip);
+                made
+            }
             Err(fault) => Err(chip_refusal(fault)),
         }
     }

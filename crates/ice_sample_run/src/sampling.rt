@@ -53,7 +53,11 @@ fn make<G: Gate + Sync, R: Threads + Sync>(
     ensures refused { IfErr result (λ cause. IsRefusal (Stands request.now.number) cause) }
 {
     match read_sample_chip(alloc) {
-        Ok(chip) => make_on(rt, alloc, gate, request, &chip),
+        Ok(chip) => {
+            let made = make_on(rt, alloc, gate, request, &chip);
+            drop(chip);
+            made
+        }
         Err(cause) => Err(cause),
     }
 }

@@ -9,7 +9,7 @@ returns-in-Err-clause-refused g c = λ chip_text read.
 
 pub returns-in-Ok-clause-made : goal.returns-in-Ok-clause-made
 returns-in-Ok-clause-made g c = λ chip_text read.
-    c.build_promoted.ensures.made chip_text
+    c.build_promoted-made.ensures.made chip_text
     (record {
       circuit = c.args.sound;
       is_chip = read.is_chip;
@@ -22,7 +22,7 @@ returns-in-Ok-clause-made g c = λ chip_text read.
 
 pub returns-in-Ok-clause-refused : goal.returns-in-Ok-clause-refused
 returns-in-Ok-clause-refused g c = λ chip_text read.
-    c.build_promoted.ensures.refused chip_text
+    c.build_promoted-made.ensures.refused chip_text
     (record {
       circuit = c.args.sound;
       is_chip = read.is_chip;

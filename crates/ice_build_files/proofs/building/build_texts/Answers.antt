@@ -22,7 +22,7 @@ returns-in-Err-clause-refused g c = λ chip_text stands.
     refused_by b texts cause c.without_report.result is (chip_alone fault cause c.chip_refusal.ensures) c.without_report.ensures.cause c.without_report.ensures.report
 
 pub returns-in-Ok-clause-made : goal.returns-in-Ok-clause-made
-returns-in-Ok-clause-made g c = λ chip_text stands. c.build_on.ensures.made chip_text (c.in-Ok.ensures.chip chip_text stands)
+returns-in-Ok-clause-made g c = λ chip_text stands. c.build_on-made.ensures.made chip_text (c.in-Ok.ensures.chip chip_text stands)
 
 pub returns-in-Ok-clause-refused : goal.returns-in-Ok-clause-refused
-returns-in-Ok-clause-refused g c = λ chip_text stands. c.build_on.ensures.refused chip_text (c.in-Ok.ensures.chip chip_text stands)
+returns-in-Ok-clause-refused g c = λ chip_text stands. c.build_on-made.ensures.refused chip_text (c.in-Ok.ensures.chip chip_text stands)

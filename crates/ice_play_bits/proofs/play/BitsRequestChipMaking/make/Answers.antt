@@ -10,7 +10,7 @@ returns-in-Err-clause-refused c = λ chip_text stands.
     chip_refused (LevelsStand (text_at texts 3)) c.args.self.now.package_name.now texts c.in-Err.fault c.chip_refusal.result (c.in-Err.ensures.chip chip_text stands) c.chip_refusal.ensures
 
 pub returns-in-Ok-clause-given : goal.returns-in-Ok-clause-given
-returns-in-Ok-clause-given c = λ chip_text stands. c.play_on.ensures.played chip_text (c.in-Ok.ensures.chip chip_text stands)
+returns-in-Ok-clause-given c = λ chip_text stands. c.play_on-made.ensures.played chip_text (c.in-Ok.ensures.chip chip_text stands)
 
 pub returns-in-Ok-clause-refused : goal.returns-in-Ok-clause-refused
-returns-in-Ok-clause-refused c = λ chip_text stands. c.play_on.ensures.refused chip_text (c.in-Ok.ensures.chip chip_text stands)
+returns-in-Ok-clause-refused c = λ chip_text stands. c.play_on-made.ensures.refused chip_text (c.in-Ok.ensures.chip chip_text stands)
