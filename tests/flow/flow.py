@@ -2,8 +2,8 @@
 
 words FOLDER                   says the names of the texts of each case of a folder, in order
 netlists COUNT FOLDER          makes netlists at random, each with its text of levels; the same count makes the same netlists
-compare FOLDER PASSES ROUTES   compares what the two programs showed with the dumps and the texts of bits of a folder
-play FOLDER PASSES PROGRAM     plays the designs that ice_show_flow showed, and the netlists by play-net of PROGRAM
+compare FOLDER SHOWN           compares what ice_show_flow showed with the dumps and the texts of bits of a folder
+play FOLDER SHOWN PROGRAM      plays the designs that ice_show_flow showed, and the netlists by play-net of PROGRAM
 """
 import pathlib
 import random
@@ -41,9 +41,10 @@ def cut(lines, begins):
     return lines[:place], lines[place:]
 
 
-def parts_of(dump, passes, routes):
+def parts_of(dump, lines):
     """What is expected of a case and what was shown of it: in its dump, and in its text of bits where it has one."""
     before, routing = cut(lines_of(dump), begins_routing)
+    passes, routes = cut(lines, begins_routing)
     routes, bits = cut(routes, begins_bits)
     parts = [(before, passes)]
     # A dump that was made by hand ends with the nets.
@@ -63,11 +64,11 @@ def is_same(name, want, have):
     return not differing
 
 
-def compare(folder, passes, routes):
-    passes, routes, bad, lines = shown(passes), shown(routes), 0, 0
+def compare(folder, file):
+    cases, bad, lines = shown(file), 0, 0
     dumps = sorted(pathlib.Path(folder).glob("*.dump"))
     for dump in dumps:
-        parts = parts_of(dump, passes.get(dump.stem, []), routes.get(dump.stem, []))
+        parts = parts_of(dump, cases.get(dump.stem, []))
         lines += sum(len(want) for want, _ in parts)
         bad += not all([is_same(dump.stem, *part) for part in parts])
     texts = sum(dump.with_suffix(".asc").exists() for dump in dumps)

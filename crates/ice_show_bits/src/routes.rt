@@ -105,7 +105,11 @@ fn say_nets<R: Print + Threads + Sync>(
         workers: 2,
     };
     match route(rt, alloc, chip, layout, nets, effort, &OpenGate) {
-        Ok(routed) => say_routed(rt, alloc, chip, layout, nets.len(), &routed),
+        Ok(routed) => {
+            let said = say_routed(rt, alloc, chip, layout, nets.len(), &routed);
+            drop(routed);
+            said
+        }
         Err(fault) => say_unrouted(rt, alloc, layout, nets.len(), &fault),
     }
 }

@@ -3,13 +3,20 @@ use anyhow::Result;
 use ice_cells::{Cluster, Control, Design, DesignPad, LogicCell, Root, Run};
 use ice_net::Reset;
 
-fn say_root(rt: &impl Print, root: Option<Root>) -> Result<()> {
+// What a root is, and its number among these.
+fn kind_of(root: Root) -> (&'static str, u32) {
     match root {
+        Root::PadIn(number) => ("pad", number),
+        Root::CellOut(number) => ("cell", number),
+        Root::GlobalOut(number) => ("global", number),
+        Root::CarryOut(number) => ("carry", number),
+    }
+}
+
+fn say_root(rt: &impl Print, root: Option<Root>) -> Result<()> {
+    match root.map(kind_of) {
         None => print!(rt; " -")?,
-        Some(Root::PadIn(n)) => print!(rt; " pad:{n}")?,
-        Some(Root::CellOut(n)) => print!(rt; " cell:{n}")?,
-        Some(Root::GlobalOut(n)) => print!(rt; " global:{n}")?,
-        Some(Root::CarryOut(n)) => print!(rt; " carry:{n}")?,
+        Some((kind, number)) => print!(rt; " {kind}:{number}")?,
     }
     Ok(())
 }
@@ -32,6 +39,14 @@ fn reset_bits(reset: Reset) -> (u8, u8) {
     }
 }
 
+fn say_flop(rt: &impl Print, control: Control, reset: Reset) -> Result<()> {
+    print!(rt; " flop")?;
+    say_control(rt, control)?;
+    let (set, at_once) = reset_bits(reset);
+    print!(rt; " set {set} async {at_once}")?;
+    Ok(())
+}
+
 fn say_cell(rt: &impl Print, number: usize, cell: &LogicCell) -> Result<()> {
     print!(rt; "cell {number} table {:016b} ins", cell.table)?;
     for root in &cell.ins {
@@ -41,10 +56,7 @@ fn say_cell(rt: &impl Print, number: usize, cell: &LogicCell) -> Result<()> {
     let in3 = if cell.carry_to_in3 { " in3" } else { "" };
     print!(rt; "{carry}{in3}")?;
     if let Some((control, reset)) = cell.flop {
-        print!(rt; " flop")?;
-        say_control(rt, control)?;
-        let (set, at_once) = reset_bits(reset);
-        print!(rt; " set {set} async {at_once}")?;
+        say_flop(rt, control, reset)?;
     }
     println!(rt; "")?;
     Ok(())
@@ -72,21 +84,28 @@ fn say_pad(rt: &impl Print, pad: &DesignPad) -> Result<()> {
     Ok(())
 }
 
-// The counts of a design, its cells, runs, pads and globals, each in order.
-pub(crate) fn say_design(rt: &impl Print, design: &Design) -> Result<()> {
-    let (cells, runs) = (design.cells(), design.runs());
-    let (pads, globals) = (design.pads(), design.globals());
-    print!(rt; "cells {} runs {} ", cells.len(), runs.len())?;
-    println!(rt; "pads {} globals {}", pads.len(), globals.len())?;
+fn say_cells(rt: &impl Print, cells: &[LogicCell]) -> Result<()> {
     for (number, cell) in cells.iter().enumerate() {
         say_cell(rt, number, cell)?;
     }
+    Ok(())
+}
+
+fn say_runs(rt: &impl Print, runs: &[Run]) -> Result<()> {
     for (number, run) in runs.iter().enumerate() {
         say_run(rt, number, run)?;
     }
+    Ok(())
+}
+
+fn say_pads(rt: &impl Print, pads: &[DesignPad]) -> Result<()> {
     for pad in pads {
         say_pad(rt, pad)?;
     }
+    Ok(())
+}
+
+fn say_globals(rt: &impl Print, globals: &[Option<Root>]) -> Result<()> {
     for (number, root) in globals.iter().enumerate() {
         print!(rt; "global {number} reads")?;
         say_root(rt, *root)?;
@@ -95,19 +114,40 @@ pub(crate) fn say_design(rt: &impl Print, design: &Design) -> Result<()> {
     Ok(())
 }
 
-fn say_cluster(rt: &impl Print, number: usize, cluster: &Cluster) -> Result<()> {
-    print!(rt; "cluster {number} run ")?;
-    match cluster.run {
-        None => print!(rt; "-")?,
-        Some((run, chunk)) => print!(rt; "{run}.{chunk}")?,
+// The counts of a design, its cells, runs, pads and globals, each in order.
+pub(crate) fn say_design(rt: &impl Print, design: &Design) -> Result<()> {
+    let (cells, runs) = (design.cells(), design.runs());
+    let (pads, globals) = (design.pads(), design.globals());
+    print!(rt; "cells {} runs {} ", cells.len(), runs.len())?;
+    println!(rt; "pads {} globals {}", pads.len(), globals.len())?;
+    say_cells(rt, cells)?;
+    say_runs(rt, runs)?;
+    say_pads(rt, pads)?;
+    say_globals(rt, globals)
+}
+
+fn say_chunk(rt: &impl Print, number: usize, run: Option<(u32, u32)>) -> Result<()> {
+    match run {
+        None => print!(rt; "cluster {number} run -")?,
+        Some((run, chunk)) => print!(rt; "cluster {number} run {run}.{chunk}")?,
     }
+    Ok(())
+}
+
+fn say_slots(rt: &impl Print, slots: &[Option<u32>]) -> Result<()> {
     print!(rt; " cells")?;
-    for slot in cluster.cells.as_slice() {
+    for slot in slots {
         match slot {
             None => print!(rt; " -")?,
             Some(cell) => print!(rt; " {cell}")?,
         }
     }
+    Ok(())
+}
+
+fn say_cluster(rt: &impl Print, number: usize, cluster: &Cluster) -> Result<()> {
+    say_chunk(rt, number, cluster.run)?;
+    say_slots(rt, cluster.cells.as_slice())?;
     print!(rt; " control")?;
     match cluster.control {
         None => print!(rt; " -")?,
