@@ -63,7 +63,10 @@ fn expect_no_chip(rt: &impl Abort, fault: &ChipFault, asked: Asked) {
 /// Fails unless this is answered of the chip of a text.
 pub fn expect_of(rt: &impl Abort, alloc: Global, text: &[u8], asked: Asked) {
     match read_chip(alloc, text) {
-        Ok(chip) => expect_chip(rt, alloc, &chip, asked),
+        Ok(chip) => {
+            expect_chip(rt, alloc, &chip, asked);
+            drop(chip);
+        }
         Err(fault) => expect_no_chip(rt, &fault, asked),
     }
 }

@@ -191,71 +191,52 @@ const BLANKS: [Change; 6] = [
     (44, b"#"),
 ];
 
-fn chips_have_their_rows_and_parts(rt: &impl Abort, alloc: Global) -> Result<(), AllocError> {
-    expect(rt, alloc, Sample::TwoTiles, &[], Asked::Found(&TWO_TILES))?;
-    expect(rt, alloc, Sample::TwoWays, &[], Asked::Found(&TWO_WAYS))?;
-    expect(rt, alloc, Sample::OneWay, &[], Asked::Found(&ONE_WAY))?;
-    expect(rt, alloc, Sample::FourKinds, &[], Asked::Found(&KINDS))?;
-    expect(rt, alloc, Sample::OneWay, &SECTIONS, Asked::Found(&ONE_WAY))?;
-    expect(rt, alloc, Sample::OneWay, &BLANKS, Asked::Found(&ONE_WAY))?;
+// A chip with changes of its text, and what is found in it.
+type Case = (Sample, &'static [Change], &'static [Finding]);
+
+// Fails unless this is found in each chip.
+fn expect_each(rt: &impl Abort, alloc: Global, cases: &[Case]) -> Result<(), AllocError> {
+    for (sample, changes, findings) in cases {
+        expect(rt, alloc, *sample, changes, Asked::Found(*findings))?;
+    }
     Ok(())
+}
+
+fn chips_have_their_rows_and_parts(rt: &impl Abort, alloc: Global) -> Result<(), AllocError> {
+    let cases: [Case; 6] = [
+        (Sample::TwoTiles, &[], &TWO_TILES),
+        (Sample::TwoWays, &[], &TWO_WAYS),
+        (Sample::OneWay, &[], &ONE_WAY),
+        (Sample::FourKinds, &[], &KINDS),
+        (Sample::OneWay, &SECTIONS, &ONE_WAY),
+        (Sample::OneWay, &BLANKS, &ONE_WAY),
+    ];
+    expect_each(rt, alloc, &cases)
 }
 
 fn names_pads_and_functions_are_looked_up(
     rt: &impl Abort,
     alloc: Global,
 ) -> Result<(), AllocError> {
-    expect(rt, alloc, Sample::TwoTiles, &[], Asked::Found(&LOOKED_UP))?;
-    expect(rt, alloc, Sample::TwoTiles, &[], Asked::Found(&WIRES))?;
-    expect(rt, alloc, Sample::TwoWays, &[], Asked::Found(&PADS))?;
-    expect(
-        rt,
-        alloc,
-        Sample::RepeatedRows,
-        &[],
-        Asked::Found(&PLACED_NAMES),
-    )?;
-    expect(rt, alloc, Sample::OneBuffer, &[], Asked::Found(&NO_BUFFERS))?;
-    Ok(())
+    let cases: [Case; 5] = [
+        (Sample::TwoTiles, &[], &LOOKED_UP),
+        (Sample::TwoTiles, &[], &WIRES),
+        (Sample::TwoWays, &[], &PADS),
+        (Sample::RepeatedRows, &[], &PLACED_NAMES),
+        (Sample::OneBuffer, &[], &NO_BUFFERS),
+    ];
+    expect_each(rt, alloc, &cases)
 }
 
 fn the_first_row_that_counts_is_taken(rt: &impl Abort, alloc: Global) -> Result<(), AllocError> {
-    expect(
-        rt,
-        alloc,
-        Sample::RepeatedPins,
-        &[],
-        Asked::Found(&FIRST_PIN),
-    )?;
-    expect(
-        rt,
-        alloc,
-        Sample::RepeatedPins,
-        &PADS_TWICE,
-        Asked::Found(&THREE_PINS),
-    )?;
-    expect(
-        rt,
-        alloc,
-        Sample::RepeatedRows,
-        &[],
-        Asked::Found(&FIRST_ROWS),
-    )?;
-    expect(
-        rt,
-        alloc,
-        Sample::RepeatedRows,
-        &OTHER_ROWS,
-        Asked::Found(&NEXT_ROWS),
-    )?;
-    expect(
-        rt,
-        alloc,
-        Sample::Pads,
-        &FOREIGN_TWICE,
-        Asked::Found(&FIRST_FUNCTION),
-    )?;
-    Ok(())
+    let cases: [Case; 5] = [
+        (Sample::RepeatedPins, &[], &FIRST_PIN),
+        (Sample::RepeatedPins, &PADS_TWICE, &THREE_PINS),
+        (Sample::RepeatedRows, &[], &FIRST_ROWS),
+        (Sample::RepeatedRows, &OTHER_ROWS, &NEXT_ROWS),
+        (Sample::Pads, &FOREIGN_TWICE, &FIRST_FUNCTION),
+    ];
+    expect_each(rt, alloc, &cases)
 }
 
 #[test]

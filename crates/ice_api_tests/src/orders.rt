@@ -73,15 +73,24 @@ fn expect_cycle(
     }
 }
 
+// What each point of a graph depends on, and the order of the points.
+type Case = (&'static [&'static [usize]], &'static [usize]);
+
+// Nothing, one source, a chain down and a chain up; a diamond, and a point that reads one point twice.
+const ORDERS: [Case; 6] = [
+    (&[], &[]),
+    (&[&[]], &[0]),
+    (&[&[1], &[2], &[]], &[2, 1, 0]),
+    (&[&[], &[0], &[1]], &[0, 1, 2]),
+    (&[&[1, 2], &[3], &[3], &[]], &[3, 1, 2, 0]),
+    (&[&[1, 1], &[]], &[1, 0]),
+];
+
 fn points_stand_after_what_they_depend_on(rt: &impl Abort, alloc: Global) -> Result<(), Fail> {
-    // Nothing, one source, a chain down and a chain up.
-    expect_ordered(alloc, rt, &[], &[])?;
-    expect_ordered(alloc, rt, &[&[]], &[0])?;
-    expect_ordered(alloc, rt, &[&[1], &[2], &[]], &[2, 1, 0])?;
-    expect_ordered(alloc, rt, &[&[], &[0], &[1]], &[0, 1, 2])?;
-    // A diamond, and a point that reads one point twice.
-    expect_ordered(alloc, rt, &[&[1, 2], &[3], &[3], &[]], &[3, 1, 2, 0])?;
-    expect_ordered(alloc, rt, &[&[1, 1], &[]], &[1, 0])
+    for (rows, expected) in &ORDERS {
+        expect_ordered(alloc, rt, rows, expected)?;
+    }
+    Ok(())
 }
 
 fn a_cycle_stands_against_an_order(rt: &impl Abort, alloc: Global) -> Result<(), Fail> {

@@ -28,55 +28,59 @@ fn expect_constraints(rt: &impl Abort, pcf: &Pcf, expected: &[Expected<'_>]) {
     }
 }
 
-fn constraints_are_read_in_their_order(rt: &impl Abort, alloc: Global) -> Result<(), Fail> {
-    let text = b"set_frequency clk 12\nset_io --warn-no-port spare 9\nset_io -pullup yes clk 1\n";
+// Fails unless a text has these constraints, in this order.
+fn expect_text(
+    rt: &impl Abort,
+    alloc: Global,
+    text: &[u8],
+    expected: &[Expected<'_>],
+) -> Result<(), Fail> {
     let pcf = read_pcf(alloc, text)?;
-    expect_constraints(
-        rt,
-        &pcf,
+    expect_constraints(rt, &pcf, expected);
+    Ok(())
+}
+
+// Texts with their constraints.
+const TEXTS: [(&[u8], &[Expected<'static>]); 5] = [
+    (
+        b"set_frequency clk 12\nset_io --warn-no-port spare 9\nset_io -pullup yes clk 1\n",
         &[
             (2, b"spare", b"9", true, None),
             (3, b"clk", b"1", false, Some(true)),
         ],
-    );
-
-    let text =
-        b"set_io -nowarn -pullup yes -nowarn -pullup no a 1\nset_io -pullup no -pullup yes b 2\nset_io c 3";
-    let pcf = read_pcf(alloc, text)?;
-    expect_constraints(
-        rt,
-        &pcf,
+    ),
+    (
+        b"set_io -nowarn -pullup yes -nowarn -pullup no a 1\nset_io -pullup no -pullup yes b 2\nset_io c 3",
         &[
             (1, b"a", b"1", true, Some(false)),
             (2, b"b", b"2", false, Some(true)),
             (3, b"c", b"3", false, None),
         ],
-    );
-
-    let text =
-        b"set_io a -x\nset_io b -pullup\nset_io -pullup no set_io --warn-no-port\nset_io yes no";
-    let pcf = read_pcf(alloc, text)?;
-    expect_constraints(
-        rt,
-        &pcf,
+    ),
+    (
+        b"set_io a -x\nset_io b -pullup\nset_io -pullup no set_io --warn-no-port\nset_io yes no",
         &[
             (1, b"a", b"-x", false, None),
             (2, b"b", b"-pullup", false, None),
             (3, b"set_io", b"--warn-no-port", false, Some(false)),
             (4, b"yes", b"no", false, None),
         ],
-    );
-
-    let text =
-        b"# pins\r\n\r\n\tset_io  a\t1 # b 2\r\n set_frequency\n#set_io\nset_frequency a -x b\nset_io b#c 2";
-    let pcf = read_pcf(alloc, text)?;
-    expect_constraints(
-        rt,
-        &pcf,
+    ),
+    (
+        b"# pins\r\n\r\n\tset_io  a\t1 # b 2\r\n set_frequency\n#set_io\nset_frequency a -x b\nset_io b#c 2",
         &[(3, b"a", b"1", false, None), (7, b"b#c", b"2", false, None)],
-    );
-    let none = read_pcf(alloc, b"")?;
-    expect_constraints(rt, &none, &[]);
+    ),
+    (b"", &[]),
+];
+
+fn constraints_are_read_in_their_order(
+    rt: &impl Abort,
+    alloc: Global,
+    texts: &[(&[u8], &[Expected<'_>])],
+) -> Result<(), Fail> {
+    for (text, expected) in texts {
+        expect_text(rt, alloc, text, expected)?;
+    }
     Ok(())
 }
 
@@ -129,7 +133,7 @@ fn a_step_is_a_line_of_one_word(rt: &impl Abort, alloc: Global) -> Result<(), Fa
 
 #[test]
 fn constraints_and_levels_are_read(rt: HostRuntime) -> Result<(), Fail> {
-    constraints_are_read_in_their_order(&rt, rt.alloc())?;
+    constraints_are_read_in_their_order(&rt, rt.alloc(), &TEXTS)?;
     a_step_is_a_line_of_one_word(&rt, rt.alloc())?;
     Ok(())
 }

@@ -126,6 +126,14 @@ fn desk_of(
     Ok(MemoryDesk::new(alloc, files, moves as usize, fails))
 }
 
+// Adds a line behind a mark.
+fn add_line(out: &mut Vec<u8>, mark: u8, line: &[u8]) -> Result<(), AllocError> {
+    out.push(mark)?;
+    out.extend_from_slice(line)?;
+    out.push(b'\n')?;
+    Ok(())
+}
+
 // Adds the lines of a text, each behind a mark: `|`, and `\` where a last line has no line feed.
 fn add_lines(out: &mut Vec<u8>, text: &[u8]) -> Result<(), AllocError> {
     let whole = text.ends_with(b"\n");
@@ -137,9 +145,7 @@ fn add_lines(out: &mut Vec<u8>, text: &[u8]) -> Result<(), AllocError> {
         } else {
             b'\\'
         };
-        out.push(mark)?;
-        out.extend_from_slice(line.text)?;
-        out.push(b'\n')?;
+        add_line(out, mark, line.text)?;
     }
     Ok(())
 }
@@ -178,9 +184,7 @@ fn add_found(out: &mut Vec<u8>, desk: &MemoryDesk, finds: &[u8]) -> Result<(), A
     out.push(b'\n')?;
     for line in lines_of(bytes) {
         if is_found(line.text, finds) {
-            out.push(b'|')?;
-            out.extend_from_slice(line.text)?;
-            out.push(b'\n')?;
+            add_line(out, b'|', line.text)?;
         }
     }
     Ok(())
@@ -205,9 +209,22 @@ fn add_run<R: Threads + Sync>(
     let words = words_behind(alloc, line)?;
     let said = desk.said().len();
     let done = run(rt, alloc, &words, desk, &OpenGate);
-    add_number(out, before, u32::from(done.status))?;
+    let status = done.status;
+    drop((done, words));
+    add_number(out, before, u32::from(status))?;
     out.push(b'\n')?;
     add_lines(out, desk.said().get(said..).unwrap_or(&[]))
+}
+
+// Adds the files that a case shows, and the lines that it asks for.
+fn add_shown(out: &mut Vec<u8>, case: &Setting<'_>, desk: &MemoryDesk) -> Result<(), AllocError> {
+    for name in words_of(case.shows).skip(1) {
+        add_file(out, desk, name)?;
+    }
+    if !case.finds.is_empty() {
+        add_found(out, desk, case.finds)?;
+    }
+    Ok(())
 }
 
 // Adds the runs of a case, and the files that it shows.
@@ -223,13 +240,7 @@ fn add_answer<R: Threads + Sync>(
     if !case.then.is_empty() {
         add_run(rt, out, b"then status ", case.then, desk)?;
     }
-    for name in words_of(case.shows).skip(1) {
-        add_file(out, desk, name)?;
-    }
-    if !case.finds.is_empty() {
-        add_found(out, desk, case.finds)?;
-    }
-    Ok(())
+    add_shown(out, case, desk)
 }
 
 /// The answer to a case, as text.
@@ -241,6 +252,7 @@ pub fn answer<R: Threads + Sync>(
 ) -> Result<Vec<u8>, AllocError> {
     let mut desk = desk_of(alloc, case, texts)?;
     let mut out = Vec::new(alloc);
-    add_answer(rt, &mut out, case, &mut desk)?;
-    Ok(out)
+    let added = add_answer(rt, &mut out, case, &mut desk);
+    drop(desk);
+    added.and(Ok(out))
 }

@@ -26,27 +26,28 @@ fn close<W: Write + Drop, R: Threads + Sync>(
 }
 
 // Runs the cases of a text.
-fn play<W: Write + Drop, R: Threads + Sync>(
+fn play<'a, W: Write + Drop, R: Threads + Sync>(
     rt: &R,
     alloc: Global,
     out: &mut W,
-    text: &[u8],
+    cases: &mut Cases<'a>,
+    text: &'a [u8],
 ) -> anyhow::Result<()> {
-    let mut cases = Cases::new(alloc);
     for line in lines_of(text) {
         if heads(line.text) {
-            close(rt, alloc, out, &mut cases)?;
+            close(rt, alloc, out, cases)?;
         }
         if !cases.follow(alloc, line.text)? {
             anyhow::bail!("no line of a case is line {}", line.number);
         }
     }
-    close(rt, alloc, out, &mut cases)
+    close(rt, alloc, out, cases)
 }
 
 fn main(rt: HostRuntime) -> anyhow::Result<()> {
     let alloc = rt.alloc();
     let mut text = Vec::new(alloc);
     rt.reader().read_to_end(&mut text)?;
-    play(&rt, alloc, &mut io::writer(&rt), &text)
+    let mut cases = Cases::new(alloc);
+    play(&rt, alloc, &mut io::writer(&rt), &mut cases, &text)
 }

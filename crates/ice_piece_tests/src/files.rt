@@ -28,7 +28,9 @@ fn read(alloc: Global, desk: &mut MemoryDesk, limit: usize) -> (Result<(), ReadS
         return (Err(ReadStop::NoMemory), 0);
     };
     let result = read_pieces(desk, "chip", limit, &mut reader);
-    (result, reader.kept())
+    let kept = reader.kept();
+    drop(reader);
+    (result, kept)
 }
 
 // How many of the first bytes of a text are behind a line feed.

@@ -184,7 +184,11 @@ pub fn expect(
     asked: Asked,
 ) -> Result<(), AllocError> {
     match read_chip(alloc, chip) {
-        Ok(chip) => expect_chip(rt, alloc, &chip, text, asked),
+        Ok(chip) => {
+            let done = expect_chip(rt, alloc, &chip, text, asked);
+            drop(chip);
+            done
+        }
         Err(_) => panic!(rt; "the chip is refused"),
     }
 }

@@ -38,7 +38,10 @@ fn expect_chip(rt: &(impl Abort + Threads + Sync), alloc: Global, chip: &Chip, a
 // Fails unless this is answered of the usable rows of the chip of a text.
 fn expect_text(rt: &(impl Abort + Threads + Sync), alloc: Global, text: &[u8], asked: Asked) {
     match read_chip(alloc, text) {
-        Ok(chip) => expect_chip(rt, alloc, &chip, asked),
+        Ok(chip) => {
+            expect_chip(rt, alloc, &chip, asked);
+            drop(chip);
+        }
         Err(fault) => panic!(rt; "{fault}"),
     }
 }

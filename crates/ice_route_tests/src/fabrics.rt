@@ -148,11 +148,10 @@ fn no_route_leaves_an_input_or_enters_an_output(
     rt: &(impl Abort + Threads + Sync),
     alloc: Global,
 ) -> Result<(), AllocError> {
-    expect_cases(rt, alloc, Sample::Named, 35, 3, &PADS)?;
-    expect_cases(rt, alloc, Sample::Named, 35, 3, &CELL_INPUTS)?;
-    expect_cases(rt, alloc, Sample::Named, 35, 3, &CELL_OUTPUTS)?;
-    expect_cases(rt, alloc, Sample::Named, 35, 3, &OPEN)?;
-    expect_cases(rt, alloc, Sample::Named, 35, 3, &MEMORIES)?;
+    let named: [&[Case]; 5] = [&PADS, &CELL_INPUTS, &CELL_OUTPUTS, &OPEN, &MEMORIES];
+    for cases in named {
+        expect_cases(rt, alloc, Sample::Named, 35, 3, cases)?;
+    }
     Ok(())
 }
 
