@@ -19,3 +19,4 @@ mod FirstOfAll
 mod EachNumber
 mod NeededNames
 mod LackingLaws
+mod SharedPinSteps

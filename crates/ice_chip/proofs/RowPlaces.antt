@@ -1,7 +1,7 @@
 -- The place of each switch row among the groups.
-use Rattle.std.proofs.Common.{◌≡◌, ℕ, zero, suc, ◌+◌, ◌<◌, ◌≤◌, List, [], ◌∷◌, ◌++◌, map, length, get_or, take, drop, slice_get, Option, Some, refl, sym, ap, ◌∙◌, append_assoc, arith, add-one}
+use Rattle.std.proofs.Common.{◌≡◌, ℕ, zero, suc, ◌+◌, ◌<◌, ◌≤◌, List, [], ◌∷◌, ◌++◌, map, length, get_or, take, drop, slice_get, Option, Some, refl, sym, ap, ◌∙◌, append-nil, append_assoc, arith, add-one}
 use Rattle.std.proofs.lemmas.Option.{slice_get-get_or}
-use Rattle.std.proofs.lemmas.List.{map-append, drop_more, take_more, take_all, length-map}
+use Rattle.std.proofs.lemmas.List.{map-append, drop_more, take_more, take_all, length-map, at_drop_all}
 use Rattle.ice_chip.specs.Database.{SwitchGroup, SwitchRow}
 use Rattle.ice_chip.specs.Lookups.{in_group, rows_of}
 use Rattle.ice_chip.specs.Indices.{row_at, places_up_to}
@@ -66,3 +66,20 @@ next_group gs places i d lt so_far =
     ∙ append_assoc (map (row_at groups) places) (some_rows g g.rows) (map Some rest)
     ∙ ap (λ xs. map (row_at groups) places ++ xs) (sym split)
     ∙ so_far
+
+-- the places of all groups
+pub all_groups : (gs : List Group) (places : List RowPlace) (i : ℕ) → length gs ≤ i
+    → map (row_at (map group_view gs)) places ++ map Some (rows_of (map group_view (drop i gs))) ≡ map Some (rows_of (map group_view gs))
+    → map (row_at (map group_view gs)) places ≡ map Some (rows_of (map group_view gs))
+all_groups gs places i le so_far =
+    let found = map (row_at (map group_view gs)) places in
+    sym (append-nil found) ∙ ap (λ xs. found ++ xs) (sym (at_drop_all (λ xs. map Some (rows_of (map group_view xs))) gs i le)) ∙ so_far
+
+-- the place of one row more of a group
+pub next_row : (start places more : List RowPlace) (group row : ℕ) → places ≡ start ++ places_up_to group row → more ≡ places ++ place group row ∷ []
+    → more ≡ start ++ places_up_to group (row + 1)
+next_row start places more group row so_far pushed =
+    pushed
+    ∙ ap (λ xs. xs ++ place group row ∷ []) so_far
+    ∙ append_assoc start (places_up_to group row) (place group row ∷ [])
+    ∙ ap (λ n. start ++ places_up_to group n) (sym (add-one row))

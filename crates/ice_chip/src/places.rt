@@ -29,7 +29,6 @@ fn count_of(groups: &[Group]) -> usize {
 }
 
 /// The place of each row of these groups, in order.
-#[tactic(auto, using(crate::proofs::RowPlaces::next_group))]
 pub fn row_places(alloc: Global, groups: &[Group]) -> Result<Vec<RowPlace>, NoMemory>
     ensures { IfOk result (λ places. map (row_at (map group_view groups.now)) places.items ≡ map Some (rows_of (map group_view groups.now))) }
 {

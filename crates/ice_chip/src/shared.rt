@@ -249,7 +249,10 @@ impl ChipParts {
         ensures { IfOk result (λ lines. lines ≡ shared_function (parts_view self.now)) }
     {
         let mut used = UsedBits::new(alloc);
-        note_functions(&mut used, &self.functions)?;
-        Ok(self.with_groups(&used.read, used.shared))
+        let noted = note_functions(&mut used, &self.functions);
+        let used = noted.and(Ok(used))?;
+        let lines = self.with_groups(&used.read, used.shared);
+        drop(used);
+        Ok(lines)
     }
 }

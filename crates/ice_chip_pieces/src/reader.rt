@@ -7,7 +7,7 @@ ghost use Rattle.ice_chip_pieces.specs.Stands.{Follows, StandsFor, IsSpent, IsKe
 ghost use Rattle.ice_pieces.specs.Taken.{TakesMore};
 
 use crate::cut::cut;
-use crate::said::{Said, take};
+use crate::said::{Said, stop, take};
 use ice_base::NoMemory;
 use ice_chip::{Chip, ChipFault};
 use ice_chip_read::{ReadStop, finish};
@@ -61,11 +61,12 @@ impl ChipReader {
     pub fn new(alloc: Global) -> Result<ChipReader, NoMemory>
         ensures { IfOk result (λ reader. StandsFor reader []) }
     {
+        let rest = Vec::with_capacity(alloc, LINE)?;
         Ok(ChipReader {
             alloc,
             said: Said::Nothing,
             number: 1,
-            rest: Vec::with_capacity(alloc, LINE)?,
+            rest,
         })
     }
 
@@ -102,6 +103,7 @@ impl ChipReader {
             rest,
         } = self;
         take(alloc, &mut said, number, rest.as_slice());
+        drop(rest);
         match said {
             Said::Nothing => Err(ChipFault::NoDevice { line: 0 }),
             Said::Rows(reading) => finish(alloc, reading),
@@ -140,7 +142,7 @@ impl ChipReader {
             return;
         }
         if self.rest.extend_from_slice(bytes).is_err() {
-            self.said = Said::Stopped(ReadStop::NoMemory);
+            stop(&mut self.said, ReadStop::NoMemory);
             self.rest.clear();
         }
     }

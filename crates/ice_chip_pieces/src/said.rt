@@ -9,6 +9,7 @@ ghost use Rattle.ice_chip_pieces.specs.Held.{HasSaid, said_view};
 use ice_base::{PlainLine, plain_words_of};
 use ice_chip_read::{ReadStop, Reading, take_first, take_line};
 use std::alloc::Global;
+use std::mem;
 
 /// What lines say so far.
 #[derive(Drop)]
@@ -21,6 +22,13 @@ pub enum Said {
     Stopped(ReadStop),
 }
 
+// This in the place of what was said.
+fn say(said: &mut Said, next: Said)
+    ensures { said_view said.new ≡ said_view next }
+{
+    drop(mem::replace(said, next));
+}
+
 // The first line that has words. It stands apart, so that later lines don't pay for the room of what it makes.
 #[cold]
 #[inline(never)]
@@ -28,19 +36,20 @@ fn take_first_words(alloc: Global, said: &mut Said, line: PlainLine<'_>)
     requires { said_view said.old ≡ Ok None }
     ensures { HasSaid (said_view said.new) (with_line (Ok None) (line.entry.number, line.entry.first.now ∷ line.entry.others)) }
 {
-    *said = match take_first(alloc, line) {
+    let next = match take_first(alloc, line) {
         Ok(reading) => Said::Rows(reading),
         Err(fault) => Said::Stopped(ReadStop::Fault(fault)),
     };
+    say(said, next);
 }
 
-// The reading stopped.
+/// The reading stopped.
 #[cold]
 #[inline(never)]
-fn stop(said: &mut Said, stop: ReadStop)
+pub fn stop(said: &mut Said, stop: ReadStop)
     ensures { said_view said.new ≡ Err stop }
 {
-    *said = Said::Stopped(stop);
+    say(said, Said::Stopped(stop));
 }
 
 // One line more that has words. What stopped stays so.

@@ -1,4 +1,5 @@
 mod ReadParts
+mod Closing
 mod Results
 mod InRange
 mod Once

@@ -1,6 +1,7 @@
 //! Reading a chip text to the rows of its database.
-ghost use Rattle.std.specs.Prelude.{◌≡◌, ◌∷◌, OnOk};
+ghost use Rattle.std.specs.Prelude.{◌≡◌, ◌∷◌, IfOk, OnOk};
 ghost use Rattle.ice_chip.specs.Answers.{Answers, chip_of};
+ghost use Rattle.ice_chip.specs.Views.{parts_view};
 ghost use Rattle.ice_chip_read.specs.Lines.{line_says, lines_say, first_says, plain_says, with_closed};
 ghost use Rattle.ice_chip_read.specs.Reading.{closed};
 ghost use Rattle.ice_chip_read.specs.Whole.{chip_says, AreReadOfLines};
@@ -12,7 +13,7 @@ use crate::reading::{Reading, close};
 use crate::rows::row_line;
 use crate::section::heading_named;
 use ice_base::{NoMemory, PlainLine, PlainLines, begins_with, lines_of, plain_lines};
-use ice_chip::{Chip, ChipFault, build};
+use ice_chip::{Chip, ChipFault, ChipParts, build};
 use std::alloc::Global;
 
 /// One line more. After an error what is read is of no use.
@@ -68,7 +69,10 @@ fn read_lines(alloc: Global, mut lines: PlainLines<'_>) -> Result<Reading, ReadS
     let mut reading = take_first(alloc, first)?;
     match take_lines(alloc, &mut reading, lines) {
         Ok(()) => Ok(reading),
-        Err(stop) => Err(stop),
+        Err(stop) => {
+            drop(reading);
+            Err(stop)
+        }
     }
 }
 
@@ -82,16 +86,34 @@ fn close_last(alloc: Global, reading: &mut Reading) -> Result<(), NoMemory>
     }
 }
 
+// The rows that are read of all lines.
+fn closed_rows(alloc: Global, mut reading: Reading) -> Result<ChipParts, NoMemory>
+    ensures { IfOk result (λ parts. closed (reading_view reading) ≡ parts_view parts) }
+{
+    let closed = close_last(alloc, &mut reading);
+    let Reading {
+        parts,
+        nets,
+        group,
+        pins,
+        ..
+    } = reading;
+    drop(nets);
+    drop(group);
+    drop(pins);
+    closed.and(Ok(parts))
+}
+
 /// The chip of the rows that are read of all lines, or the first fault of the whole.
 ///
 /// # Errors
 /// The fault, or want of memory.
-pub fn finish(alloc: Global, mut reading: Reading) -> Result<Chip, ChipFault>
+pub fn finish(alloc: Global, reading: Reading) -> Result<Chip, ChipFault>
     requires { AreReadOfLines (reading_view reading) }
     ensures { Answers result (chip_of (closed (reading_view reading))) }
 {
-    close_last(alloc, &mut reading)?;
-    build(alloc, reading.parts)
+    let parts = closed_rows(alloc, reading)?;
+    build(alloc, parts)
 }
 
 /// The chip that the text of a chip database writes, or its first fault.

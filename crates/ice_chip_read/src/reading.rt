@@ -81,13 +81,17 @@ pub fn close(alloc: Global, reading: &mut Reading) -> Result<(), ReadStop>
     let package = mem::replace(&mut reading.pins, no_package(alloc));
     match section {
         Section::Pins => {
+            drop(group);
             reading.parts.packages.push(package)?;
-            Ok(())
         }
         Section::Switches => {
+            drop(package);
             reading.parts.groups.push(group)?;
-            Ok(())
         }
-        _ => Ok(()),
+        _ => {
+            drop(group);
+            drop(package);
+        }
     }
+    Ok(())
 }

@@ -8,5 +8,5 @@ use Rattle.ice_chip.proofs.parts.ChipParts.shared_function.Goals as goal
 pub returns : goal.returns
 returns c =
     let parts = parts_view c.args.self.now in
-    let used : used_view c.note_functions.new.used ≡ with_functions none_used parts.functions = search rules in
-    c.with_groups.ensures ∙ ap (λ s. groups_shared parts.tiles s.read s.shared parts.groups) used ∙ groups_first parts
+    let used : used_view c.in_ok-used.used ≡ with_functions none_used parts.functions = search rules in
+    c.with_groups-lines.ensures ∙ ap (λ s. groups_shared parts.tiles s.read s.shared parts.groups) used ∙ groups_first parts

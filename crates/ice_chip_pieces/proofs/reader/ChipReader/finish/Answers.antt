@@ -23,7 +23,7 @@ returns-in-Rows-clause-chip c = λ text stands.
     let said = follows_says c.args.self (said_view c.self.inside.said) (said_view c.take.new.said) c.self.inside.number c.self.inside.rest.items c.as_slice.result.now text c.self.view_is c.as_slice.ensures.value c.take.ensures.said c.take.ensures.stopped stands in
     subst (Answers c.finish.result) (sym (subst (λ s. Means (said_view s) (chip_says text)) c.in-Rows.is said)) c.finish.ensures
 
-pub returns-clause-chip : goal.returns-clause-chip
-returns-clause-chip c = λ text stands.
+pub returns-in-Stopped-clause-chip : goal.returns-in-Stopped-clause-chip
+returns-in-Stopped-clause-chip c = λ text stands.
     let said = follows_says c.args.self (said_view c.self.inside.said) (said_view c.take.new.said) c.self.inside.number c.self.inside.rest.items c.as_slice.result.now text c.self.view_is c.as_slice.ensures.value c.take.ensures.said c.take.ensures.stopped stands in
     subst (λ fault. StopsBy fault (chip_says text)) (sym c.from.ensures) (stop_answers c.in-Stopped.stop (chip_says text) (subst (λ s. Means (said_view s) (chip_says text)) c.in-Stopped.is said))
