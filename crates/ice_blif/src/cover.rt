@@ -221,9 +221,9 @@ fn new_cover(alloc: Global, line: u32, signals: &[Option<SignalNo>]) -> Result<C
     ensures cover { IfOk result (λ cover. cover_view cover ≡ new_cover line signals.now) }
     ensures memory { IfErr result (λ e. e ≡ out_of_memory) }
 {
-    let width = signals.len() - 1;
-    let ins = Vec::from_slice(alloc, &signals[..width])?;
-    let outs = Vec::from_slice(alloc, &signals[width..])?;
+    let (ins, outs) = signals.split_at(signals.len() - 1);
+    let ins = Vec::from_slice(alloc, ins)?;
+    let outs = Vec::from_slice(alloc, outs)?;
     Ok(Cover {
         line,
         ins: Signals::from_vec(ins),
@@ -234,7 +234,7 @@ fn new_cover(alloc: Global, line: u32, signals: &[Option<SignalNo>]) -> Result<C
 }
 
 /// Reads the words behind `.names`.
-#[tactic(auto, using(crate::proofs::CoverSignals::cover_open, crate::proofs::Wirings::last_formed_more))]
+#[tactic(auto, using(crate::proofs::CoverSignals::cover_open))]
 pub(crate) fn names(
     alloc: Global,
     reader: &mut Reader,

@@ -110,11 +110,10 @@ fn cell(alloc: Global, line: u32, kind: CellKind, wiring: &Wiring) -> Result<Cel
     ensures formed { IfOk result (λ cell. (signals : ℕ) → All (IsBelow signals) wiring.now.signals → IsFormedCell signals cell) }
     ensures memory { IfErr result (λ e. e ≡ out_of_memory) }
 {
-    let ins = kind.ins_count();
-    let outs = kind.outs_count();
-    let behind = &wiring.signals[ins..];
-    let ins = Vec::from_slice(alloc, &wiring.signals[..ins])?;
-    let outs = Vec::from_slice(alloc, &behind[..outs])?;
+    let (ins, behind) = wiring.signals.split_at(kind.ins_count());
+    let (outs, _) = behind.split_at(kind.outs_count());
+    let ins = Vec::from_slice(alloc, ins)?;
+    let outs = Vec::from_slice(alloc, outs)?;
     Ok(Cell {
         kind,
         line,
@@ -124,7 +123,6 @@ fn cell(alloc: Global, line: u32, kind: CellKind, wiring: &Wiring) -> Result<Cel
 }
 
 /// Reads the words behind `.gate` or `.subckt`.
-#[tactic(auto, using(crate::proofs::Wirings::last_formed_more))]
 pub(crate) fn gate(
     alloc: Global,
     reader: &mut Reader,

@@ -1,8 +1,8 @@
 -- Texts that are written piece by piece.
-use Rattle.std.proofs.Common.{◌≡◌, ℕ, ◌+◌, ◌-◌, ◌/◌, ◌%◌, ◌^◌, ◌<◌, ◌≤◌, ◌==◌, zero, suc, Bool, true, false, Option, Some, List, [], ◌∷◌, ◌++◌, length, map, take, drop, get_or, slice_get, if◌then◌else◌, codes, refl, sym, ap, ◌∙◌, append-nil, append_assoc, arith}
+use Rattle.std.proofs.Common.{◌≡◌, ℕ, ◌+◌, ◌-◌, ◌/◌, ◌%◌, ◌^◌, ◌<◌, ◌≤◌, ◌==◌, zero, suc, Bool, true, false, Option, Some, List, All, [], ◌∷◌, ◌++◌, length, map, take, drop, get_or, slice_get, if◌then◌else◌, codes, refl, sym, ap, subst, ◌∙◌, append-nil, append_assoc, arith}
 use Rattle.std.specs.List.{flat_map}
 use Rattle.std.proofs.lemmas.Grind.{flat_map-append}
-use Rattle.std.proofs.lemmas.List.{map-append, take_more, drop_all}
+use Rattle.std.proofs.lemmas.List.{map-append, take_more, drop_all, get_or_default}
 use Rattle.std.proofs.Math.Seq.{drop-cons}
 use Rattle.ice_base.specs.declared.number.SignalNo.{SignalNo}
 use Rattle.ice_base.specs.Text.{text_of_lines}
@@ -10,8 +10,9 @@ use Rattle.ice_net.specs.declared.cell.Cell.{Cell}
 use Rattle.ice_net.specs.declared.kind.CellKind.{CellKind}
 use Rattle.ice_net.specs.declared.kind.CellKind.TheVariants.{Lut, Cover, Carry, Flop, PadCell, Global}
 use Rattle.ice_net.specs.declared.port.Port.{Port}
+use Rattle.ice_net.specs.Formed.{IsBelow, IsPortBelow}
 use Rattle.ice_net.specs.NetlistData.{NetlistData}
-use Rattle.ice_blif_write.specs.Text.{Words, behind_space, ends_in, guarded, line_of, signal_words, connection, connections, port_names, kind_word, gate_line, digit_of, digits_of, levels_of, row_line, entry_lines, rows_from, first_line, port_lines, cell_lines, blif_text}
+use Rattle.ice_blif_write.specs.Text.{Words, behind_space, ends_in, guarded, line_of, signal_words, connection, connections, port_names, kind_word, gate_line, digit_of, digits_of, levels_of, row_line, entry_lines, rows_from, first_line, port_lines_by, port_lines, cell_lines, blif_text}
 use Rattle.ice_blif_write.proofs.WrittenLines.{ends_behind}
 
 -- ---- the end of a line
@@ -63,6 +64,15 @@ item_more f xs i d old out new lt so_far put =
     both_joined old out new (flat_map f (take i xs)) (f (get_or xs i d)) so_far put
     ∙ ap (λ ls. old ++ text_of ls)
     (ap (λ ls. flat_map f (take i xs) ++ ls) (sym (append-nil (f (get_or xs i d)))) ∙ sym (flat_map-append f (take i xs) (get_or xs i d ∷ [])) ∙ ap (flat_map f) (sym (take_more xs i d lt)))
+
+-- the lines of one port more, where `name` is that of its signal
+pub port_more : (names : List (List ℕ)) (ports : List Port) (i : ℕ) (d : Port) (name old out new : List ℕ) → i < length ports → All (IsPortBelow (length names)) ports
+    → name ≡ get_or names (get_or ports i d).signal.0 name → out ≡ old ++ text_of (flat_map (port_lines names) (take i ports))
+    → new ≡ out ++ text_of (port_lines_by name (get_or ports i d).way) → new ≡ old ++ text_of (flat_map (port_lines names) (take (i + 1) ports))
+port_more names ports i d name old out new lt below is so_far put =
+    let port : Port = get_or ports i d in
+    item_more (port_lines names) ports i d old out new lt so_far
+    (put ∙ ap (λ text. out ++ text_of (port_lines_by text port.way)) (is ∙ get_or_default names port.signal.0 name [] (below i d lt)))
 
 -- ---- digits
 pub digits_step : (left n : ℕ) → 0 < left → digits_of left n ≡ digit_of (n / 2 ^ (left - 1) % 2) ∷ digits_of (left - 1) n
@@ -155,6 +165,15 @@ gate_put old a b c d new names kind ins outs one two three four ended =
     ∙ append_assoc old (codes ".gate ") (kind_word kind ++ flat_map behind_space (connections names (port_names kind) (ins ++ outs)))) ended
 
 -- ---- signals
+pub signal_put : (names : List (List ℕ)) (o : Option SignalNo) (signal : SignalNo) (name out new : List ℕ) → o ≡ Some signal → IsBelow (length names) o
+    → name ≡ get_or names signal.0 name → new ≡ out ++ behind_space name → new ≡ out ++ flat_map behind_space (signal_words names o)
+signal_put names o signal name out new there below is put =
+    let lt : signal.0 < length names = subst (IsBelow (length names)) there below in
+    put
+    ∙ ap (λ text. out ++ behind_space text) (is ∙ get_or_default names signal.0 name [] lt)
+    ∙ ap (λ text. out ++ text) (sym (append-nil (behind_space (get_or names signal.0 []))))
+    ∙ ap (λ s. out ++ flat_map behind_space (signal_words names s)) (sym there)
+
 pub signals_step : (names : List (List ℕ)) (signals : List (Option SignalNo)) (i : ℕ) (d : Option SignalNo) (old out new : List ℕ) → i < length signals → out ≡ old ++ flat_map behind_space (flat_map (signal_words names) (take i signals))
     → new ≡ out ++ flat_map behind_space (signal_words names (get_or signals i d)) → new ≡ old ++ flat_map behind_space (flat_map (signal_words names) (take (i + 1) signals))
 signals_step names signals i d old out new lt so_far put =

@@ -66,7 +66,6 @@ fn put_over(text: &mut Vec<u8>, entry: &(WireNo, u32)) -> Result<(), NoMemory>
 }
 
 // Writes the wires that had been overused before.
-#[tactic(auto, using(ice_base::proofs::Pieces::line_more))]
 fn put_histories(text: &mut Vec<u8>, history: &[(WireNo, u64)]) -> Result<(), NoMemory>
     ensures { OnOk result (text.new.items ≡ text.old.items ++ text_of_lines (map (wire_line (codes "history")) history.now)) }
 {
@@ -77,7 +76,6 @@ fn put_histories(text: &mut Vec<u8>, history: &[(WireNo, u64)]) -> Result<(), No
 }
 
 // Writes the wires that are overused.
-#[tactic(auto, using(ice_base::proofs::Pieces::line_more))]
 fn put_overused(text: &mut Vec<u8>, over: &[(WireNo, u32)]) -> Result<(), NoMemory>
     ensures { OnOk result (text.new.items ≡ text.old.items ++ text_of_lines (map (wire_line (codes "over")) over.now)) }
 {

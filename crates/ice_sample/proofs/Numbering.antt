@@ -1,11 +1,12 @@
 -- Texts of lines one after another, and of things that are numbered.
-use Rattle.std.proofs.Common.{◌≡◌, ℕ, ◌+◌, ◌-◌, ◌*◌, ◌/◌, ◌%◌, ◌^◌, ◌<◌, ◌++◌, ◌∷◌, [], List, map, zero, suc, length, take, get_or, ap, sym, ◌∙◌, refl, arith, append_assoc, append-nil, add-one}
+use Rattle.std.proofs.Common.{Result, OnOk, ◌≡◌, ℕ, ◌+◌, ◌-◌, ◌*◌, ◌/◌, ◌%◌, ◌^◌, ◌<◌, ◌++◌, ◌∷◌, [], List, map, zero, suc, length, take, get_or, ap, sym, ◌∙◌, refl, arith, append_assoc, append-nil, add-one}
 use Rattle.std.specs.List.{flat_map, range_with_len, sum_by}
 use Rattle.std.proofs.lemmas.List.{take_more, map_more, flat_map_more, length-take-le, length-map}
 use Rattle.std.proofs.lemmas.List.Sums.{sum_by-cons, sum_by-append}
+use Rattle.std.proofs.lemmas.Result.{on_ok_weaker}
 use Rattle.std.proofs.lemmas.List.FromFn.{sum_by-map-range_with_len_more}
 use Rattle.ice_base.specs.Text.{text_of_lines}
-use Rattle.ice_base.proofs.Pieces.{text_join}
+use Rattle.ice_base.proofs.Pieces.{text_join, further}
 use Rattle.ice_sample.specs.Lines.{numbered, binary}
 use Rattle.ice_sample.proofs.Counting.{map_range_more, flat_map_range_more}
 
@@ -17,6 +18,15 @@ numbered-append size lines n (x ∷ xs) ys =
     let e : (n + size x) + sum_by size xs ≡ n + sum_by size (x ∷ xs) = omega (arith, counted) in
     ap (λ rest. lines n x ++ rest) (numbered-append size lines (n + size x) xs ys ∙ ap (λ m. numbered size lines (n + size x) xs ++ numbered size lines m ys) e)
     ∙ sym (append_assoc (lines n x) (numbered size lines (n + size x) xs) (numbered size lines (n + sum_by size (x ∷ xs)) ys))
+
+-- a text that was written further, if that went well
+pub further_on_ok : {T E : Type 0} (r : Result T E) (start old new a b whole : List ℕ) → old ≡ start ++ a → OnOk r (new ≡ old ++ b) → a ++ b ≡ whole → OnOk r (new ≡ start ++ whole)
+further_on_ok r start old new a b whole before put e =
+    on_ok_weaker {P = new ≡ old ++ b} {Q = new ≡ start ++ whole} r (λ done. further start old new a b whole before done e) put
+
+-- a list that has grown
+pub grown : {A : Type 0} (old new a b whole : List A) → old ≡ a → new ≡ old ++ b → a ++ b ≡ whole → new ≡ whole
+grown old new a b whole before put e = put ∙ ap (λ xs. xs ++ b) before ∙ e
 
 -- one thing further
 pub numbered_push : {A : Type 0} (size : A → ℕ) (lines : ℕ → A → List (List ℕ)) (n : ℕ) (xs : List A) (y : A) (m : ℕ) → n + sum_by size xs ≡ m
@@ -56,6 +66,12 @@ binary_step (suc k) n some = let e : k ≡ suc k - 1 = omega arith in ap (λ j. 
 pub digit_moves : (text new rest digits whole : List ℕ) (digit : ℕ) → digits ≡ digit ∷ rest → new ≡ text ++ digit ∷ [] → text ++ digits ≡ whole → new ++ rest ≡ whole
 digit_moves text new rest digits whole digit e put before =
     ap (λ t. t ++ rest) put ∙ append_assoc text (digit ∷ []) rest ∙ ap (λ t. text ++ t) (sym e) ∙ before
+
+-- one row further below a heading, where the rows have no numbers
+pub line_below : {A : Type 0} (head : List ℕ) (f : A → List ℕ) (xs : List A) (i : ℕ) (d : A) → i < length xs
+    → text_of_lines (head ∷ map f (take i xs)) ++ text_of_lines (f (get_or xs i d) ∷ []) ≡ text_of_lines (head ∷ map f (take (i + 1) xs))
+line_below head f xs i d below =
+    text_join (head ∷ map f (take i xs)) (f (get_or xs i d) ∷ []) ∙ ap (λ rows. text_of_lines (head ∷ rows)) (sym (map_more f xs i d below))
 
 -- so many things of one size
 pub count_series : {A : Type 0} (size : A → ℕ) (f : ℕ → A) (b : ℕ) → ((j : ℕ) → size (f j) ≡ b) → (k : ℕ) → sum_by size (map f (range_with_len 0 k)) ≡ b * k

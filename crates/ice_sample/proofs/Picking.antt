@@ -79,3 +79,10 @@ pub lines_third : (start s t new : List ℕ) (a b c : List (List ℕ)) → s ≡
 lines_third start s t new a b c first second third =
     further start t new (text_of_lines (a ++ b)) (text_of_lines c) (text_of_lines (a ++ b ++ c))
     (further start s t (text_of_lines a) (text_of_lines b) (text_of_lines (a ++ b)) first second (text_join a b)) third (text_join (a ++ b) c)
+
+-- a place, and behind a blank a word that is ended by a line
+pub placed_line : (place word pin : List ℕ) → (place ++ 32 ∷ word) ++ text_of_lines (pin ∷ []) ≡ text_of_lines (((place ++ 32 ∷ []) ++ (word ++ pin)) ∷ [])
+placed_line place word pin =
+    let start = place ++ 32 ∷ word in
+    let whole : start ++ pin ≡ (place ++ 32 ∷ []) ++ (word ++ pin) = append_assoc place (32 ∷ word) pin ∙ sym (append_assoc place (32 ∷ []) (word ++ pin)) in
+    sym (append_assoc start (pin ++ 10 ∷ []) []) ∙ ap (λ x. x ++ []) (sym (append_assoc start pin (10 ∷ []))) ∙ ap (λ line. text_of_lines (line ∷ [])) whole

@@ -4,7 +4,7 @@ ghost use Rattle.ice_base.specs.Text.{text_of_lines};
 ghost use Rattle.ice_sample.specs.Bits.{columns_of, bit_word, bit_words, function_row, function_rows, function_series, lone_function, io_bit_lines, logic_bit_lines};
 
 use crate::grid::TileKind;
-use crate::text::{put_line, put_number};
+use crate::text::{end_line, put_line, put_worded};
 use ice_base::NoMemory;
 
 // How many columns of bits a tile of a kind has.
@@ -23,10 +23,8 @@ fn put_bit(text: &mut Vec<u8>, columns: u16, bit: u16) -> Result<(), NoMemory>
     requires { 0 < columns }
     ensures { OnOk result (text.new.items ≡ text.old.items ++ bit_word columns bit) }
 {
-    text.extend_from_slice(b" B")?;
-    put_number(text, u64::from(bit / columns))?;
-    text.push(b'[')?;
-    put_number(text, u64::from(bit % columns))?;
+    put_worded(text, b" B", u64::from(bit / columns))?;
+    put_worded(text, b"[", u64::from(bit % columns))?;
     text.push(b']')?;
     Ok(())
 }
@@ -50,8 +48,7 @@ fn put_function(text: &mut Vec<u8>, kind: TileKind, title: &[u8], bit: u16) -> R
 {
     text.extend_from_slice(title)?;
     put_bits(text, kind, bit, 1)?;
-    text.push(b'\n')?;
-    Ok(())
+    end_line(text)
 }
 
 // Writes the row of a function whose name ends in a number.
@@ -66,11 +63,9 @@ fn put_numbered_function(
     requires { first + size ≤ 1000 }
     ensures { OnOk result (text.new.items ≡ text.old.items ++ text_of_lines (function_row (columns_of kind) first (record { title = title.now ++ decimal number; size = size }))) }
 {
-    text.extend_from_slice(title)?;
-    put_number(text, u64::from(number))?;
+    put_worded(text, title, u64::from(number))?;
     put_bits(text, kind, first, size)?;
-    text.push(b'\n')?;
-    Ok(())
+    end_line(text)
 }
 
 // Writes the rows of so many functions of one size, whose names end in numbers from 0.
@@ -105,8 +100,7 @@ pub fn put_io_functions(text: &mut Vec<u8>) -> Result<(), NoMemory>
     put_function(text, TileKind::Io, b"IoCtrl.IE_0", 12)?;
     put_function(text, TileKind::Io, b"IoCtrl.REN_0", 13)?;
     put_function(text, TileKind::Io, b"IoCtrl.IE_1", 14)?;
-    put_function(text, TileKind::Io, b"IoCtrl.REN_1", 15)?;
-    Ok(())
+    put_function(text, TileKind::Io, b"IoCtrl.REN_1", 15)
 }
 
 /// Writes the section of the functions of logic tiles.
@@ -117,6 +111,5 @@ pub fn put_logic_functions(text: &mut Vec<u8>) -> Result<(), NoMemory>
     put_functions(text, TileKind::Logic, b"LC_", 8, 0, 20)?;
     put_function(text, TileKind::Logic, b"NegClk", 160)?;
     put_function(text, TileKind::Logic, b"CarryInSet", 161)?;
-    put_functions(text, TileKind::Logic, b"ColBufCtrl.glb_netwk_", 8, 162, 1)?;
-    Ok(())
+    put_functions(text, TileKind::Logic, b"ColBufCtrl.glb_netwk_", 8, 162, 1)
 }

@@ -43,8 +43,7 @@ fn put_layout(alloc: Global, text: &mut Vec<u8>, grid: &Grid) -> Result<(), NoMe
     let io = io_places(alloc, &grid.tiles)?;
     let pads = pads_at(alloc, &io)?;
     let logic = logic_places(alloc, &grid.tiles)?;
-    put_sections(text, grid, &io, &pads, &logic)?;
-    Ok(())
+    put_sections(text, grid, &io, &pads, &logic)
 }
 
 // Writes the groups of an IO tile, from its first wire.
@@ -65,8 +64,7 @@ fn put_io_groups(
         kind: TileKind::Io,
     };
     put_tracks(text, sources, grid, tile, 16)?;
-    put_io_pins(text, sources, tile, first, 208)?;
-    Ok(())
+    put_io_pins(text, sources, tile, first, 208)
 }
 
 // Writes the groups of a logic tile, from its first wire.

@@ -6,7 +6,7 @@ ghost use Rattle.ice_sample.specs.Groups.{group_heading, source_rows, group_line
 
 use crate::bits::put_bits;
 use crate::grid::Tile;
-use crate::text::{put_binary, put_number, put_placed};
+use crate::text::{end_line, put_binary, put_placed, put_worded};
 use ice_base::NoMemory;
 
 // Writes the heading of a group: the wire that it drives, and its bits.
@@ -23,8 +23,7 @@ fn put_group_heading(
     text.extend_from_slice(b".buffer ")?;
     put_placed(text, tile.at, u64::from(target))?;
     put_bits(text, tile.kind, bit, size)?;
-    text.push(b'\n')?;
-    Ok(())
+    end_line(text)
 }
 
 // Writes the row of a source of a group.
@@ -33,10 +32,8 @@ fn put_source(text: &mut Vec<u8>, size: u16, value: u64, source: u32) -> Result<
     ensures { OnOk result (text.new.items ≡ text.old.items ++ text_of_lines ((binary size value ++ codes " " ++ decimal source) ∷ [])) }
 {
     put_binary(text, size, value)?;
-    text.push(b' ')?;
-    put_number(text, u64::from(source))?;
-    text.push(b'\n')?;
-    Ok(())
+    put_worded(text, b" ", u64::from(source))?;
+    end_line(text)
 }
 
 // Writes the rows of a group of a size.
@@ -67,6 +64,5 @@ pub fn put_group(
     ensures { OnOk result (text.new.items ≡ text.old.items ++ text_of_lines (group_lines tile.kind tile.at bit (record { target = target; size = size; sources = sources.now }))) }
 {
     put_group_heading(text, tile, bit, size, target)?;
-    put_sources(text, size, sources)?;
-    Ok(())
+    put_sources(text, size, sources)
 }

@@ -3,7 +3,7 @@ ghost use Rattle.std.specs.Prelude.{◌≡◌, ◌+◌, ◌^◌, ◌<◌, ◌++�
 ghost use Rattle.ice_base.specs.Text.{text_of_lines};
 ghost use Rattle.ice_sample.specs.Netlist.{started_at, drawn, after, has_flip_flop, cell_name, names, name_at, found, picked, drawn_inputs, gate_line, table_line, flip_flop_line, flip_flop_lines, cell_lines, output_lines, head_lines, all_cell_lines, all_output_lines, sample_net_text, word};
 
-use crate::text::{put_binary, put_line, put_number};
+use crate::text::{put_binary, put_line, put_worded};
 use ice_base::NoMemory;
 use rand_core::SeedableRng;
 use rand_core::utils::NextWord;
@@ -28,8 +28,7 @@ fn started_at(number: u64) -> Lcg64Xsh32
 fn put_lettered(text: &mut Vec<u8>, word: &[u8], number: u32) -> Result<(), NoMemory>
     ensures { OnOk result (text.new.items ≡ text.old.items ++ (word.now ++ decimal number)) }
 {
-    text.extend_from_slice(word)?;
-    put_number(text, u64::from(number))
+    put_worded(text, word, u64::from(number))
 }
 
 // Writes what cells may read of a cell.
@@ -199,8 +198,7 @@ fn put_head(text: &mut Vec<u8>) -> Result<(), NoMemory>
     put_line(
         text,
         b".gate SB_GB USER_SIGNAL_TO_GLOBAL_BUFFER=clk GLOBAL_BUFFER_OUTPUT=clk_g",
-    )?;
-    Ok(())
+    )
 }
 
 // Writes the text of the netlist.
@@ -210,8 +208,7 @@ fn put_net(text: &mut Vec<u8>, number: u64, cells: u32) -> Result<(), NoMemory>
     put_head(text)?;
     put_cells(text, number, cells)?;
     put_outputs(text, cells)?;
-    put_line(text, b".end")?;
-    Ok(())
+    put_line(text, b".end")
 }
 
 /// Appends the text of the sample netlist of this number and so many cells: a BLIF text with a clock, eight inputs, eight

@@ -27,8 +27,7 @@ fn put_input(
     sources.clear();
     add_pin_tracks(sources, first + 52, 4 * cell + input)?;
     add_carry_for(sources, first, cell, input)?;
-    put_group(text, tile, bit, 4, first + 6 * cell + input, sources)?;
-    Ok(())
+    put_group(text, tile, bit, 4, first + 6 * cell + input, sources)
 }
 
 // Writes the groups of the inputs of a cell of a logic tile, whose bits begin with this one.
@@ -95,8 +94,7 @@ fn put_control(
     sources.clear();
     sources.extend_from_slice(globals)?;
     add_pin_tracks(sources, first + 52, 32 + control)?;
-    put_group(text, tile, bit, 5, first + 48 + control, sources)?;
-    Ok(())
+    put_group(text, tile, bit, 5, first + 48 + control, sources)
 }
 
 /// Writes the groups of the clock, the enable and the set or reset of a logic tile, from its first wire, whose bits
@@ -122,8 +120,7 @@ pub fn put_controls(
         &[0, 1, 2, 3, 4, 5, 6, 7],
     )?;
     put_control(text, sources, tile, first, bit + 5, 1, &[1, 3, 5, 7])?;
-    put_control(text, sources, tile, first, bit + 10, 2, &[0, 2, 4, 6])?;
-    Ok(())
+    put_control(text, sources, tile, first, bit + 10, 2, &[0, 2, 4, 6])
 }
 
 /// Writes the group of the carry into a logic tile, from its first wire, if there is one. Its bit is this one.
@@ -159,8 +156,7 @@ fn put_carry_of(
     if carries.is_empty() {
         return Ok(());
     }
-    put_group(text, tile, bit, 1, first + 51, carries)?;
-    Ok(())
+    put_group(text, tile, bit, 1, first + 51, carries)
 }
 
 // Writes the group of a pin of an IO tile, whose bits begin with this one.
@@ -181,8 +177,7 @@ fn put_io_pin(
 {
     sources.clear();
     add_pin_tracks(sources, first + 7, pin)?;
-    put_group(text, tile, bit, 4, first + place, sources)?;
-    Ok(())
+    put_group(text, tile, bit, 4, first + place, sources)
 }
 
 /// Writes the groups of the pins of an IO tile, from its first wire, whose bits begin with this one.
@@ -201,6 +196,5 @@ pub fn put_io_pins(
     put_io_pin(text, sources, tile, first, bit + 4, 2, 1)?;
     put_io_pin(text, sources, tile, first, bit + 8, 4, 2)?;
     put_io_pin(text, sources, tile, first, bit + 12, 5, 3)?;
-    put_io_pin(text, sources, tile, first, bit + 16, 6, 4)?;
-    Ok(())
+    put_io_pin(text, sources, tile, first, bit + 16, 6, 4)
 }

@@ -1,12 +1,12 @@
 //! The sections before the bits: the device, pins, globals, input enables, column buffers and tiles.
 ghost use Rattle.std.specs.Prelude.{◌≡◌, ◌++◌, ◌+◌, ◌∷◌, [], ◌<◌, ◌≤◌, ◌^◌, take, length, codes, decimal, OnOk};
 ghost use Rattle.ice_base.specs.Text.{text_of_lines};
-ghost use Rattle.ice_sample.specs.Lines.{number_words, placed_words};
+ghost use Rattle.ice_sample.specs.Lines.{number_words, place_words, placed_words};
 ghost use Rattle.ice_sample.specs.Sections.{device_lines, pad_words, pin_lines, global_lines, input_enable_lines, column_buffer_lines, tile_heading, tile_lines};
 
 use crate::grid::{Grid, Tile, TileKind};
 use crate::pads::Pad;
-use crate::text::{put_line, put_number, put_numbers, put_place, put_placed};
+use crate::text::{end_line, put_line, put_number, put_numbers, put_place, put_placed, put_worded};
 use ice_base::{NoMemory, TileAt};
 
 // Writes the line of a device of a size and so many wires.
@@ -15,10 +15,8 @@ fn put_size(text: &mut Vec<u8>, width: u16, height: u16, wires: u32) -> Result<(
 {
     text.extend_from_slice(b".device 1k ")?;
     put_numbers(text, u64::from(width), u64::from(height))?;
-    text.push(b' ')?;
-    put_number(text, u64::from(wires))?;
-    text.push(b'\n')?;
-    Ok(())
+    put_worded(text, b" ", u64::from(wires))?;
+    end_line(text)
 }
 
 /// Writes the section of the device.
@@ -42,8 +40,7 @@ fn put_pin(text: &mut Vec<u8>, pin: u64, pad: Pad) -> Result<(), NoMemory>
     put_number(text, pin)?;
     text.push(b' ')?;
     put_pad(text, pad)?;
-    text.push(b'\n')?;
-    Ok(())
+    end_line(text)
 }
 
 /// Writes the section of the pins.
@@ -75,8 +72,7 @@ fn put_global(text: &mut Vec<u8>, global: u64, at: TileAt) -> Result<(), NoMemor
     ensures { OnOk result (text.new.items ≡ text.old.items ++ text_of_lines (placed_words at global ∷ [])) }
 {
     put_placed(text, at, global)?;
-    text.push(b'\n')?;
-    Ok(())
+    end_line(text)
 }
 
 /// Writes the section of the inputs of globals, of the places of the IO tiles.
@@ -92,18 +88,35 @@ pub fn put_globals(text: &mut Vec<u8>, places: &[TileAt]) -> Result<(), NoMemory
     Ok(())
 }
 
+// Writes the row of the input enable of a pad.
+fn put_input_enable(text: &mut Vec<u8>, pad: Pad) -> Result<(), NoMemory>
+    ensures { OnOk result (text.new.items ≡ text.old.items ++ text_of_lines ((pad_words pad ++ codes " " ++ pad_words pad) ∷ [])) }
+{
+    put_pad(text, pad)?;
+    text.push(b' ')?;
+    put_pad(text, pad)?;
+    end_line(text)
+}
+
 /// Writes the section of the input enables.
 pub fn put_input_enables(text: &mut Vec<u8>, pads: &[Pad]) -> Result<(), NoMemory>
     ensures { OnOk result (text.new.items ≡ text.old.items ++ text_of_lines (input_enable_lines pads.now)) }
 {
     put_line(text, b".ieren")?;
     for pad in pads {
-        put_pad(text, *pad)?;
-        text.push(b' ')?;
-        put_pad(text, *pad)?;
-        text.push(b'\n')?;
+        put_input_enable(text, *pad)?;
     }
     Ok(())
+}
+
+// Writes the row of the column buffers of the tile at a place.
+fn put_column_buffer(text: &mut Vec<u8>, at: TileAt) -> Result<(), NoMemory>
+    ensures { OnOk result (text.new.items ≡ text.old.items ++ text_of_lines ((place_words at ++ codes " " ++ place_words at) ∷ [])) }
+{
+    put_place(text, at)?;
+    text.push(b' ')?;
+    put_place(text, at)?;
+    end_line(text)
 }
 
 /// Writes the section of the column buffers, of the places of the logic tiles.
@@ -112,10 +125,7 @@ pub fn put_column_buffers(text: &mut Vec<u8>, places: &[TileAt]) -> Result<(), N
 {
     put_line(text, b".colbuf")?;
     for at in places {
-        put_place(text, *at)?;
-        text.push(b' ')?;
-        put_place(text, *at)?;
-        text.push(b'\n')?;
+        put_column_buffer(text, *at)?;
     }
     Ok(())
 }
@@ -130,14 +140,21 @@ fn tile_heading(kind: TileKind) -> &'static [u8]
     }
 }
 
+// Writes the section of a tile.
+fn put_tile(text: &mut Vec<u8>, tile: Tile) -> Result<(), NoMemory>
+    ensures { OnOk result (text.new.items ≡ text.old.items ++ text_of_lines ((tile_heading tile.kind ++ place_words tile.at) ∷ [])) }
+{
+    text.extend_from_slice(tile_heading(tile.kind))?;
+    put_place(text, tile.at)?;
+    end_line(text)
+}
+
 /// Writes the sections of the tiles.
 pub fn put_tiles(text: &mut Vec<u8>, tiles: &[Tile]) -> Result<(), NoMemory>
     ensures { OnOk result (text.new.items ≡ text.old.items ++ text_of_lines (tile_lines tiles.now)) }
 {
     for tile in tiles {
-        text.extend_from_slice(tile_heading(tile.kind))?;
-        put_place(text, tile.at)?;
-        text.push(b'\n')?;
+        put_tile(text, *tile)?;
     }
     Ok(())
 }

@@ -129,8 +129,7 @@ pub fn add_tracks_beside(
     add_west_track(sources, grid, track, at)?;
     add_track(sources, grid, track, east)?;
     add_south_track(sources, grid, track, at)?;
-    add_track(sources, grid, track, north)?;
-    Ok(())
+    add_track(sources, grid, track, north)
 }
 
 /// Puts the tracks that a pin reads behind the sources, from the tile's first track.

@@ -15,6 +15,14 @@ pub fn put_line(text: &mut Vec<u8>, line: &[u8]) -> Result<(), NoMemory>
     Ok(())
 }
 
+/// Ends a line.
+pub fn end_line(text: &mut Vec<u8>) -> Result<(), NoMemory>
+    ensures { OnOk result (text.new.items ≡ text.old.items ++ 10 ∷ []) }
+{
+    text.push(b'\n')?;
+    Ok(())
+}
+
 /// Writes a number in decimal digits.
 pub fn put_number(text: &mut Vec<u8>, number: u64) -> Result<(), NoMemory>
     ensures { OnOk result (text.new.items ≡ text.old.items ++ decimal number) }
@@ -24,13 +32,20 @@ pub fn put_number(text: &mut Vec<u8>, number: u64) -> Result<(), NoMemory>
     Ok(())
 }
 
+/// Writes a number behind a word.
+pub fn put_worded(text: &mut Vec<u8>, word: &[u8], number: u64) -> Result<(), NoMemory>
+    ensures { OnOk result (text.new.items ≡ text.old.items ++ (word.now ++ decimal number)) }
+{
+    text.extend_from_slice(word)?;
+    put_number(text, number)
+}
+
 /// Writes two numbers.
 pub fn put_numbers(text: &mut Vec<u8>, first: u64, second: u64) -> Result<(), NoMemory>
     ensures { OnOk result (text.new.items ≡ text.old.items ++ number_words first second) }
 {
     put_number(text, first)?;
-    text.push(b' ')?;
-    put_number(text, second)
+    put_worded(text, b" ", second)
 }
 
 /// Writes the column and the row of a place.
@@ -45,8 +60,7 @@ pub fn put_placed(text: &mut Vec<u8>, at: TileAt, number: u64) -> Result<(), NoM
     ensures { OnOk result (text.new.items ≡ text.old.items ++ placed_words at number) }
 {
     put_place(text, at)?;
-    text.push(b' ')?;
-    put_number(text, number)
+    put_worded(text, b" ", number)
 }
 
 /// Writes the lowest digits of a number in binary, so many of them and at most 32, the greatest first.

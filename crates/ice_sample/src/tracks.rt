@@ -34,8 +34,7 @@ fn list_track_sources(
     let first = grid.first_wire(tile.at);
     sources.clear();
     add_outputs(sources, tile.kind, first)?;
-    add_tracks_beside(sources, grid, track, tile.at)?;
-    Ok(())
+    add_tracks_beside(sources, grid, track, tile.at)
 }
 
 // Writes the group of a track, whose bits begin with this one.
@@ -55,8 +54,7 @@ fn put_track(
     let target = grid.first_wire(tile.at) + track_place(tile.kind) + track;
     let size = track_size(tile.kind);
     list_track_sources(sources, grid, tile, track)?;
-    put_group(text, tile, bit, size, target, sources)?;
-    Ok(())
+    put_group(text, tile, bit, size, target, sources)
 }
 
 /// Writes the groups of the tracks of a tile, whose bits begin with this one.

@@ -7,7 +7,7 @@ ghost use Rattle.ice_sample.specs.Kinds.{kind_at};
 ghost use Rattle.ice_sample.specs.Wires.{wire_heading, name_line, wire_lines, named_wires, global_wire_lines, all_global_lines, track_names, io_names, cell_name, cell_pins, cell_names, control_names, carry_in_line, own_wire_lines, tile_wire_lines, all_wire_lines};
 
 use crate::grid::{Grid, Tile, TileKind, kind_at};
-use crate::text::{put_number, put_place};
+use crate::text::{end_line, put_line, put_place, put_worded};
 use ice_base::{NoMemory, TileAt};
 
 // The names of the wires of an IO tile before its tracks.
@@ -36,10 +36,8 @@ const CONTROL_NAMES: [&[u8]; 4] = [
 fn put_wire_heading(text: &mut Vec<u8>, wire: u32) -> Result<(), NoMemory>
     ensures { OnOk result (text.new.items ≡ text.old.items ++ text_of_lines (wire_heading wire ∷ [])) }
 {
-    text.extend_from_slice(b".net ")?;
-    put_number(text, u64::from(wire))?;
-    text.push(b'\n')?;
-    Ok(())
+    put_worded(text, b".net ", u64::from(wire))?;
+    end_line(text)
 }
 
 // Writes the row of a name.
@@ -48,9 +46,7 @@ fn put_name(text: &mut Vec<u8>, at: TileAt, name: &[u8]) -> Result<(), NoMemory>
 {
     put_place(text, at)?;
     text.push(b' ')?;
-    text.extend_from_slice(name)?;
-    text.push(b'\n')?;
-    Ok(())
+    put_line(text, name)
 }
 
 // Writes the row of a name that ends in a number.
@@ -64,10 +60,8 @@ fn put_numbered_name(
 {
     put_place(text, at)?;
     text.push(b' ')?;
-    text.extend_from_slice(name)?;
-    put_number(text, u64::from(number))?;
-    text.push(b'\n')?;
-    Ok(())
+    put_worded(text, name, u64::from(number))?;
+    end_line(text)
 }
 
 // Writes the row of a name of a logic cell.
@@ -75,11 +69,8 @@ fn put_cell_name(text: &mut Vec<u8>, at: TileAt, cell: u32, pin: &[u8]) -> Resul
     ensures { OnOk result (text.new.items ≡ text.old.items ++ text_of_lines (name_line at (cell_name cell pin.now) ∷ [])) }
 {
     put_place(text, at)?;
-    text.extend_from_slice(b" lutff_")?;
-    put_number(text, u64::from(cell))?;
-    text.extend_from_slice(pin)?;
-    text.push(b'\n')?;
-    Ok(())
+    put_worded(text, b" lutff_", u64::from(cell))?;
+    put_line(text, pin)
 }
 
 // Writes a wire with one name.
@@ -87,8 +78,7 @@ fn put_wire(text: &mut Vec<u8>, at: TileAt, wire: u32, name: &[u8]) -> Result<()
     ensures { OnOk result (text.new.items ≡ text.old.items ++ text_of_lines (wire_lines at wire name.now)) }
 {
     put_wire_heading(text, wire)?;
-    put_name(text, at, name)?;
-    Ok(())
+    put_name(text, at, name)
 }
 
 // Writes a wire with the name of a pin of a logic cell.
@@ -102,8 +92,7 @@ fn put_cell_wire(
     ensures { OnOk result (text.new.items ≡ text.old.items ++ text_of_lines (wire_lines at wire (cell_name cell pin.now))) }
 {
     put_wire_heading(text, wire)?;
-    put_cell_name(text, at, cell, pin)?;
-    Ok(())
+    put_cell_name(text, at, cell, pin)
 }
 
 // Writes a track.
@@ -111,8 +100,7 @@ fn put_track_wire(text: &mut Vec<u8>, at: TileAt, wire: u32, track: u32) -> Resu
     ensures { OnOk result (text.new.items ≡ text.old.items ++ text_of_lines (wire_lines at wire (codes "trk_" ++ decimal track))) }
 {
     put_wire_heading(text, wire)?;
-    put_numbered_name(text, at, b"trk_", track)?;
-    Ok(())
+    put_numbered_name(text, at, b"trk_", track)
 }
 
 // Writes a global wire, which has its name in each of the tiles.
@@ -214,8 +202,7 @@ fn put_io_wires(text: &mut Vec<u8>, at: TileAt, first: u32) -> Result<(), NoMemo
     ensures { OnOk result (text.new.items ≡ text.old.items ++ text_of_lines (named_wires at first io_names ++ named_wires at (first + 7) track_names)) }
 {
     put_named_wires(text, at, first, &IO_NAMES)?;
-    put_track_wires(text, at, first + 7)?;
-    Ok(())
+    put_track_wires(text, at, first + 7)
 }
 
 // Writes the wires of a logic tile, from its first.
@@ -231,8 +218,7 @@ fn put_logic_wires(text: &mut Vec<u8>, grid: &Grid, at: TileAt, first: u32) -> R
     put_all_cell_wires(text, at, first)?;
     put_carry_in(text, kind_at(grid.width, grid.height, north), north)?;
     put_named_wires(text, at, first + 48, &CONTROL_NAMES)?;
-    put_track_wires(text, at, first + 52)?;
-    Ok(())
+    put_track_wires(text, at, first + 52)
 }
 
 // Writes the wires of a tile.

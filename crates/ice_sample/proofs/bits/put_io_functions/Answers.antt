@@ -1,7 +1,7 @@
 use Rattle.std.proofs.Common.{◌++◌, codes, refl}
 use Rattle.ice_sample.specs.Bits.{TileFunction, function_row, function_rows, function_series, lone_function, io_functions}
 use Rattle.ice_base.proofs.Pieces.{further}
-use Rattle.ice_sample.proofs.Numbering.{rows_join, head_join}
+use Rattle.ice_sample.proofs.Numbering.{further_on_ok, rows_join, head_join}
 use Rattle.ice_sample.proofs.bits.put_io_functions.Goals as goal
 
 pub returns : goal.returns
@@ -21,4 +21,4 @@ returns c =
     let third = further _ _ _ _ _ _ second c.in_ok-put_function.ensures (rows_join head size row 0 (types ++ more_types) ie 12 refl) in
     let fourth = further _ _ _ _ _ _ third c.in_ok-put_function-2.ensures (rows_join head size row 0 (types ++ more_types ++ ie) ren 13 refl) in
     let fifth = further _ _ _ _ _ _ fourth c.in_ok-put_function-3.ensures (rows_join head size row 0 (types ++ more_types ++ ie ++ ren) more_ie 14 refl) in
-    further _ _ _ _ _ _ fifth c.in_ok-put_function-4.ensures (rows_join head size row 0 (types ++ more_types ++ ie ++ ren ++ more_ie) more_ren 15 refl)
+    further_on_ok c.put_function-4.result _ _ c.put_function-4.new.text.items _ _ _ fifth c.put_function-4.ensures (rows_join head size row 0 (types ++ more_types ++ ie ++ ren ++ more_ie) more_ren 15 refl)

@@ -1,4 +1,4 @@
-use Rattle.std.proofs.Common.{◌≡◌, ℕ, ◌++◌, List, ap, ◌∙◌}
+use Rattle.std.proofs.Common.{◌≡◌, ℕ, ◌++◌, List, OnOk, ap, ◌∙◌, subst}
 use Rattle.ice_base.specs.declared.number.TileAt.{TileAt}
 use Rattle.ice_base.specs.Text.{text_of_lines}
 use Rattle.ice_sample.specs.declared.grid.Tile.{Tile}
@@ -20,6 +20,6 @@ returns c =
     let io_is : c.in_ok-io.io.items ≡ io_places ts = c.in_ok-io.ensures ∙ ap io_places c.deref.ensures.value in
     let pads_are : c.in_ok-pads.pads.items ≡ pads_at (io_places ts) = c.in_ok-pads.ensures ∙ ap pads_at (c.deref-2.ensures.value ∙ io_is) in
     let logic_is : c.in_ok-logic.logic.items ≡ logic_places ts = c.in_ok-logic.ensures ∙ ap logic_places c.deref-3.ensures.value in
-    c.in_ok-put_sections.ensures
-    ∙ ap (λ lines. c.args.text.now.items ++ text_of_lines lines)
+    subst (λ lines. OnOk c.put_sections.result (c.put_sections.new.text.items ≡ c.args.text.now.items ++ text_of_lines lines))
     (same_sections g.width g.height _ _ _ _ _ _ ts (c.deref-4.ensures.value ∙ io_is) (c.deref-5.ensures.value ∙ pads_are) (c.deref-6.ensures.value ∙ logic_is))
+    c.put_sections.ensures

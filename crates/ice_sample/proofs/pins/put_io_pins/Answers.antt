@@ -1,7 +1,7 @@
 use Rattle.std.proofs.Common.{◌+◌, ◌∷◌, [], List, refl, arith}
 use Rattle.ice_sample.specs.Groups.{SampleGroup, group_lines, io_pin_group}
 use Rattle.ice_base.proofs.Pieces.{further}
-use Rattle.ice_sample.proofs.Numbering.{thing_join, nothing_more}
+use Rattle.ice_sample.proofs.Numbering.{further_on_ok, thing_join, nothing_more}
 use Rattle.ice_sample.proofs.pins.put_io_pins.Goals as goal
 
 pub returns : goal.returns
@@ -15,4 +15,4 @@ returns c =
     let second = further _ _ _ _ _ _ first c.in_ok-put_io_pin-2.ensures (thing_join size lines bit (pin 1 0 ∷ []) (pin 2 1) (bit + 4) refl) in
     let third = further _ _ _ _ _ _ second c.in_ok-put_io_pin-3.ensures (thing_join size lines bit (pin 1 0 ∷ pin 2 1 ∷ []) (pin 4 2) (bit + 8) refl) in
     let fourth = further _ _ _ _ _ _ third c.in_ok-put_io_pin-4.ensures (thing_join size lines bit (pin 1 0 ∷ pin 2 1 ∷ pin 4 2 ∷ []) (pin 5 3) (bit + 12) refl) in
-    further _ _ _ _ _ _ fourth c.in_ok-put_io_pin-5.ensures (thing_join size lines bit (pin 1 0 ∷ pin 2 1 ∷ pin 4 2 ∷ pin 5 3 ∷ []) (pin 6 4) (bit + 16) refl)
+    further_on_ok c.put_io_pin-5.result _ _ c.put_io_pin-5.new.text.items _ _ _ fourth c.put_io_pin-5.ensures (thing_join size lines bit (pin 1 0 ∷ pin 2 1 ∷ pin 4 2 ∷ pin 5 3 ∷ []) (pin 6 4) (bit + 16) refl)

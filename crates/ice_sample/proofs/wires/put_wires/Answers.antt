@@ -1,4 +1,6 @@
 use Rattle.std.proofs.Common.{◌++◌, sym, arith, append-nil, ap, ◌∙◌}
+use Rattle.std.specs.List.{flat_map}
+use Rattle.std.proofs.lemmas.List.{take_all}
 use Rattle.ice_base.specs.Text.{text_of_lines}
 use Rattle.ice_sample.specs.Wires.{all_global_lines, tile_wire_lines}
 use Rattle.ice_sample.proofs.Counting.{tile_within}
@@ -22,3 +24,9 @@ loop-tile-preserved c =
     let g = c.args.grid.now in
     further _ _ _ _ _ _ c.loop-tile.invariant c.in_ok-put_tile_wires.ensures
     (lines_more (all_global_lines g.tiles.items) (tile_wire_lines g.width g.height) c.deref-tile-items.result.now c.loop-tile.tile-index _ (omega arith))
+
+pub returns : goal.returns
+returns c =
+    let g = c.args.grid.now in
+    let all = take_all c.loop-tile.tile-index c.deref-tile-items.result.now (omega arith) ∙ c.deref-tile-items.ensures.value in
+    c.loop-tile.invariant ∙ ap (λ ts. c.args.text.now.items ++ text_of_lines (all_global_lines g.tiles.items ++ flat_map (tile_wire_lines g.width g.height) ts)) all
