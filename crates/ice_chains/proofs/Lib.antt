@@ -1,5 +1,6 @@
 mod Following
 mod Chaining
+mod Feeding
 pub mod ChainLaws
 pub mod FollowLaws
 pub mod ChainEnds

@@ -59,6 +59,16 @@ fn push_run_feeds(
     Ok(if passes { Some((last, number)) } else { None })
 }
 
+// Adds a last carry with the cell that passes it on, if there is one.
+fn keep(all: &mut Vec<(u32, u32)>, fed: Option<(u32, u32)>) -> Result<(), NoMemory>
+    ensures { OnOk result (all.new.items ≡ all.old.items ++ option_to_list fed) }
+{
+    if let Some(fed) = fed {
+        all.push(fed)?;
+    }
+    Ok(())
+}
+
 /// Appends the cells that runs have beside their carries, by the first carries of the runs, each given with what comes into it. Gives
 /// each carry that is passed on, with the number of the cell that does so. It fails for want of memory alone.
 pub fn push_feeds(
@@ -72,9 +82,8 @@ pub fn push_feeds(
 {
     let mut all = Vec::new(alloc);
     for (c, into) in heads {
-        if let Some(fed) = push_run_feeds(cells, marks, *c, *into)? {
-            all.push(fed)?;
-        }
+        let fed = push_run_feeds(cells, marks, *c, *into)?;
+        keep(&mut all, fed)?;
     }
     Ok(all)
 }

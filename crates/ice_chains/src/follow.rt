@@ -71,7 +71,6 @@ fn mark_cell(marks: &mut Vec<Follow>, c: usize, cell: &LogicCell)
 }
 
 // Takes down what cells read.
-#[tactic(auto, using(crate::proofs::Following::marked_append))]
 fn mark_cells(marks: &mut Vec<Follow>, cells: &[LogicCell])
     ensures { marks.new.items ≡ marked marks.old.items (cells_readings 0 cells.now) }
 {

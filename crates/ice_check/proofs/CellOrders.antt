@@ -1,12 +1,12 @@
 -- Cells have an order of evaluation where signals have one.
-use Rattle.std.proofs.Common.{◌≡◌, ℕ, zero, suc, ◌+◌, ◌<◌, Bool, true, false, Option, None, Some, List, [], ◌∷◌, length, get_or, map, refl, ap, sym, ◌∙◌, subst, arith, if◌then◌else◌}
-use Rattle.std.specs.Prelude.{slice_get, slice_index_or, option_map}
+use Rattle.std.proofs.Common.{◌≡◌, ℕ, zero, suc, ◌+◌, ◌<◌, ◌≤◌, Bool, true, false, Option, None, Some, List, [], ◌∷◌, length, get_or, map, refl, ap, sym, ◌∙◌, subst, arith, All, if◌then◌else◌}
+use Rattle.std.specs.Prelude.{◌^◌, slice_get, slice_index_or, option_map}
 use Rattle.std.specs.Option.{option_map_or}
 use Rattle.std.proofs.lemmas.List.{length-map, get_or-map}
 use Rattle.std.proofs.lemmas.Option.{slice_get-get_or, same_Some}
 use Rattle.ice_base.specs.declared.number.SignalNo.{SignalNo}
 use Rattle.ice_value.specs.System.{System}
-use Rattle.ice_value.specs.Order.{At, Has, IsCycleBelow}
+use Rattle.ice_value.specs.Order.{At, Has, IsOrder, IsCycleBelow}
 use Rattle.ice_value.specs.Inputs.{present}
 use Rattle.ice_value.proofs.Values.{value_ordered}
 use Rattle.ice_value.proofs.Cycles.{value_never, cycle_goes_on}
@@ -119,3 +119,9 @@ no_cell_cycle n formed o cycle c =
     let none = value_never s (Driven n cycle) (driven_goes_on n formed cycle c) (length n.names + 1) start.0 start.2 in
     let there = value_ordered s (length n.names) o.order o.orders start.0 start.2.0 in
     cc (there.1, none)
+
+-- ---- the numbers of an order
+pub order_small : (points : ℕ) (depends : ℕ → List ℕ) (order : List ℕ) → IsOrder points depends order → points ≤ 1073741823 → All (λ point. point < 2 ^ 32) order
+order_small points depends order o few = λ i d lt.
+    let below : get_or order i d < points = o.within i (get_or order i d) (slice_get-get_or order i d lt) in
+    omega (arith, below, few)

@@ -48,7 +48,6 @@ fn add_uses(list: &mut Vec<Option<SignalNo>>, cell: &Cell) -> Result<(), NoMemor
 }
 
 // The inputs in use, cell by cell.
-#[tactic(auto, using(crate::proofs::Uses::uses_more))]
 fn uses(alloc: Global, cells: &[Cell]) -> Result<Vec<Option<SignalNo>>, NoMemory>
     ensures { IfOk result (λ list. list.items ≡ flat_map uses_of cells.now) }
 {

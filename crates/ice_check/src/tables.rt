@@ -8,7 +8,6 @@ use ice_base::{NoMemory, SignalNo};
 use std::alloc::Global;
 
 // The first place of each signal in a list.
-#[tactic(auto, using(crate::proofs::TableSteps::places_none, crate::proofs::TableSteps::places_more, crate::proofs::TableSteps::places_all, crate::proofs::TableSteps::below_here))]
 pub(crate) fn places(
     alloc: Global,
     count: usize,
@@ -59,7 +58,7 @@ fn claim(table: &mut Vec<Option<usize>>, index: usize, place: usize)
 }
 
 // How often each signal stands in a list.
-#[tactic(auto, using(crate::proofs::TableSteps::times_none, crate::proofs::TableSteps::times_more, crate::proofs::TableSteps::times_all, crate::proofs::TableSteps::below_here_too, crate::proofs::TableSteps::times_room))]
+#[tactic(auto, using(crate::proofs::TableSteps::times_none))]
 pub(crate) fn counts(
     alloc: Global,
     count: usize,

@@ -1,17 +1,17 @@
 -- Clusters that are opened and filled one after another.
-use Rattle.std.proofs.Common.{◌≡◌, Bool, true, false, cond, set, replicate, ℕ, zero, suc, ◌+◌, ◌-◌, ◌*◌, ◌/◌, ◌<◌, ◌≤◌, Option, None, Some, List, [], ◌∷◌, ◌++◌, append-nil, append_assoc, length, map, take, drop, get_or, refl, ap, sym, ◌∙◌, arith, min}
+use Rattle.std.proofs.Common.{◌≡◌, Bool, true, false, cond, set, replicate, ℕ, zero, suc, ◌+◌, ◌-◌, ◌<◌, ◌≤◌, Option, None, Some, List, [], ◌∷◌, ◌++◌, append-nil, append_assoc, length, map, take, drop, get_or, refl, ap, sym, ◌∙◌, arith, min}
 use Rattle.std.specs.List.{range_with_len, filter_map, slice_get, cons_option}
-use Rattle.std.proofs.lemmas.List.{take_min, drop_min, take_all, drop_all, drop_more, length-append}
+use Rattle.std.proofs.lemmas.List.{take_min, drop_min, drop_more, length-append}
 use Rattle.ice_cells.specs.declared.cell.Control.{Control}
 use Rattle.std.specs.List.{flat_map, list_any}
 use Rattle.std.specs.Option.{option_map_or}
 use Rattle.std.specs.Prelude.{option_to_list, ◌||◌, ◌==◌}
-use Rattle.std.proofs.lemmas.List.{map-id}
+use Rattle.std.proofs.lemmas.List.{map-id, map_more, replicate_more}
 use Rattle.std.proofs.lemmas.List.Elements.{filter_map-append}
 use Rattle.std.proofs.lemmas.List.FromFn.{map-range_with_len_more}
 use Rattle.ice_cells.specs.declared.cell.LogicCell.{LogicCell}
 use Rattle.ice_cells.specs.declared.design.Run.{Run}
-use Rattle.ice_cells.specs.Clusters.{room, filled_one, filled, left, ends, group_of, run_piece, run_pieces, runs_pieces, set_pieces, group_pieces, groups_pieces, plain_piece, plain_pieces, all_held, run_cells, is_held, held_list, flops_by, plains_by, loose_flops, loose_plains, sets_pieces, groups_of}
+use Rattle.ice_cells.specs.Clusters.{room, filled_one, filled, left, ends, group_of, run_piece, run_pieces, runs_pieces, set_pieces, group_pieces, groups_pieces, plain_piece, plain_pieces, all_held, run_cells, is_held, held_list, sets_pieces}
 use Rattle.ice_cells.specs.Pieces.{piece, pieces_count}
 use Rattle.ice_cells.specs.Sets.{FlopCell, sets_of, cells_by_sets, cells_with}
 use Rattle.ice_cells.specs.Tables.{gathered}
@@ -155,13 +155,16 @@ held_all n runs start held e f =
     f ∙ ap (λ us. all_held us (flat_map run_cells runs)) (e ∙ replicate_table n false) ∙ scattered_table (λ (c : ℕ). Some c) (λ (b : Bool) (c : ℕ). true) false (λ c. false) n (flat_map run_cells runs)
     ∙ table_same _ (is_held runs) n (λ j lt. gathered_held j (flat_map run_cells runs) false)
 
-pub groups_in : (cells : List LogicCell) (runs : List Run) (flops : List FlopCell) (plains one two : List ℕ) (sets : List Control) (lists : List (List ℕ)) (first second third : List Group)
-    → sets ≡ sets_of flops → lists ≡ cells_by_sets flops
-    → (first, one) ≡ ends (runs_pieces cells 0 runs) plains [] → (second, two) ≡ ends (groups_pieces sets 0 lists) one first → third ≡ second ++ plain_pieces two → third ≡ groups_by cells runs flops plains
-groups_in cells runs flops plains one two sets lists first second third g k a b c =
-    let sorted : groups_pieces sets 0 lists ≡ sets_pieces flops = (λ i. groups_pieces (g i) 0 (k i)) ∙ groups_all (cells_with flops) (sets_of flops) in
-    let ended : (second, two) ≡ ends (opened_by cells runs flops) plains [] =
-    b ∙ ap (λ o. ends o one first) sorted ∙ ends_more (runs_pieces cells 0 runs) (sets_pieces flops) plains one [] first a in
+-- the lists of flip-flops by control sets are those of the definition
+pub sets_opened : (flops : List FlopCell) (sets : List Control) (lists : List (List ℕ)) → sets ≡ sets_of flops → lists ≡ cells_by_sets flops
+    → groups_pieces sets 0 lists ≡ sets_pieces flops
+sets_opened flops sets lists g k = (λ i. groups_pieces (g i) 0 (k i)) ∙ groups_all (cells_with flops) (sets_of flops)
+
+pub groups_in : (cells : List LogicCell) (runs : List Run) (flops : List FlopCell) (plains one two : List ℕ) (first second third : List Group)
+    → (first, one) ≡ ends (runs_pieces cells 0 runs) plains [] → (second, two) ≡ ends (sets_pieces flops) one first → third ≡ second ++ plain_pieces two → third ≡ groups_by cells runs flops plains
+groups_in cells runs flops plains one two first second third a b c =
+    let ended : (second, two) ≡ ends (opened_by cells runs flops) plains []
+    = b ∙ ends_more (runs_pieces cells 0 runs) (sets_pieces flops) plains one [] first a in
     c ∙ ap (λ (x : List Group × List ℕ). x.0 ++ plain_pieces x.1) ended
 
 pub hold_more : (runs : List Run) (i : ℕ) (run : Run) (members : List ℕ) (held new : List Bool) → i < length runs → run ≡ get_or runs i run → members ≡ run.cells → new ≡ all_held held members
@@ -169,3 +172,11 @@ pub hold_more : (runs : List Run) (i : ℕ) (run : Run) (members : List ℕ) (he
 hold_more runs i run members held new lt at is e =
     ap (λ us. all_held us (flat_map run_cells (drop (i + 1) runs))) (e ∙ ap (all_held held) is) ∙ sym (held_append held run.cells (flat_map run_cells (drop (i + 1) runs)))
     ∙ ap (λ rs. all_held held (flat_map run_cells rs)) (sym (drop_more runs i run lt ∙ ap (λ (x : Run). x ∷ drop (i + 1) runs) (sym at)))
+
+pub slot_more : (cells : List ℕ) (i d : ℕ) (before after : List (Option ℕ)) → i < length cells → before ≡ map (λ c. Some c) (take i cells) → after ≡ before ++ Some (get_or cells i d) ∷ []
+    → after ≡ map (λ c. Some c) (take (i + 1) cells)
+slot_more cells i d before after lt e now = now ∙ ap (λ (xs : List (Option ℕ)). xs ++ Some (get_or cells i d) ∷ []) e ∙ sym (map_more (λ (c : ℕ). Some c) cells i d lt)
+
+pub free_more : (slots : List (Option ℕ)) (n : ℕ) (before after : List (Option ℕ)) → before ≡ slots ++ replicate n None → after ≡ before ++ None ∷ [] → after ≡ slots ++ replicate (n + 1) None
+free_more slots n before after e now =
+    now ∙ ap (λ (xs : List (Option ℕ)). xs ++ None ∷ []) e ∙ append_assoc slots (replicate n None) (None ∷ []) ∙ ap (λ (xs : List (Option ℕ)). slots ++ xs) (replicate_more n None)

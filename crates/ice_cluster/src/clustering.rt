@@ -1,6 +1,6 @@
 //! The clusters of a design.
 ghost use Rattle.std.specs.Prelude.{◌≡◌, ◌++◌, length, map, IfOk};
-ghost use Rattle.ice_cells.specs.Clusters.{slots, with_slots, clusters_of, need};
+ghost use Rattle.ice_cells.specs.Clusters.{slots, with_slots, clusters_of, need, ends, sets_pieces};
 ghost use Rattle.ice_cluster.specs.Groups.{groups_by};
 
 use crate::filling::{open_lists, open_plains, open_runs};
@@ -9,6 +9,19 @@ use crate::sorting::loose_cells;
 use ice_base::NoMemory;
 use ice_cells::{Cluster, Clusters, Control, Design, Group, Items, LogicCell, Run};
 use std::alloc::Global;
+
+// Opens groups of the flip-flops by their control sets, and fills them with plain cells; gives those that are left.
+fn open_sets<'a>(
+    alloc: Global,
+    groups: &mut Vec<Group>,
+    flops: &[(u32, Control)],
+    plains: &'a [u32],
+) -> Result<&'a [u32], NoMemory>
+    ensures { IfOk result (λ rest. (groups.new.items, rest.now) ≡ ends (sets_pieces flops.now) plains.now groups.old.items) }
+{
+    let (sets, lists) = by_sets(alloc, flops)?;
+    open_lists(alloc, groups, &sets, lists.as_slice(), plains)
+}
 
 // The groups of cells that go into one tile each, by the cells that stand in no run.
 fn groups_in(
@@ -20,10 +33,9 @@ fn groups_in(
 ) -> Result<Vec<Group>, NoMemory>
     ensures { IfOk result (λ groups. groups.items ≡ groups_by cells.now runs.now flops.now plains.now) }
 {
-    let (sets, lists) = by_sets(alloc, flops)?;
     let mut groups = Vec::new(alloc);
     let rest = open_runs(alloc, &mut groups, cells, runs, plains)?;
-    let rest = open_lists(alloc, &mut groups, &sets, lists.as_slice(), rest)?;
+    let rest = open_sets(alloc, &mut groups, flops, rest)?;
     open_plains(alloc, &mut groups, rest)?;
     Ok(groups)
 }

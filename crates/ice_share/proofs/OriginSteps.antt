@@ -4,7 +4,7 @@ use Rattle.std.specs.Prelude.{slice_get, slice_index_or, unwrap_or}
 use Rattle.std.specs.Option.{option_map_or}
 use Rattle.std.proofs.lemmas.Bool.{and_parts, eqb-true, cases_lt, cases_eq}
 use Rattle.std.proofs.lemmas.List.{length-set, get_or-set_same, get_or-set_other, length-replicate}
-use Rattle.std.proofs.lemmas.Option.{same_Some, slice_get_within}
+use Rattle.std.proofs.lemmas.Option.{same_Some, slice_get_within, slice_get-get_or}
 use Rattle.ice_base.specs.declared.number.SignalNo.{SignalNo}
 use Rattle.ice_value.specs.System.{value}
 use Rattle.ice_value.specs.Order.{At, Has, IsOrder}
@@ -100,6 +100,9 @@ module _ (n : NetlistData) (order : List ℕ) (sorted : IsOrder (length n.names)
       ∙ local_gapped (λ t. aliases n (driver_of n t)) (Fixed false) (λ t. origin_made n (driver_of n t)) (origin n) s
 
   -- ---- one signal after another
+  pub next_below : (i d : ℕ) → i < length order → get_or order i d < length n.names
+  next_below i d lt = sorted.within i (get_or order i d) (slice_get-get_or order i d lt)
+
   pub none_found : AreFound n order 0 (replicate (length n.names) (Fixed false))
   none_found = record { long = length-replicate (length n.names) (Fixed false); found_are = λ j s lt at. absurd (omega (arith, lt)) }
 

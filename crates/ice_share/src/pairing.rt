@@ -1,5 +1,5 @@
 //! Carries take look-up tables with the same two inputs, one after another.
-ghost use Rattle.std.specs.Prelude.{◌≡◌, ◌+◌, ◌&&◌, ◌==◌, ℕ, length, map, IfOk, OnOk, Some, if◌then◌else◌};
+ghost use Rattle.std.specs.Prelude.{◌≡◌, ◌+◌, ◌&&◌, ◌==◌, ℕ, [], length, map, IfOk, OnOk, Some, if◌then◌else◌};
 ghost use Rattle.ice_cells.specs.declared.share.Pair.{Pair};
 ghost use Rattle.ice_cells.specs.Pairs.{pair_of, role_of, roles_of, gives, takes, luts_of};
 ghost use Rattle.ice_cells.specs.Same.{same_pair};
@@ -141,6 +141,25 @@ fn take_lut(
     Ok(lut_at(luts, Turn { pair, turn }))
 }
 
+// Puts down the look-up table that each cell takes, by those of all turns.
+fn take_luts(
+    by_turn: &IndexMap<Turn, usize>,
+    counts: &mut IndexMap<Pair, usize>,
+    luts: &mut Vec<Option<usize>>,
+    roles: &[Role],
+) -> Result<(), NoMemory>
+    requires by_turn { AreByTurn roles.now (length roles.now) by_turn.now.entries }
+    requires counts { counts.old.entries ≡ [] }
+    requires luts { luts.old.items ≡ [] }
+    ensures { OnOk result (luts.new.items ≡ luts_of roles.now) }
+{
+    for (c, role) in roles.iter().enumerate() {
+        let lut = take_lut(by_turn, counts, *role)?;
+        luts.push(lut)?;
+    }
+    Ok(())
+}
+
 // The look-up table whose logic cell each carry shares, by what each cell is.
 fn pair_carries(alloc: Global, roles: &[Role]) -> Result<Vec<Option<usize>>, NoMemory>
     ensures { IfOk result (λ luts. luts.items ≡ luts_of roles.now) }
@@ -148,11 +167,8 @@ fn pair_carries(alloc: Global, roles: &[Role]) -> Result<Vec<Option<usize>>, NoM
     let by_turn = luts_by_turn(alloc, roles)?;
     let mut counts = IndexMap::new(alloc);
     let mut luts = Vec::new(alloc);
-    for (c, role) in roles.iter().enumerate() {
-        let lut = take_lut(&by_turn, &mut counts, *role)?;
-        luts.push(lut)?;
-    }
-    Ok(luts)
+    let done = take_luts(&by_turn, &mut counts, &mut luts, roles);
+    done.and(Ok(luts))
 }
 
 /// The look-up table whose logic cell each carry shares, by the number of the carry.

@@ -1,11 +1,23 @@
-use Rattle.std.proofs.Common.{◌≡◌, ◌∙◌, ℕ, List, length, sym, subst}
+use Rattle.std.proofs.Common.{◌≡◌, ◌∙◌, ◌≤◌, ℕ, List, length, sym, subst}
 use Rattle.ice_value.specs.Order.{IsOrder, IsSimpleCycle}
 use Rattle.ice_value.specs.Graph.{depends_of}
 use Rattle.ice_value.specs.Outcome.{IsOutcome}
 use Rattle.ice_check.specs.Loops.{cells_before}
 use Rattle.ice_check.proofs.Graphs.{order_of_graph, cycle_of_graph}
-use Rattle.ice_check.proofs.CellOrders.{no_cell_cycle}
+use Rattle.ice_check.proofs.CellOrders.{no_cell_cycle, order_small}
 use Rattle.ice_check.proofs.order.order_of_cells.Goals as goal
+
+pub order-requires : goal.order-requires
+order-requires c = c.in_ok-graph.ensures.graph.within
+
+pub narrowed-requires : goal.narrowed-requires
+narrowed-requires c =
+    let rows : List (List ℕ) = c.in_ok-graph.graph in
+    let told : IsOutcome rows c.in_ok-order.field-0 = c.in_ok-order.ensures in
+    let found : IsOrder (length rows) (depends_of rows) c.in-Order.order.items = subst (IsOutcome rows) c.in-Order.is told in
+    let given : IsOrder (length rows) (depends_of rows) c.deref.result.now = subst (IsOrder (length rows) (depends_of rows)) (sym c.deref.ensures.value) found in
+    let few : length rows ≤ 1073741823 = subst (λ points. points ≤ 1073741823) (sym c.in_ok-graph.ensures.graph.count) c.in_ok-graph.ensures.formed.few_cells in
+    order_small (length rows) (depends_of rows) c.deref.result.now given few
 
 pub unreachable-requires : goal.unreachable-requires
 unreachable-requires c =

@@ -1,7 +1,9 @@
 use Rattle.std.proofs.Common.{◌<◌, length, refl, subst, arith, rules}
+use Rattle.std.specs.Option.{IfNone}
 use Rattle.std.proofs.lemmas.Option.{slice_get_read}
 use Rattle.ice_value.specs.Graph.{depends_of}
 use Rattle.ice_value.specs.Order.{At}
+use Rattle.ice_value.specs.SearchState.{GoesOn}
 use Rattle.ice_value.proofs.SearchSteps.{root_enters}
 use Rattle.ice_value.proofs.search.Search.visit.Goals as goal
 
@@ -13,3 +15,13 @@ loop-point-init c =
     subst (λ m. At c.args.self.now.marks.items c.args.root m) c.in-New.is (slice_get_read c.args.self.now.marks.items (length c.args.self.now.marks.items) c.args.root c.index.result.now refl inside c.index.ensures))
     (search rules) in
     record { search = begun.0; entered = begun.1 }
+
+pub loop-point-smaller : goal.loop-point-smaller
+loop-point-smaller c =
+    let more = subst (λ start. IfNone start (GoesOn c.args.graph.now c.loop-point.self c.step.new.self)) c.in_default-2.is c.in_ok-start.ensures.goes_on in
+    more.less
+
+pub loop-point-preserved : goal.loop-point-preserved
+loop-point-preserved c =
+    let more = subst (λ start. IfNone start (GoesOn c.args.graph.now c.loop-point.self c.step.new.self)) c.in_default-2.is c.in_ok-start.ensures.goes_on in
+    record { search = more.search; entered = λ p at. c.loop-point.invariant.entered p (more.entered p at) }
