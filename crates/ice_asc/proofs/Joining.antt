@@ -1,18 +1,18 @@
 -- Parts of a text that are written one after another.
-use Rattle.std.proofs.Common.{arith, Bool, ◌≡◌, ℕ, ◌+◌, ◌<◌, List, [], ◌∷◌, ◌++◌, length, get_or, take, map, sym, ap, ◌∙◌, append-nil, append_assoc, Option, codes}
+use Rattle.std.proofs.Common.{arith, Bool, ◌≡◌, ℕ, ◌+◌, ◌<◌, List, [], ◌∷◌, ◌++◌, length, get_or, take, map, sym, ap, ◌∙◌, append-nil, append_assoc, Option, codes, decimal, refl}
 use Rattle.std.proofs.lemmas.Grind.{flat_map-append}
 use Rattle.std.specs.List.{flat_map, range_with_len}
 use Rattle.std.proofs.lemmas.List.{take_more}
 use Rattle.std.proofs.lemmas.List.FromFn.{map-range_with_len_more}
 use Rattle.ice_base.specs.declared.number.BitAt.{BitAt}
 use Rattle.ice_base.specs.Text.{text_of_lines}
-use Rattle.ice_base.proofs.Pieces.{text_join}
+use Rattle.ice_base.proofs.Pieces.{text_join, further}
 use Rattle.ice_chip.specs.declared.tile.Tile.{Tile}
 use Rattle.ice_chip.specs.Database.{Parts}
 use Rattle.ice_chip.specs.Lookups.{tile_of}
 use Rattle.ice_chip.specs.Places.{columns}
 use Rattle.ice_bits.specs.Configuration.{Configuration, bit_at, rows_at}
-use Rattle.ice_asc.specs.Text.{digit_of_bit, bit_at_place, row_line, tile_heading, tile_lines, extra_line, asc_text}
+use Rattle.ice_asc.specs.Text.{digit_of_bit, bit_at_place, row_line, spaced, tile_heading, tile_lines, extra_line, asc_text}
 
 -- lines behind other lines
 pub joined : (out : List ℕ) (ls ms : List (List ℕ)) → (out ++ text_of_lines ls) ++ text_of_lines ms ≡ out ++ text_of_lines (ls ++ ms)
@@ -52,6 +52,19 @@ pub digit_more : (bits : BitAt → Bool) (col row digit : ℕ) (out done : List 
 digit_more bits col row digit out done so_far is =
     ap (λ text. text ++ digit ∷ []) so_far ∙ append_assoc out (row_line bits col row) (digit ∷ []) ∙ ap (λ d. out ++ (row_line bits col row ++ d ∷ [])) is
     ∙ ap (λ line. out ++ line) (sym (map-range_with_len_more (λ c. digit_of_bit (bits (bit_at_place row c))) 0 col col (omega arith)))
+
+-- a word and three fields behind it, and the end of their line
+fields_joined : (word a b c : List ℕ) → (((word ++ 32 ∷ a) ++ 32 ∷ b) ++ 32 ∷ c) ++ 10 ∷ [] ≡ text_of_lines (spaced word (spaced a (spaced b c)) ∷ [])
+fields_joined word a b c =
+    ap (λ line. line ++ 10 ∷ []) (append_assoc (word ++ 32 ∷ a) (32 ∷ b) (32 ∷ c) ∙ append_assoc word (32 ∷ a) (32 ∷ (b ++ 32 ∷ c)))
+    ∙ sym (append-nil (spaced word (spaced a (spaced b c)) ++ 10 ∷ []))
+
+-- an extra bit
+pub extra_joined : (extra : ℕ × ℕ × ℕ) (out p q r s new : List ℕ) → p ≡ out ++ codes ".extra_bit" → q ≡ p ++ 32 ∷ decimal extra.0 → r ≡ q ++ 32 ∷ decimal extra.1 → s ≡ r ++ 32 ∷ decimal extra.2
+    → new ≡ s ++ 10 ∷ [] → new ≡ out ++ text_of_lines (extra_line extra ∷ [])
+extra_joined extra out p q r s new begun first second third ended =
+    further out s new _ _ _ (further out r s _ _ _ (further out q r _ _ _ (further out p q _ _ _ begun first refl) second refl) third refl) ended
+    (fields_joined (codes ".extra_bit") (decimal extra.0) (decimal extra.1) (decimal extra.2))
 
 -- the heading of a tile, and so many rows
 headed : (heading : List ℕ) (o p : Option (List (List Bool))) (width wide rows : ℕ) (out mid new : List ℕ) → mid ≡ out ++ text_of_lines (heading ∷ []) → o ≡ p → width ≡ wide

@@ -19,7 +19,10 @@ fn read_bits(alloc: Global, text: &[u8], chip: &Chip) -> Result<Bits, ReadStop>
     ensures { Gives (λ bits. bits) result (asc_in chip.now text.now) }
 {
     let mut reading = begin(alloc, chip)?;
-    take_lines(alloc, chip, &mut reading, lines_of(text))?;
+    if let Err(stop) = take_lines(alloc, chip, &mut reading, lines_of(text)) {
+        drop(reading);
+        return Err(stop);
+    }
     Ok(end(reading)?)
 }
 

@@ -47,10 +47,13 @@ pub fn end(reading: Reading) -> Result<Bits, AscFault>
     ensures { Says (λ bits. bits) result (end_says (reading_view reading) reading.section) }
 {
     if let Section::Rows { heading, .. } = reading.section {
+        drop(reading);
         return Err(AscFault::Truncated { line: heading });
     }
     if !reading.has_device {
-        return Err(AscFault::NoDevice { line: reading.line });
+        let line = reading.line;
+        drop(reading);
+        return Err(AscFault::NoDevice { line });
     }
     Ok(reading.bits)
 }

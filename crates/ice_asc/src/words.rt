@@ -38,7 +38,6 @@ pub fn extra_of(mut words: WordIter<'_>) -> Option<(u32, u32, u32)>
 }
 
 // The bits that these digits write.
-#[tactic(auto, using(ice_base::proofs::KnownLists::all_begin, ice_base::proofs::KnownLists::value_joins, ice_base::proofs::KnownLists::value_stops, ice_base::proofs::KnownLists::values_end))]
 fn known_bits(alloc: Global, line: u32, digits: &[u8]) -> Result<Vec<bool>, ReadStop>
     ensures { Gives (λ row. row.items) result (known_row line (all_known (map digit_value digits.now))) }
 {

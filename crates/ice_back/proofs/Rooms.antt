@@ -1,6 +1,6 @@
 -- Room for names and cells, as they are added in parts.
 use Rattle.std.proofs.Common.{◌≡◌, ℕ, ◌+◌, ◌<◌, Bool, false, List, [], ◌∷◌, ◌++◌, length, drop, get_or, refl, sym, ap, ◌∙◌, subst, arith, append_assoc, length-append, bytes_eq}
-use Rattle.std.specs.Prelude.{All, ◌||◌}
+use Rattle.std.specs.Prelude.{All, ◌||◌, ◌==◌, if◌then◌else◌}
 use Rattle.std.specs.Cmp.{IsEquivalence}
 use Rattle.std.specs.List.{IsDistinct, AllByRecursion, flat_map, list_any}
 use Rattle.std.proofs.lemmas.Cmp.{nat_list_eq_equiv}
@@ -43,6 +43,12 @@ last_new e laws (y ∷ xs) x once =
     let head : e y x ≡ false = (rec_right (λ z. e y z ≡ false) xs (x ∷ []) (IsDistinct-head e y (xs ++ x ∷ []) once)).0 in
     let rest = last_new e laws xs x (IsDistinct-tail e y (xs ++ x ∷ []) once) in
     ap (λ b. b || list_any (e x) xs) (laws.symm x y ∙ head) ∙ rest
+
+-- what one item more gives, behind what those before it give
+pub listed_next : {X A : Type 0} (f : X → List A) (xs : List X) (i : ℕ) (d : X) (whole done more : List A) → i < length xs → whole ≡ done ++ flat_map f (drop i xs) → more ≡ done ++ f (get_or xs i d)
+    → whole ≡ more ++ flat_map f (drop (i + 1) xs)
+listed_next f xs i d whole done more lt e is =
+    e ∙ ap (λ ys. done ++ flat_map f ys) (drop_more xs i d lt) ∙ sym (append_assoc done (f (get_or xs i d)) (flat_map f (drop (i + 1) xs))) ∙ ap (λ items. items ++ flat_map f (drop (i + 1) xs)) (sym is)
 
 -- ---- names
 pub names_first : (n : NetlistData) (xs ys : List (List ℕ)) → HasRoomForNames n (xs ++ ys) → HasRoomForNames n xs
@@ -108,3 +114,9 @@ cells_next f n m whole xs i d lt room e is =
       cells_rest n m (f (get_or xs i d)) (flat_map f (drop (i + 1) xs)) (subst (HasRoomForCells n) split room) is,
       e ∙ ap (with_cells n) split ∙ sym (cells_both n m (f (get_or xs i d)) (flat_map f (drop (i + 1) xs)) is),
     )
+
+-- the cell of a table with a bit
+pub table_made : (table number : ℕ) (one made : Cell) → table ≡ number → (table ≡ 0 → ⊥) → made ≡ one → (if number == 0 then [] else one ∷ []) ≡ made ∷ []
+table_made table number one made is bit same =
+    let some : (number == 0) ≡ false = grind arith in
+    ap (λ b. if b then [] else one ∷ []) some ∙ ap (λ (c : Cell). c ∷ []) (sym same)

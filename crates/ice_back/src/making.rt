@@ -1,9 +1,10 @@
 //! The netlist of a configured chip in a package.
-ghost use Rattle.std.specs.Prelude.{◌≡◌, Bool, List, [], IfOk};
+ghost use Rattle.std.specs.Prelude.{◌≡◌, Bool, List, [], IfOk, OnOk};
 ghost use Rattle.ice_value.specs.Order.{Has};
 ghost use Rattle.ice_chip.specs.Views.{package_view};
 ghost use Rattle.ice_bits.specs.Configuration.{bits_of};
 ghost use Rattle.ice_net.specs.Meaning as nets;
+ghost use Rattle.ice_net.specs.NetlistData.{empty_netlist};
 ghost use Rattle.ice_check.specs.Sound.{IsSound};
 ghost use Rattle.ice_decode.specs.Cells.{cells};
 ghost use Rattle.ice_decode.specs.Meaning as chips;
@@ -20,19 +21,57 @@ use ice_decode::Circuit;
 use ice_net::Netlist;
 use std::alloc::Global;
 
-// The names of the signals, and the ports.
-fn named(alloc: Global, site: &Site<'_>, all_cells: &[(TileAt, u8)]) -> Result<Netlist, NoMemory>
-    requires { all_cells.now ≡ cells site.now.parts }
-    ensures { IfOk result (λ netlist. netlist ≡ record (back_netlist site.now.parts (bits_of site.now.configuration) site.now.bonded) { cells = [] }) }
+// Adds the names of the signals and the ports to a netlist that has none.
+fn add_signals(
+    alloc: Global,
+    site: &Site<'_>,
+    netlist: &mut Netlist,
+    all_cells: &[(TileAt, u8)],
+) -> Result<(), NoMemory>
+    requires cells { all_cells.now ≡ cells site.now.parts }
+    requires empty { netlist.old ≡ empty_netlist }
+    ensures { OnOk result (netlist.new ≡ record (back_netlist site.now.parts (bits_of site.now.configuration) site.now.bonded) { cells = [] }) }
 {
     let pads = site.pads();
-    let mut netlist = Netlist::new(alloc);
-    add_name(&mut netlist, b"zero")?;
-    add_name(&mut netlist, b"one")?;
-    add_pad_names(alloc, &mut netlist, site.package())?;
-    add_cell_names(alloc, &mut netlist, all_cells)?;
-    add_ports(&mut netlist, pads.len() as u32)?;
-    Ok(netlist)
+    add_name(netlist, b"zero")?;
+    add_name(netlist, b"one")?;
+    add_pad_names(alloc, netlist, site.package())?;
+    add_cell_names(alloc, netlist, all_cells)?;
+    add_ports(netlist, pads.len() as u32)?;
+    Ok(())
+}
+
+// Adds the cells to a netlist that has the signals and the ports.
+fn add_cells(
+    alloc: Global,
+    site: &Site<'_>,
+    netlist: &mut Netlist,
+    all_cells: &[(TileAt, u8)],
+) -> Result<(), NoMemory>
+    requires cells { all_cells.now ≡ cells site.now.parts }
+    requires named { netlist.old ≡ record (back_netlist site.now.parts (bits_of site.now.configuration) site.now.bonded) { cells = [] } }
+    ensures { OnOk result (netlist.new ≡ back_netlist site.now.parts (bits_of site.now.configuration) site.now.bonded) }
+{
+    let pads = site.pads();
+    add_fixed(alloc, netlist)?;
+    add_pads(alloc, site, netlist, pads)?;
+    add_all_logic(alloc, site, netlist, all_cells)?;
+    Ok(())
+}
+
+// Fills an empty netlist.
+fn add_all(
+    alloc: Global,
+    site: &Site<'_>,
+    netlist: &mut Netlist,
+    all_cells: &[(TileAt, u8)],
+) -> Result<(), NoMemory>
+    requires cells { all_cells.now ≡ cells site.now.parts }
+    requires empty { netlist.old ≡ empty_netlist }
+    ensures { OnOk result (netlist.new ≡ back_netlist site.now.parts (bits_of site.now.configuration) site.now.bonded) }
+{
+    add_signals(alloc, site, netlist, all_cells)?;
+    add_cells(alloc, site, netlist, all_cells)
 }
 
 // The whole netlist.
@@ -40,12 +79,8 @@ fn filled(alloc: Global, site: &Site<'_>, all_cells: &[(TileAt, u8)]) -> Result<
     requires { all_cells.now ≡ cells site.now.parts }
     ensures { IfOk result (λ netlist. netlist ≡ back_netlist site.now.parts (bits_of site.now.configuration) site.now.bonded) }
 {
-    let pads = site.pads();
-    let mut netlist = named(alloc, site, all_cells)?;
-    add_fixed(alloc, &mut netlist)?;
-    add_pads(alloc, site, &mut netlist, pads)?;
-    add_all_logic(alloc, site, &mut netlist, all_cells)?;
-    Ok(netlist)
+    let mut netlist = Netlist::new(alloc);
+    add_all(alloc, site, &mut netlist, all_cells).and(Ok(netlist))
 }
 
 /// The netlist of a configured chip in a package of it: a port and an SB_IO for each pad of the package in order, and cell by cell a

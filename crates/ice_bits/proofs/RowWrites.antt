@@ -1,5 +1,6 @@
 -- One bit written in the rows of a tile.
 use Rattle.std.proofs.Common.{Vec, ◌≡◌, ◌≢◌, ℕ, zero, suc, ◌<◌, ◌≤◌, Bool, true, false, if◌then◌else◌, List, [], ◌∷◌, length, get_or, set, refl, sym, ap, ◌∙◌, subst, arith, rules, tests, get_or-set_same, get_or-set_other}
+use Rattle.std.specs.List.{AllZip}
 use Rattle.std.specs.Prelude.{◌&&◌, nat_lt, nat_eq}
 use Rattle.std.proofs.lemmas.Bool.{and_parts}
 use Rattle.std.proofs.lemmas.List.{length-set, map-set}
@@ -116,3 +117,12 @@ read_after rows p b v = by (is_in rows b) refl (same_place p b) refl
     by true there true same =
         let e : p ≡ b = place_same p b same in
         subst (λ (q : BitAt). is_in rows q ≡ true → bit_in (rows_with p v rows) q ≡ v) e (read_here rows p v) there
+
+-- rows that are copied one by one
+pub rows_copied : (R : Vec Bool Global → Vec Bool Global → Type 0) (rows copies : List (Vec Bool Global)) → AllZip R rows copies → ((row copy : Vec Bool Global) → R row copy → copy.items ≡ row.items)
+    → rows_view copies ≡ rows_view rows
+rows_copied R [] [] all each = refl
+rows_copied R [] (copy ∷ copies) all each = absurd all
+rows_copied R (row ∷ rows) [] all each = absurd all
+rows_copied R (row ∷ rows) (copy ∷ copies) all each =
+    ap (λ (items : List Bool). items ∷ rows_view copies) (each row copy all.0) ∙ ap (λ (others : List (List Bool)). row.items ∷ others) (rows_copied R rows copies all.1 each)

@@ -4,7 +4,7 @@ use Rattle.std.specs.Prelude.{◌&&◌}
 use Rattle.std.specs.Map.{lookup}
 use Rattle.std.specs.Option.{option_map_or, option_and_then, option_or}
 use Rattle.std.proofs.lemmas.Bool.{and_parts}
-use Rattle.std.proofs.lemmas.List.{take_more, map-append}
+use Rattle.std.proofs.lemmas.List.{take_more, map-append, length-take-le}
 use Rattle.ice_base.specs.declared.number.TileAt.{TileAt}
 use Rattle.ice_base.specs.declared.number.BitAt.{BitAt}
 use Rattle.ice_chip.specs.Database.{Parts, SwitchGroup, SwitchRow}
@@ -41,6 +41,16 @@ place_last t u x (e ∷ es) = by (same_tile t e.0) (same_tile t u) (place_in t e
         raised true = let n : suc (length es) ≡ length (e ∷ es) = omega arith in ap Some n
         raised false = refl
     by false there (Some i) later = ap (option_map (λ j. suc j)) later
+
+-- the tile behind the first i, once it is noted
+pub place_more : {X : Type 0} (t : TileAt) (es : List (TileAt × X)) (i : ℕ) (e : TileAt × X) (o : Option ℕ) → i < length es → e ≡ get_or es i e → o ≡ place_in t (take i es)
+    → option_or o (lookup (same_tile t) ((e.0, i) ∷ [])) ≡ place_in t (take (i + 1) es)
+place_more t es i e o lt is noted =
+    ap (λ p. option_or p (lookup (same_tile t) ((e.0, i) ∷ []))) noted
+    ∙ ap (λ n. option_or (place_in t (take i es)) (lookup (same_tile t) ((e.0, n) ∷ []))) (sym (length-take-le i es (omega arith)))
+    ∙ sym (place_last t e.0 e.1 (take i es))
+    ∙ ap (λ x. place_in t (take i es ++ x ∷ [])) is
+    ∙ ap (place_in t) (sym (take_more es i e lt))
 
 pub place_within : {X : Type 0} (t : TileAt) (es : List (TileAt × X)) (i : ℕ) → place_in t es ≡ Some i → i < length es
 place_within t [] i at = absurd (cc)
@@ -332,6 +342,12 @@ pub blank_more : (tiles : List Tile) (i : ℕ) (d : Tile) (done : Tiles) (rows :
 blank_more tiles i d done rows lt so_far is =
     ap (λ (ts : Tiles). ts ++ ((get_or tiles i d).at, rows) ∷ []) so_far ∙ ap (λ (rs : Rows). map blank_at (take i tiles) ++ ((get_or tiles i d).at, rs) ∷ []) is
     ∙ sym (map-append blank_at (take i tiles) (get_or tiles i d ∷ [])) ∙ ap (map blank_at) (sym (take_more tiles i d lt))
+
+pub copied_more : (tiles : Tiles) (i : ℕ) (e : TileAt × Rows) (done : Tiles) (rows : Rows) → i < length tiles → e ≡ get_or tiles i e → done ≡ take i tiles → rows ≡ e.1
+    → done ++ (e.0, rows) ∷ [] ≡ take (i + 1) tiles
+copied_more tiles i e done rows lt at so_far is =
+    ap (λ (ts : Tiles). ts ++ (e.0, rows) ∷ []) so_far ∙ ap (λ (rs : Rows). take i tiles ++ (e.0, rs) ∷ []) is
+    ∙ ap (λ (x : TileAt × Rows). take i tiles ++ x ∷ []) at ∙ sym (take_more tiles i e lt)
 
 pub blank_all : (parts : Parts) (grids : Tiles) (kinds : List TileKind) (extras : List (ℕ × ℕ × ℕ)) → grids ≡ map blank_at (map tile_of parts.tiles)
     → kinds ≡ map kind_of (map tile_of parts.tiles) → extras ≡ [] → of_tiles grids kinds extras ≡ blank parts

@@ -65,8 +65,8 @@ pub fn blank(alloc: Global, chip: &Chip) -> Result<Bits, NoMemory>
     ensures blank { IfOk result (λ bits. bits ≡ blank chip.now) }
     ensures form { IfOk result (IsOf chip.now) }
 {
-    let grids = Grids::blank(alloc, chip.tiles())?;
     let kinds = kinds_of(alloc, chip.tiles())?;
+    let grids = Grids::blank(alloc, chip.tiles())?;
     Ok(Bits {
         grids,
         kinds,
@@ -80,9 +80,9 @@ impl Bits {
         ensures { IfOk result (λ copy. copy ≡ self.now) }
     {
         Ok(Bits {
-            grids: self.grids.copy(alloc)?,
             kinds: self.kinds.clone()?,
             extras: self.extras.clone()?,
+            grids: self.grids.copy(alloc)?,
         })
     }
 

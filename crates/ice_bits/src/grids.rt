@@ -49,47 +49,78 @@ fn note_place(
     Ok(())
 }
 
-// Adds the bits of a tile.
-fn add_tile(
-    tiles: &mut Vec<(TileAt, TileBits)>,
+// Notes the places of tiles, of which none has one yet.
+fn note_places(
     places: &mut IndexMap<TileAt, usize>,
-    tile: TileAt,
-    rows: TileBits,
+    tiles: &[(TileAt, TileBits)],
 ) -> Result<(), NoMemory>
-    requires { (t : TileAt) → lookup (same_tile t) places.old.entries ≡ place_in t tiles.old.items }
-    ensures tiles { OnOk result (tiles.new.items ≡ tiles.old.items ++ (tile, rows) ∷ []) }
-    ensures places { OnOk result ((t : TileAt) → lookup (same_tile t) places.new.entries ≡ place_in t tiles.new.items) }
+    requires { places.old.entries ≡ [] }
+    ensures { OnOk result ((t : TileAt) → lookup (same_tile t) places.new.entries ≡ place_in t tiles.now) }
 {
-    note_place(places, tile, tiles.len())?;
-    tiles.push((tile, rows))?;
+    for (place, held) in tiles.iter().enumerate() {
+        note_place(places, held.0, place)?;
+    }
     Ok(())
 }
 
+// The place of each of these tiles.
+fn places_of(
+    alloc: Global,
+    tiles: &[(TileAt, TileBits)],
+) -> Result<IndexMap<TileAt, usize>, NoMemory>
+    ensures { IfOk result (λ places. (t : TileAt) → lookup (same_tile t) places.entries ≡ place_in t tiles.now) }
+{
+    let mut places = IndexMap::with_capacity(alloc, tiles.len())?;
+    note_places(&mut places, tiles).and(Ok(places))
+}
+
+// The bits of these tiles, all 0.
+fn blank_tiles(alloc: Global, all: &[Tile]) -> Result<Vec<(TileAt, TileBits)>, NoMemory>
+    ensures { IfOk result (λ tiles. tiles.items ≡ map blank_at all.now) }
+{
+    let mut tiles = Vec::with_capacity(alloc, all.len())?;
+    for tile in all {
+        let rows = TileBits::blank(alloc, tile.kind.columns())?;
+        tiles.push((tile.at, rows))?;
+    }
+    Ok(tiles)
+}
+
+// Equal copies of the bits of tiles.
+fn copies_of(alloc: Global, all: &[(TileAt, TileBits)]) -> Result<Vec<(TileAt, TileBits)>, NoMemory>
+    ensures { IfOk result (λ tiles. tiles.items ≡ all.now) }
+{
+    let mut tiles = Vec::with_capacity(alloc, all.len())?;
+    for held in all {
+        let rows = held.1.copy(alloc)?;
+        tiles.push((held.0, rows))?;
+    }
+    Ok(tiles)
+}
+
 impl Grids {
+    // The bits of tiles, found by their places.
+    fn of_tiles(alloc: Global, tiles: Vec<(TileAt, TileBits)>) -> Result<Grids, NoMemory>
+        ensures { IfOk result (λ grids. grids ≡ tiles.items) }
+    {
+        let places = places_of(alloc, &tiles)?;
+        Ok(Grids { tiles, places })
+    }
+
     /// The bits of these tiles, all 0.
     pub(crate) fn blank(alloc: Global, all: &[Tile]) -> Result<Grids, NoMemory>
         ensures { IfOk result (λ grids. grids ≡ map blank_at all.now) }
     {
-        let mut tiles = Vec::with_capacity(alloc, all.len())?;
-        let mut places = IndexMap::with_capacity(alloc, all.len())?;
-        for tile in all {
-            let rows = TileBits::blank(alloc, tile.kind.columns())?;
-            add_tile(&mut tiles, &mut places, tile.at, rows)?;
-        }
-        Ok(Grids { tiles, places })
+        let tiles = blank_tiles(alloc, all)?;
+        Grids::of_tiles(alloc, tiles)
     }
 
     /// An equal copy.
     pub(crate) fn copy(&self, alloc: Global) -> Result<Grids, NoMemory>
         ensures { IfOk result (λ copy. copy ≡ self.now) }
     {
-        let mut tiles = Vec::with_capacity(alloc, self.tiles.len())?;
-        let mut places = IndexMap::with_capacity(alloc, self.tiles.len())?;
-        for held in &self.tiles {
-            let (tile, rows) = held;
-            add_tile(&mut tiles, &mut places, *tile, rows.copy(alloc)?)?;
-        }
-        Ok(Grids { tiles, places })
+        let tiles = copies_of(alloc, &self.tiles)?;
+        Grids::of_tiles(alloc, tiles)
     }
 
     /// Where the bits of a tile stand among those of all tiles.

@@ -47,13 +47,6 @@ fn write_in(rows: &mut [Vec<bool>], bit: BitAt, value: bool)
     }
 }
 
-// An equal copy of a row.
-fn copy_of(row: &Vec<bool>) -> Result<Vec<bool>, NoMemory>
-    ensures { IfOk result (λ copy. copy.items ≡ row.now.items) }
-{
-    Ok(row.clone()?)
-}
-
 impl TileBits {
     /// No rows yet. It takes no memory.
     pub fn new(alloc: Global) -> TileBits
@@ -79,10 +72,7 @@ impl TileBits {
     pub fn copy(&self, alloc: Global) -> Result<TileBits, NoMemory>
         ensures { IfOk result (λ copy. copy ≡ self.now) }
     {
-        let mut rows = Vec::with_capacity(alloc, self.rows.len())?;
-        for row in &self.rows {
-            rows.push(copy_of(row)?)?;
-        }
+        let rows = Vec::from_clones(alloc, &self.rows)?;
         Ok(TileBits { rows })
     }
 

@@ -1,11 +1,16 @@
 -- Lists by tiles with their kinds, and by the rows of the tiles.
-use Rattle.std.proofs.Common.{◌≡◌, Bool, true, false, cond, List, [], ◌∷◌, ◌++◌, Option, None, Some, refl, ap, sym, ◌∙◌, map, filter}
+use Rattle.std.proofs.Common.{◌≡◌, ℕ, ◌+◌, ◌<◌, Bool, true, false, cond, List, [], ◌∷◌, ◌++◌, Option, None, Some, refl, ap, sym, ◌∙◌, map, filter, drop, get_or, length}
 use Rattle.std.specs.Prelude.{find, option_map}
 use Rattle.std.specs.List.{flat_map}
+use Rattle.std.specs.Option.{is_some}
+use Rattle.std.proofs.lemmas.List.{at_drop_more}
 use Rattle.ice_base.specs.declared.number.TileAt.{TileAt}
 use Rattle.ice_chip.specs.Database.{Parts, FunctionRow}
 use Rattle.ice_chip.specs.Lookups.{tile_of, is_io_kind}
 use Rattle.ice_chip.specs.declared.parts.TileLine.{TileLine}
+use Rattle.ice_chip.specs.declared.rows.Pad.{Pad}
+use Rattle.ice_chip.specs.declared.rows.TileKind.{TileKind}
+use Rattle.ice_chip.specs.declared.rows.TileKind.TheVariants.{Io, Logic, RamBottom, RamTop}
 use Rattle.ice_chip.specs.declared.tile.Tile.{Tile}
 use Rattle.ice_decode.specs.Cells.{is_logic, is_logic_tile, logic_tiles}
 use Rattle.ice_bits.specs.Configuration.{Bits}
@@ -66,3 +71,35 @@ wrong_in_tiles parts bits (t ∷ tiles) = by (is_io_kind t.1.kind) (wrong_in_til
 
 pub wrong_same : (parts : Parts) (bits : Bits) → wrong_among parts bits (map tile_of parts.tiles) ≡ wrong_pad parts bits
 wrong_same parts bits = wrong_in_tiles parts bits parts.tiles
+
+of_io : (kind : TileKind) (found : Option Pad) → kind ≡ Io → cond (is_io_kind kind) found None ≡ found
+of_io Io found is = refl
+of_io Logic found is = absurd (cc)
+of_io RamBottom found is = absurd (cc)
+of_io RamTop found is = absurd (cc)
+
+of_others : (kind : TileKind) (found : Option Pad) → (kind ≡ Io → ⊥) → cond (is_io_kind kind) found None ≡ None
+of_others Io found other = absurd (other refl)
+of_others Logic found other = refl
+of_others RamBottom found other = refl
+of_others RamTop found other = refl
+
+none_found : (found here rest : Option Pad) → found ≡ here → is_some found ≡ false → or_else here rest ≡ rest
+none_found found None rest e is = refl
+none_found None (Some p) rest e is = absurd (cc)
+none_found (Some q) (Some p) rest e is = absurd (cc)
+
+-- an IO tile of which no pad is wrong is passed over
+pub io_passed : (parts : Parts) (bits : Bits) (tiles : List Tile) (i : ℕ) (d : Tile) (found : Option Pad) → i < length tiles → (get_or tiles i d).kind ≡ Io
+    → found ≡ wrong_in parts bits (get_or tiles i d).at → is_some found ≡ false → wrong_among parts bits (drop i tiles) ≡ wrong_among parts bits (drop (i + 1) tiles)
+io_passed parts bits tiles i d found lt io is none =
+    at_drop_more (wrong_among parts bits) tiles i d lt
+    ∙ ap (λ o. or_else o (wrong_among parts bits (drop (i + 1) tiles))) (of_io (get_or tiles i d).kind (wrong_in parts bits (get_or tiles i d).at) io)
+    ∙ none_found found (wrong_in parts bits (get_or tiles i d).at) (wrong_among parts bits (drop (i + 1) tiles)) is none
+
+-- a tile of another kind is passed over
+pub other_passed : (parts : Parts) (bits : Bits) (tiles : List Tile) (i : ℕ) (d : Tile) → i < length tiles → ((get_or tiles i d).kind ≡ Io → ⊥)
+    → wrong_among parts bits (drop i tiles) ≡ wrong_among parts bits (drop (i + 1) tiles)
+other_passed parts bits tiles i d lt other =
+    at_drop_more (wrong_among parts bits) tiles i d lt
+    ∙ ap (λ o. or_else o (wrong_among parts bits (drop (i + 1) tiles))) (of_others (get_or tiles i d).kind (wrong_in parts bits (get_or tiles i d).at) other)

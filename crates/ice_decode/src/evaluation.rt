@@ -105,6 +105,40 @@ fn loop_at(
     Ok(Found::Loop(wires))
 }
 
+// The points in an order of their graph, or else the wires of a loop.
+fn found_in(
+    alloc: Global,
+    chip: &Chip,
+    bits: &Bits,
+    numbering: &Numbering,
+    graph: &Graph,
+) -> Result<Found, NoMemory>
+    requires points { AreAllPoints chip.now numbering.now }
+    requires graph { IsGraphOf numbering.now (depends_on chip.now (bits_of bits.now)) graph.now }
+    ensures { IfOk result (IsSearched chip.now (bits_of bits.now)) }
+{
+    match order(alloc, graph)? {
+        Outcome::Order(order) => order_at(alloc, chip, bits, numbering, graph, &order),
+        Outcome::Cycle(cycle) => loop_at(alloc, chip, bits, numbering, graph, &cycle),
+    }
+}
+
+// What the search finds, by the numbers of the points.
+fn search_by(
+    alloc: Global,
+    chip: &Chip,
+    bits: &Bits,
+    drivers: &[Driver],
+    numbering: &Numbering,
+) -> Result<Found, NoMemory>
+    requires drivers { AreDrivers chip.now (bits_of bits.now) drivers.now }
+    requires points { AreAllPoints chip.now numbering.now }
+    ensures { IfOk result (IsSearched chip.now (bits_of bits.now)) }
+{
+    let graph = graph_of_points(alloc, chip, bits, drivers, numbering)?;
+    found_in(alloc, chip, bits, numbering, &graph)
+}
+
 /// An order of evaluation of all points of a chip, or else a loop, begun at its point of the least number. The table has what drives
 /// each wire.
 ///
@@ -120,9 +154,5 @@ pub(crate) fn search(
     ensures { IfOk result (IsSearched chip.now (bits_of bits.now)) }
 {
     let numbering = Numbering::new(alloc, chip)?;
-    let graph = graph_of_points(alloc, chip, bits, drivers, &numbering)?;
-    match order(alloc, &graph)? {
-        Outcome::Order(order) => order_at(alloc, chip, bits, &numbering, &graph, &order),
-        Outcome::Cycle(cycle) => loop_at(alloc, chip, bits, &numbering, &graph, &cycle),
-    }
+    search_by(alloc, chip, bits, drivers, &numbering)
 }

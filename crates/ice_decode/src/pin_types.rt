@@ -55,7 +55,6 @@ fn wrong_in(chip: &Chip, bits: &Bits, sources: &[bool], tile: TileAt) -> Option<
 }
 
 /// The first pad of a wrong type, in the order of the tiles. The table has whether a row that is on reads each wire. It takes no memory.
-#[tactic(auto, using(crate::proofs::TileLists::wrong_same))]
 pub(crate) fn wrong_pad(chip: &Chip, bits: &Bits, sources: &[bool]) -> Option<Pad>
     requires { AreSources (switches_on (bits_of bits.now) chip.now.groups) sources.now }
     ensures { result ≡ wrong_pad chip.now (bits_of bits.now) }

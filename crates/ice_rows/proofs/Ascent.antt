@@ -1,6 +1,6 @@
 -- Rows whose values rise.
 use Rattle.std.proofs.Common.{◌≡◌, ℕ, zero, suc, ◌+◌, ◌<◌, ◌≤◌, Bool, true, false, cond, List, [], ◌∷◌, Some, length, drop, get_or, slice_get, refl, sym, ap, subst, ◌∙◌, arith, true≢false}
-use Rattle.std.specs.Prelude.{◌&&◌, ◌==◌, min}
+use Rattle.std.specs.Prelude.{◌&&◌, ◌==◌, not, min}
 use Rattle.std.specs.Bool.{beq}
 use Rattle.std.specs.List.{list_any}
 use Rattle.std.specs.Cmp.Lexicographic.{pointwise}
@@ -21,6 +21,17 @@ after (v ∷ values) (o ∷ others) (suc k) d e lt lt' = after values others k d
 pub above_next : (values others : List Bool) (k : ℕ) (d e : Bool) → k < length values → k < length others
     → is_above (drop k values) (drop k others) ≡ cond (beq (get_or values k d) (get_or others k e)) (is_above (drop (k + 1) values) (drop (k + 1) others)) (get_or values k d)
 above_next values others k d e lt lt' = let one : k + 1 ≡ suc k = omega arith in rw one (after values others k d e lt lt')
+
+goes_on : (b rest v : Bool) → not b ≡ false → cond b rest v ≡ rest
+goes_on true rest v is = refl
+goes_on false rest v is = absurd (cc)
+
+-- a place at which both are the same is passed over
+pub above_passed : (values others : List Bool) (k : ℕ) (d e : Bool) → k < length values → k < length others → not (beq (get_or values k d) (get_or others k e)) ≡ false
+    → is_above (drop k values) (drop k others) ≡ is_above (drop (k + 1) values) (drop (k + 1) others)
+above_passed values others k d e lt lt' agree =
+    above_next values others k d e lt lt'
+    ∙ goes_on (beq (get_or values k d) (get_or others k e)) (is_above (drop (k + 1) values) (drop (k + 1) others)) (get_or values k d) agree
 
 pub above_none : (values : List Bool) → is_above values [] ≡ list_any (λ x. x) values
 above_none [] = refl

@@ -8,6 +8,7 @@ mod Alike
 mod Pins
 mod Ascent
 mod Meeting
+mod Passing
 pub mod Sourcing
 pub mod Taken
 pub mod Known

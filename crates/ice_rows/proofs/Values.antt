@@ -1,6 +1,6 @@
 -- The value of a bit in a list of values.
-use Rattle.std.proofs.Common.{◌≡◌, ◌≢◌, ℕ, zero, suc, ◌+◌, ◌<◌, ◌≤◌, Bool, true, false, List, [], ◌∷◌, length, drop, map, get_or, refl, ap, arith}
-use Rattle.std.specs.Prelude.{◌&&◌, ◌||◌, min}
+use Rattle.std.proofs.Common.{◌≡◌, ◌≢◌, ℕ, zero, suc, ◌+◌, ◌<◌, ◌≤◌, Bool, true, false, List, [], ◌∷◌, length, drop, map, get_or, refl, sym, ap, ◌∙◌, arith}
+use Rattle.std.specs.Prelude.{◌&&◌, ◌||◌, not, min}
 use Rattle.std.specs.Bool.{beq}
 use Rattle.std.specs.Cmp.Lexicographic.{pointwise}
 use Rattle.ice_base.proofs.Booleans.{and_false}
@@ -31,6 +31,11 @@ none (p ∷ bits) [] b (suc k) le = no_values (drop k bits) b
 none (p ∷ bits) (v ∷ values) b zero le = absurd (omega arith)
 none (p ∷ bits) (v ∷ values) b (suc k) le = none bits values b k (omega arith)
 
+-- a place that is not the bit's, or has the value 0, is passed over
+pub passed : (bits : List BitAt) (values : List Bool) (b : BitAt) (k : ℕ) (d : BitAt) (e : Bool) → k < length bits → k < length values → false ≡ (same_place (get_or bits k d) b && get_or values k e)
+    → value_at (drop k bits) (drop k values) b ≡ value_at (drop (k + 1) bits) (drop (k + 1) values) b
+passed bits values b k d e lt lt' off = next bits values b k d e lt lt' ∙ ap (λ t. t || value_at (drop (k + 1) bits) (drop (k + 1) values) b) (sym off)
+
 -- ---- whether values are those of a list of bits
 alike_after : (f : BitAt → Bool) (values : List Bool) (bits : List BitAt) (k : ℕ) (v : Bool) (d : BitAt) → k < length values → k < length bits
     → pointwise beq (drop k values) (map f (drop k bits)) ≡ (beq (get_or values k v) (f (get_or bits k d)) && pointwise beq (drop (suc k) values) (map f (drop (suc k) bits)))
@@ -54,3 +59,24 @@ unlike_long f [] [] e = absurd (e refl)
 unlike_long f [] (p ∷ bits) e = refl
 unlike_long f (x ∷ values) [] e = refl
 unlike_long f (x ∷ values) (p ∷ bits) e = rw (unlike_long f values bits (λ same. e (ap suc same))) (and_false (beq x (f p)))
+
+kept : (b rest : Bool) → not b ≡ false → (b && rest) ≡ rest
+kept true rest is = refl
+kept false rest is = absurd (cc)
+
+-- values of which one more is that of its bit
+pub alike_passed : (f : BitAt → Bool) (values : List Bool) (bits lent : List BitAt) (k : ℕ) (v : Bool) (d : BitAt) (s : Bool) → lent ≡ bits → s ≡ f (get_or lent k d)
+    → not (beq (get_or values k v) s) ≡ false → k < length values → length values ≡ length bits
+    → pointwise beq (drop k values) (map f (drop k bits)) ≡ pointwise beq (drop (k + 1) values) (map f (drop (k + 1) bits))
+alike_passed f values bits lent k v d s same is agree lt long =
+    alike_next f values bits k v d lt (omega (arith, long))
+    ∙ kept (beq (get_or values k v) (f (get_or bits k d))) (pointwise beq (drop (k + 1) values) (map f (drop (k + 1) bits)))
+    (ap (λ t. not (beq (get_or values k v) t)) (sym (is ∙ ap (λ (ps : List BitAt). f (get_or ps k d)) same)) ∙ agree)
+
+pub alike_all : (f : BitAt → Bool) (values : List Bool) (bits : List BitAt) (k : ℕ) → length values ≤ k → length values ≡ length bits → pointwise beq (drop k values) (map f (drop k bits)) ≡ true
+alike_all f [] [] zero le e = refl
+alike_all f [] [] (suc k) le e = refl
+alike_all f [] (p ∷ bits) k le e = absurd (cc)
+alike_all f (x ∷ values) [] k le e = absurd (cc)
+alike_all f (x ∷ values) (p ∷ bits) zero le e = absurd (omega arith)
+alike_all f (x ∷ values) (p ∷ bits) (suc k) le e = alike_all f values bits k (omega arith) (omega arith)

@@ -1,5 +1,5 @@
 -- Steps of a configured chip in a row, as a text.
-use Rattle.std.proofs.Common.{◌≡◌, ℕ, Bool, List, ◌∷◌, ◌++◌, ap, sym, ◌∙◌, append_assoc}
+use Rattle.std.proofs.Common.{◌≡◌, ℕ, Bool, List, [], ◌∷◌, ◌++◌, ap, sym, ◌∙◌, append_assoc, append-nil}
 use Rattle.ice_value.specs.Machine as machine
 use Rattle.ice_bits.specs.Configuration.{bits_of}
 use Rattle.ice_decode.specs.Meaning.{step}
@@ -22,3 +22,7 @@ told_next run next levels left rest text longer all left_is next_is longer_is to
     (told_from (with_state run (step run.parts (bits_of run.configuration) run.bonded run.bonded run.state levels).0) rest))
     ∙ ap (λ t. t ++ told_from (with_state run (step run.parts (bits_of run.configuration) run.bonded run.bonded run.state levels).0) rest) (sym longer_is)
     ∙ ap (λ r. longer ++ told_from r rest) (sym next_is)
+
+-- all was told
+pub told_end : (run : ChipRunData) (left : List (List Bool)) (text all : List ℕ) → left ≡ [] → all ≡ text ++ told_from run left → text ≡ all
+told_end run left text all none told = sym (told ∙ ap (λ l. text ++ told_from run l) none ∙ append-nil text)

@@ -5,6 +5,7 @@ use Rattle.ice_base.specs.declared.number.TileAt.{TileAt}
 use Rattle.ice_chip.specs.Database.{Parts}
 use Rattle.ice_bits.specs.Configuration.{Bits}
 use Rattle.ice_decode.specs.Cells.{has_flop}
+use Rattle.ice_sim.specs.declared.parts.Gate.{Gate}
 use Rattle.ice_sim.specs.declared.parts.Keeper.{Keeper}
 use Rattle.ice_sim.specs.declared.parts.Feed.{Feed}
 use Rattle.ice_sim.specs.declared.parts.Feed.TheVariants.{Made}
@@ -61,3 +62,14 @@ module _ (parts : Parts) (bits : Bits) (slots : List ℕ) where
       ∙ ap (λ ks. ks ++ flops (suc i) (length old + length (tables (length old) (cell ∷ []))) (drop (i + 1) cells)) (sym g)
       ∙ ap (λ k. next ++ flops (suc i) k (drop (i + 1) cells)) (grown old new cell f)
       ∙ ap (λ c. next ++ flops c (length new) (drop (i + 1) cells)) one
+
+  -- the cell is a flip-flop
+  pub table_pushed : (n : ℕ) (cell : TileAt × ℕ) (gate : Gate) (old new : List Feed) → has_flop parts bits cell.0 cell.1 ≡ true → gate ≡ cell_gate parts bits slots n cell.0 cell.1
+      → new ≡ old ++ Made gate ∷ [] → new ≡ old ++ tables n (cell ∷ [])
+  table_pushed n cell gate old new has is pushed =
+      pushed ∙ ap (λ g. old ++ Made g ∷ []) is ∙ ap (λ b. old ++ cond b (Made (cell_gate parts bits slots n cell.0 cell.1) ∷ []) []) (sym has)
+
+  pub flop_pushed : (c n : ℕ) (cell : TileAt × ℕ) (keeper : Keeper) (old new : List Keeper) → has_flop parts bits cell.0 cell.1 ≡ true → keeper ≡ keeper_of parts bits slots c n cell
+      → new ≡ old ++ keeper ∷ [] → new ≡ old ++ flops c n (cell ∷ [])
+  flop_pushed c n cell keeper old new has is pushed =
+      pushed ∙ ap (λ k. old ++ k ∷ []) is ∙ ap (λ b. old ++ cond b (keeper_of parts bits slots c n cell ∷ []) []) (sym has)

@@ -21,3 +21,4 @@ pub mod TilePlaces
 pub mod FlopSteps
 pub mod Compiling
 pub mod ChipPlaying
+pub mod Turns

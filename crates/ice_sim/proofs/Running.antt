@@ -189,3 +189,7 @@ told_more n run next levels left rest text longer all run_is left_is next_is lon
     ∙ sym (append_assoc text (drives_line (step n run.1 levels).1) (drives_text (machine.shows (step n) (step n run.1 levels).0 rest)))
     ∙ ap (λ t. t ++ drives_text (machine.shows (step n) (step n run.1 levels).0 rest)) line
     ∙ ap (λ s. longer ++ drives_text (machine.shows (step n) s rest)) state
+
+-- all was told
+pub told_all : (n : NetlistData) (state : State) (left : List (List Bool)) (text all : List ℕ) → left ≡ [] → all ≡ text ++ drives_text (machine.shows (step n) state left) → text ≡ all
+told_all n state left text all none told = sym (told ∙ ap (λ l. text ++ drives_text (machine.shows (step n) state l)) none ∙ append-nil text)

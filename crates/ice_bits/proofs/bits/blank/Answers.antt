@@ -8,8 +8,8 @@ use Rattle.ice_bits.proofs.bits.blank.Goals.{After-new}
 
 is_blank : (c : After-new) → of_tiles c.in_ok-grids.grids c.in_ok-kinds.kinds.items c.new.result.items ≡ blank c.args.chip.now
 is_blank c =
-    blank_all c.args.chip.now c.in_ok-grids.grids c.in_ok-kinds.kinds.items c.new.result.items (c.in_ok-grids.ensures ∙ ap (map blank_at) c.tiles.ensures)
-    (c.in_ok-kinds.ensures ∙ ap (map kind_of) c.tiles-2.ensures) c.new.ensures.items
+    blank_all c.args.chip.now c.in_ok-grids.grids c.in_ok-kinds.kinds.items c.new.result.items (c.in_ok-grids.ensures ∙ ap (map blank_at) c.tiles-2.ensures)
+    (c.in_ok-kinds.ensures ∙ ap (map kind_of) c.tiles.ensures) c.new.ensures.items
 
 pub returns-clause-blank : goal.returns-clause-blank
 returns-clause-blank c = is_blank (goal.at.returns-clause-blank c).After-new

@@ -3,8 +3,13 @@ use Rattle.std.specs.Prelude.{min}
 use Rattle.std.specs.List.{list_any}
 use Rattle.std.proofs.lemmas.List.{take_rest}
 use Rattle.ice_rows.specs.Plain.{is_above}
-use Rattle.ice_rows.proofs.Ascent.{above_end}
+use Rattle.ice_rows.proofs.Ascent.{above_passed, above_end}
 use Rattle.ice_rows.proofs.plain.is_above.Goals as goal
+
+pub loop-k-preserved : goal.loop-k-preserved
+loop-k-preserved c =
+    c.loop-k.invariant
+    ∙ above_passed c.args.values.now c.args.others.now c.loop-k.k _ _ (omega (arith, c.min-shared.ensures, c.loop-k-test.true)) (omega (arith, c.min-shared.ensures, c.loop-k-test.true)) c.if-values-k.false
 
 pub returns : goal.returns
 returns c =

@@ -6,7 +6,7 @@ use Rattle.ice_sim.specs.DriveTexts.{drives_text}
 use Rattle.ice_sim.specs.ChipRuns.{ChipRunData}
 use Rattle.ice_sim.proofs.Showing.{tail_all}
 use Rattle.ice_sim.proofs.Running.{written}
-use Rattle.ice_sim.proofs.ChipPlaying.{told_next}
+use Rattle.ice_sim.proofs.ChipPlaying.{told_next, told_end}
 use Rattle.ice_sim.proofs.chip_playing.play_chip.Goals as goal
 
 pub loop-step-preserved : goal.loop-step-preserved
@@ -22,3 +22,6 @@ loop-step-preserved c =
           (drives_text (shows c.args.chip.now (bits_of c.args.circuit.now.configuration) c.args.«package».now.pads.keys c.args.«package».now.pads.keys c.args.levels.now))
           c.in-Some.ensures.steps c.play_step.ensures.run c.in_ok-play_step.ensures.text c.loop-step.invariant.5,
     )
+
+pub returns : goal.returns
+returns c = told_end c.loop-step.run c.loop-step.step-iterator c.loop-step.text.items _ c.in-None.ensures.steps.0 c.loop-step.invariant.5

@@ -4,7 +4,7 @@ use Rattle.ice_net.specs.Meaning.{State, shows}
 use Rattle.ice_sim.specs.LevelTexts.{HasWidth}
 use Rattle.ice_sim.specs.DriveTexts.{drives_text}
 use Rattle.ice_sim.proofs.Showing.{tail_all}
-use Rattle.ice_sim.proofs.Running.{written, told_more}
+use Rattle.ice_sim.proofs.Running.{written, told_more, told_all}
 use Rattle.ice_sim.proofs.playing.play.Goals as goal
 
 pub loop-step-preserved : goal.loop-step-preserved
@@ -19,3 +19,6 @@ loop-step-preserved c =
       told_more c.args.sound.now c.loop-step.run c.play_step.new.run c.in-Some.step.now c.loop-step.step-iterator c.next.new.self c.loop-step.text.items c.play_step.new.text.items
           (drives_text (shows c.args.sound.now c.args.levels.now)) c.loop-step.invariant.2 c.in-Some.ensures.steps c.play_step.ensures.run c.in_ok-play_step.ensures.text c.loop-step.invariant.5,
     )
+
+pub returns : goal.returns
+returns c = told_all c.args.sound.now c.loop-step.run.1 c.loop-step.step-iterator c.loop-step.text.items _ c.in-None.ensures.steps.0 c.loop-step.invariant.5
