@@ -1,5 +1,6 @@
 -- The usable rows of a group.
-use Rattle.std.proofs.Common.{◌≡◌, ℕ, ◌+◌, Bool, true, false, cond, List, [], ◌∷◌, ◌++◌, length, length-append, append_assoc, ap, ◌∙◌, refl, arith}
+use Rattle.std.proofs.Common.{◌≡◌, ℕ, ◌+◌, ◌<◌, ◌≤◌, Bool, true, false, cond, List, [], ◌∷◌, ◌++◌, length, get_or, drop, length-append, append_assoc, append-nil, ap, sym, ◌∙◌, refl, arith}
+use Rattle.std.proofs.lemmas.List.{at_drop_more, at_drop_all}
 use Rattle.ice_base.specs.declared.number.TileAt.{TileAt}
 use Rattle.ice_graph.specs.declared.edge.Edge.{Edge}
 use Rattle.ice_chip.specs.Database.{Parts, SwitchRow, SwitchGroup}
@@ -52,3 +53,16 @@ row_more parts g n r rows old new b same is = more_by old new (edge g n r) (edge
 pub place_more : (parts : Parts) (g : SwitchGroup) (n : ℕ) (r : SwitchRow) (rows : List SwitchRow) (old new : List TileAt) (b : Bool) → b ≡ is_usable parts g n r → new ≡ cond b (old ++ g.tile ∷ []) old
     → new ++ places_of parts g (n + 1) rows ≡ old ++ places_of parts g n (r ∷ rows)
 place_more parts g n r rows old new b same is = more_by old new g.tile (places_of parts g (n + 1) rows) b (is_usable parts g n r) same is
+
+-- ---- a list that is made piece by piece of the things of another
+-- the piece of the next thing is added
+pub next_piece : {X Y : Type 0} (made_of : List Y → List X) (ys : List Y) (i : ℕ) (y : Y) (piece old new all : List X) → i < length ys → y ≡ get_or ys i y
+    → made_of (y ∷ drop (i + 1) ys) ≡ piece ++ made_of (drop (i + 1) ys) → new ≡ old ++ piece → old ++ made_of (drop i ys) ≡ all → new ++ made_of (drop (i + 1) ys) ≡ all
+next_piece made_of ys i y piece old new all lt item step added were =
+    ap (λ xs. xs ++ made_of (drop (i + 1) ys)) added ∙ append_assoc old piece (made_of (drop (i + 1) ys))
+    ∙ ap (λ xs. old ++ xs) (sym (at_drop_more made_of ys i y lt ∙ ap (λ x. made_of (x ∷ drop (i + 1) ys)) (sym item) ∙ step))
+    ∙ were
+
+-- nothing is left
+pub all_pieces : {X Y : Type 0} (made_of : List Y → List X) (ys : List Y) (i : ℕ) (old all : List X) → length ys ≤ i → made_of [] ≡ [] → old ++ made_of (drop i ys) ≡ all → old ≡ all
+all_pieces made_of ys i old all le none were = sym (append-nil old) ∙ sym (ap (λ xs. old ++ xs) (at_drop_all made_of ys i le ∙ none)) ∙ were

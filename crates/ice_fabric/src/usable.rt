@@ -34,7 +34,6 @@ fn add_row(
 }
 
 // Adds the usable rows of a group to the edges, and its tile to the places for each.
-#[tactic(auto, using(ice_rows::proofs::Taken::taken, crate::proofs::GroupRows::none, crate::proofs::GroupRows::none_placed, ice_rows::proofs::Known::source_below))]
 fn add_group(
     chip: &Chip,
     index: &Index,

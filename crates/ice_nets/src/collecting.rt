@@ -41,7 +41,6 @@ fn push_net(nets: &mut Vec<Net>, wire: Option<WireNo>, sinks: Items<Sink>) -> Re
 }
 
 // Adds the nets of roots of one kind.
-#[tactic(auto, using(crate::proofs::Leaving::nets_step, crate::proofs::Leaving::nets_end, crate::proofs::Leaving::left_long))]
 fn push_nets(
     nets: &mut Vec<Net>,
     wires: &[Option<WireNo>],

@@ -25,7 +25,6 @@ fn pad_node(ports: &[Pad], k: usize) -> Option<Node>
 }
 
 // The nodes of all pads.
-#[tactic(auto, using(crate::proofs::ByRoots::table_more))]
 fn pad_nodes(alloc: Global, ports: &[Pad]) -> Result<Vec<Option<Node>>, NoMemory>
     ensures { IfOk result (λ nodes. nodes.items ≡ table (λ k. option_map pad_node (slice_get ports.now k)) (length ports.now)) }
 {

@@ -1,4 +1,7 @@
 mod Passed
+mod Turns
+mod FirstChoices
+mod GivenLines
 mod Lower
 mod Noting
 mod PortPlaces

@@ -1,3 +1,4 @@
+mod Joining
 mod FitSteps
 pub mod Weights
 mod Orders

@@ -68,7 +68,6 @@ fn push_entry(
 }
 
 // Adds the entries of a table that are 1.
-#[tactic(auto, using(crate::proofs::Ranges::made_more))]
 fn push_table(made: &mut Vec<Setting>, tile: TileAt, cell: u8, table: u16) -> Result<(), NoMemory>
     ensures { OnOk result (views made.new.items ≡ views made.old.items ++ table_settings tile (cell_function cell) table) }
 {

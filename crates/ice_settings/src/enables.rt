@@ -141,8 +141,8 @@ fn needed_of(
     ensures { IfOk result (λ found. found.keys ≡ insert_all same_pad [] (needed_places read.now.keys enables.now.entries)) }
 {
     let mut found = IndexSet::new(alloc);
-    add_all_needed(&mut found, read, enables)?;
-    Ok(found)
+    let done = add_all_needed(&mut found, read, enables);
+    done.and(Ok(found))
 }
 
 // The pads of ports that are read.
@@ -150,15 +150,14 @@ fn read_of(alloc: Global, pads: &[Pad], ports: &[DesignPad]) -> Result<IndexSet<
     ensures { IfOk result (λ found. found.keys ≡ insert_all same_pad [] (read_pads pads.now ports.now)) }
 {
     let mut found = IndexSet::new(alloc);
-    add_all_read(&mut found, pads, ports)?;
-    Ok(found)
+    let done = add_all_read(&mut found, pads, ports);
+    done.and(Ok(found))
 }
 
 /// Adds which inputs are disabled: those that no pad needs that is read.
 ///
 /// # Errors
 /// Want of memory alone; some of them may be added then.
-#[tactic(auto, using(crate::proofs::Enabling::enables_are))]
 pub fn push_enables(
     alloc: Global,
     made: &mut Vec<Setting>,
@@ -168,8 +167,12 @@ pub fn push_enables(
 ) -> Result<(), NoMemory>
     ensures { OnOk result (views made.new.items ≡ views made.old.items ++ flat_map (enable_settings (enables_of chip.now) (read_pads pads.now ports.now)) (enables_of chip.now)) }
 {
+    let enables = chip.enables();
     let read = read_of(alloc, pads, ports)?;
-    let needed = needed_of(alloc, &read, chip.enables())?;
-    push_each(made, &needed, chip.enables())?;
-    Ok(())
+    let found = needed_of(alloc, &read, enables);
+    drop(read);
+    let needed = found?;
+    let done = push_each(made, &needed, enables);
+    drop(needed);
+    done
 }

@@ -38,7 +38,6 @@ fn push_digit(made: &mut Vec<Setting>, pad: Pad, pin_type: u8, place: u8) -> Res
 }
 
 // Adds the digits of a pin type that are 1.
-#[tactic(auto, using(crate::proofs::Ranges::made_more))]
 fn push_type(made: &mut Vec<Setting>, pad: Pad, pin_type: u8) -> Result<(), NoMemory>
     ensures { OnOk result (views made.new.items ≡ views made.old.items ++ type_settings pad pin_type) }
 {
@@ -108,9 +107,7 @@ fn push_port_at(
 fn place_at(pads: &[Pad], pullups: &[bool], k: usize) -> Option<(Pad, bool)>
     ensures { result ≡ place_in pads.now pullups.now k }
 {
-    let pad = pads.get(k)?;
-    let pullup = pullups.get(k)?;
-    Some((*pad, *pullup))
+    pads.get(k).copied().zip(pullups.get(k).copied())
 }
 
 /// Adds the settings of the pads of ports: the digits of their types that are 1, and the pull-ups that are off. A port without a pad

@@ -11,7 +11,6 @@ use ice_rows::Index;
 use std::alloc::Global;
 
 // Adds the sites of a column, from below.
-#[tactic(auto, using(crate::proofs::InOrder::no_place, crate::proofs::InOrder::next_place, crate::proofs::InOrder::other_place))]
 fn add_column(chip: &Chip, index: &Index, x: u16, sites: &mut Vec<TileAt>) -> Result<(), NoMemory>
     requires { IsIndexOf chip.now index.now }
     ensures { OnOk result (sites.new.items ≡ sites.old.items ++ filter (is_site chip.now) (column x 256)) }
@@ -26,7 +25,6 @@ fn add_column(chip: &Chip, index: &Index, x: u16, sites: &mut Vec<TileAt>) -> Re
 }
 
 /// The sites of a chip, by column and then from below.
-#[tactic(auto, using(crate::proofs::InOrder::no_column, crate::proofs::InOrder::next_column))]
 pub fn sites_in_order(alloc: Global, chip: &Chip, index: &Index) -> Result<Vec<TileAt>, NoMemory>
     requires { IsIndexOf chip.now index.now }
     ensures { IfOk result (λ sites. sites.items ≡ sites_in_order chip.now) }

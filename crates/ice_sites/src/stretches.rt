@@ -24,7 +24,6 @@ fn goes_on(chip: &Chip, index: &Index, sites: &[TileAt], k: usize) -> bool
 }
 
 /// The stretches of these sites.
-#[tactic(auto, using(crate::proofs::Cutting::goes, crate::proofs::Cutting::ends))]
 pub fn stretches_in(
     alloc: Global,
     chip: &Chip,

@@ -1,12 +1,12 @@
 use Rattle.std.proofs.lemmas.List.{drop_more}
 use Rattle.ice_rows.proofs.Taken.{taken}
-use Rattle.ice_rows.proofs.Known.{alone_row}
-use Rattle.std.proofs.Common.{arith, ℕ, ◌≡◌, ◌<◌, length, ◌+◌, ◌++◌, ◌∷◌, List, append-nil, drop, map, ap, sym, subst, ◌∙◌}
+use Rattle.ice_rows.proofs.Known.{alone_row, source_below}
+use Rattle.std.proofs.Common.{arith, ℕ, ◌≡◌, ◌<◌, length, ◌+◌, ◌++◌, ◌∷◌, List, append-nil, drop, map, refl, ap, sym, subst, ◌∙◌}
 use Rattle.ice_chip.specs.declared.rows.Row.{Row}
 use Rattle.ice_chip.specs.Database.{SwitchGroup}
 use Rattle.ice_chip.specs.Views.{row_view, group_view}
 use Rattle.ice_fabric.specs.Edges.{edges_of, places_of}
-use Rattle.ice_fabric.proofs.GroupRows.{none, none_placed, row_more, place_more}
+use Rattle.ice_fabric.proofs.GroupRows.{none, none_placed, row_more, place_more, all_pieces}
 use Rattle.ice_fabric.proofs.usable.add_group.Goals as goal
 
 pub returns-then-not-is_open-clause-edges : goal.returns-then-not-is_open-clause-edges
@@ -23,6 +23,11 @@ pub is_taken-taken-requires-clause-plain : goal.is_taken-taken-requires-clause-p
 is_taken-taken-requires-clause-plain c = λ e.
     let lt : c.loop-k.k < length c.args.group.now.rows.items = omega (arith, c.loop-k-test.true, c.len-k-end.ensures) in
     alone_row c.args.chip.now.groups c.args.group.now c.loop-k.k c.index-row.result.now c.index-row.result.now (c.is_plain-plain.ensures e) c.index-row.ensures lt
+
+pub is_taken-taken-requires-clause-source : goal.is_taken-taken-requires-clause-source
+is_taken-taken-requires-clause-source c =
+    let lt : c.loop-k.k < length c.args.group.now.rows.items = omega (arith, c.loop-k-test.true, c.len-k-end.ensures) in
+    subst (λ (r : Row). r.source.0 < c.args.chip.now.wires) (sym c.index-row.ensures) (source_below c.args.chip.now.wires c.args.group.now.rows.items c.loop-k.k c.index-row.result.now c.requires.wires.sources lt)
 
 pub loop-k-preserved : goal.loop-k-preserved
 loop-k-preserved c =
@@ -43,3 +48,22 @@ loop-k-preserved c =
           (place_more c.args.chip.now g n (row_view row) (map row_view rest) c.loop-k.places.items c.add_row.new.places.items c.is_taken-taken.result usable c.in_ok-add_row.ensures.places
           ∙ subst (λ (xs : List Row). c.loop-k.places.items ++ places_of c.args.chip.now g n (map row_view xs) ≡ c.args.places.now.items ++ places_of c.args.chip.now g c.args.group.now.first.0 (map row_view c.args.group.now.rows.items)) split i.places);
     }
+
+pub loop-k-init : goal.loop-k-init
+loop-k-init c =
+    let g : SwitchGroup = group_view c.args.group.now in
+    let first : c.args.group.now.first.0 + 0 ≡ c.args.group.now.first.0 = omega arith in
+    record {
+      edges = ap (λ n. c.args.edges.now.items ++ edges_of c.args.chip.now g n (map row_view c.args.group.now.rows.items)) first;
+      places = ap (λ n. c.args.places.now.items ++ places_of c.args.chip.now g n (map row_view c.args.group.now.rows.items)) first;
+    }
+
+pub returns-clause-edges : goal.returns-clause-edges
+returns-clause-edges c =
+    all_pieces (λ (rows : List Row). edges_of c.args.chip.now (group_view c.args.group.now) (c.args.group.now.first.0 + c.loop-k.k) (map row_view rows)) c.args.group.now.rows.items c.loop-k.k c.loop-k.edges.items _
+    (omega (arith, c.loop-k-test.false, c.len-k-end.ensures)) refl c.loop-k.invariant.edges
+
+pub returns-clause-places : goal.returns-clause-places
+returns-clause-places c =
+    all_pieces (λ (rows : List Row). places_of c.args.chip.now (group_view c.args.group.now) (c.args.group.now.first.0 + c.loop-k.k) (map row_view rows)) c.args.group.now.rows.items c.loop-k.k c.loop-k.places.items _
+    (omega (arith, c.loop-k-test.false, c.len-k-end.ensures)) refl c.loop-k.invariant.places
