@@ -19,7 +19,7 @@ fn leaves_wire(round: u32, count: u32, place: u32) -> bool
 }
 
 // A net that holds these wires has to leave one of them.
-#[tactic(auto, using(crate::proofs::Moving::any_more, crate::proofs::Moving::any_here, crate::proofs::Moving::any_none))]
+#[tactic(auto, using(crate::proofs::Moving::any_here))]
 fn moves(round: u32, counts: &[u32], seen: &[u32], wires: &[WireNo]) -> bool
     requires lengths { length seen.now ≡ length counts.now }
     requires wires { AreBelow (length counts.now) wires.now }
@@ -128,7 +128,6 @@ pub fn movers(
 }
 
 // Appends the nets that move, from counts of no net.
-#[tactic(auto, using(crate::proofs::Moving::counted_first, crate::proofs::Moving::counted_low, crate::proofs::Moving::movers_all))]
 fn fill(
     round: u32,
     counts: &[u32],

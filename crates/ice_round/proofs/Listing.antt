@@ -33,6 +33,12 @@ module _ (nets : List Net) (trees : List Tree) where
     ];
   }
 
+  pub tasks_none : (items : List Task) → items ≡ [] → AreTasksOf nets trees [] items
+  tasks_none items none = record {
+    long = ap length none;
+    each = λ k number net tree task moved_at. absurd (let nobody : List NetNo = [] in let lt : k < 0 = slice_get_within nobody k number moved_at in omega arith);
+  }
+
   pub tasks_more : (moved : List NetNo) (tasks items : List Task) (i : ℕ) (d : NetNo) (net : Net) (tree : Tree) (task : Task) → i < length moved → slice_get nets (get_or moved i d).0 ≡ Some net → slice_get trees (get_or moved i d).0 ≡ Some tree
       → IsTaskFor net tree (get_or moved i d) task → items ≡ tasks ++ task ∷ [] → AreTasksOf nets trees (take i moved) tasks → AreTasksOf nets trees (take (i + 1) moved) items
   tasks_more moved tasks items i d net tree task lt net_at tree_at is are h =

@@ -1,5 +1,5 @@
 -- A task's net is left out of the counts of its old wires, and brought back.
-use Rattle.std.proofs.Common.{◌≡◌, ◌≢◌, ℕ, zero, suc, ◌+◌, ◌-◌, ◌≤◌, ◌<◌, Bool, true, false, cond, List, [], ◌∷◌, Some, length, take, get_or, slice_get, slice_set, slice_index, refl, sym, ap, ◌∙◌, subst, arith, inl, inr, get_or-set_same, get_or-set_other, length-set}
+use Rattle.std.proofs.Common.{◌≡◌, ℕ, ◌+◌, ◌-◌, ◌≤◌, ◌<◌, Bool, true, false, cond, List, length, take, get_or, slice_set, slice_index, refl, sym, ap, ◌∙◌, subst, arith, inl, inr, get_or-set_same, get_or-set_other, length-set}
 use Rattle.std.proofs.lemmas.Bool.{cases_eq}
 use Rattle.std.proofs.lemmas.List.{take_all}
 use Rattle.std.proofs.lemmas.Grind.{same_number_lists}
@@ -8,6 +8,10 @@ use Rattle.ice_core.specs.Moves.{stands_in}
 use Rattle.ice_core.proofs.Moving.{wire_at, stands_other, stands_same}
 use Rattle.ice_negotiate.proofs.Leaving.{LeftOut}
 use Rattle.ice_worker.specs.Tasks.{AreLeft}
+
+less_none : (b : Bool) (n : ℕ) → b ≡ false → n - cond b 1 0 ≡ n
+less_none true n e = absurd (cc)
+less_none false n e = omega arith
 
 -- one wire more is left out
 pub out_more : (counts others : List ℕ) (wires : List WireNo) (i : ℕ) (d : WireNo) → i < length wires → (get_or wires i d).0 < length counts → LeftOut counts wires i others
@@ -26,6 +30,10 @@ out_more counts others wires i d lt small h =
       ];
     }
 
+-- none is left out yet
+pub out_none : (counts others : List ℕ) (wires : List WireNo) → others ≡ counts → LeftOut counts wires 0 others
+out_none counts others wires same = record { long = ap length same; each = λ w lt. ap (λ ns. slice_index ns w) same ∙ sym (less_none false (slice_index counts w) refl) }
+
 pub out_all : (counts others : List ℕ) (wires : List WireNo) (i : ℕ) → length wires ≤ i → LeftOut counts wires i others → AreLeft counts wires others
 out_all counts others wires i le h = record {
   long = h.long;
@@ -37,10 +45,6 @@ pub record AreBack (counts : List ℕ) (wires : List WireNo) (i : ℕ) (others :
   pub long : length others ≡ length counts
   pub off : (w : ℕ) → w < length counts → stands_in wires w ≡ false → slice_index others w ≡ slice_index counts w
   pub on : (w : ℕ) → w < length counts → stands_in (take i wires) w ≡ true → slice_index others w ≡ slice_index counts w
-
-less_none : (b : Bool) (n : ℕ) → b ≡ false → n - cond b 1 0 ≡ n
-less_none true n e = absurd (cc)
-less_none false n e = omega arith
 
 pub back_none : (counts others : List ℕ) (wires : List WireNo) → AreLeft counts wires others → AreBack counts wires 0 others
 back_none counts others wires h = record {

@@ -13,7 +13,7 @@ use Rattle.ice_base.specs.declared.number.WireNo.{WireNo}
 use Rattle.ice_graph.specs.declared.tree.Tree.{Tree}
 use Rattle.ice_graph.specs.Network.{Network}
 use Rattle.ice_path.specs.Room.{AreWires}
-use Rattle.ice_words.specs.Views.{with_own, own_changed, own, first_part, claim_of, claiming, ending}
+use Rattle.ice_words.specs.Views.{with_own, own_changed, own, first_part, claim_of, claiming, ending, posted}
 use Rattle.ice_words.specs.Rule.{IsNewestReleased}
 use Rattle.ice_negotiate.specs.declared.stop.TreeStop.{TreeStop}
 use Rattle.ice_negotiate.specs.declared.stop.TreeStop.TheVariants.{Unreachable, NoMemory}
@@ -76,6 +76,12 @@ with_more f cs ds v same = ap (with_list v) (parts_of v.parts)
     parts_of : (ps : List Part) → own_changed f (own_changed (λ (p : Part). record { claims = cs; ended = p.ended }) ps) ≡ own_changed (λ (p : Part). record { claims = ds; ended = p.ended }) ps
     parts_of [] = refl
     parts_of (p ∷ ps) = ap (λ (q : Part). q ∷ ps) (same p.ended)
+
+-- a fresh hand's own part once it has claimed one more
+pub own_claimed : (number : ℕ) (cs : List Claim) (v u w : View) → IsFresh v → posted u ≡ posted (with_claims cs v) → w ≡ with_own (claiming number) u → own w ≡ record { claims = claim_of number ∷ cs; ended = false }
+own_claimed number cs v u w fresh before is =
+    ap (λ (x : View). own x) (ap posted is ∙ (ap (λ (x : View). with_own (claiming number) x) before ∙ with_more (claiming number) cs (claim_of number ∷ cs) (posted v) (λ b. refl)))
+    ∙ own_with (claim_of number ∷ cs) (posted v) fresh
 
 pub with_end : (cs : List Claim) (v : View) → with_own ending (with_claims cs v) ≡ with_own (λ p. record { claims = cs; ended = true }) v
 with_end cs v = ap (with_list v) (parts_of v.parts)

@@ -1,5 +1,5 @@
 //! What one worker needs, and what it made.
-ghost use Rattle.std.specs.Prelude.{◌≡◌, [], IfOk};
+ghost use Rattle.std.specs.Prelude.{◌≡◌, [], length, IfOk};
 ghost use Rattle.ice_graph.specs.Network.{Network};
 ghost use Rattle.ice_worker.specs.Kits.{IsKitOf, made_by};
 
@@ -25,15 +25,11 @@ impl Kit {
         ensures kit { IfOk result (IsKitOf graph.now) }
         ensures trees { IfOk result (λ kit. made_by kit ≡ []) }
     {
-        let wires = graph.wires() as usize;
+        let prices = room_for_prices(alloc, graph.wires())?;
         let scratch = Scratch::new(alloc, graph)?;
         Ok(Kit {
             scratch,
-            prices: Prices {
-                round: 1,
-                history: vec![in alloc; 0u64; wires]?,
-                others: vec![in alloc; 0u32; wires]?,
-            },
+            prices,
             trees: Vec::new(alloc),
         })
     }
@@ -53,4 +49,18 @@ impl Kit {
     {
         mem::replace(&mut self.trees, Vec::new(alloc))
     }
+}
+
+// Prices with room for so many wires. What they are is set as a round begins.
+fn room_for_prices(alloc: Global, wires: u32) -> Result<Prices, NoMemory>
+    ensures histories { IfOk result (λ prices. length prices.history.items ≡ wires) }
+    ensures others { IfOk result (λ prices. length prices.others.items ≡ wires) }
+{
+    let history = vec![in alloc; 0u64; wires as usize]?;
+    let others = vec![in alloc; 0u32; wires as usize]?;
+    Ok(Prices {
+        round: 1,
+        history,
+        others,
+    })
 }

@@ -6,10 +6,12 @@ use Rattle.ice_words.specs.declared.view.Claim.{Claim}
 use Rattle.ice_words.specs.Views.{own, with_own, claim_of, claiming, posted}
 use Rattle.ice_words.specs.Grips.{Grip}
 use Rattle.ice_words.specs.Rule.{IsNewestReleased, IsAfter}
+use Rattle.ice_core.specs.Routes.{IsOpening}
 use Rattle.ice_graph.specs.declared.tree.Tree.{Tree}
 use Rattle.ice_worker.specs.Tasks.{IsMade}
-use Rattle.ice_worker.specs.Kits.{Falls, claims_of, with_claims, finished, made_by}
-use Rattle.ice_worker.proofs.Working.{all_released, own_with, claims_push, task_done, with_more}
+use Rattle.ice_worker.specs.Work.{IsNew}
+use Rattle.ice_worker.specs.Kits.{Falls, claims_of, with_claims, finished}
+use Rattle.ice_worker.proofs.Working.{all_released, own_claimed, own_with, claims_push, task_done, with_more}
 use Rattle.ice_worker.proofs.worker.do_all.Goals as goal
 
 pub claim-requires-clause-whole : goal.claim-requires-clause-whole
@@ -18,6 +20,51 @@ claim-requires-clause-whole g c =
     let trees = c.loop-number.kit.trees.items in
     subst (λ (u : View). IsNewestReleased u.olds (own u).claims) (sym c.loop-number.invariant.view)
     (subst (λ (p : Part). IsNewestReleased v.olds p.claims) (sym (own_with (claims_of v.olds trees) v c.requires.fresh)) (all_released v.olds trees))
+
+pub do_task-requires-clause-of : goal.do_task-requires-clause-of
+do_task-requires-clause-of g c = c.in-Some.ensures.of
+
+pub do_task-requires-clause-tasks : goal.do_task-requires-clause-tasks
+do_task-requires-clause-tasks g c = ap (λ (u : View). u.olds) c.in-Some.ensures.number.2 ∙ (ap (λ (u : View). u.olds) c.loop-number.invariant.view ∙ c.requires.tasks)
+
+pub do_task-requires-clause-counts : goal.do_task-requires-clause-counts
+do_task-requires-clause-counts g c = ap (λ (u : View). u.counts) c.in-Some.ensures.number.2 ∙ (ap (λ (u : View). u.counts) c.loop-number.invariant.view ∙ c.requires.counts)
+
+pub do_task-requires-clause-opening : goal.do_task-requires-clause-opening
+do_task-requires-clause-opening g c =
+    subst (λ (u : View). IsOpening u.olds u.counts) (sym (ap posted c.in-Some.ensures.number.2))
+    (subst (λ (u : View). IsOpening u.olds u.counts) (sym c.loop-number.invariant.view) c.requires.opening)
+
+pub do_task-requires-clause-wires : goal.do_task-requires-clause-wires
+do_task-requires-clause-wires g c = c.requires.wires
+
+pub do_task-requires-clause-bounded : goal.do_task-requires-clause-bounded
+do_task-requires-clause-bounded g c = c.requires.bounded
+
+pub do_task-requires-clause-going : goal.do_task-requires-clause-going
+do_task-requires-clause-going g c =
+    let v = c.args.hand.now.view in
+    ap (λ (p : Part). p.ended) (own_claimed c.in-Some.number (claims_of v.olds c.loop-number.kit.trees.items) v c.loop-number.hand.view c.claim.new.hand.view c.requires.fresh c.loop-number.invariant.view c.in-Some.ensures.number.2)
+
+pub do_task-requires-clause-new : goal.do_task-requires-clause-new
+do_task-requires-clause-new g c =
+    let v = c.args.hand.now.view in
+    subst (λ (p : Part). IsNew c.in-Some.number p.claims)
+    (sym (own_claimed c.in-Some.number (claims_of v.olds c.loop-number.kit.trees.items) v c.loop-number.hand.view c.claim.new.hand.view c.requires.fresh c.loop-number.invariant.view c.in-Some.ensures.number.2))
+    refl
+
+pub do_task-requires-clause-kit : goal.do_task-requires-clause-kit
+do_task-requires-clause-kit g c = c.loop-number.invariant.kit
+
+pub returns-in_default-clause-made : goal.returns-in_default-clause-made
+returns-in_default-clause-made g c = c.loop-number.invariant.made
+
+pub returns-in_default-clause-falls : goal.returns-in_default-clause-falls
+returns-in_default-clause-falls g c = c.loop-number.invariant.falls
+
+pub returns-in-Err-clause-falls : goal.returns-in-Err-clause-falls
+returns-in-Err-clause-falls g c =
+    subst (λ (trees : List (ℕ × Tree)). Falls (claims_of c.args.hand.now.view.olds trees)) (sym c.in-Err.ensures.stop.2) c.loop-number.invariant.falls
 
 pub returns-in-Err-clause-stop : goal.returns-in-Err-clause-stop
 returns-in-Err-clause-stop g c =
