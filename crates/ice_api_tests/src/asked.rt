@@ -1,13 +1,14 @@
 //! What is asked of the chip of a text. One function reads all chips, so that no other has to own one.
 use crate::bit_texts::{expect_function, expect_texts, expect_turned_on};
 use crate::circuits::expect_circuit;
+use crate::claims::expect_that;
 use crate::found::{Finding, expect_in};
 use crate::parts::expect_fault;
 use crate::sample_chips::expect_parts;
 use ice_chip::{Chip, ChipFault};
 use ice_chip_read::read_chip;
 use ice_small_chips::{Change, Sample, text_with};
-use std::alloc::{AllocError, Global};
+use std::alloc::Global;
 use std::process::Abort;
 
 /// What is asked of a chip.
@@ -32,11 +33,11 @@ pub enum Asked {
 // Fails unless this is answered of the bits of a chip.
 fn expect_bits(rt: &impl Abort, alloc: Global, chip: &Chip, asked: Asked) {
     match asked {
-        Asked::Texts => expect_texts(rt, alloc, chip).expect(rt, "memory"),
-        Asked::Settable => expect_function(rt, alloc, chip).expect(rt, "memory"),
-        Asked::TurnedOn => expect_turned_on(rt, alloc, chip).expect(rt, "memory"),
+        Asked::Texts => expect_texts(rt, alloc, chip),
+        Asked::Settable => expect_function(rt, alloc, chip),
+        Asked::TurnedOn => expect_turned_on(rt, alloc, chip),
         Asked::Driven(ones, points, driven) => {
-            expect_circuit(rt, alloc, chip, (ones, points, driven)).expect(rt, "memory");
+            expect_circuit(rt, alloc, chip, (ones, points, driven));
         }
         _ => {}
     }
@@ -45,9 +46,9 @@ fn expect_bits(rt: &impl Abort, alloc: Global, chip: &Chip, asked: Asked) {
 // Fails unless this is answered of a chip.
 fn expect_chip(rt: &impl Abort, alloc: Global, chip: &Chip, asked: Asked) {
     match asked {
-        Asked::Found(findings) => expect_in(rt, alloc, chip, findings).expect(rt, "memory"),
+        Asked::Found(findings) => expect_in(rt, alloc, chip, findings),
         Asked::Parts => expect_parts(rt, chip),
-        Asked::Fault(words) => panic!(rt; "no fault {words:?}"),
+        Asked::Fault(words) => expect_that(rt, false, words),
         _ => expect_bits(rt, alloc, chip, asked),
     }
 }
@@ -72,14 +73,7 @@ pub fn expect_of(rt: &impl Abort, alloc: Global, text: &[u8], asked: Asked) {
 }
 
 /// Fails unless this is answered of the chip of a text with these changes.
-pub fn expect(
-    rt: &impl Abort,
-    alloc: Global,
-    sample: Sample,
-    changes: &[Change],
-    asked: Asked,
-) -> Result<(), AllocError> {
-    let text = text_with(alloc, sample, changes)?;
+pub fn expect(rt: &impl Abort, alloc: Global, sample: Sample, changes: &[Change], asked: Asked) {
+    let text = text_with(alloc, sample, changes).expect(rt, "memory");
     expect_of(rt, alloc, &text, asked);
-    Ok(())
 }

@@ -2,13 +2,12 @@
 use crate::asked::{Asked, expect};
 use crate::claims::expect_that;
 use ice_asc::{read_asc, write_asc};
-use ice_base::{BitAt, Line, NoMemory, RowNo, TileAt, lines_of};
+use ice_base::{BitAt, RowNo, TileAt, lines_of};
 use ice_bits::{Bits, blank};
 use ice_chip::{Chip, Function, TileKind};
 use ice_small_chips::{Sample, count_words, number_at};
 use std::alloc::{AllocError, Global};
 use std::process::Abort;
-use std::test::Fail;
 
 // What a text of bits says: on a line for each tile with bits at 1 its column, and the row and the column of each bit; and the lines of
 // its extra bits.
@@ -56,39 +55,51 @@ fn is_one(ones: &[u8], x: u16, bit: BitAt) -> bool {
     false
 }
 
+// The digit of a bit.
+fn digit_of(ones: &[u8], x: u16, bit: BitAt) -> u8 {
+    if is_one(ones, x, bit) { b'1' } else { b'0' }
+}
+
 // Adds a row of a tile.
 fn add_row(text: &mut Vec<u8>, x: u16, row: u8, ones: &[u8]) -> Result<(), AllocError> {
     for col in 0..columns_of(x) {
-        let digit = if is_one(ones, x, BitAt { row, col }) {
-            b'1'
-        } else {
-            b'0'
-        };
-        text.push(digit)?;
+        text.push(digit_of(ones, x, BitAt { row, col }))?;
     }
     text.push(b'\n')?;
     Ok(())
 }
 
-// Adds a tile.
-fn add_tile(text: &mut Vec<u8>, heading: &[u8], ones: &[u8]) -> Result<(), AllocError> {
-    text.extend_from_slice(heading)?;
-    text.push(b'\n')?;
-    let x = number_at(heading, 1).min(3) as u16;
+// Adds the rows of a tile.
+fn add_rows(text: &mut Vec<u8>, x: u16, ones: &[u8]) -> Result<(), AllocError> {
     for row in 0..16 {
         add_row(text, x, row, ones)?;
     }
     Ok(())
 }
 
-// The text of a case as it is written.
-fn text_of(alloc: Global, case: Case) -> Result<Vec<u8>, AllocError> {
-    let mut text = Vec::from_slice(alloc, b".comment\nplaced and routed\n.device 1k\n")?;
-    for Line { text: heading, .. } in lines_of(HEADINGS) {
-        add_tile(&mut text, heading, case.0)?;
+// Adds a tile.
+fn add_tile(rt: &impl Abort, text: &mut Vec<u8>, heading: &[u8], ones: &[u8]) {
+    text.extend_from_slice(heading).expect(rt, "memory");
+    text.push(b'\n').expect(rt, "memory");
+    let x = number_at(heading, 1).min(3) as u16;
+    add_rows(text, x, ones).expect(rt, "memory");
+}
+
+// Adds the tiles of the chip.
+fn add_tiles(rt: &impl Abort, text: &mut Vec<u8>, ones: &[u8]) {
+    for line in lines_of(HEADINGS) {
+        add_tile(rt, text, line.text, ones);
     }
-    text.extend_from_slice(case.1)?;
-    Ok(text)
+}
+
+const BEGINNING: &[u8] = b".comment\nplaced and routed\n.device 1k\n";
+
+// The text of a case as it is written.
+fn text_of(rt: &impl Abort, alloc: Global, case: Case) -> Vec<u8> {
+    let mut text = Vec::from_slice(alloc, BEGINNING).expect(rt, "memory");
+    add_tiles(rt, &mut text, case.0);
+    text.extend_from_slice(case.1).expect(rt, "memory");
+    text
 }
 
 // Fails unless of the tile in this column exactly these bits are 1.
@@ -116,54 +127,49 @@ fn expect_extras(rt: &impl Abort, bits: &Bits, lines: &[u8]) {
     expect_that(rt, extras.next().is_none(), b"extras");
 }
 
-// Fails unless these are the bits of a case, and its text is written for them.
+// Fails unless these are the bits of a case, and this text is written for them.
 fn expect_bits(
     rt: &impl Abort,
     alloc: Global,
     chip: &Chip,
     bits: &Bits,
     case: Case,
-) -> Result<(), NoMemory> {
+    written: &[u8],
+) {
     for x in 0..4 {
         expect_tile(rt, bits, x, case.0);
     }
     expect_extras(rt, bits, case.1);
     let mut text = Vec::new(alloc);
-    write_asc(bits, chip, &mut text)?;
-    expect_that(
-        rt,
-        text.as_slice() == text_of(alloc, case)?.as_slice(),
-        b"bits",
-    );
-    Ok(())
+    write_asc(bits, chip, &mut text).expect(rt, "memory");
+    expect_that(rt, text.as_slice() == written, b"written");
 }
 
-// Fails unless a text says the bits of a case.
+// Fails unless a text says the bits of a case, for which this text is written.
 fn expect_text(
     rt: &impl Abort,
     alloc: Global,
     chip: &Chip,
     text: &[u8],
     case: Case,
-) -> Result<(), NoMemory> {
-    match read_asc(alloc, text, chip) {
-        Ok(bits) => expect_bits(rt, alloc, chip, &bits, case),
-        Err(fault) => panic!(rt; "{fault}"),
-    }
+    written: &[u8],
+) {
+    let bits = read_asc(alloc, text, chip).expect(rt, "bits");
+    expect_bits(rt, alloc, chip, &bits, case, written);
+    drop(bits);
+}
+
+// Fails unless the text of a case is read and written again.
+fn expect_case(rt: &impl Abort, alloc: Global, chip: &Chip, case: Case) {
+    let text = text_of(rt, alloc, case);
+    expect_text(rt, alloc, chip, &text, case, &text);
 }
 
 // Fails unless the text of each case is read and written again.
-fn expect_cases(
-    rt: &impl Abort,
-    alloc: Global,
-    chip: &Chip,
-    cases: &[Case],
-) -> Result<(), NoMemory> {
+fn expect_cases(rt: &impl Abort, alloc: Global, chip: &Chip, cases: &[Case]) {
     for case in cases {
-        let text = text_of(alloc, *case)?;
-        expect_text(rt, alloc, chip, &text, *case)?;
+        expect_case(rt, alloc, chip, *case);
     }
-    Ok(())
 }
 
 // No bits; those at the corners of each tile; bits of several tiles; and extra bits.
@@ -209,11 +215,14 @@ const OTHER: &[u8] = b".extra_bit 9 8 7
 .sym 0 lost
 .extra_bit 06 5 4";
 
+// The bits of the other text.
+const OTHER_CASE: Case = (b"0 0 0 15 17", b".extra_bit 9 8 7\n.extra_bit 6 5 4\n");
+
 /// Fails unless the texts of all cases are read and written again, and the other text says its bits.
-pub fn expect_texts(rt: &impl Abort, alloc: Global, chip: &Chip) -> Result<(), NoMemory> {
-    let last: Case = (b"0 0 0 15 17", b".extra_bit 9 8 7\n.extra_bit 6 5 4\n");
-    expect_cases(rt, alloc, chip, &CASES)?;
-    expect_text(rt, alloc, chip, OTHER, last)
+pub fn expect_texts(rt: &impl Abort, alloc: Global, chip: &Chip) {
+    expect_cases(rt, alloc, chip, &CASES);
+    let written = text_of(rt, alloc, OTHER_CASE);
+    expect_text(rt, alloc, chip, OTHER, OTHER_CASE, &written);
 }
 
 // ---- functions
@@ -243,19 +252,16 @@ fn expect_places(rt: &impl Abort, chip: &Chip, bits: &mut Bits, places: &[(usize
     for place in places {
         let (number, x, stands) = *place;
         let tile = TileAt { x, y: 0 };
-        expect_that(
-            rt,
-            is_settable(bits, tile, cell, number) == stands,
-            b"places",
-        );
+        let settable = is_settable(bits, tile, cell, number);
+        expect_that(rt, settable == stands, b"places");
     }
 }
 
 /// Fails unless the bits of the first logic cell stand in tiles of its kind alone.
-pub fn expect_function(rt: &impl Abort, alloc: Global, chip: &Chip) -> Result<(), NoMemory> {
-    let mut bits = blank(alloc, chip)?;
+pub fn expect_function(rt: &impl Abort, alloc: Global, chip: &Chip) {
+    let mut bits = blank(alloc, chip).expect(rt, "memory");
     expect_places(rt, chip, &mut bits, &PLACES);
-    Ok(())
+    drop(bits);
 }
 
 // ---- rows
@@ -267,38 +273,42 @@ fn turn_on(chip: &Chip, bits: &mut Bits) {
     }
 }
 
+// The column of a tile of the chip of two tiles, a row of its first column of bits, and the bit there once each row is on.
+const ON: [(u16, u8, bool); 5] = [
+    (0, 0, true),
+    (0, 1, false),
+    (1, 0, true),
+    (1, 1, false),
+    (1, 2, true),
+];
+
 // Fails unless the bits of the chip of two tiles are those of its rows.
-fn expect_on(rt: &impl Abort, bits: &Bits) {
-    for (x, row, wanted) in [
-        (0, 0, true),
-        (0, 1, false),
-        (1, 0, true),
-        (1, 1, false),
-        (1, 2, true),
-    ] {
-        let tile = TileAt { x, y: 0 };
-        let found = bits.get(tile, BitAt { row, col: 0 });
-        expect_that(rt, found == wanted, b"on");
+fn expect_on(rt: &impl Abort, bits: &Bits, places: &[(u16, u8, bool)]) {
+    for (x, row, wanted) in places {
+        let tile = TileAt { x: *x, y: 0 };
+        let found = bits.get(tile, BitAt { row: *row, col: 0 });
+        expect_that(rt, found == *wanted, b"on");
     }
     let right = TileAt { x: 1, y: 0 };
-    expect_that(rt, bits.kind(right) == Some(TileKind::Io), b"on");
-    expect_that(rt, bits.has(right, BitAt { row: 15, col: 17 }), b"on");
-    expect_that(rt, !bits.has(right, BitAt { row: 15, col: 18 }), b"on");
+    expect_that(rt, bits.kind(right) == Some(TileKind::Io), b"kind");
+    expect_that(rt, bits.has(right, BitAt { row: 15, col: 17 }), b"last");
+    expect_that(rt, !bits.has(right, BitAt { row: 15, col: 18 }), b"none");
 }
 
 /// Fails unless rows are turned on in bits that are copied.
-pub fn expect_turned_on(rt: &impl Abort, alloc: Global, chip: &Chip) -> Result<(), NoMemory> {
-    let mut bits = blank(alloc, chip)?.copy(alloc)?;
+pub fn expect_turned_on(rt: &impl Abort, alloc: Global, chip: &Chip) {
+    let old = blank(alloc, chip).expect(rt, "memory");
+    let mut bits = old.copy(alloc).expect(rt, "memory");
+    drop(old);
     turn_on(chip, &mut bits);
-    expect_on(rt, &bits);
-    Ok(())
+    expect_on(rt, &bits, &ON);
+    drop(bits);
 }
 
 #[test]
-fn bits_are_read_set_and_written(rt: HostRuntime) -> Result<(), Fail> {
+fn bits_are_read_set_and_written(rt: HostRuntime) {
     let alloc = rt.alloc();
-    expect(&rt, alloc, Sample::FourKinds, &[], Asked::Texts)?;
-    expect(&rt, alloc, Sample::FourKinds, &[], Asked::Settable)?;
-    expect(&rt, alloc, Sample::TwoTiles, &[], Asked::TurnedOn)?;
-    Ok(())
+    expect(&rt, alloc, Sample::FourKinds, &[], Asked::Texts);
+    expect(&rt, alloc, Sample::FourKinds, &[], Asked::Settable);
+    expect(&rt, alloc, Sample::TwoTiles, &[], Asked::TurnedOn);
 }

@@ -1,117 +1,155 @@
 //! What is found in chips by names and places: of rows that say one thing twice the first counts, and names count where a tile is.
 use crate::asked::{Asked, expect};
 use crate::found::Finding;
+use ice_base::{RowNo, TileAt, WireNo};
+use ice_chip::{Pad, TileKind};
 use ice_small_chips::{Change, Sample};
-use std::alloc::{AllocError, Global};
+use std::alloc::Global;
 use std::process::Abort;
-use std::test::Fail;
+
+// The places of the lowest row, and one above them.
+const TILE_0: TileAt = TileAt { x: 0, y: 0 };
+
+const TILE_1: TileAt = TileAt { x: 1, y: 0 };
+
+const TILE_2: TileAt = TileAt { x: 2, y: 0 };
+
+const TILE_3: TileAt = TileAt { x: 3, y: 0 };
+
+const TILE_4: TileAt = TileAt { x: 4, y: 0 };
+
+const ABOVE: TileAt = TileAt { x: 0, y: 1 };
+
+// Pads by the number of the tile and their own.
+const PAD_0_0: Pad = Pad {
+    tile: TILE_0,
+    pio: 0,
+};
+
+const PAD_0_1: Pad = Pad {
+    tile: TILE_0,
+    pio: 1,
+};
+
+const PAD_1_0: Pad = Pad {
+    tile: TILE_1,
+    pio: 0,
+};
+
+const PAD_1_1: Pad = Pad {
+    tile: TILE_1,
+    pio: 1,
+};
 
 const TWO_TILES: [Finding; 5] = [
-    (b"wires", b"4"),
-    (b"rows", b"1 0  2 1  1 3"),
-    (b"parts", b"2 3 16"),
-    (b"tile 1", b"1 0"),
-    (b"group 2", b"2"),
+    Finding::Wires(4),
+    Finding::Rows(b"1 0  2 1  1 3"),
+    Finding::Parts(2, 3, 16),
+    Finding::Tile(1, TILE_1),
+    Finding::Group(2, RowNo(2)),
 ];
 
 const TWO_WAYS: [Finding; 5] = [
-    (b"wires", b"7"),
-    (b"rows", b"2 0  2 1  3 0  3 1  4 3  5 2  5 4  6 2  6 4"),
-    (b"parts", b"2 5 16"),
-    (b"wire 1 0 hop", b"4"),
-    (b"wire 0 0 hop", b"none"),
+    Finding::Wires(7),
+    Finding::Rows(b"2 0  2 1  3 0  3 1  4 3  5 2  5 4  6 2  6 4"),
+    Finding::Parts(2, 5, 16),
+    Finding::Wire(TILE_1, b"hop", Some(WireNo(4))),
+    Finding::Wire(TILE_0, b"hop", None),
 ];
 
 const ONE_WAY: [Finding; 4] = [
-    (b"wires", b"5"),
-    (b"rows", b"2 0  2 1  3 2  4 2"),
-    (b"parts", b"2 3 16"),
-    (b"wire 1 0 short", b"2"),
+    Finding::Wires(5),
+    Finding::Rows(b"2 0  2 1  3 2  4 2"),
+    Finding::Parts(2, 3, 16),
+    Finding::Wire(TILE_1, b"short", Some(WireNo(2))),
 ];
 
 const KINDS: [Finding; 7] = [
-    (b"parts", b"4 0 26"),
-    (b"kind 0 0", b"io"),
-    (b"kind 1 0", b"logic"),
-    (b"kind 2 0", b"ramb"),
-    (b"kind 3 0", b"ramt"),
-    (b"kind 4 0", b"none"),
-    (b"kind 0 1", b"none"),
+    Finding::Parts(4, 0, 26),
+    Finding::Kind(TILE_0, Some(TileKind::Io)),
+    Finding::Kind(TILE_1, Some(TileKind::Logic)),
+    Finding::Kind(TILE_2, Some(TileKind::RamBottom)),
+    Finding::Kind(TILE_3, Some(TileKind::RamTop)),
+    Finding::Kind(TILE_4, None),
+    Finding::Kind(ABOVE, None),
 ];
 
 const LOOKED_UP: [Finding; 10] = [
-    (b"kind 0 0", b"io"),
-    (b"kind 2 0", b"none"),
-    (b"function io IoCtrl.IE_0", b"23"),
-    (b"function logic IoCtrl.IE_0", b"none"),
-    (b"package tiny", b"2 2"),
-    (b"package big", b"none"),
-    (b"enable 1 0 0", b"1 0 0"),
-    (b"enable 1 0 1", b"none"),
-    (b"global 0", b"none"),
-    (b"buffers 0 0", b"none"),
+    Finding::Kind(TILE_0, Some(TileKind::Io)),
+    Finding::Kind(TILE_2, None),
+    Finding::Function(TileKind::Io, b"IoCtrl.IE_0", Some(23)),
+    Finding::Function(TileKind::Logic, b"IoCtrl.IE_0", None),
+    Finding::Package(b"tiny", Some((2, 2))),
+    Finding::Package(b"big", None),
+    Finding::Enable(PAD_1_0, Some(PAD_1_0)),
+    Finding::Enable(PAD_1_1, None),
+    Finding::Global(0, None),
+    Finding::Buffers(TILE_0, None),
 ];
 
 const WIRES: [Finding; 6] = [
-    (b"wire 0 0 span", b"1"),
-    (b"wire 1 0 span", b"1"),
-    (b"wire 1 0 io_1/D_IN_0", b"3"),
-    (b"wire 0 0 io_1/D_IN_0", b"none"),
-    (b"wire 0 0 none", b"none"),
-    (b"names 1", b"0 0 span  1 0 span"),
+    Finding::Wire(TILE_0, b"span", Some(WireNo(1))),
+    Finding::Wire(TILE_1, b"span", Some(WireNo(1))),
+    Finding::Wire(TILE_1, b"io_1/D_IN_0", Some(WireNo(3))),
+    Finding::Wire(TILE_0, b"io_1/D_IN_0", None),
+    Finding::Wire(TILE_0, b"none", None),
+    Finding::Names(WireNo(1), b"0 0 span  1 0 span"),
 ];
 
 const PADS: [Finding; 7] = [
-    (b"package tiny", b"4 4"),
-    (b"pad tiny 0", b"0 0 0"),
-    (b"pad tiny 1", b"0 0 1"),
-    (b"pad tiny 3", b"1 0 1"),
-    (b"pad tiny 4", b"none"),
-    (b"pin tiny 3", b"1 0 0"),
-    (b"pin tiny 5", b"none"),
+    Finding::Package(b"tiny", Some((4, 4))),
+    Finding::Pad(b"tiny", 0, Some(PAD_0_0)),
+    Finding::Pad(b"tiny", 1, Some(PAD_0_1)),
+    Finding::Pad(b"tiny", 3, Some(PAD_1_1)),
+    Finding::Pad(b"tiny", 4, None),
+    Finding::Pin(b"tiny", b"3", Some(PAD_1_0)),
+    Finding::Pin(b"tiny", b"5", None),
 ];
 
-const FIRST_PIN: [Finding; 2] = [(b"package tiny", b"2 2"), (b"pin tiny 1", b"0 0 0")];
+const FIRST_PIN: [Finding; 2] = [
+    Finding::Package(b"tiny", Some((2, 2))),
+    Finding::Pin(b"tiny", b"1", Some(PAD_0_0)),
+];
 
 // A second pin of the first pad, and a repeated pin that names a pad for the first time.
 const PADS_TWICE: [Change; 1] = [(5, b"2 1 0 0\n5 0 0 0\n2 0 0 1\n")];
 
 const THREE_PINS: [Finding; 5] = [
-    (b"package tiny", b"3 2"),
-    (b"pad tiny 0", b"0 0 0"),
-    (b"pad tiny 1", b"1 0 0"),
-    (b"pin tiny 5", b"0 0 0"),
-    (b"pin tiny 2", b"1 0 0"),
+    Finding::Package(b"tiny", Some((3, 2))),
+    Finding::Pad(b"tiny", 0, Some(PAD_0_0)),
+    Finding::Pad(b"tiny", 1, Some(PAD_1_0)),
+    Finding::Pin(b"tiny", b"5", Some(PAD_0_0)),
+    Finding::Pin(b"tiny", b"2", Some(PAD_1_0)),
 ];
 
 // Of input enables and column buffers the first row whose tile can serve counts.
 const FIRST_ROWS: [Finding; 3] = [
-    (b"global 3", b"2 0"),
-    (b"enable 0 0 0", b"1 0 1"),
-    (b"buffers 0 0", b"1 0"),
+    Finding::Global(3, Some(TILE_2)),
+    Finding::Enable(PAD_0_0, Some(PAD_1_1)),
+    Finding::Buffers(TILE_0, Some(TILE_1)),
 ];
 
 // The rows that counted are away.
 const OTHER_ROWS: [Change; 3] = [(3, b""), (7, b""), (11, b"")];
 
 const NEXT_ROWS: [Finding; 3] = [
-    (b"global 3", b"1 0"),
-    (b"enable 0 0 0", b"0 0 0"),
-    (b"buffers 0 0", b"0 0"),
+    Finding::Global(3, Some(TILE_1)),
+    Finding::Enable(PAD_0_0, Some(PAD_0_0)),
+    Finding::Buffers(TILE_0, Some(TILE_0)),
 ];
 
 const PLACED_NAMES: [Finding; 5] = [
-    (b"wire 2 0 fabout", b"none"),
-    (b"wires", b"2"),
-    (b"rows", b""),
-    (
-        b"names 0",
+    Finding::Wire(TILE_2, b"fabout", None),
+    Finding::Wires(2),
+    Finding::Rows(b""),
+    Finding::Names(
+        WireNo(0),
         b"0 0 glb_netwk_1  1 0 glb_netwk_1  0 0 glb_netwk_1",
     ),
-    (b"names 1", b""),
+    Finding::Names(WireNo(1), b""),
 ];
 
-const NO_BUFFERS: [Finding; 1] = [(b"buffers 0 0", b"none")];
+const NO_BUFFERS: [Finding; 1] = [Finding::Buffers(TILE_0, None)];
 
 // A function of pairs of pads that stands twice, among functions that are read over.
 const FOREIGN_TWICE: [Change; 1] = [(
@@ -120,10 +158,10 @@ const FOREIGN_TWICE: [Change; 1] = [(
 )];
 
 const FIRST_FUNCTION: [Finding; 4] = [
-    (b"parts", b"2 0 19"),
-    (b"function io IoCtrl.LVDS", b"21"),
-    (b"function io IoCtrl.IE_2", b"none"),
-    (b"function io PLL.PLLTYPE_0", b"24"),
+    Finding::Parts(2, 0, 19),
+    Finding::Function(TileKind::Io, b"IoCtrl.LVDS", Some(21)),
+    Finding::Function(TileKind::Io, b"IoCtrl.IE_2", None),
+    Finding::Function(TileKind::Io, b"PLL.PLLTYPE_0", Some(24)),
 ];
 
 // Sections that aren't read, with rows of any form, before each part of the text and at its end.
@@ -194,55 +232,34 @@ const BLANKS: [Change; 6] = [
 // A chip with changes of its text, and what is found in it.
 type Case = (Sample, &'static [Change], &'static [Finding]);
 
+// Rows and parts; names, pads and functions that are looked up; and the first row that counts.
+const CASES: [Case; 16] = [
+    (Sample::TwoTiles, &[], &TWO_TILES),
+    (Sample::TwoWays, &[], &TWO_WAYS),
+    (Sample::OneWay, &[], &ONE_WAY),
+    (Sample::FourKinds, &[], &KINDS),
+    (Sample::OneWay, &SECTIONS, &ONE_WAY),
+    (Sample::OneWay, &BLANKS, &ONE_WAY),
+    (Sample::TwoTiles, &[], &LOOKED_UP),
+    (Sample::TwoTiles, &[], &WIRES),
+    (Sample::TwoWays, &[], &PADS),
+    (Sample::RepeatedRows, &[], &PLACED_NAMES),
+    (Sample::OneBuffer, &[], &NO_BUFFERS),
+    (Sample::RepeatedPins, &[], &FIRST_PIN),
+    (Sample::RepeatedPins, &PADS_TWICE, &THREE_PINS),
+    (Sample::RepeatedRows, &[], &FIRST_ROWS),
+    (Sample::RepeatedRows, &OTHER_ROWS, &NEXT_ROWS),
+    (Sample::Pads, &FOREIGN_TWICE, &FIRST_FUNCTION),
+];
+
 // Fails unless this is found in each chip.
-fn expect_each(rt: &impl Abort, alloc: Global, cases: &[Case]) -> Result<(), AllocError> {
+fn expect_each(rt: &impl Abort, alloc: Global, cases: &[Case]) {
     for (sample, changes, findings) in cases {
-        expect(rt, alloc, *sample, changes, Asked::Found(*findings))?;
+        expect(rt, alloc, *sample, changes, Asked::Found(*findings));
     }
-    Ok(())
-}
-
-fn chips_have_their_rows_and_parts(rt: &impl Abort, alloc: Global) -> Result<(), AllocError> {
-    let cases: [Case; 6] = [
-        (Sample::TwoTiles, &[], &TWO_TILES),
-        (Sample::TwoWays, &[], &TWO_WAYS),
-        (Sample::OneWay, &[], &ONE_WAY),
-        (Sample::FourKinds, &[], &KINDS),
-        (Sample::OneWay, &SECTIONS, &ONE_WAY),
-        (Sample::OneWay, &BLANKS, &ONE_WAY),
-    ];
-    expect_each(rt, alloc, &cases)
-}
-
-fn names_pads_and_functions_are_looked_up(
-    rt: &impl Abort,
-    alloc: Global,
-) -> Result<(), AllocError> {
-    let cases: [Case; 5] = [
-        (Sample::TwoTiles, &[], &LOOKED_UP),
-        (Sample::TwoTiles, &[], &WIRES),
-        (Sample::TwoWays, &[], &PADS),
-        (Sample::RepeatedRows, &[], &PLACED_NAMES),
-        (Sample::OneBuffer, &[], &NO_BUFFERS),
-    ];
-    expect_each(rt, alloc, &cases)
-}
-
-fn the_first_row_that_counts_is_taken(rt: &impl Abort, alloc: Global) -> Result<(), AllocError> {
-    let cases: [Case; 5] = [
-        (Sample::RepeatedPins, &[], &FIRST_PIN),
-        (Sample::RepeatedPins, &PADS_TWICE, &THREE_PINS),
-        (Sample::RepeatedRows, &[], &FIRST_ROWS),
-        (Sample::RepeatedRows, &OTHER_ROWS, &NEXT_ROWS),
-        (Sample::Pads, &FOREIGN_TWICE, &FIRST_FUNCTION),
-    ];
-    expect_each(rt, alloc, &cases)
 }
 
 #[test]
-fn what_is_found_in_chips(rt: HostRuntime) -> Result<(), Fail> {
-    chips_have_their_rows_and_parts(&rt, rt.alloc())?;
-    names_pads_and_functions_are_looked_up(&rt, rt.alloc())?;
-    the_first_row_that_counts_is_taken(&rt, rt.alloc())?;
-    Ok(())
+fn what_is_found_in_chips(rt: HostRuntime) {
+    expect_each(&rt, rt.alloc(), &CASES);
 }

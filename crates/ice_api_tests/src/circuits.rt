@@ -1,36 +1,38 @@
 //! Circuits of bits: which rows drive which wires, and how many points there are.
 use crate::asked::{Asked, expect};
 use crate::claims::expect_that;
-use ice_base::{BitAt, NoMemory, TileAt, WireNo, lines_of};
+use ice_base::{BitAt, RowNo, TileAt, WireNo, lines_of};
 use ice_bits::{Bits, blank};
 use ice_chip::Chip;
 use ice_decode::{Circuit, Driver, decode};
 use ice_small_chips::{Sample, count_lines, number_at};
-use std::alloc::{AllocError, Global};
+use std::alloc::Global;
 use std::process::Abort;
-use std::test::Fail;
 
 // Bits at 1, on a line for each the column and the row of the tile and the row and the column of the bit; the number of points; and
 // the wires that are driven, on a line for each its number and that of the row.
 type Case = (Sample, &'static [u8], usize, &'static [u8]);
 
-// The bits of a chip, of which these are 1.
-fn bits_with(alloc: Global, chip: &Chip, ones: &[u8]) -> Result<Bits, NoMemory> {
-    let mut bits = blank(alloc, chip)?;
-    for line in lines_of(ones) {
-        let tile = TileAt {
-            x: number_at(line.text, 0).min(255) as u16,
-            y: number_at(line.text, 1).min(255) as u16,
-        };
-        let bit = BitAt {
-            row: number_at(line.text, 2).min(255) as u8,
-            col: number_at(line.text, 3).min(255) as u8,
-        };
-        if bits.has(tile, bit) {
-            bits.set(tile, bit, true);
-        }
+// Sets the bit of a line.
+fn set_one(bits: &mut Bits, line: &[u8]) {
+    let tile = TileAt {
+        x: number_at(line, 0).min(255) as u16,
+        y: number_at(line, 1).min(255) as u16,
+    };
+    let bit = BitAt {
+        row: number_at(line, 2).min(255) as u8,
+        col: number_at(line, 3).min(255) as u8,
+    };
+    if bits.has(tile, bit) {
+        bits.set(tile, bit, true);
     }
-    Ok(bits)
+}
+
+// Sets the bits of these lines.
+fn set_ones(bits: &mut Bits, ones: &[u8]) {
+    for line in lines_of(ones) {
+        set_one(bits, line.text);
+    }
 }
 
 // How many wires are driven.
@@ -44,40 +46,39 @@ fn count_driven(circuit: &Circuit) -> usize {
     count
 }
 
+// Fails unless the row of a line drives its wire.
+fn expect_driver(rt: &impl Abort, circuit: &Circuit, line: &[u8]) {
+    let wire = number_at(line, 0);
+    expect_that(rt, (wire as usize) < circuit.drivers().len(), line);
+    let found = circuit.driver(WireNo(wire));
+    expect_that(rt, found == Some(RowNo(number_at(line, 1))), line);
+}
+
 // Fails unless a circuit has so many points and these rows drive these wires, and no other wire is driven.
 fn expect_driven(rt: &impl Abort, circuit: &Circuit, points: usize, driven: &[u8]) {
-    expect_that(rt, circuit.order().len() == points, b"driven");
+    expect_that(rt, circuit.order().len() == points, b"points");
     expect_that(rt, count_driven(circuit) == count_lines(driven), b"driven");
     for line in lines_of(driven) {
-        let wire = number_at(line.text, 0);
-        assert!(rt; (wire as usize) < circuit.drivers().len());
-        let found = circuit.driver(WireNo(wire)).map(|row| row.0);
-        expect_that(rt, found == Some(number_at(line.text, 1)), b"driven");
+        expect_driver(rt, circuit, line.text);
     }
 }
 
 /// Fails unless bits of a chip have this number of points and these driven wires.
-pub fn expect_circuit(
-    rt: &impl Abort,
-    alloc: Global,
-    chip: &Chip,
-    case: (&[u8], usize, &[u8]),
-) -> Result<(), NoMemory> {
-    let bits = bits_with(alloc, chip, case.0)?;
-    match decode(alloc, chip, &bits) {
-        Ok(circuit) => expect_driven(rt, &circuit, case.1, case.2),
-        Err(fault) => panic!(rt; "{fault}"),
-    }
-    Ok(())
+pub fn expect_circuit(rt: &impl Abort, alloc: Global, chip: &Chip, case: (&[u8], usize, &[u8])) {
+    let mut bits = blank(alloc, chip).expect(rt, "memory");
+    set_ones(&mut bits, case.0);
+    let circuit = decode(alloc, chip, &bits).expect(rt, "a circuit");
+    drop(bits);
+    expect_driven(rt, &circuit, case.1, case.2);
+    drop(circuit);
 }
 
 // Fails unless each case has its circuit.
-fn expect_all(rt: &impl Abort, alloc: Global, cases: &[Case]) -> Result<(), AllocError> {
+fn expect_all(rt: &impl Abort, alloc: Global, cases: &[Case]) {
     for case in cases {
         let (sample, ones, points, driven) = *case;
-        expect(rt, alloc, sample, &[], Asked::Driven(ones, points, driven))?;
+        expect(rt, alloc, sample, &[], Asked::Driven(ones, points, driven));
     }
-    Ok(())
 }
 
 // No bits; a pad that is read, and a pad that is driven; both ways, to the two pads.
@@ -108,8 +109,7 @@ const CELLS: [Case; 6] = [
 ];
 
 #[test]
-fn circuits_are_driven_by_the_rows_that_are_on(rt: HostRuntime) -> Result<(), Fail> {
-    expect_all(&rt, rt.alloc(), &PADS)?;
-    expect_all(&rt, rt.alloc(), &CELLS)?;
-    Ok(())
+fn circuits_are_driven_by_the_rows_that_are_on(rt: HostRuntime) {
+    expect_all(&rt, rt.alloc(), &PADS);
+    expect_all(&rt, rt.alloc(), &CELLS);
 }

@@ -1,84 +1,43 @@
-//! What is found in a chip, as questions and answers in words.
+//! What is found in a chip, as questions with their answers.
 use crate::claims::expect_that;
-use ice_base::{Name, RowNo, TileAt, WireNo};
+use ice_base::{RowNo, TileAt, WireNo, name_of};
 use ice_chip::{Chip, Pad, TileKind};
-use ice_small_chips::{begins, count_words, number_at, word_at};
-use std::alloc::{AllocError, Global};
+use ice_small_chips::{count_words, number_at, word_at};
+use std::alloc::Global;
 use std::process::Abort;
 
-/// A question and its answer. The answer to what is looked up and not there is `none`.
-///
-/// - `wires`, and their number. `rows`, and for each row of switches its wire and its source.
-/// - `parts`, and the numbers of tiles, groups and functions. `tile N`, and its place. `group N`, and its first row.
-/// - `names W`, and for each name of the wire its tile and the name. `wire X Y NAME`, and the wire of the name.
-/// - `kind X Y`, and the kind of the tile. `function KIND NAME`, and its line.
-/// - `package NAME`, and the numbers of its pins and pads. `pin PACKAGE PIN` and `pad PACKAGE N`, and the pad.
-/// - `enable X Y PIO`, and the pad that serves this pad. `global N`, and the tile that feeds it. `buffers X Y`, and the tile that
-///   holds the column buffers of this tile.
-pub type Finding = (&'static [u8], &'static [u8]);
-
-// The number at a place of a text as a coordinate.
-fn coordinate(text: &[u8], place: usize) -> u16 {
-    number_at(text, place).min(65535) as u16
-}
-
-// The tile that two words of a text name, from this place on.
-fn tile_in(text: &[u8], place: usize) -> TileAt {
-    TileAt {
-        x: coordinate(text, place),
-        y: coordinate(text, place.saturating_add(1)),
-    }
-}
-
-// The pad that three words of a text name, from this place on.
-fn pad_in(text: &[u8], place: usize) -> Pad {
-    Pad {
-        tile: tile_in(text, place),
-        pio: number_at(text, place.saturating_add(2)).min(255) as u8,
-    }
-}
-
-/// The kind of tile that a word names, or that of IO tiles.
-pub fn kind_of(word: &[u8]) -> TileKind {
-    if word == b"logic".as_slice() {
-        return TileKind::Logic;
-    }
-    if word == b"ramb".as_slice() {
-        return TileKind::RamBottom;
-    }
-    if word == b"ramt".as_slice() {
-        return TileKind::RamTop;
-    }
-    TileKind::Io
-}
-
-// Whether an answer says that nothing is there.
-fn is_none(answer: &[u8]) -> bool {
-    begins(answer, b"none")
-}
-
-// The tile of an answer, or none.
-fn wanted_tile(answer: &[u8]) -> Option<TileAt> {
-    if is_none(answer) {
-        return None;
-    }
-    Some(tile_in(answer, 0))
-}
-
-// The pad of an answer, or none.
-fn wanted_pad(answer: &[u8]) -> Option<Pad> {
-    if is_none(answer) {
-        return None;
-    }
-    Some(pad_in(answer, 0))
-}
-
-// The number of an answer, or none.
-fn wanted_number(answer: &[u8]) -> Option<u32> {
-    if is_none(answer) {
-        return None;
-    }
-    Some(number_at(answer, 0))
+/// What is found in a chip. The answer to what is looked up stands last, and is nothing where it is not there.
+pub enum Finding {
+    /// The number of wires.
+    Wires(u32),
+    /// For each row of switches its wire and its source.
+    Rows(&'static [u8]),
+    /// The numbers of tiles, groups and functions.
+    Parts(usize, usize, usize),
+    /// The place of the tile of this number.
+    Tile(usize, TileAt),
+    /// The first row of the group of this number.
+    Group(usize, RowNo),
+    /// For each name of this wire its tile and the name.
+    Names(WireNo, &'static [u8]),
+    /// The wire of a name.
+    Wire(TileAt, &'static [u8], Option<WireNo>),
+    /// The kind of a tile.
+    Kind(TileAt, Option<TileKind>),
+    /// The line of a function.
+    Function(TileKind, &'static [u8], Option<u32>),
+    /// The numbers of pins and pads of a package.
+    Package(&'static [u8], Option<(usize, usize)>),
+    /// The pad of a pin of a package.
+    Pin(&'static [u8], &'static [u8], Option<Pad>),
+    /// The pad of this number of a package.
+    Pad(&'static [u8], usize, Option<Pad>),
+    /// The pad that serves a pad.
+    Enable(Pad, Option<Pad>),
+    /// The tile that feeds a global.
+    Global(u8, Option<TileAt>),
+    /// The tile that holds the column buffers of a tile.
+    Buffers(TileAt, Option<TileAt>),
 }
 
 // Whether the chip has exactly these rows.
@@ -96,25 +55,38 @@ fn has_rows(chip: &Chip, answer: &[u8]) -> bool {
 }
 
 // Whether the chip has so many tiles, groups and functions.
-fn has_parts(chip: &Chip, answer: &[u8]) -> bool {
-    chip.tiles().len() == number_at(answer, 0) as usize
-        && chip.groups().len() == number_at(answer, 1) as usize
-        && chip.functions().len() == number_at(answer, 2) as usize
+fn has_parts(chip: &Chip, tiles: usize, groups: usize, functions: usize) -> bool {
+    chip.tiles().len() == tiles
+        && chip.groups().len() == groups
+        && chip.functions().len() == functions
 }
 
 // Whether the tile of that number stands at this place.
-fn has_tile(chip: &Chip, number: usize, answer: &[u8]) -> bool {
+fn has_tile(chip: &Chip, number: usize, at: TileAt) -> bool {
     match chip.tiles().get(number) {
-        Some(tile) => tile.at == tile_in(answer, 0),
+        Some(tile) => tile.at == at,
         None => false,
     }
 }
 
 // Whether the rows of the group of that number begin with this one.
-fn has_group(chip: &Chip, number: usize, answer: &[u8]) -> bool {
+fn has_group(chip: &Chip, number: usize, first: RowNo) -> bool {
     match chip.groups().get(number) {
-        Some(group) => group.first == RowNo(number_at(answer, 0)),
+        Some(group) => group.first == first,
         None => false,
+    }
+}
+
+// The number at a place of a text as a coordinate.
+fn coordinate(text: &[u8], place: usize) -> u16 {
+    number_at(text, place).min(65535) as u16
+}
+
+// The tile that two words of a text name, from this place on.
+fn tile_in(text: &[u8], place: usize) -> TileAt {
+    TileAt {
+        x: coordinate(text, place),
+        y: coordinate(text, place.saturating_add(1)),
     }
 }
 
@@ -134,155 +106,61 @@ fn has_names(chip: &Chip, wire: WireNo, answer: &[u8]) -> bool {
     count_words(answer) == place
 }
 
-// Whether the name at the place is the wire's, or no wire's.
-fn has_wire(chip: &Chip, question: &[u8], answer: &[u8]) -> bool {
-    let found = chip.wire_named(tile_in(question, 1), word_at(question, 3));
-    found == wanted_number(answer).map(WireNo)
-}
-
-// Whether the tile at the place is of this kind, or there is none.
-fn has_kind(chip: &Chip, question: &[u8], answer: &[u8]) -> bool {
-    match chip.kind_at(tile_in(question, 1)) {
-        Some(kind) => !is_none(answer) && kind == kind_of(word_at(answer, 0)),
-        None => is_none(answer),
-    }
-}
-
 // Whether the function stands in this line, or there is none.
-fn has_function(chip: &Chip, question: &[u8], answer: &[u8]) -> bool {
-    match chip.function(kind_of(word_at(question, 1)), word_at(question, 2)) {
-        Some(function) => wanted_number(answer) == Some(function.line),
-        None => is_none(answer),
+fn has_function(chip: &Chip, kind: TileKind, name: &[u8], line: Option<u32>) -> bool {
+    match chip.function(kind, name) {
+        Some(function) => line == Some(function.line),
+        None => line.is_none(),
     }
 }
 
 // Whether the package has so many pins and pads, or there is none.
-fn has_package(chip: &Chip, name: &[u8], answer: &[u8]) -> bool {
+fn has_package(chip: &Chip, name: &[u8], counts: Option<(usize, usize)>) -> bool {
     match chip.package(name) {
-        Some(package) => {
-            !is_none(answer)
-                && package.pins.len() == number_at(answer, 0) as usize
-                && package.pads.len() == number_at(answer, 1) as usize
-        }
-        None => is_none(answer),
+        Some(package) => counts == Some((package.pins.len(), package.pads.len())),
+        None => counts.is_none(),
     }
 }
 
-// Whether the pin of the package is this pad, or the package has no such pin.
-fn has_pin(chip: &Chip, name: &[u8], pin: &Name, answer: &[u8]) -> bool {
-    match chip.package(name) {
-        Some(package) => package.pins.get(pin).copied() == wanted_pad(answer),
-        None => false,
+// The pad of a pin of a package.
+fn pad_of(rt: &impl Abort, alloc: Global, chip: &Chip, name: &[u8], pin: &[u8]) -> Option<Pad> {
+    let package = chip.package(name).expect(rt, "a package");
+    let pin = name_of(alloc, pin).expect(rt, "memory");
+    package.pins.get(&pin).copied()
+}
+
+// The pad of that number of a package.
+fn numbered_pad(rt: &impl Abort, chip: &Chip, name: &[u8], number: usize) -> Option<Pad> {
+    let package = chip.package(name).expect(rt, "a package");
+    package.pads.get_index(number).copied()
+}
+
+// Whether this is found in the chip.
+fn is_found(rt: &impl Abort, alloc: Global, chip: &Chip, finding: &Finding) -> bool {
+    match *finding {
+        Finding::Wires(wires) => chip.wires() == wires,
+        Finding::Rows(rows) => has_rows(chip, rows),
+        Finding::Parts(tiles, groups, functions) => has_parts(chip, tiles, groups, functions),
+        Finding::Tile(number, at) => has_tile(chip, number, at),
+        Finding::Group(number, first) => has_group(chip, number, first),
+        Finding::Names(wire, names) => has_names(chip, wire, names),
+        Finding::Wire(tile, name, wire) => chip.wire_named(tile, name) == wire,
+        Finding::Kind(tile, kind) => chip.kind_at(tile) == kind,
+        Finding::Function(kind, name, line) => has_function(chip, kind, name, line),
+        Finding::Package(name, counts) => has_package(chip, name, counts),
+        Finding::Pin(name, pin, pad) => pad_of(rt, alloc, chip, name, pin) == pad,
+        Finding::Pad(name, number, pad) => numbered_pad(rt, chip, name, number) == pad,
+        Finding::Enable(pad, server) => chip.ieren_of(pad) == server,
+        Finding::Global(global, feeder) => chip.global_of(global) == feeder,
+        Finding::Buffers(tile, holder) => chip.colbuf_of(tile) == holder,
     }
 }
 
-// Whether the pad of that number of the package is this one, or the package has fewer.
-fn has_pad(chip: &Chip, name: &[u8], number: usize, answer: &[u8]) -> bool {
-    match chip.package(name) {
-        Some(package) => package.pads.get_index(number).copied() == wanted_pad(answer),
-        None => false,
+/// Fails, with the number of a finding, unless each is found in the chip.
+pub fn expect_in(rt: &impl Abort, alloc: Global, chip: &Chip, findings: &[Finding]) {
+    let mut number: u8 = 0;
+    for finding in findings {
+        expect_that(rt, is_found(rt, alloc, chip, finding), &[number]);
+        number = number.saturating_add(1);
     }
-}
-
-// Whether the answer to a question about a pin is true.
-fn is_pin_found(
-    alloc: Global,
-    chip: &Chip,
-    question: &[u8],
-    answer: &[u8],
-) -> Result<bool, AllocError> {
-    let pin = Name::from_bytes(Vec::from_slice(alloc, word_at(question, 2))?);
-    Ok(has_pin(chip, word_at(question, 1), &pin, answer))
-}
-
-// Whether the answer to a question about lists is true, or None for another question.
-fn is_listed(chip: &Chip, question: &[u8], answer: &[u8]) -> Option<bool> {
-    let number = number_at(question, 1);
-    if begins(question, b"wires") {
-        return Some(chip.wires() == number_at(answer, 0));
-    }
-    if begins(question, b"rows") {
-        return Some(has_rows(chip, answer));
-    }
-    if begins(question, b"parts") {
-        return Some(has_parts(chip, answer));
-    }
-    if begins(question, b"tile") {
-        return Some(has_tile(chip, number as usize, answer));
-    }
-    if begins(question, b"group") {
-        return Some(has_group(chip, number as usize, answer));
-    }
-    if begins(question, b"names") {
-        return Some(has_names(chip, WireNo(number), answer));
-    }
-    None
-}
-
-// Whether the answer to a question about a name is true, or None for another question.
-fn is_named(chip: &Chip, question: &[u8], answer: &[u8]) -> Option<bool> {
-    if begins(question, b"wire") {
-        return Some(has_wire(chip, question, answer));
-    }
-    if begins(question, b"function") {
-        return Some(has_function(chip, question, answer));
-    }
-    if begins(question, b"package") {
-        return Some(has_package(chip, word_at(question, 1), answer));
-    }
-    if begins(question, b"pad") {
-        let number = number_at(question, 2) as usize;
-        return Some(has_pad(chip, word_at(question, 1), number, answer));
-    }
-    None
-}
-
-// Whether the answer to a question about a place, a pad or a global is true, or None for another question.
-fn is_placed(chip: &Chip, question: &[u8], answer: &[u8]) -> Option<bool> {
-    if begins(question, b"kind") {
-        return Some(has_kind(chip, question, answer));
-    }
-    if begins(question, b"enable") {
-        return Some(chip.ieren_of(pad_in(question, 1)) == wanted_pad(answer));
-    }
-    if begins(question, b"global") {
-        let global = number_at(question, 1).min(255) as u8;
-        return Some(chip.global_of(global) == wanted_tile(answer));
-    }
-    if begins(question, b"buffers") {
-        return Some(chip.colbuf_of(tile_in(question, 1)) == wanted_tile(answer));
-    }
-    None
-}
-
-// Whether the answer to a question is true.
-fn is_found(
-    rt: &impl Abort,
-    alloc: Global,
-    chip: &Chip,
-    question: &[u8],
-    answer: &[u8],
-) -> Result<bool, AllocError> {
-    if begins(question, b"pin") {
-        return is_pin_found(alloc, chip, question, answer);
-    }
-    let found = is_listed(chip, question, answer)
-        .or(is_named(chip, question, answer))
-        .or(is_placed(chip, question, answer));
-    expect_that(rt, found.is_some(), question);
-    Ok(found == Some(true))
-}
-
-/// Fails unless the chip has these answers.
-pub fn expect_in(
-    rt: &impl Abort,
-    alloc: Global,
-    chip: &Chip,
-    findings: &[Finding],
-) -> Result<(), AllocError> {
-    for (question, answer) in findings {
-        let found = is_found(rt, alloc, chip, question, answer)?;
-        expect_that(rt, found, question);
-    }
-    Ok(())
 }

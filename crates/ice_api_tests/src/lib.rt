@@ -13,8 +13,6 @@ mod circuits;
 #[cfg(test)]
 mod claims;
 #[cfg(test)]
-mod desks;
-#[cfg(test)]
 mod found;
 #[cfg(test)]
 mod netlist_texts;

@@ -1,43 +1,39 @@
 //! Pin constraints and levels that are read.
 use crate::claims::expect_that;
 use ice_base::words_of;
-use ice_pcf::{Constraint, Pcf, read_pcf};
-use ice_sim::{LevelFault, Levels, read_levels};
+use ice_pcf::{Constraint, read_pcf};
+use ice_sim::{Levels, read_levels};
 use std::alloc::Global;
 use std::process::Abort;
-use std::test::Fail;
 
 // A constraint as it is expected: line, name, pin, lenient, pull-up.
 type Expected<'a> = (u32, &'a [u8], &'a [u8], bool, Option<bool>);
 
 // Fails unless the constraint is the expected one.
 fn expect_constraint(rt: &impl Abort, found: &Constraint, expected: &Expected<'_>) {
-    expect_that(rt, found.line == expected.0, b"constraint");
-    expect_that(rt, found.name.as_bytes() == expected.1, b"constraint");
-    expect_that(rt, found.pin.as_bytes() == expected.2, b"constraint");
-    expect_that(rt, found.lenient == expected.3, b"constraint");
-    expect_that(rt, found.pullup == expected.4, b"constraint");
+    expect_that(rt, found.line == expected.0, b"line");
+    expect_that(rt, found.name.as_bytes() == expected.1, b"name");
+    expect_that(rt, found.pin.as_bytes() == expected.2, b"pin");
+    expect_that(rt, found.lenient == expected.3, b"lenient");
+    expect_that(rt, found.pullup == expected.4, b"pullup");
 }
 
 // Fails unless these constraints are the expected ones, in this order.
-fn expect_constraints(rt: &impl Abort, pcf: &Pcf, expected: &[Expected<'_>]) {
-    let found = pcf.constraints();
+fn expect_constraints(rt: &impl Abort, found: &[Constraint], expected: &[Expected<'_>]) {
     expect_that(rt, found.len() == expected.len(), b"constraints");
-    for (constraint, wanted) in found.iter().zip(expected) {
+    let mut place: usize = 0;
+    for wanted in expected {
+        let constraint = found.get(place).expect(rt, "a constraint more");
         expect_constraint(rt, constraint, wanted);
+        place = place.saturating_add(1);
     }
 }
 
 // Fails unless a text has these constraints, in this order.
-fn expect_text(
-    rt: &impl Abort,
-    alloc: Global,
-    text: &[u8],
-    expected: &[Expected<'_>],
-) -> Result<(), Fail> {
-    let pcf = read_pcf(alloc, text)?;
-    expect_constraints(rt, &pcf, expected);
-    Ok(())
+fn expect_text(rt: &impl Abort, alloc: Global, text: &[u8], expected: &[Expected<'_>]) {
+    let pcf = read_pcf(alloc, text).expect(rt, "constraints");
+    expect_constraints(rt, pcf.constraints(), expected);
+    drop(pcf);
 }
 
 // Texts with their constraints.
@@ -77,26 +73,28 @@ fn constraints_are_read_in_their_order(
     rt: &impl Abort,
     alloc: Global,
     texts: &[(&[u8], &[Expected<'_>])],
-) -> Result<(), Fail> {
+) {
     for (text, expected) in texts {
-        expect_text(rt, alloc, text, expected)?;
+        expect_text(rt, alloc, text, expected);
     }
-    Ok(())
 }
 
 // Fails unless a step has the levels of a word.
 fn expect_step(rt: &impl Abort, step: &[bool], word: &[u8]) {
-    expect_that(rt, step.len() == word.len(), b"step");
-    for (level, digit) in step.iter().zip(word) {
-        expect_that(rt, *level == (*digit == b'1'), word);
+    expect_that(rt, step.len() == word.len(), word);
+    let mut place: usize = 0;
+    for digit in word {
+        let level = *digit == b'1';
+        expect_that(rt, step.get(place).copied() == Some(level), word);
+        place = place.saturating_add(1);
     }
 }
 
 // Fails unless these are the steps.
-fn expect_steps(rt: &impl Abort, levels: &Levels, expected: &str) {
+fn expect_steps(rt: &impl Abort, levels: &Levels, expected: &[u8]) {
     let mut steps = levels.steps();
     let mut count: usize = 0;
-    for word in words_of(expected.as_bytes()) {
+    for word in words_of(expected) {
         let step = steps.next().expect(rt, "a step more");
         expect_step(rt, step, word);
         count = count.saturating_add(1);
@@ -106,34 +104,25 @@ fn expect_steps(rt: &impl Abort, levels: &Levels, expected: &str) {
 }
 
 // Fails unless a text has these steps of so many ports.
-fn expect_read(
-    rt: &impl Abort,
-    alloc: Global,
-    text: &str,
-    ports: usize,
-    expected: &str,
-) -> Result<(), LevelFault> {
-    let levels = read_levels(alloc, text.as_bytes(), ports)?;
+fn expect_read(rt: &impl Abort, alloc: Global, text: &[u8], ports: usize, expected: &[u8]) {
+    let levels = read_levels(alloc, text, ports).expect(rt, "levels");
     expect_steps(rt, &levels, expected);
-    Ok(())
+    drop(levels);
 }
 
-fn a_step_is_a_line_of_one_word(rt: &impl Abort, alloc: Global) -> Result<(), Fail> {
-    for (text, ports, expected) in [
-        ("", 2, ""),
-        ("\n \t\r\n# 01\n", 0, ""),
-        ("01", 2, "01"),
-        (" 1 # 0\n\n0\r\n", 1, "1 0"),
-        ("100 #\n# 2\n011\n", 3, "100 011"),
-    ] {
-        expect_read(rt, alloc, text, ports, expected)?;
-    }
-    Ok(())
-}
+// Texts with the number of their ports and their steps. A step is a line of one word.
+const LEVELS: [(&[u8], usize, &[u8]); 5] = [
+    (b"", 2, b""),
+    (b"\n \t\r\n# 01\n", 0, b""),
+    (b"01", 2, b"01"),
+    (b" 1 # 0\n\n0\r\n", 1, b"1 0"),
+    (b"100 #\n# 2\n011\n", 3, b"100 011"),
+];
 
 #[test]
-fn constraints_and_levels_are_read(rt: HostRuntime) -> Result<(), Fail> {
-    constraints_are_read_in_their_order(&rt, rt.alloc(), &TEXTS)?;
-    a_step_is_a_line_of_one_word(&rt, rt.alloc())?;
-    Ok(())
+fn constraints_and_levels_are_read(rt: HostRuntime) {
+    constraints_are_read_in_their_order(&rt, rt.alloc(), &TEXTS);
+    for (text, ports, expected) in &LEVELS {
+        expect_read(&rt, rt.alloc(), text, *ports, expected);
+    }
 }

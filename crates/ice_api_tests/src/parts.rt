@@ -1,13 +1,11 @@
 //! Faults of chip texts with both their lines, and of databases whose rows stand in another order than their lines.
 use crate::asked::{Asked, expect};
 use crate::claims::expect_that;
-use crate::found::kind_of;
-use ice_base::{BitAt, Line, NoMemory, TileAt, lines_of, name_of, words_of};
+use ice_base::{BitAt, NoMemory, TileAt, lines_of, name_of};
 use ice_chip::{BitList, ChipFault, ChipParts, Function, TileKind, TileLine};
 use ice_small_chips::{Change, Sample, number_at, word_at};
-use std::alloc::{AllocError, Global};
+use std::alloc::Global;
 use std::process::Abort;
-use std::test::Fail;
 
 // The fault of two lines that these words tell.
 fn fault_of(words: &[u8]) -> ChipFault {
@@ -59,42 +57,35 @@ const FAULTS: [(Change, &[u8]); 9] = [
 ];
 
 // Fails unless each change has its fault.
-fn expect_faults(
-    rt: &impl Abort,
-    alloc: Global,
-    cases: &[(Change, &'static [u8])],
-) -> Result<(), AllocError> {
+fn expect_faults(rt: &impl Abort, alloc: Global, cases: &[(Change, &'static [u8])]) {
     for (change, words) in cases {
-        expect(
-            rt,
-            alloc,
-            Sample::FourKinds,
-            &[*change],
-            Asked::Fault(*words),
-        )?;
+        let asked = Asked::Fault(*words);
+        expect(rt, alloc, Sample::FourKinds, &[*change], asked);
     }
-    Ok(())
-}
-
-fn faults_of_two_lines_tell_both(rt: &impl Abort, alloc: Global) -> Result<(), Fail> {
-    expect_faults(rt, alloc, &FAULTS)?;
-    Ok(())
 }
 
 // ---- databases by hand
 
-// A database of 5 columns, of which the lowest row has a tile of each kind that these words name, from the left. The line of
-// each is 2.
-fn with_tiles(alloc: Global, kinds: &[u8]) -> Result<ChipParts, NoMemory> {
-    let mut parts = ChipParts::new(alloc, 5, 1, 4);
+// The kinds of the tiles of a database, from the left.
+const KINDS: [TileKind; 4] = [
+    TileKind::Io,
+    TileKind::Logic,
+    TileKind::RamBottom,
+    TileKind::RamTop,
+];
+
+// Adds tiles of these kinds to the lowest row. The line of each is 2.
+fn add_tiles(parts: &mut ChipParts, kinds: &[TileKind]) -> Result<(), NoMemory> {
     let mut x: u16 = 0;
-    for word in words_of(kinds) {
-        let kind = kind_of(word);
-        let tile = TileAt { x, y: 0 };
-        parts.tiles.insert(tile, TileLine { kind, line: 2 })?;
+    for kind in kinds {
+        let line = TileLine {
+            kind: *kind,
+            line: 2,
+        };
+        parts.tiles.insert(TileAt { x, y: 0 }, line)?;
         x = x.saturating_add(1);
     }
-    Ok(parts)
+    Ok(())
 }
 
 // A number that is one of a bit.
@@ -102,78 +93,54 @@ fn small(number: u32) -> u8 {
     number.min(255) as u8
 }
 
-// Two bits of row 3.
-fn two_bits(alloc: Global, first: u8, second: u8) -> Result<BitList, NoMemory> {
+// Two bits of row 3, whose columns two words name from the second on.
+fn two_bits(rt: &impl Abort, alloc: Global, words: &[u8]) -> BitList {
     let mut bits = BitList::new(alloc);
-    bits.push(BitAt { row: 3, col: first })?;
-    bits.push(BitAt {
-        row: 3,
-        col: second,
-    })?;
-    Ok(bits)
+    for place in 1..3 {
+        let col = small(number_at(words, place));
+        bits.push(BitAt { row: 3, col }).expect(rt, "memory");
+    }
+    bits
 }
 
-// Adds a function with these bits.
-fn add(
-    alloc: Global,
-    parts: &mut ChipParts,
-    kind: TileKind,
-    word: &[u8],
-    bits: BitList,
-    line: u32,
-) -> Result<(), NoMemory> {
-    let name = name_of(alloc, word)?;
-    parts.functions.push(Function {
-        kind,
-        name,
-        bits,
-        line,
-    })?;
-    Ok(())
+// Adds a function of two bits of row 3 of a logic tile: its name, the columns and the line.
+fn add_pair(rt: &impl Abort, alloc: Global, parts: &mut ChipParts, words: &[u8]) {
+    let function = Function {
+        kind: TileKind::Logic,
+        name: name_of(alloc, word_at(words, 0)).expect(rt, "memory"),
+        bits: two_bits(rt, alloc, words),
+        line: number_at(words, 3),
+    };
+    parts.functions.push(function).expect(rt, "memory");
 }
 
-// Adds a function of two bits of row 3: its kind, its name, the columns and the line.
-fn add_pair(alloc: Global, parts: &mut ChipParts, row: &[u8]) -> Result<(), NoMemory> {
-    let first = small(number_at(row, 2));
-    let second = small(number_at(row, 3));
-    let bits = two_bits(alloc, first, second)?;
-    let line = number_at(row, 4);
-    add(
-        alloc,
-        parts,
-        kind_of(word_at(row, 0)),
-        word_at(row, 1),
-        bits,
-        line,
-    )
+// Adds functions that each have two bits of row 3 of a logic tile.
+fn add_pairs(rt: &impl Abort, alloc: Global, parts: &mut ChipParts, functions: &[u8]) {
+    for line in lines_of(functions) {
+        add_pair(rt, alloc, parts, line.text);
+    }
 }
 
 // Fails unless the functions of these lines, which each have two bits of row 3 of a logic tile, share a bit in these lines.
-fn expect_shared(
-    rt: &impl Abort,
-    alloc: Global,
-    functions: &[u8],
-    lines: (u32, u32),
-) -> Result<(), NoMemory> {
-    let mut parts = with_tiles(alloc, b"io logic ramb ramt")?;
-    for Line { text, .. } in lines_of(functions) {
-        add_pair(alloc, &mut parts, text)?;
-    }
-    expect_that(rt, parts.shared_function(alloc)? == Some(lines), functions);
-    Ok(())
+fn expect_shared(rt: &impl Abort, alloc: Global, functions: &[u8], lines: (u32, u32)) {
+    let mut parts = ChipParts::new(alloc, 5, 1, 4);
+    add_tiles(&mut parts, &KINDS).expect(rt, "memory");
+    add_pairs(rt, alloc, &mut parts, functions);
+    let shared = parts.shared_function(alloc).expect(rt, "memory");
+    drop(parts);
+    expect_that(rt, shared == Some(lines), functions);
 }
 
-fn lines_and_not_places_say_what_is_first(rt: &impl Abort, alloc: Global) -> Result<(), Fail> {
-    let turned = b"logic NegClk 3 2 9\nlogic LC_0 1 2 7";
-    expect_shared(rt, alloc, turned, (9, 7))?;
-    let three = b"logic NegClk 3 2 9\nlogic LC_0 1 2 7\nlogic NegClk 5 5 8";
-    expect_shared(rt, alloc, three, (8, 8))?;
-    Ok(())
-}
+// Functions, and the lines that share a bit: lines and not places say what is first.
+const SHARED: [(&[u8], (u32, u32)); 2] = [
+    (b"NegClk 3 2 9\nLC_0 1 2 7", (9, 7)),
+    (b"NegClk 3 2 9\nLC_0 1 2 7\nNegClk 5 5 8", (8, 8)),
+];
 
 #[test]
-fn faults_have_the_lines_that_count(rt: HostRuntime) -> Result<(), Fail> {
-    faults_of_two_lines_tell_both(&rt, rt.alloc())?;
-    lines_and_not_places_say_what_is_first(&rt, rt.alloc())?;
-    Ok(())
+fn faults_have_the_lines_that_count(rt: HostRuntime) {
+    expect_faults(&rt, rt.alloc(), &FAULTS);
+    for (functions, lines) in &SHARED {
+        expect_shared(&rt, rt.alloc(), functions, *lines);
+    }
 }

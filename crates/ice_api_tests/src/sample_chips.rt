@@ -7,7 +7,6 @@ use ice_chip::{Chip, TileKind};
 use ice_sample::sample_chip;
 use std::alloc::Global;
 use std::process::Abort;
-use std::test::Fail;
 
 const BEGINNING: &str = ".device 1k 4 4 1040
 .pins sample
@@ -92,15 +91,23 @@ LC_0 B0[0] B0[1] B0[2] B0[3] B0[4] B0[5] B0[6] B0[7] B0[8] B0[9] B0[10] B0[11] B
 ";
 
 // The text of the smallest chip.
-fn smallest(alloc: Global) -> Result<Vec<u8>, Fail> {
+fn smallest(rt: &impl Abort, alloc: Global) -> Vec<u8> {
     let mut text = Vec::new(alloc);
-    sample_chip(alloc, 4, 4, &mut text)?;
-    Ok(text)
+    sample_chip(alloc, 4, 4, &mut text).expect(rt, "memory");
+    text
 }
 
 // Whether a text has these lines, one behind the other.
 fn has_lines(text: &[u8], lines: &[u8]) -> bool {
-    !lines.is_empty() && text.windows(lines.len()).any(|window| window == lines)
+    if lines.is_empty() {
+        return false;
+    }
+    for window in text.windows(lines.len()) {
+        if window == lines {
+            return true;
+        }
+    }
+    false
 }
 
 // Fails unless a text has each of these groups of lines.
@@ -175,9 +182,13 @@ const PINS: [&str; 2] = [
 
 /// How many lines begin so.
 pub fn count_of(text: &[u8], beginning: &[u8]) -> u32 {
-    lines_of(text)
-        .filter(|line| line.text.starts_with(beginning))
-        .fold(0, |count: u32, _| count.saturating_add(1))
+    let mut count: u32 = 0;
+    for line in lines_of(text) {
+        if line.text.starts_with(beginning) {
+            count = count.saturating_add(1);
+        }
+    }
+    count
 }
 
 // Fails unless a text has as many lines of each kind as a chip of 14 by 18 tiles.
@@ -206,37 +217,34 @@ fn expect_smallest(rt: &impl Abort, text: &[u8]) {
     expect_carries(rt, text);
 }
 
-fn the_smallest_chip_has_its_lines(rt: &impl Abort, alloc: Global) -> Result<(), Fail> {
-    let text = smallest(alloc)?;
-    expect_smallest(rt, &text);
-    Ok(())
-}
+// How a chip begins that was put behind a line.
+const APPENDED: &[u8] = b"# old\n.device 1k 4 4 1040\n.pins sample\n";
 
-fn a_chip_is_appended(rt: &impl Abort, alloc: Global) -> Result<(), Fail> {
-    let length = smallest(alloc)?.len();
-    let mut out = Vec::from_slice(alloc, b"# old\n")?;
-    sample_chip(alloc, 4, 4, &mut out)?;
-    expect_that(rt, out.len() == 6 + length, b"a chip is appended");
-    expect_that(
-        rt,
-        out.starts_with(b"# old\n.device 1k 4 4 1040\n.pins sample\n".as_slice()),
-        b"a chip is appended",
-    );
-    Ok(())
+fn a_chip_is_appended(rt: &impl Abort, alloc: Global, length: usize) {
+    let mut out = Vec::from_slice(alloc, b"# old\n").expect(rt, "memory");
+    sample_chip(alloc, 4, 4, &mut out).expect(rt, "memory");
+    expect_that(rt, out.len() == length.saturating_add(6), b"length");
+    expect_that(rt, out.starts_with(APPENDED), b"appended");
 }
 
 #[test]
-fn sample_chips_have_their_lines(rt: HostRuntime) -> Result<(), Fail> {
-    the_smallest_chip_has_its_lines(&rt, rt.alloc())?;
-    a_chip_is_appended(&rt, rt.alloc())?;
-    Ok(())
+fn sample_chips_have_their_lines(rt: HostRuntime) {
+    let text = smallest(&rt, rt.alloc());
+    expect_smallest(&rt, &text);
+    a_chip_is_appended(&rt, rt.alloc(), text.len());
 }
 
 // ---- the chip of 14 by 18 tiles
 
 // How many tiles of a kind the chip has.
-fn tiles_of(chip: &Chip, kind: TileKind) -> usize {
-    chip.tiles().iter().filter(|tile| tile.kind == kind).count()
+fn tiles_of(chip: &Chip, kind: TileKind) -> u32 {
+    let mut count: u32 = 0;
+    for tile in chip.tiles() {
+        if tile.kind == kind {
+            count = count.saturating_add(1);
+        }
+    }
+    count
 }
 
 /// Fails unless the chip has as many parts as one of 14 by 18 tiles.
@@ -251,10 +259,9 @@ pub fn expect_parts(rt: &impl Abort, chip: &Chip) {
 }
 
 #[test]
-fn counts_are_those_of_the_size(rt: HostRuntime) -> Result<(), Fail> {
+fn counts_are_those_of_the_size(rt: HostRuntime) {
     let mut text = Vec::new(rt.alloc());
-    sample_chip(rt.alloc(), 14, 18, &mut text)?;
+    sample_chip(rt.alloc(), 14, 18, &mut text).expect(&rt, "memory");
     expect_counts(&rt, &text);
     expect_of(&rt, rt.alloc(), &text, Asked::Parts);
-    Ok(())
 }

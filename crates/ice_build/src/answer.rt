@@ -40,6 +40,20 @@ pub struct Layout {
     pub placement: Placement,
 }
 
+/// The placement of a placed design, of which the rest is let go.
+pub fn placement_of(layout: Layout) -> Placement
+    ensures { result ≡ layout.placement }
+{
+    layout.placement
+}
+
+/// What is told of the rounds of routes, of which the rest is let go.
+pub fn tallies_of(routed: Routed) -> Vec<Tally>
+    ensures { result ≡ routed.tallies }
+{
+    routed.tallies
+}
+
 impl fmt::Debug for Layout {
     fn fmt<W: fmt::Write>(&self, f: &mut fmt::Formatter<W>) -> fmt::Result {
         f.write_str("Layout")

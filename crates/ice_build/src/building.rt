@@ -43,8 +43,13 @@ fn indexed_build<G: Gate + Sync, R: Threads + Sync>(
     realised_layouts_show_their_netlist(sound);
     let layout = indexed_lay_out(alloc, chip, index, name, pcf, sound, effort.seed)?;
     let built = finish(rt, alloc, chip, index, layout, effort, gate)?;
-    check_loops(alloc, chip, &built.bits)?;
-    Ok(built)
+    match check_loops(alloc, chip, &built.bits) {
+        Ok(()) => Ok(built),
+        Err(fault) => {
+            drop(built);
+            Err(fault)
+        }
+    }
 }
 
 /// Builds a netlist on a chip, in the package of that name: the bits, with the placed design and its trees. The netlist is packed, the

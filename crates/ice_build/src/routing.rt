@@ -12,6 +12,7 @@ ghost use Rattle.ice_written.specs.Written.{IsWritten, wanted_rows};
 ghost use Rattle.ice_build.specs.Answers.{IsRouted, net_count, routes_in};
 ghost use Rattle.ice_build.specs.Laid.{plan_in};
 ghost use Rattle.ice_build.specs.Stages.{IsPermitted, IsRouteFault, IsFinished, IsEndFault, unrouted};
+ghost use Rattle.ice_build.specs.declared.answer.BuildFault.TheVariants.{NoMemory as out_of_memory};
 
 use crate::answer::{BuildFault, Built, Effort, Layout};
 use ice_base::NoMemory;
@@ -137,7 +138,7 @@ fn write(
     index: &Index<'_>,
     layout: Layout,
     routed: Routed,
-) -> Result<Built, NoMemory>
+) -> Result<Built, BuildFault>
     requires index { IsIndexOf chip.now index.now }
     requires placed { IsPlacedOn chip.now (plan_in layout) layout.pads.pullups }
     requires trees { AreTrees chip.now (plan_in layout) (routes_in routed) }
@@ -145,9 +146,10 @@ fn write(
     ensures routed { IfOk result (λ built. built.routed ≡ routed) }
     ensures written { IfOk result (λ built. IsWritten chip.now (plan_in layout) layout.pads.pullups (routes_in routed) built.bits) }
     ensures loopless { IfOk result (λ built. FeedsNoGlobal chip.now → HasNoLoop chip.now (bits_of built.bits)) }
-    ensures realised { IfOk result (λ built. HasNoLoop chip.now (bits_of built.bits) → Realises chip.now (plan_in layout) (wanted_rows chip.now (plan_in layout) (routes_in routed)) (bits_of built.bits)) }
+    ensures realised { IfOk result (λ built. HasNoLoop chip.now (bits_of built.bits) → Realises chip.now (plan_in layout) (wanted_rows chip.now (plan_in layout) (routes_in built.routed)) (bits_of built.bits)) }
+    ensures stop { IfErr result (λ fault. fault ≡ out_of_memory) }
 {
-    let bits = indexed_emit(
+    match indexed_emit(
         alloc,
         chip,
         index,
@@ -156,12 +158,17 @@ fn write(
         &layout.placement,
         &layout.pads,
         routed.trees.as_slice(),
-    )?;
-    Ok(Built {
-        layout,
-        routed,
-        bits,
-    })
+    ) {
+        Ok(bits) => Ok(Built {
+            layout,
+            routed,
+            bits,
+        }),
+        Err(NoMemory) => {
+            drop((layout, routed));
+            Err(BuildFault::NoMemory)
+        }
+    }
 }
 
 /// The bits of a placed design, routed within the permitted rounds.
@@ -197,9 +204,6 @@ pub fn finish<G: Gate + Sync, R: Threads + Sync>(
         gate,
     ) {
         Err(fault) => Err(unrouted(layout, nets.len() as u32, fault)),
-        Ok(routed) => {
-            let built = write(alloc, chip, index, layout, routed)?;
-            Ok(built)
-        }
+        Ok(routed) => write(alloc, chip, index, layout, routed),
     }
 }

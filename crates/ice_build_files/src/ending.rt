@@ -15,28 +15,12 @@ use crate::request::BuildRequest;
 use crate::texts::{parting_text, texts_of};
 use ice_answer::{Cause, Made, Refused, bits_refusal, pin_refusal, place_refusal};
 use ice_base::NoMemory;
-use ice_build::{BuildFault, Built, Layout};
+use ice_build::{BuildFault, Built, Layout, placement_of, tallies_of};
 use ice_chip::Chip;
 use ice_core::RoundLog;
-use ice_negotiate::Routed;
 use ice_net::Netlist;
-use ice_place::Placement;
 use ice_words::Tally;
 use std::alloc::Global;
-
-// The placement of a placed design, of which the rest is let go.
-fn placement_of(layout: Layout) -> Placement
-    ensures { result ≡ layout.placement }
-{
-    layout.placement
-}
-
-// What is told of the rounds of routes, of which the rest is let go.
-fn tallies_of(routed: Routed) -> Vec<Tally>
-    ensures { result ≡ routed.tallies }
-{
-    routed.tallies
-}
 
 /// What is made of what was built of a netlist: the texts that are asked for, with the placement and the tallies. Where the bits are of
 /// the chip, their text says them.

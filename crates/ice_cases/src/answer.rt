@@ -2,7 +2,7 @@
 use crate::pieces::{number_at, word_at};
 use crate::texts::{Text, find};
 use ice_base::{Name, lines_of, number_of, words_of};
-use ice_desk::{DeskCall, MemoryDesk, OpenGate};
+use ice_desk::{DeskCall, Gate, MeetGate, MemoryDesk, OpenGate};
 use ice_flow::run;
 use itoa::Buffer;
 use std::alloc::{AllocError, Global};
@@ -23,6 +23,8 @@ pub struct Setting<'a> {
     pub moves: &'a [u8],
     /// The calls that fail, each a kind and a number.
     pub fails: &'a [u8],
+    /// A line where the workers pass a gate at which two meet, and nothing where the gate is open.
+    pub gate: &'a [u8],
     /// The names of the files that are told.
     pub shows: &'a [u8],
     /// The name of a file, and how those of its lines begin that are told.
@@ -39,6 +41,7 @@ impl<'a> Setting<'a> {
             then: &[],
             moves: &[],
             fails: &[],
+            gate: &[],
             shows: &[],
             finds: &[],
         }
@@ -190,28 +193,29 @@ fn add_found(out: &mut Vec<u8>, desk: &MemoryDesk, finds: &[u8]) -> Result<(), A
     Ok(())
 }
 
-// Adds the number of a run's case, or of its status.
-fn add_number(out: &mut Vec<u8>, before: &[u8], number: u32) -> Result<(), AllocError> {
+// Adds the number of a run's case, its status, or how often its gate was passed.
+fn add_number(out: &mut Vec<u8>, before: &[u8], number: u64) -> Result<(), AllocError> {
     out.extend_from_slice(before)?;
     out.extend_from_slice(Buffer::new().format(number).as_bytes())?;
     Ok(())
 }
 
 // Does what words ask for, and adds the status behind this, and what was said.
-fn add_run<R: Threads + Sync>(
+fn add_run<R: Threads + Sync, G: Gate + Sync>(
     rt: &R,
     out: &mut Vec<u8>,
     before: &[u8],
     line: &[u8],
     desk: &mut MemoryDesk,
+    gate: &G,
 ) -> Result<(), AllocError> {
     let alloc = *out.allocator();
     let words = words_behind(alloc, line)?;
     let said = desk.said().len();
-    let done = run(rt, alloc, &words, desk, &OpenGate);
+    let done = run(rt, alloc, &words, desk, gate);
     let status = done.status;
     drop((done, words));
-    add_number(out, before, u32::from(status))?;
+    add_number(out, before, u64::from(status))?;
     out.push(b'\n')?;
     add_lines(out, desk.said().get(said..).unwrap_or(&[]))
 }
@@ -227,6 +231,38 @@ fn add_shown(out: &mut Vec<u8>, case: &Setting<'_>, desk: &MemoryDesk) -> Result
     Ok(())
 }
 
+// Adds the runs of a case, whose workers pass this gate.
+fn add_runs<R: Threads + Sync, G: Gate + Sync>(
+    rt: &R,
+    out: &mut Vec<u8>,
+    case: &Setting<'_>,
+    desk: &mut MemoryDesk,
+    gate: &G,
+) -> Result<(), AllocError> {
+    add_run(rt, out, b": status ", case.words, desk, gate)?;
+    if case.then.is_empty() {
+        return Ok(());
+    }
+    add_run(rt, out, b"then status ", case.then, desk, gate)
+}
+
+// Adds the runs of a case whose workers pass a gate at which two meet, how often they passed it, and whether two met.
+fn add_meeting<R: Threads + Sync>(
+    rt: &R,
+    out: &mut Vec<u8>,
+    case: &Setting<'_>,
+    desk: &mut MemoryDesk,
+) -> Result<(), AllocError> {
+    let gate = MeetGate::new();
+    add_runs(rt, out, case, desk, &gate)?;
+    add_number(out, b"gate passed ", gate.passes())?;
+    out.extend_from_slice(if gate.met() {
+        b", two workers met\n"
+    } else {
+        b", nobody met\n"
+    })
+}
+
 // Adds the runs of a case, and the files that it shows.
 fn add_answer<R: Threads + Sync>(
     rt: &R,
@@ -235,10 +271,11 @@ fn add_answer<R: Threads + Sync>(
     desk: &mut MemoryDesk,
 ) -> Result<(), AllocError> {
     out.extend_from_slice(case.group)?;
-    add_number(out, b" ", case.number)?;
-    add_run(rt, out, b": status ", case.words, desk)?;
-    if !case.then.is_empty() {
-        add_run(rt, out, b"then status ", case.then, desk)?;
+    add_number(out, b" ", u64::from(case.number))?;
+    if case.gate.is_empty() {
+        add_runs(rt, out, case, desk, &OpenGate)?;
+    } else {
+        add_meeting(rt, out, case, desk)?;
     }
     add_shown(out, case, desk)
 }

@@ -142,6 +142,7 @@ impl<'a> Cases<'a> {
             b"then" => self.case.then = line,
             b"moves" => self.case.moves = line,
             b"fails" => self.case.fails = line,
+            b"gate" => self.case.gate = line,
             b"shows" => self.case.shows = line,
             b"finds" => self.case.finds = line,
             _ => return self.add_piece(alloc, line),

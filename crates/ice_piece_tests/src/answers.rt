@@ -1,4 +1,5 @@
 //! Chip texts whole and in pieces. The numbers and the faults that are expected were worked out by hand.
+use crate::claims::expect_that;
 use ice_chip::{Chip, ChipFault};
 use ice_chip_pieces::ChipReader;
 use ice_chip_read::read_chip;
@@ -6,9 +7,8 @@ use ice_small_chips::{Change, Sample, text_with};
 use rand_core::SeedableRng;
 use rand_core::utils::NextWord;
 use rand_pcg::Pcg32;
-use std::alloc::{AllocError, Global};
+use std::alloc::Global;
 use std::process::Abort;
-use std::test::Fail;
 
 /// What is compared of a chip: the numbers of its wires, switch rows, tiles and functions.
 pub type Counts = (u32, u32, usize, usize);
@@ -75,7 +75,7 @@ fn expect_same(
     found: Result<Counts, ChipFault>,
     expected: Result<Counts, ChipFault>,
 ) {
-    assert!(rt; found == expected);
+    expect_that(rt, found == expected, b"answer");
 }
 
 // Fails unless this is the answer of a text, whole and in pieces.
@@ -97,16 +97,11 @@ const CHIPS: [(Sample, Counts); 3] = [
 ];
 
 // Fails unless each chip is read.
-fn expect_chips(
-    rt: &impl Abort,
-    alloc: Global,
-    chips: &[(Sample, Counts)],
-) -> Result<(), AllocError> {
+fn expect_chips(rt: &impl Abort, alloc: Global, chips: &[(Sample, Counts)]) {
     for (sample, counts) in chips {
-        let text = text_with(alloc, *sample, &[])?;
+        let text = text_with(alloc, *sample, &[]).expect(rt, "memory");
         expect_answer(rt, alloc, &text, Ok(*counts));
     }
-    Ok(())
 }
 
 // A line of the text of two tiles, what stands in its place, and the fault then.
@@ -138,23 +133,17 @@ const FAULTS: [(Change, ChipFault); 9] = [
 ];
 
 // Fails unless each change makes its fault.
-fn expect_faults(
-    rt: &impl Abort,
-    alloc: Global,
-    cases: &[(Change, ChipFault)],
-) -> Result<(), AllocError> {
+fn expect_faults(rt: &impl Abort, alloc: Global, cases: &[(Change, ChipFault)]) {
     for (change, fault) in cases {
-        let text = text_with(alloc, Sample::TwoTiles, &[*change])?;
+        let text = text_with(alloc, Sample::TwoTiles, &[*change]).expect(rt, "memory");
         expect_answer(rt, alloc, &text, Err(*fault));
     }
-    Ok(())
 }
 
 #[test]
-fn pieces_give_the_answer_of_the_whole_text(rt: HostRuntime) -> Result<(), Fail> {
+fn pieces_give_the_answer_of_the_whole_text(rt: HostRuntime) {
     let alloc = rt.alloc();
-    expect_chips(&rt, alloc, &CHIPS)?;
+    expect_chips(&rt, alloc, &CHIPS);
     expect_answer(&rt, alloc, b"", Err(ChipFault::NoDevice { line: 0 }));
-    expect_faults(&rt, alloc, &FAULTS)?;
-    Ok(())
+    expect_faults(&rt, alloc, &FAULTS);
 }

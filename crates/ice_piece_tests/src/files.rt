@@ -1,5 +1,5 @@
 //! Files that are read piece by piece: a read that fails at each place, and a limit.
-use crate::answers::counted;
+use crate::claims::expect_that;
 use ice_base::Name;
 use ice_chip_pieces::ChipReader;
 use ice_desk::{DeskCall, MemoryDesk, ReadStop};
@@ -7,7 +7,6 @@ use ice_pieces::read_pieces;
 use ice_small_chips::{Sample, text_with};
 use std::alloc::{AllocError, Global};
 use std::process::Abort;
-use std::test::Fail;
 
 // How many bytes a read gives at most.
 const MOST: usize = 64;
@@ -54,28 +53,27 @@ fn expect_end(
     (fails, limit): (u64, usize),
     expected: Result<(), ReadStop>,
     count: usize,
-) -> Result<(), AllocError> {
-    let mut desk = desk_of(alloc, text, fails)?;
+) {
+    let mut desk = desk_of(alloc, text, fails).expect(rt, "memory");
     let (result, kept) = read(alloc, &mut desk, limit);
-    assert!(rt; result == expected);
-    assert_eq!(rt; kept, rest_of(text, count));
-    Ok(())
+    drop(desk);
+    expect_that(rt, result == expected, b"result");
+    expect_that(rt, kept == rest_of(text, count), b"kept");
 }
 
 // How many reads it takes to the end of the text of two tiles.
 const READS: usize = 12;
 
 #[test]
-fn files_are_read_up_to_a_fault_or_a_limit(rt: HostRuntime) -> Result<(), Fail> {
+fn files_are_read_up_to_a_fault_or_a_limit(rt: HostRuntime) {
     let alloc = rt.alloc();
-    let text = text_with(alloc, Sample::TwoTiles, &[])?;
+    let text = text_with(alloc, Sample::TwoTiles, &[]).expect(&rt, "memory");
     for read in 0..READS {
         let failed = Err(ReadStop::Failed);
         let count = read * MOST;
-        expect_end(&rt, alloc, &text, (read as u64 + 1, 1000), failed, count)?;
+        expect_end(&rt, alloc, &text, (read as u64 + 1, 1000), failed, count);
     }
-    expect_end(&rt, alloc, &text, (0, text.len()), Ok(()), text.len())?;
+    expect_end(&rt, alloc, &text, (0, text.len()), Ok(()), text.len());
     let long = Err(ReadStop::TooLong { limit: 100 });
-    expect_end(&rt, alloc, &text, (0, 100), long, MOST)?;
-    Ok(())
+    expect_end(&rt, alloc, &text, (0, 100), long, MOST);
 }

@@ -1,11 +1,10 @@
 //! How many bytes a reader keeps.
 use crate::answers::counted;
-use ice_base::NoMemory;
+use crate::claims::expect_that;
 use ice_chip::ChipFault;
 use ice_chip_pieces::ChipReader;
 use std::alloc::Global;
 use std::process::Abort;
-use std::test::Fail;
 
 // A piece, and how many bytes are kept behind it.
 type Kept = (&'static [u8], usize);
@@ -25,28 +24,21 @@ const FAULTY: [Kept; 4] = [(b"\nx", 1), (b"\nabc", 0), (b"de", 0), (b"\nfg", 0)]
 // Fails unless so much is kept behind each piece.
 fn expect_each(rt: &impl Abort, reader: &mut ChipReader, pieces: &[Kept]) {
     for (piece, kept) in pieces {
-        assert!(rt; reader.feed(piece).is_ok());
-        assert_eq!(rt; reader.kept(), *kept);
+        expect_that(rt, reader.feed(piece).is_ok(), piece);
+        expect_that(rt, reader.kept() == *kept, piece);
     }
 }
 
 // Fails unless so much is kept behind each piece, and this is the fault of all.
-fn expect_kept(
-    rt: &impl Abort,
-    alloc: Global,
-    pieces: &[Kept],
-    fault: ChipFault,
-) -> Result<(), NoMemory> {
-    let mut reader = ChipReader::new(alloc)?;
+fn expect_kept(rt: &impl Abort, alloc: Global, pieces: &[Kept], fault: ChipFault) {
+    let mut reader = ChipReader::new(alloc).expect(rt, "memory");
     expect_each(rt, &mut reader, pieces);
-    assert!(rt; counted(reader.finish()) == Err(fault));
-    Ok(())
+    expect_that(rt, counted(reader.finish()) == Err(fault), b"fault");
 }
 
 #[test]
-fn the_unread_rest_of_a_line_is_kept(rt: HostRuntime) -> Result<(), Fail> {
+fn the_unread_rest_of_a_line_is_kept(rt: HostRuntime) {
     let alloc = rt.alloc();
-    expect_kept(&rt, alloc, &GOOD, ChipFault::BadNumber { line: 4 })?;
-    expect_kept(&rt, alloc, &FAULTY, ChipFault::NoDevice { line: 2 })?;
-    Ok(())
+    expect_kept(&rt, alloc, &GOOD, ChipFault::BadNumber { line: 4 });
+    expect_kept(&rt, alloc, &FAULTY, ChipFault::NoDevice { line: 2 });
 }

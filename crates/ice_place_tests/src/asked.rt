@@ -8,11 +8,10 @@ use ice_cells::Design;
 use ice_check::{Sound, check};
 use ice_chip::Chip;
 use ice_chip_read::read_chip;
-use ice_net::Netlist;
 use ice_pack::pack;
-use ice_pads::{Pads, PinFault, assign};
-use ice_pcf::{Pcf, read_pcf};
-use std::alloc::{AllocError, Global};
+use ice_pads::assign;
+use ice_pcf::read_pcf;
+use std::alloc::Global;
 use std::process::Abort;
 
 /// What is asked.
@@ -26,34 +25,8 @@ pub enum Asked {
     Seeds(u64, u64),
 }
 
-// Fails unless this is said of the answer.
-fn expect_said(
-    rt: &impl Abort,
-    alloc: Global,
-    answer: &Result<Pads, PinFault>,
-    wanted: &[u8],
-) -> Result<(), AllocError> {
-    let text = said(alloc, answer)?;
-    expect_that(rt, text.as_bytes() == wanted, wanted);
-    Ok(())
-}
-
-// Fails unless this comes of constraints.
+// Fails unless this comes of a text of constraints.
 fn expect_pins(
-    rt: &impl Abort,
-    alloc: Global,
-    chip: &Chip,
-    sound: &Sound,
-    design: &Design,
-    pcf: &Pcf,
-    wanted: &[u8],
-) -> Result<(), AllocError> {
-    let answer = assign(alloc, chip, b"sample", pcf, sound.netlist(), design);
-    expect_said(rt, alloc, &answer, wanted)
-}
-
-// The same with the text of constraints.
-fn expect_pcf(
     rt: &impl Abort,
     alloc: Global,
     chip: &Chip,
@@ -61,30 +34,16 @@ fn expect_pcf(
     design: &Design,
     text: &[u8],
     wanted: &[u8],
-) -> Result<(), AllocError> {
-    match read_pcf(alloc, text) {
-        Ok(pcf) => expect_pins(rt, alloc, chip, sound, design, &pcf, wanted),
-        Err(_) => panic!(rt; "the constraints are refused"),
-    }
+) {
+    let pcf = read_pcf(alloc, text).expect(rt, "constraints");
+    let answer = assign(alloc, chip, b"sample", &pcf, sound.netlist(), design);
+    drop(pcf);
+    let found = said(rt, alloc, &answer);
+    drop(answer);
+    expect_that(rt, found.as_bytes() == wanted, wanted);
 }
 
 // Fails unless this comes of placing by seeds, with pads by no constraint.
-fn expect_pads(
-    rt: &impl Abort,
-    alloc: Global,
-    chip: &Chip,
-    sound: &Sound,
-    design: &Design,
-    pcf: &Pcf,
-    seeds: (u64, u64),
-) {
-    match assign(alloc, chip, b"sample", pcf, sound.netlist(), design) {
-        Ok(pads) => expect_seeds(rt, alloc, chip, design, &pads, seeds),
-        Err(_) => panic!(rt; "the pins are refused"),
-    }
-}
-
-// The same, which reads the text of no constraint.
 fn expect_placed(
     rt: &impl Abort,
     alloc: Global,
@@ -93,10 +52,12 @@ fn expect_placed(
     design: &Design,
     seeds: (u64, u64),
 ) {
-    match read_pcf(alloc, b"") {
-        Ok(pcf) => expect_pads(rt, alloc, chip, sound, design, &pcf, seeds),
-        Err(_) => panic!(rt; "want of memory"),
-    }
+    let pcf = read_pcf(alloc, b"").expect(rt, "constraints");
+    let answer = assign(alloc, chip, b"sample", &pcf, sound.netlist(), design);
+    drop(pcf);
+    let pads = answer.expect(rt, "pads");
+    expect_seeds(rt, alloc, chip, design, &pads, seeds);
+    drop(pads);
 }
 
 // Fails unless this comes of a design.
@@ -107,88 +68,35 @@ fn expect_design(
     sound: &Sound,
     design: &Design,
     asked: Asked,
-) -> Result<(), AllocError> {
+) {
     match asked {
-        Asked::Pins(text, wanted) => expect_pcf(rt, alloc, chip, sound, design, text, wanted),
+        Asked::Pins(text, wanted) => expect_pins(rt, alloc, chip, sound, design, text, wanted),
         Asked::First(wanted) => expect_first(rt, alloc, chip, design, wanted),
         Asked::Seeds(count, least) => {
             expect_placed(rt, alloc, chip, sound, design, (count, least));
-            Ok(())
         }
-    }
-}
-
-// Fails unless this comes of a packed design.
-fn expect_packed(
-    rt: &impl Abort,
-    alloc: Global,
-    chip: &Chip,
-    sound: &Sound,
-    packed: Design,
-    asked: Asked,
-) -> Result<(), AllocError> {
-    match runs(alloc, packed) {
-        Ok(design) => expect_design(rt, alloc, chip, sound, &design, asked),
-        Err(_) => panic!(rt; "want of memory"),
     }
 }
 
 // Fails unless this comes of a netlist without faults.
-fn expect_sound(
-    rt: &impl Abort,
-    alloc: Global,
-    chip: &Chip,
-    sound: &Sound,
-    asked: Asked,
-) -> Result<(), AllocError> {
-    match pack(alloc, sound) {
-        Ok(packed) => expect_packed(rt, alloc, chip, sound, packed, asked),
-        Err(_) => panic!(rt; "want of memory"),
-    }
-}
-
-// Fails unless this comes of a netlist.
-fn expect_netlist(
-    rt: &impl Abort,
-    alloc: Global,
-    chip: &Chip,
-    netlist: Netlist,
-    asked: Asked,
-) -> Result<(), AllocError> {
-    match check(alloc, netlist) {
-        Ok(sound) => expect_sound(rt, alloc, chip, &sound, asked),
-        Err(_) => panic!(rt; "the netlist has a fault"),
-    }
+fn expect_sound(rt: &impl Abort, alloc: Global, chip: &Chip, sound: &Sound, asked: Asked) {
+    let packed = pack(alloc, sound).expect(rt, "memory");
+    let design = runs(alloc, packed).expect(rt, "memory");
+    expect_design(rt, alloc, chip, sound, &design, asked);
+    drop(design);
 }
 
 // Fails unless this comes of the text of a netlist on a chip.
-fn expect_chip(
-    rt: &impl Abort,
-    alloc: Global,
-    chip: &Chip,
-    text: &[u8],
-    asked: Asked,
-) -> Result<(), AllocError> {
-    match read_blif(alloc, text) {
-        Ok(netlist) => expect_netlist(rt, alloc, chip, netlist, asked),
-        Err(_) => panic!(rt; "the netlist is refused"),
-    }
+fn expect_chip(rt: &impl Abort, alloc: Global, chip: &Chip, text: &[u8], asked: Asked) {
+    let netlist = read_blif(alloc, text).expect(rt, "a netlist");
+    let sound = check(alloc, netlist).expect(rt, "a netlist without faults");
+    expect_sound(rt, alloc, chip, &sound, asked);
+    drop(sound);
 }
 
 /// Fails unless this comes of the text of a netlist on the chip of a text.
-pub fn expect(
-    rt: &impl Abort,
-    alloc: Global,
-    chip: &[u8],
-    text: &[u8],
-    asked: Asked,
-) -> Result<(), AllocError> {
-    match read_chip(alloc, chip) {
-        Ok(chip) => {
-            let done = expect_chip(rt, alloc, &chip, text, asked);
-            drop(chip);
-            done
-        }
-        Err(_) => panic!(rt; "the chip is refused"),
-    }
+pub fn expect(rt: &impl Abort, alloc: Global, chip: &[u8], text: &[u8], asked: Asked) {
+    let chip = read_chip(alloc, chip).expect(rt, "a chip");
+    expect_chip(rt, alloc, &chip, text, asked);
+    drop(chip);
 }

@@ -2,9 +2,8 @@
 use crate::asked::{Asked, expect};
 use crate::texts::small_chip;
 use ice_base::lines_of;
-use std::alloc::{AllocError, Global};
+use std::alloc::Global;
 use std::process::Abort;
-use std::test::Fail;
 
 // A netlist, its constraints, and what is said.
 type Case = (&'static [u8], &'static [u8], &'static [u8]);
@@ -76,46 +75,30 @@ const LACKING: [Case; 3] = [
 ];
 
 // A text without one line.
-fn without(alloc: Global, whole: &[u8], left_out: &[u8]) -> Result<Vec<u8>, AllocError> {
+fn without(rt: &impl Abort, alloc: Global, whole: &[u8], left_out: &[u8]) -> Vec<u8> {
     let mut text = Vec::new(alloc);
     for line in lines_of(whole) {
         if line.text != left_out {
-            text.extend_from_slice(line.text)?;
-            text.push(b'\n')?;
+            text.extend_from_slice(line.text).expect(rt, "memory");
+            text.push(b'\n').expect(rt, "memory");
         }
     }
-    Ok(text)
+    text
 }
 
 // Fails unless each case comes of it, on the chip of a text.
-fn expect_cases(
-    rt: &impl Abort,
-    alloc: Global,
-    chip: &[u8],
-    cases: &[Case],
-) -> Result<(), AllocError> {
+fn expect_cases(rt: &impl Abort, alloc: Global, chip: &[u8], cases: &[Case]) {
     for (netlist, constraints, said) in cases {
-        expect(rt, alloc, chip, netlist, Asked::Pins(constraints, said))?;
+        expect(rt, alloc, chip, netlist, Asked::Pins(constraints, said));
     }
-    Ok(())
-}
-
-fn expect_whole(rt: &impl Abort, alloc: Global) -> Result<(), AllocError> {
-    let chip = small_chip(rt, alloc);
-    expect_cases(rt, alloc, &chip, &ASSIGNED)?;
-    expect_cases(rt, alloc, &chip, &REFUSED)?;
-    Ok(())
-}
-
-fn expect_lacking(rt: &impl Abort, alloc: Global) -> Result<(), AllocError> {
-    let chip = small_chip(rt, alloc);
-    let chip = without(alloc, &chip, b"1 0 io_0/D_OUT_0")?;
-    expect_cases(rt, alloc, &chip, &LACKING)
 }
 
 #[test]
-fn ports_get_pads_and_buffers_get_globals(rt: HostRuntime) -> Result<(), Fail> {
-    expect_whole(&rt, rt.alloc())?;
-    expect_lacking(&rt, rt.alloc())?;
-    Ok(())
+fn ports_get_pads_and_buffers_get_globals(rt: HostRuntime) {
+    let alloc = rt.alloc();
+    let whole = small_chip(&rt, alloc);
+    expect_cases(&rt, alloc, &whole, &ASSIGNED);
+    expect_cases(&rt, alloc, &whole, &REFUSED);
+    let lacking = without(&rt, alloc, &whole, b"1 0 io_0/D_OUT_0");
+    expect_cases(&rt, alloc, &lacking, &LACKING);
 }

@@ -1,93 +1,75 @@
 //! First placements of runs of carries.
 use crate::asked::{Asked, expect};
 use crate::texts::{large_chip, small_chip};
-use std::alloc::{AllocError, Global};
+use std::alloc::Global;
 use std::process::Abort;
-use std::test::Fail;
 
-// Adds one carry of a run.
-fn put_carry(alloc: Global, text: &mut Vec<u8>, run: u32, cell: u32) -> Result<(), AllocError> {
-    text.extend_from_slice(b".gate SB_CARRY I0=a I1=a")?;
-    if cell > 0 {
-        text.extend_from_slice(format!(in alloc; " CI=r{run}c{}", cell - 1)?.as_bytes())?;
-    }
-    text.extend_from_slice(format!(in alloc; " CO=r{run}c{cell}\n")?.as_bytes())?;
-    Ok(())
+// Adds one carry of a run, which takes the carry of the cell before it.
+fn put_carry(rt: &impl Abort, alloc: Global, text: &mut Vec<u8>, run: u32, cell: u32) {
+    let line = match cell.checked_sub(1) {
+        Some(before) => {
+            format!(in alloc; ".gate SB_CARRY I0=a I1=a CI=r{run}c{before} CO=r{run}c{cell}\n")
+        }
+        None => format!(in alloc; ".gate SB_CARRY I0=a I1=a CO=r{run}c{cell}\n"),
+    };
+    let line = line.expect(rt, "memory");
+    text.extend_from_slice(line.as_bytes()).expect(rt, "memory");
 }
 
 // Adds a run of so many carries.
-fn put_run(alloc: Global, text: &mut Vec<u8>, run: u32, cells: u32) -> Result<(), AllocError> {
+fn put_run(rt: &impl Abort, alloc: Global, text: &mut Vec<u8>, run: u32, cells: u32) {
     for cell in 0..cells {
-        put_carry(alloc, text, run, cell)?;
+        put_carry(rt, alloc, text, run, cell);
     }
-    Ok(())
 }
 
-// The text of a netlist with runs of so many carries each.
-fn runs_of(alloc: Global, runs: &[u32]) -> Result<Vec<u8>, AllocError> {
-    let mut text = Vec::new(alloc);
-    text.extend_from_slice(b".model runs\n.inputs a\n.outputs y\n.names a y\n1 1\n")?;
+// Adds runs of so many carries each.
+fn put_runs(rt: &impl Abort, alloc: Global, text: &mut Vec<u8>, runs: &[u32]) {
     let mut number = 0u32;
     for cells in runs {
-        put_run(alloc, &mut text, number, *cells)?;
+        put_run(rt, alloc, text, number, *cells);
         number = number.saturating_add(1);
     }
-    text.extend_from_slice(b".end\n")?;
-    Ok(text)
 }
 
-// Fails unless this comes of placing runs of so many carries on the chip of a text.
-fn expect_runs(
-    rt: &impl Abort,
-    alloc: Global,
-    chip: &[u8],
-    runs: &[u32],
-    wanted: &'static [u8],
-) -> Result<(), AllocError> {
-    let text = runs_of(alloc, runs)?;
-    expect(rt, alloc, chip, &text, Asked::First(wanted))
+const BEGINNING: &[u8] = b".model runs\n.inputs a\n.outputs y\n.names a y\n1 1\n";
+
+// The text of a netlist with runs of so many carries each.
+fn runs_of(rt: &impl Abort, alloc: Global, runs: &[u32]) -> Vec<u8> {
+    let mut text = Vec::from_slice(alloc, BEGINNING).expect(rt, "memory");
+    put_runs(rt, alloc, &mut text, runs);
+    text.extend_from_slice(b".end\n").expect(rt, "memory");
+    text
 }
+
+// Runs of so many carries each, and the fault of their first placement, or nothing.
+type Case = (&'static [u32], &'static [u8]);
 
 // On two stretches of three sites.
-fn expect_small(rt: &impl Abort, alloc: Global) -> Result<(), AllocError> {
-    let chip = small_chip(rt, alloc);
-    expect_runs(rt, alloc, &chip, &[24, 24], b"")?;
-    expect_runs(rt, alloc, &chip, &[9, 9, 8, 8], b"")?;
-    expect_runs(
-        rt,
-        alloc,
-        &chip,
-        &[9, 9, 9],
-        b"no room for run 2 of 9 cells",
-    )?;
-    expect_runs(rt, alloc, &chip, &[24, 24, 1], b"7 clusters, 6 sites")?;
-    expect_runs(
-        rt,
-        alloc,
-        &chip,
-        &[24, 25, 26],
-        b"a run of 25 cells, where 24 fit",
-    )?;
-    Ok(())
-}
+const SMALL: [Case; 5] = [
+    (&[24, 24], b""),
+    (&[9, 9, 8, 8], b""),
+    (&[9, 9, 9], b"no room for run 2 of 9 cells"),
+    (&[24, 24, 1], b"7 clusters, 6 sites"),
+    (&[24, 25, 26], b"a run of 25 cells, where 24 fit"),
+];
 
 // On twelve stretches of sixteen sites.
-fn expect_large(rt: &impl Abort, alloc: Global) -> Result<(), AllocError> {
-    let chip = large_chip(rt, alloc);
-    expect_runs(rt, alloc, &chip, &[128], b"")?;
-    expect_runs(
-        rt,
-        alloc,
-        &chip,
-        &[129],
-        b"a run of 129 cells, where 128 fit",
-    )?;
-    Ok(())
+const LARGE: [Case; 2] = [
+    (&[128], b""),
+    (&[129], b"a run of 129 cells, where 128 fit"),
+];
+
+// Fails unless each case comes of placing on the chip of a text.
+fn expect_cases(rt: &impl Abort, alloc: Global, chip: &[u8], cases: &[Case]) {
+    for (runs, wanted) in cases {
+        let text = runs_of(rt, alloc, runs);
+        expect(rt, alloc, chip, &text, Asked::First(*wanted));
+    }
 }
 
 #[test]
-fn runs_are_fitted(rt: HostRuntime) -> Result<(), Fail> {
-    expect_small(&rt, rt.alloc())?;
-    expect_large(&rt, rt.alloc())?;
-    Ok(())
+fn runs_are_fitted(rt: HostRuntime) {
+    expect_cases(&rt, rt.alloc(), &small_chip(&rt, rt.alloc()), &SMALL);
+    expect_cases(&rt, rt.alloc(), &large_chip(&rt, rt.alloc()), &LARGE);
 }

@@ -1,39 +1,40 @@
 //! Pads as they are said in tests.
 use ice_chip::Pad;
 use ice_pads::{Pads, PinFault};
-use std::alloc::{AllocError, Global};
+use std::alloc::Global;
+use std::process::Abort;
 
-// Adds the pads of ports: the column, the row and the number of each.
-fn say_ports(alloc: Global, text: &mut String, ports: &[Pad]) -> Result<(), AllocError> {
-    for pad in ports {
-        let (x, y, pio) = (pad.tile.x, pad.tile.y, pad.pio);
-        text.push_str(format!(in alloc; " {x} {y} {pio}")?.as_str())?;
-    }
-    Ok(())
+// Adds a pad: its column, its row and its number.
+fn say_port(rt: &impl Abort, alloc: Global, text: &mut String, pad: Pad) {
+    let (x, y, pio) = (pad.tile.x, pad.tile.y, pad.pio);
+    let words = format!(in alloc; " {x} {y} {pio}").expect(rt, "memory");
+    text.push_str(words.as_str()).expect(rt, "memory");
 }
 
-// Adds the numbers of globals.
-fn say_globals(alloc: Global, text: &mut String, globals: &[u8]) -> Result<(), AllocError> {
-    for global in globals {
-        text.push_str(format!(in alloc; " {global}")?.as_str())?;
-    }
-    Ok(())
+// Adds the number of a global.
+fn say_global(rt: &impl Abort, alloc: Global, text: &mut String, global: u8) {
+    let word = format!(in alloc; " {global}").expect(rt, "memory");
+    text.push_str(word.as_str()).expect(rt, "memory");
 }
 
 // The pads of the ports, and the globals.
-fn said_pads(alloc: Global, pads: &Pads) -> Result<String, AllocError> {
+fn said_pads(rt: &impl Abort, alloc: Global, pads: &Pads) -> String {
     let mut text = String::new(alloc);
-    text.push_str("pads")?;
-    say_ports(alloc, &mut text, pads.ports())?;
-    text.push_str(" globals")?;
-    say_globals(alloc, &mut text, pads.globals())?;
-    Ok(text)
+    text.push_str("pads").expect(rt, "memory");
+    for pad in pads.ports() {
+        say_port(rt, alloc, &mut text, *pad);
+    }
+    text.push_str(" globals").expect(rt, "memory");
+    for global in pads.globals() {
+        say_global(rt, alloc, &mut text, *global);
+    }
+    text
 }
 
 /// What was assigned, or the fault.
-pub fn said(alloc: Global, answer: &Result<Pads, PinFault>) -> Result<String, AllocError> {
+pub fn said(rt: &impl Abort, alloc: Global, answer: &Result<Pads, PinFault>) -> String {
     match answer {
-        Ok(pads) => said_pads(alloc, pads),
-        Err(fault) => format!(in alloc; "{fault}"),
+        Ok(pads) => said_pads(rt, alloc, pads),
+        Err(fault) => format!(in alloc; "{fault}").expect(rt, "memory"),
     }
 }

@@ -4,6 +4,7 @@ ghost use Rattle.ice_negotiate.specs.Rounds.{AreNets};
 ghost use Rattle.ice_negotiate.specs.Trees.{AreSinks};
 ghost use Rattle.ice_path.specs.Room.{AreWires};
 
+use crate::claims::expect_that;
 use ice_base::{NetNo, Sink, WireNo};
 use ice_core::Net;
 use ice_graph::Graph;
@@ -31,7 +32,8 @@ impl Size {
 
 // A drawn wire of the net of a number, which is no root, or maybe its own one.
 fn drawn_target(rt: &impl Abort, words: &mut Pcg32, size: Size, number: u32) -> u32 {
-    assert!(rt; size.nets > 0 && size.wires > 1);
+    expect_that(rt, size.nets > 0, b"nets");
+    expect_that(rt, size.wires > 1, b"wires");
     let turn = 1 + draw(words, size.wires - 1);
     let one = size.nets.saturating_mul(turn).saturating_add(number);
     let other = draw(words, size.all().max(1));
@@ -58,7 +60,7 @@ fn drawn_targets(
     for turn in 0..2 {
         if more || turn == 0 {
             let target = drawn_target(rt, words, size, number);
-            assert!(rt; target < graph.wires(), "target {target}");
+            expect_that(rt, target < graph.wires(), b"target");
             add_wire(&mut targets, graph.wires(), target)?;
         }
     }
@@ -79,7 +81,7 @@ fn drawn_sink(
     ensures targets { AreWires graph.now.wires result }
 {
     let targets = drawn_targets(rt, alloc, words, graph, size, number, more).expect(rt, "memory");
-    assert!(rt; !targets.is_empty(), "no target");
+    expect_that(rt, !targets.is_empty(), b"targets");
     Sink::from_targets(targets)
 }
 
@@ -114,7 +116,7 @@ fn drawn_net(
     ensures root { result.root.0 < graph.now.wires }
     ensures sinks { AreSinks graph.now.wires result.sinks.items }
 {
-    assert!(rt; number < graph.wires(), "net {number}");
+    expect_that(rt, number < graph.wires(), b"net");
     let sinks = drawn_sinks(rt, alloc, words, graph, size, number).expect(rt, "memory");
     Net {
         net: NetNo(number),

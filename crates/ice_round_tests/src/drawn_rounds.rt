@@ -82,7 +82,15 @@ fn expect_fault(rt: &impl Abort, fault: &RouteFault, wanted: &Answer) {
             expect_that(rt, wanted.end == End::Shared, b"gave up");
             expect_logs(rt, logs, &wanted.logs);
         }
-        RouteFault::NoMemory => panic!(rt; "want of memory"),
+        RouteFault::NoMemory => expect_that(rt, false, b"memory"),
+    }
+}
+
+// Fails unless the plain program answers so.
+fn expect_answer(rt: &impl Abort, answer: &Result<Routed, RouteFault>, wanted: &Answer) {
+    match answer {
+        Ok(routed) => expect_routed(rt, routed, wanted),
+        Err(fault) => expect_fault(rt, fault, wanted),
     }
 }
 
@@ -99,12 +107,13 @@ fn compare(
     requires rounds { (1 ≤ rounds) × (rounds ≤ 64) }
     requires nets { AreNets graph.now nets.now }
 {
-    assert!(rt; graph.wires() <= 1_048_576 && nets.len() <= 65_536);
-    assert!(rt; 1 <= workers && workers <= 8, "{workers} workers");
-    match negotiate(rt, alloc, graph, nets, rounds, workers, &OpenGate) {
-        Ok(routed) => expect_routed(rt, &routed, wanted),
-        Err(fault) => expect_fault(rt, &fault, wanted),
-    }
+    expect_that(rt, graph.wires() <= 1_048_576, b"wires");
+    expect_that(rt, nets.len() <= 65_536, b"nets");
+    expect_that(rt, 1 <= workers, b"a worker");
+    expect_that(rt, workers <= 8, b"workers");
+    let answer = negotiate(rt, alloc, graph, nets, rounds, workers, &OpenGate);
+    expect_answer(rt, &answer, wanted);
+    drop(answer);
 }
 
 // How often each answer came.
@@ -148,6 +157,7 @@ fn compare_nets(
     for count in workers {
         compare(rt, alloc, graph, nets, rounds, *count, &wanted);
     }
+    drop(wanted);
 }
 
 // Draws the nets of a graph, and fails unless each of these numbers of workers answers as the plain program.
@@ -165,6 +175,7 @@ fn compare_in(
 {
     let nets = drawn_nets(rt, alloc, words, graph, size).expect(rt, "memory");
     compare_nets(rt, alloc, graph, &nets, rounds, workers, ends);
+    drop(nets);
 }
 
 // Draws a graph with this many edges and its nets, and fails unless each of these numbers of workers answers as the plain program.
@@ -181,9 +192,10 @@ fn compare_drawn(
     requires { (1 ≤ rounds) × (rounds ≤ 64) }
 {
     let wires = size.all();
-    assert!(rt; size.nets < wires);
+    expect_that(rt, size.nets < wires, b"roots");
     let graph = drawn_graph(alloc, words, edges, wires, size.nets).expect(rt, "memory");
     compare_in(rt, alloc, words, &graph, size, rounds, workers, ends);
+    drop(graph);
 }
 
 // Three nets in graphs of twelve wires.
@@ -209,7 +221,10 @@ fn three_nets_are_routed_alike(rt: HostRuntime) {
         );
     }
     println!(rt; "{ends:?}").expect(&rt, "said");
-    assert!(rt; ends.at_once > 20 && ends.later > 20 && ends.unreachable > 20 && ends.gave_up > 20);
+    expect_that(&rt, ends.at_once > 20, b"at once");
+    expect_that(&rt, ends.later > 20, b"later");
+    expect_that(&rt, ends.unreachable > 20, b"unreachable");
+    expect_that(&rt, ends.gave_up > 20, b"gave up");
 }
 
 // How many nets there are, how many wires for each, and how many edges.
@@ -239,5 +254,6 @@ fn some_hundred_nets_are_routed_alike(rt: HostRuntime) {
         );
     }
     println!(rt; "{ends:?}").expect(&rt, "said");
-    assert!(rt; ends.later > 0 && ends.gave_up > 0);
+    expect_that(&rt, ends.later > 0, b"later");
+    expect_that(&rt, ends.gave_up > 0, b"gave up");
 }

@@ -6,7 +6,7 @@ use ice_chip_read::read_chip;
 use ice_fabric::fabric;
 use ice_graph::Graph;
 use ice_small_chips::{Change, Sample, text_with};
-use std::alloc::{AllocError, Global};
+use std::alloc::Global;
 use std::process::Abort;
 use std::thread::Threads;
 
@@ -29,21 +29,16 @@ fn expect_asked(rt: &(impl Abort + Threads + Sync), alloc: Global, graph: &Graph
 
 // Fails unless this is answered of the usable rows of a chip.
 fn expect_chip(rt: &(impl Abort + Threads + Sync), alloc: Global, chip: &Chip, asked: Asked) {
-    match fabric(alloc, chip) {
-        Ok(graph) => expect_asked(rt, alloc, &graph, asked),
-        Err(_) => panic!(rt; "want of memory"),
-    }
+    let graph = fabric(alloc, chip).expect(rt, "memory");
+    expect_asked(rt, alloc, &graph, asked);
+    drop(graph);
 }
 
 // Fails unless this is answered of the usable rows of the chip of a text.
 fn expect_text(rt: &(impl Abort + Threads + Sync), alloc: Global, text: &[u8], asked: Asked) {
-    match read_chip(alloc, text) {
-        Ok(chip) => {
-            expect_chip(rt, alloc, &chip, asked);
-            drop(chip);
-        }
-        Err(fault) => panic!(rt; "{fault}"),
-    }
+    let chip = read_chip(alloc, text).expect(rt, "a chip");
+    expect_chip(rt, alloc, &chip, asked);
+    drop(chip);
 }
 
 /// Fails unless this is answered of the usable rows of the chip of a text with these changes.
@@ -53,8 +48,7 @@ pub fn expect(
     sample: Sample,
     changes: &[Change],
     asked: Asked,
-) -> Result<(), AllocError> {
-    let text = text_with(alloc, sample, changes)?;
+) {
+    let text = text_with(alloc, sample, changes).expect(rt, "memory");
     expect_text(rt, alloc, &text, asked);
-    Ok(())
 }

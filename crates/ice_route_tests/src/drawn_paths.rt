@@ -13,7 +13,6 @@ use rand_core::SeedableRng;
 use rand_pcg::Pcg32;
 use std::alloc::{AllocError, Global};
 use std::process::Abort;
-use std::test::Fail;
 
 const WIRES: u32 = 7;
 
@@ -161,11 +160,12 @@ fn compare_to(
     ensures { IsFor graph.now scratch.new }
 {
     let (count, target) = wanted;
-    assert!(rt; target < graph.wires());
+    expect_that(rt, target < graph.wires(), b"target");
     let mut targets = drawn_wires(alloc, words, count, graph.wires()).expect(rt, "memory");
     add_wire(&mut targets, graph.wires(), target).expect(rt, "memory");
-    assert!(rt; !targets.is_empty());
+    expect_that(rt, !targets.is_empty(), b"targets");
     compare(rt, alloc, graph, prices, tree, &targets, scratch);
+    drop(targets);
 }
 
 // Compares the ways to each wire of the graph, alone and behind two drawn ones.
@@ -204,6 +204,7 @@ fn compare_all(
             &mut scratch,
         );
     }
+    drop(scratch);
 }
 
 // Draws a graph with this many edges, prices and a tree of two wires, which may be one, and compares.
@@ -216,6 +217,9 @@ fn compare_drawn(rt: &impl Abort, alloc: Global, words: &mut Pcg32, count: u32) 
         rows: Vec::new(alloc),
     };
     compare_all(rt, alloc, &graph, &prices, &tree, words);
+    drop(tree);
+    drop(prices);
+    drop(graph);
 }
 
 #[test]

@@ -6,7 +6,6 @@ use ice_small_chips::{count_words, line_at, number_at};
 use ice_small_graphs::{TWO_WAYS, graph_of, placed_graph, sink_of};
 use std::alloc::Global;
 use std::process::Abort;
-use std::test::Fail;
 
 /// The columns of the edges of the two ways in the chip with the short and the long way.
 pub const COLUMNS: &[u8] = b"0 0 0 0 1 1 1 1 1";
@@ -32,7 +31,8 @@ fn expect_rows(rt: &impl Abort, edges: &[Edge], rows: &[u8]) {
 
 // Fails unless each wire has its rows.
 fn expect_graph(rt: &impl Abort, graph: &Graph) {
-    expect_that(rt, (graph.wires(), graph.edges().len()) == (7, 9), b"graph");
+    expect_that(rt, graph.wires() == 7, b"wires");
+    expect_that(rt, graph.edges().len() == 9, b"edges");
     for wire in 0..graph.wires() {
         expect_rows(
             rt,
@@ -64,7 +64,8 @@ const APART: [(u32, u32, u64); 7] = [
 fn expect_apart(rt: &impl Abort, graph: &Graph, cases: &[(u32, u32, u64)]) {
     for case in cases {
         let (wire, target, bound) = *case;
-        assert!(rt; wire < graph.wires() && target < graph.wires());
+        expect_that(rt, wire < graph.wires(), b"wire");
+        expect_that(rt, target < graph.wires(), b"target");
         let found = graph.bound(WireNo(wire), WireNo(target));
         expect_that(rt, found == bound, b"apart");
     }
@@ -73,19 +74,19 @@ fn expect_apart(rt: &impl Abort, graph: &Graph, cases: &[(u32, u32, u64)]) {
 // Fails unless the least of the bounds to three wires is that of the nearest.
 fn expect_least(rt: &impl Abort, alloc: Global, graph: &Graph) {
     let sink = sink_of(alloc, graph.wires(), b"5 2 6").expect(rt, "a sink");
-    assert!(rt; graph.wires() > 0);
-    expect_that(
-        rt,
-        graph.least_bound(WireNo(0), sink.targets()) == 1,
-        b"least",
-    );
+    expect_that(rt, graph.wires() > 0, b"wires");
+    let least = graph.least_bound(WireNo(0), sink.targets());
+    expect_that(rt, least == 1, b"least");
 }
 
 #[test]
 fn rows_and_bounds_are_those_of_the_edges(rt: HostRuntime) {
     let alloc = rt.alloc();
-    expect_graph(&rt, &graph_of(alloc, 7, SPARSE).expect(&rt, "a graph"));
-    let graph = placed_graph(alloc, 7, TWO_WAYS, COLUMNS).expect(&rt, "a graph");
-    expect_apart(&rt, &graph, &APART);
-    expect_least(&rt, alloc, &graph);
+    let sparse = graph_of(alloc, 7, SPARSE).expect(&rt, "a graph");
+    expect_graph(&rt, &sparse);
+    drop(sparse);
+    let placed = placed_graph(alloc, 7, TWO_WAYS, COLUMNS).expect(&rt, "a graph");
+    expect_apart(&rt, &placed, &APART);
+    expect_least(&rt, alloc, &placed);
+    drop(placed);
 }

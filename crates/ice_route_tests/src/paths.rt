@@ -13,7 +13,6 @@ use ice_small_chips::{count_words, number_at};
 use ice_small_graphs::{TWO_WAYS, graph_of, placed_graph, prices_at, sink_of, wires_of};
 use std::alloc::Global;
 use std::process::Abort;
-use std::test::Fail;
 
 // The wires of a tree, the targets, and the cost of the taken path and its rows, or nothing where none is there.
 type Way = (&'static [u8], &'static [u8], &'static [u8], &'static [u8]);
@@ -78,12 +77,16 @@ fn expect_way(
 // Fails unless each taken path has its cost and its rows, in the prices of a round in which wire 2 has this history and
 // is held by so many others.
 fn expect_ways(rt: &impl Abort, alloc: Global, graph: &Graph, at: (u32, u8, u8), ways: &[Way]) {
-    assert!(rt; graph.wires() == 7 && at.0 >= 1 && at.0 <= 64);
+    expect_that(rt, graph.wires() == 7, b"wires");
+    expect_that(rt, at.0 >= 1, b"first");
+    expect_that(rt, at.0 <= 64, b"last");
     let prices = prices_at(alloc, at.0, at.1, at.2).expect(rt, "memory");
     let mut scratch = Scratch::new(alloc, graph).expect(rt, "memory");
     for way in ways {
         expect_way(rt, alloc, graph, &prices, *way, &mut scratch);
     }
+    drop(scratch);
+    drop(prices);
 }
 
 // Where all wires cost the same: from one wire, from two, within the tree, to no wire, and to the first of the nearest targets.
@@ -115,17 +118,26 @@ const SHORT: [Way; 2] = [(b"0", b"2", b"4", b"0"), (b"0", b"5", b"5", b"0 5")];
 // The first row goes before the shorter walk.
 const FIRST_ROW: [Way; 1] = [(b"0", b"4", b"3", b"3 4 6")];
 
+// Fails unless each taken path has its cost and its rows in a graph of these edges, in such prices.
+fn expect_ways_of(rt: &impl Abort, alloc: Global, edges: &[u8], at: (u32, u8, u8), ways: &[Way]) {
+    let graph = graph_of(alloc, 7, edges).expect(rt, "a graph");
+    expect_ways(rt, alloc, &graph, at, ways);
+    drop(graph);
+}
+
+// The short way of the two alone, and a graph of which the first row goes before the shorter walk.
+const SHORT_WAY: &[u8] = b"0 0 2  1 1 2  5 2 5  7 2 6";
+
+const LATER_ROWS: &[u8] = b"3 0 1  4 1 3  6 3 4  7 0 2  9 2 4";
+
 #[test]
 fn the_cheapest_way_is_taken(rt: HostRuntime) {
     let alloc = rt.alloc();
-    let graph = graph_of(alloc, 7, TWO_WAYS).expect(&rt, "a graph");
-    expect_ways(&rt, alloc, &graph, (1, 0, 0), &PLAIN);
-    expect_ways(&rt, alloc, &graph, (2, 1, 0), &TIED);
-    expect_ways(&rt, alloc, &graph, (2, 1, 1), &CROWDED);
-    let graph = graph_of(alloc, 7, b"0 0 2  1 1 2  5 2 5  7 2 6").expect(&rt, "a graph");
-    expect_ways(&rt, alloc, &graph, (2, 1, 1), &SHORT);
-    let graph = graph_of(alloc, 7, b"3 0 1  4 1 3  6 3 4  7 0 2  9 2 4").expect(&rt, "a graph");
-    expect_ways(&rt, alloc, &graph, (1, 1, 0), &FIRST_ROW);
+    expect_ways_of(&rt, alloc, TWO_WAYS, (1, 0, 0), &PLAIN);
+    expect_ways_of(&rt, alloc, TWO_WAYS, (2, 1, 0), &TIED);
+    expect_ways_of(&rt, alloc, TWO_WAYS, (2, 1, 1), &CROWDED);
+    expect_ways_of(&rt, alloc, SHORT_WAY, (2, 1, 1), &SHORT);
+    expect_ways_of(&rt, alloc, LATER_ROWS, (1, 1, 0), &FIRST_ROW);
 }
 
 // Fails unless exactly these wires are settled.
@@ -137,17 +149,23 @@ fn expect_settled(rt: &impl Abort, found: &[WireNo], wires: &[u8]) {
     }
 }
 
+// Fails unless the two ways have a path of cost 2 to wire 5, and these wires are settled then.
+fn expect_two_ways(rt: &impl Abort, alloc: Global, graph: &Graph) {
+    expect_that(rt, graph.wires() == 7, b"wires");
+    let prices = prices_at(alloc, 1, 0, 0).expect(rt, "memory");
+    let mut scratch = Scratch::new(alloc, graph).expect(rt, "memory");
+    let way: Way = (b"0", b"5", b"2", b"0 5");
+    let cost = cost_of(rt, alloc, graph, &prices, way, &mut scratch).expect(rt, "a path");
+    expect_that(rt, cost == 2, b"cost");
+    expect_rows(rt, path(&scratch), b"0 5");
+    expect_settled(rt, settled(&scratch), b"0 2 3 5");
+    drop(scratch);
+    drop(prices);
+}
+
 #[test]
 fn wires_within_the_cost_are_settled(rt: HostRuntime) {
-    let alloc = rt.alloc();
-    let graph = placed_graph(alloc, 7, TWO_WAYS, COLUMNS).expect(&rt, "a graph");
-    let prices = prices_at(alloc, 1, 0, 0).expect(&rt, "memory");
-    let mut scratch = Scratch::new(alloc, &graph).expect(&rt, "memory");
-    let way: Way = (b"0", b"5", b"2", b"0 5");
-    let cost = cost_of(&rt, alloc, &graph, &prices, way, &mut scratch);
-    let Some(2) = cost else {
-        panic!(&rt; "{cost:?}");
-    };
-    expect_rows(&rt, path(&scratch), b"0 5");
-    expect_settled(&rt, settled(&scratch), b"0 2 3 5");
+    let graph = placed_graph(rt.alloc(), 7, TWO_WAYS, COLUMNS).expect(&rt, "a graph");
+    expect_two_ways(&rt, rt.alloc(), &graph);
+    drop(graph);
 }

@@ -17,7 +17,6 @@ use ice_small_graphs::{graph_of, nets_of};
 use ice_words::Tally;
 use std::alloc::Global;
 use std::process::Abort;
-use std::test::Fail;
 use std::thread::Threads;
 
 // What is kept of a round, as numbers: wires with their histories; on a line for each net that moves its number and its rows; and
@@ -63,22 +62,28 @@ fn expect_net(rt: &impl Abort, net: NetNo, tree: &Tree, numbers: &[u8]) {
 fn expect_moved(rt: &impl Abort, moved: &[(NetNo, Tree)], nets: &[u8]) {
     let mut lines = lines_of(nets);
     for (net, tree) in moved {
-        match lines.next() {
-            Some(line) => expect_net(rt, *net, tree, line.text),
-            None => panic!(rt; "more nets than {nets:?}"),
-        }
+        let line = lines.next().expect(rt, "a net more");
+        expect_net(rt, *net, tree, line.text);
     }
     expect_that(rt, lines.next().is_none(), nets);
+}
+
+// Fails unless a log is that of this round.
+fn expect_log(rt: &impl Abort, log: &RoundLog, round: &Round) {
+    expect_history(rt, &log.history, round.0);
+    expect_moved(rt, &log.moved, round.1);
+    expect_over(rt, &log.over, round.2);
 }
 
 // Fails unless the logs are those of these rounds.
 fn expect_logs(rt: &impl Abort, logs: &[RoundLog], rounds: &[Round]) {
     expect_that(rt, logs.len() == rounds.len(), b"logs");
-    for (number, (log, round)) in logs.iter().zip(rounds).enumerate() {
-        expect_that(rt, log.round as usize == number.saturating_add(1), b"logs");
-        expect_history(rt, &log.history, round.0);
-        expect_moved(rt, &log.moved, round.1);
-        expect_over(rt, &log.over, round.2);
+    let mut place: usize = 0;
+    for round in rounds {
+        let log = logs.get(place).expect(rt, "a log more");
+        place = place.saturating_add(1);
+        expect_that(rt, log.round as usize == place, b"round");
+        expect_log(rt, log, round);
     }
 }
 
@@ -110,7 +115,8 @@ fn negotiated<G: Gate + Sync>(
     requires workers { (1 ≤ workers) × (workers ≤ 8) }
     requires nets { AreNets graph.now nets.now }
 {
-    assert!(rt; graph.wires() <= 1_048_576 && nets.len() <= 65_536);
+    expect_that(rt, graph.wires() <= 1_048_576, b"wires");
+    expect_that(rt, nets.len() <= 65_536, b"nets");
     negotiate(rt, alloc, graph, nets, rounds, workers, gate)
 }
 
@@ -128,7 +134,9 @@ fn route<G: Gate + Sync>(
     requires workers { (1 ≤ workers) × (workers ≤ 8) }
 {
     let nets = some_nets(rt, alloc, graph, sinks);
-    negotiated(rt, alloc, graph, nets.as_slice(), rounds, workers, gate)
+    let answer = negotiated(rt, alloc, graph, nets.as_slice(), rounds, workers, gate);
+    drop(nets);
+    answer
 }
 
 // Fails unless so many nets were claimed in this round, and so many wires released and held.
@@ -155,20 +163,21 @@ fn expect_long_way(rt: &impl Abort, routed: &Routed) {
 fn expect_routed(rt: &(impl Abort + Threads + Sync), alloc: Global, graph: &Graph, workers: u32)
     requires { (1 ≤ workers) × (workers ≤ 8) }
 {
-    match route(rt, alloc, graph, &[b"5", b"6"], 64, workers, &OpenGate) {
-        Ok(routed) => expect_long_way(rt, &routed),
-        Err(fault) => panic!(rt; "{fault}"),
-    }
+    let answer = route(rt, alloc, graph, &[b"5", b"6"], 64, workers, &OpenGate);
+    let routed = answer.expect(rt, "routes");
+    expect_long_way(rt, &routed);
+    drop(routed);
 }
 
 // Fails unless two workers route two nets and meet at a gate, which is passed with each net that moves.
 fn expect_met(rt: &(impl Abort + Threads + Sync), alloc: Global, graph: &Graph) {
     let gate = MeetGate::new();
-    match route(rt, alloc, graph, &[b"5", b"6"], 64, 2, &gate) {
-        Ok(routed) => expect_long_way(rt, &routed),
-        Err(fault) => panic!(rt; "{fault}"),
-    }
-    expect_that(rt, gate.met() && gate.passes() == 3, b"met");
+    let answer = route(rt, alloc, graph, &[b"5", b"6"], 64, 2, &gate);
+    let routed = answer.expect(rt, "routes");
+    expect_long_way(rt, &routed);
+    drop(routed);
+    expect_that(rt, gate.met(), b"met");
+    expect_that(rt, gate.passes() == 3, b"passes");
 }
 
 // Both nets need wire 2, and move over it again and again.
@@ -185,27 +194,26 @@ fn expect_given_up(rt: &impl Abort, fault: &RouteFault, rounds: &[Round]) {
             expect_logs(rt, logs, rounds);
             expect_that(rt, tallies.len() == rounds.len(), b"tallies");
         }
-        _ => panic!(rt; "{fault}"),
+        _ => expect_that(rt, false, b"given up"),
     }
 }
 
 // Fails unless two nets are not routed in three rounds.
 fn expect_no_way_round(rt: &(impl Abort + Threads + Sync), alloc: Global, graph: &Graph) {
-    match route(rt, alloc, graph, &[b"3", b"4"], 3, 1, &OpenGate) {
-        Ok(_) => panic!(rt; "routed"),
-        Err(fault) => expect_given_up(rt, &fault, &NO_WAY_ROUND),
-    }
+    let answer = route(rt, alloc, graph, &[b"3", b"4"], 3, 1, &OpenGate);
+    let fault = answer.err().expect(rt, "a fault");
+    expect_given_up(rt, &fault, &NO_WAY_ROUND);
+    drop(fault);
 }
 
 // Fails unless this net doesn't reach this sink.
 fn expect_unreachable(rt: &impl Abort, fault: &RouteFault, wanted: (NetNo, WireNo)) {
     match fault {
-        RouteFault::Unreachable { net, sink } => expect_that(
-            rt,
-            (*net, *sink) == wanted,
-            b"unreachable",
-        ),
-        _ => panic!(rt; "{fault}"),
+        RouteFault::Unreachable { net, sink } => {
+            expect_that(rt, *net == wanted.0, b"net");
+            expect_that(rt, *sink == wanted.1, b"sink");
+        }
+        _ => expect_that(rt, false, b"unreachable"),
     }
 }
 
@@ -217,10 +225,10 @@ fn expect_cut(
     sinks: &[&[u8]],
     wanted: (NetNo, WireNo),
 ) {
-    match route(rt, alloc, graph, sinks, 64, 1, &OpenGate) {
-        Ok(_) => panic!(rt; "routed"),
-        Err(fault) => expect_unreachable(rt, &fault, wanted),
-    }
+    let answer = route(rt, alloc, graph, sinks, 64, 1, &OpenGate);
+    let fault = answer.err().expect(rt, "a fault");
+    expect_unreachable(rt, &fault, wanted);
+    drop(fault);
 }
 
 /// What is answered for nets.
@@ -257,39 +265,19 @@ pub fn expect_answer(
 fn expect_least_cut(rt: &(impl Abort + Threads + Sync), alloc: Global) {
     let graph = graph_of(alloc, 5, b"0 0 2").expect(rt, "a graph");
     expect_cut(rt, alloc, &graph, &[b"2", b"4 3\n3"], (NetNo(1), WireNo(4)));
-    expect_cut(
-        rt,
-        alloc,
-        &graph,
-        &[b"3 2\n3 4", b"4"],
-        (NetNo(0), WireNo(3)),
-    );
+    let wanted = (NetNo(0), WireNo(3));
+    expect_cut(rt, alloc, &graph, &[b"3 2\n3 4", b"4"], wanted);
+    drop(graph);
 }
 
 #[test]
-fn nets_take_the_long_way_or_none(rt: HostRuntime) -> Result<(), Fail> {
+fn nets_take_the_long_way_or_none(rt: HostRuntime) {
     let alloc = rt.alloc();
-    expect(
-        &rt,
-        alloc,
-        Sample::TwoWays,
-        &[],
-        Asked::Routed(Wanted::LongWay),
-    )?;
-    expect(
-        &rt,
-        alloc,
-        Sample::OneWay,
-        &[],
-        Asked::Routed(Wanted::NoWayRound),
-    )?;
-    expect(
-        &rt,
-        alloc,
-        Sample::TwoTiles,
-        &[(37, b"0 0\n")],
-        Asked::Routed(Wanted::Cut),
-    )?;
+    let asked = Asked::Routed(Wanted::LongWay);
+    expect(&rt, alloc, Sample::TwoWays, &[], asked);
+    let asked = Asked::Routed(Wanted::NoWayRound);
+    expect(&rt, alloc, Sample::OneWay, &[], asked);
+    let asked = Asked::Routed(Wanted::Cut);
+    expect(&rt, alloc, Sample::TwoTiles, &[(37, b"0 0\n")], asked);
     expect_least_cut(&rt, alloc);
-    Ok(())
 }

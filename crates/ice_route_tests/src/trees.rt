@@ -10,7 +10,6 @@ use ice_small_chips::{count_words, number_at};
 use ice_small_graphs::{TWO_WAYS, graph_of, prices_at, sinks_of};
 use std::alloc::Global;
 use std::process::Abort;
-use std::test::Fail;
 
 // On each line the targets of a sink; and the wires and the rows of the tree, or the first target of the sink that is not reached.
 type Case = (&'static [u8], &'static [u8], &'static [u8]);
@@ -36,17 +35,17 @@ pub fn expect_rows(rt: &impl Abort, rows: &[RowNo], numbers: &[u8]) {
 }
 
 // Fails unless this is the tree of a case, or why there is none.
-fn expect_answer(rt: &impl Abort, answer: Result<Tree, TreeStop>, case: Case) {
+fn expect_answer(rt: &impl Abort, answer: &Result<Tree, TreeStop>, case: Case) {
     match answer {
         Ok(tree) => {
             expect_wires(rt, &tree.wires, case.1);
             expect_rows(rt, &tree.rows, case.2);
         }
         Err(TreeStop::Unreachable { sink }) => {
-            expect_that(rt, case.1 == b"none".as_slice(), b"answer");
-            expect_that(rt, sink.0 == number_at(case.2, 0), b"answer");
+            expect_that(rt, case.1 == b"none".as_slice(), case.1);
+            expect_that(rt, sink.0 == number_at(case.2, 0), case.2);
         }
-        Err(TreeStop::NoMemory) => panic!(rt; "want of memory"),
+        Err(TreeStop::NoMemory) => expect_that(rt, false, b"memory"),
     }
 }
 
@@ -54,25 +53,35 @@ fn expect_answer(rt: &impl Abort, answer: Result<Tree, TreeStop>, case: Case) {
 fn expect_joined(rt: &impl Abort, alloc: Global, graph: &Graph, sinks: &[Sink], case: Case)
     requires { AreSinks graph.now.wires sinks.now }
 {
-    assert!(rt; graph.wires() == 7);
-    let mut scratch = Scratch::new(alloc, graph).expect(rt, "memory");
+    expect_that(rt, graph.wires() == 7, b"wires");
     let prices = prices_at(alloc, 1, 0, 0).expect(rt, "memory");
+    let mut scratch = Scratch::new(alloc, graph).expect(rt, "memory");
     let answer = tree_of(alloc, graph, &prices, WireNo(0), sinks, &mut scratch);
-    expect_answer(rt, answer, case);
+    drop(scratch);
+    drop(prices);
+    expect_answer(rt, &answer, case);
+    drop(answer);
 }
 
 // Fails unless the net from wire 0 has the tree of a case in the first round.
 fn expect_tree(rt: &impl Abort, alloc: Global, graph: &Graph, case: Case) {
     let sinks = sinks_of(alloc, graph.wires(), case.0).expect(rt, "sinks");
     expect_joined(rt, alloc, graph, &sinks, case);
+    drop(sinks);
+}
+
+// Fails unless each net has its tree in a graph.
+fn expect_all(rt: &impl Abort, alloc: Global, graph: &Graph, cases: &[Case]) {
+    for case in cases {
+        expect_tree(rt, alloc, graph, *case);
+    }
 }
 
 // Fails unless each net has its tree in a graph of these edges.
 fn expect_trees(rt: &impl Abort, alloc: Global, edges: &[u8], cases: &[Case]) {
     let graph = graph_of(alloc, 7, edges).expect(rt, "a graph");
-    for case in cases {
-        expect_tree(rt, alloc, &graph, *case);
-    }
+    expect_all(rt, alloc, &graph, cases);
+    drop(graph);
 }
 
 // Two ways lead to wire 3, and none to wire 5.

@@ -17,7 +17,7 @@ use crate::summing::summary_text;
 use ice_answer::{Cause, Made, one_text, pin_refusal, place_refusal};
 use ice_base::NoMemory;
 use ice_build::laws::layouts_stand_on_their_chip;
-use ice_build::{BuildFault, Effort, Layout, lay_out, nets_in, route};
+use ice_build::{BuildFault, Effort, Layout, lay_out, nets_in, placement_of, route, tallies_of};
 use ice_check::Sound;
 use ice_chip::Chip;
 use ice_core::Net;
@@ -44,10 +44,10 @@ fn lay_refusal(fault: BuildFault) -> Cause
     match fault {
         BuildFault::Pins(fault) => pin_refusal(fault),
         BuildFault::Places(fault) => place_refusal(fault),
-        BuildFault::Unreachable { .. } => Cause::NoMemory,
-        BuildFault::GaveUp { .. } => Cause::NoMemory,
-        BuildFault::Bits(_) => Cause::NoMemory,
-        BuildFault::NoMemory => Cause::NoMemory,
+        other => {
+            drop(other);
+            Cause::NoMemory
+        }
     }
 }
 
@@ -78,14 +78,15 @@ fn lay(alloc: Global, chip: &Chip, sound: &Sound) -> Result<Layout, Cause>
 fn route_refusal(layout: Layout, fault: RouteFault) -> Cause
     ensures { result ≡ route_cause layout fault }
 {
+    let placement = placement_of(layout);
     match fault {
         RouteFault::Unreachable { net, sink } => Cause::Unreachable {
-            placement: layout.placement,
+            placement,
             net,
             sink,
         },
         RouteFault::GaveUp { logs, tallies } => Cause::GaveUp {
-            placement: layout.placement,
+            placement,
             logs,
             tallies,
         },
@@ -100,11 +101,12 @@ fn made_of(text: Vec<u8>, alloc: Global, layout: Layout, routed: Routed) -> Resu
     ensures tallies { IfOk result (λ made. made.tallies.items ≡ routed.tallies.items) }
     ensures stop { IfErr result (λ cause. cause ≡ out_of_memory) }
 {
+    let (placement, tallies) = (placement_of(layout), tallies_of(routed));
     match one_text(alloc, text) {
         Ok(texts) => Ok(Made {
             texts,
-            placement: layout.placement,
-            tallies: routed.tallies,
+            placement,
+            tallies,
         }),
         Err(NoMemory) => Err(Cause::NoMemory),
     }
@@ -127,7 +129,10 @@ fn sum_up(
 {
     match summary_text(alloc, chip, number, &layout, nets, &routed) {
         Ok(text) => made_of(text, alloc, layout, routed),
-        Err(NoMemory) => Err(Cause::NoMemory),
+        Err(NoMemory) => {
+            drop((layout, routed));
+            Err(Cause::NoMemory)
+        }
     }
 }
 
@@ -181,7 +186,10 @@ fn route_layout<G: Gate + Sync, R: Threads + Sync>(
 {
     match nets_in(alloc, chip, &layout) {
         Ok(nets) => route_nets(rt, alloc, gate, request, chip, sound, layout, &nets),
-        Err(NoMemory) => Err(Cause::NoMemory),
+        Err(NoMemory) => {
+            drop(layout);
+            Err(Cause::NoMemory)
+        }
     }
 }
 

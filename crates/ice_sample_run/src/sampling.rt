@@ -36,7 +36,11 @@ fn make_on<G: Gate + Sync, R: Threads + Sync>(
     ensures refused { IfErr result (λ cause. IsRefusal (BlifStands request.now.number chip.now) cause) }
 {
     match read_sample_net(alloc, request.number) {
-        Ok(sound) => route_sound(rt, alloc, gate, request, chip, &sound),
+        Ok(sound) => {
+            let made = route_sound(rt, alloc, gate, request, chip, &sound);
+            drop(sound);
+            made
+        }
         Err(cause) => Err(cause),
     }
 }

@@ -3,8 +3,9 @@ use anyhow::{Result, bail};
 use ice_base::Name;
 use ice_pads::PinFault;
 use ice_place::PlaceFault;
+use std::io;
 
-fn say_name(rt: &impl Print, name: &Name) -> Result<()> {
+fn say_name(rt: &impl Print, name: &Name) -> io::Result<()> {
     print!(rt; " ")?;
     for byte in name.as_bytes() {
         print!(rt; "{}", char::from(*byte))?;
@@ -28,19 +29,18 @@ fn word_of(fault: &PinFault) -> &'static str {
 }
 
 // Where a fault of pins is: its lines, its port, or the counts.
-fn say_place_of(rt: &impl Print, fault: &PinFault) -> Result<()> {
+fn say_place_of(rt: &impl Print, fault: &PinFault) -> io::Result<()> {
     match fault {
         PinFault::UnknownPin { line } | PinFault::UnknownPort { line } => {
-            print!(rt; " line {line}")?;
+            print!(rt; " line {line}")
         }
         PinFault::PinTwice { first, second } | PinFault::PortTwice { first, second } => {
-            print!(rt; " lines {first} {second}")?;
+            print!(rt; " lines {first} {second}")
         }
-        PinFault::NoPadLeft { port } | PinFault::PadLacks { port } => say_name(rt, port)?,
-        PinFault::TooManyGlobals { need, have } => print!(rt; " need {need} have {have}")?,
-        PinFault::NoPackage | PinFault::NoMemory => {}
+        PinFault::NoPadLeft { port } | PinFault::PadLacks { port } => say_name(rt, port),
+        PinFault::TooManyGlobals { need, have } => print!(rt; " need {need} have {have}"),
+        PinFault::NoPackage | PinFault::NoMemory => Ok(()),
     }
-    Ok(())
 }
 
 // What pin constraints are refused for.

@@ -9,9 +9,10 @@ use ice_nets::nets_of;
 use ice_pads::Pads;
 use ice_place::Placement;
 use std::alloc::Global;
+use std::io;
 
 // The pad and the pull-up of each port, and the number of each global.
-pub(crate) fn say_pads(rt: &impl Print, pads: &Pads) -> Result<()> {
+pub(crate) fn say_pads(rt: &impl Print, pads: &Pads) -> io::Result<()> {
     for (number, (pad, pullup)) in pads.ports().iter().zip(pads.pullups()).enumerate() {
         print!(rt;
             "port {number} pad {} {} {} ",
@@ -26,7 +27,7 @@ pub(crate) fn say_pads(rt: &impl Print, pads: &Pads) -> Result<()> {
 }
 
 // The targets of a sink, with a stroke between them.
-fn say_sink(rt: &impl Print, sink: &Sink) -> Result<()> {
+fn say_sink(rt: &impl Print, sink: &Sink) -> io::Result<()> {
     for (place, target) in sink.targets().iter().enumerate() {
         let before = if place == 0 { ' ' } else { '|' };
         print!(rt; "{before}{}", target.0)?;
@@ -34,13 +35,12 @@ fn say_sink(rt: &impl Print, sink: &Sink) -> Result<()> {
     Ok(())
 }
 
-fn say_net(rt: &impl Print, net: &Net) -> Result<()> {
+fn say_net(rt: &impl Print, net: &Net) -> io::Result<()> {
     print!(rt; "net {} root {} sinks", net.net.0, net.root.0)?;
     for sink in net.sinks.as_slice() {
         say_sink(rt, sink)?;
     }
-    println!(rt; "")?;
-    Ok(())
+    println!(rt; "")
 }
 
 // The tile of each cluster, the wire length, and the nets.

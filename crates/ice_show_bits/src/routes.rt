@@ -19,10 +19,9 @@ use std::io::{self, Print, Write};
 use std::thread::Threads;
 
 // Says a text behind a line with its title.
-fn say_text(rt: &impl Print, title: &str, text: &[u8]) -> Result<()> {
+fn say_text(rt: &impl Print, title: &str, text: &[u8]) -> io::Result<()> {
     println!(rt; "{title}")?;
-    io::writer(rt).write_all(text)?;
-    Ok(())
+    io::writer(rt).write_all(text)
 }
 
 // Says the report on the routes of a placed design that has so many nets, of rounds with these logs.
@@ -35,7 +34,8 @@ fn say_report(
     routed: bool,
 ) -> Result<()> {
     let text = report_text(alloc, layout, nets, logs, routed)?;
-    say_text(rt, "report", &text)
+    say_text(rt, "report", &text)?;
+    Ok(())
 }
 
 // Says the text of the bits of a placed and routed design.
@@ -50,7 +50,8 @@ fn say_bits(
     requires trees { AreTrees chip.now (plan_in layout.now) (routes_in routed.now) }
 {
     let text = bits_text(alloc, chip, layout, routed)?;
-    say_text(rt, "bits", &text)
+    say_text(rt, "bits", &text)?;
+    Ok(())
 }
 
 // Says the report and the bits of a placed and routed design that has so many nets.

@@ -37,41 +37,37 @@ returns-in_err-built-clause-complete g c =
     (end_fault task c.args.effort.rounds c.in_ok-layout.layout c.in_err-built.field-0.0 c.in_ok-layout.ensures.laid c.in_err-built.ensures.fault))
 
 -- ---- the bits have no circuit
-pub returns-in_err-check_loops-clause-fault : goal.returns-in_err-check_loops-clause-fault
-returns-in_err-check_loops-clause-fault g c =
-    let p = err_from_is_err_and c.from_residual-in_err-check_loops.result c.from_residual-in_err-check_loops.ensures.1 in
+pub returns-in-Err-clause-fault : goal.returns-in-Err-clause-fault
+returns-in-Err-clause-fault g c =
     let task = task_of c.args.chip.now c.args.name.now c.args.pcf.now c.args.sound.now in
     let made = built task c.args.effort.rounds c.in_ok-layout.layout c.in_ok-built.built c.in_ok-layout.ensures.laid
     (c.layouts_stand_on_their_chip.ensures c.args.name.now c.args.pcf.now c.in_ok-layout.layout c.in_ok-layout.ensures.laid) c.in_ok-built.ensures.finished in
-    rw (p.1, p.2) (bits_stop task c.args.effort.rounds c.in_ok-built.built c.in_err-check_loops.field-0.0 made c.in_err-check_loops.ensures.fault)
+    bits_stop task c.args.effort.rounds c.in_ok-built.built c.in-Err.fault made c.in-Err.ensures.fault
 
-pub returns-in_err-check_loops-clause-complete : goal.returns-in_err-check_loops-clause-complete
-returns-in_err-check_loops-clause-complete g c =
-    let p = err_from_is_err_and c.from_residual-in_err-check_loops.result c.from_residual-in_err-check_loops.ensures.1 in
+pub returns-in-Err-clause-complete : goal.returns-in-Err-clause-complete
+returns-in-Err-clause-complete g c =
     let task = task_of c.args.chip.now c.args.name.now c.args.pcf.now c.args.sound.now in
     let made = built task c.args.effort.rounds c.in_ok-layout.layout c.in_ok-built.built c.in_ok-layout.ensures.laid
     (c.layouts_stand_on_their_chip.ensures c.args.name.now c.args.pcf.now c.in_ok-layout.layout c.in_ok-layout.ensures.laid) c.in_ok-built.ensures.finished in
-    rw (p.1, p.2)
-    (complete task c.args.effort.rounds (Err c.in_err-check_loops.field-0.0)
-    (bits_stop task c.args.effort.rounds c.in_ok-built.built c.in_err-check_loops.field-0.0 made c.in_err-check_loops.ensures.fault))
+    complete task c.args.effort.rounds (Err c.in-Err.fault) (bits_stop task c.args.effort.rounds c.in_ok-built.built c.in-Err.fault made c.in-Err.ensures.fault)
 
 -- ---- the bits are built
-pub returns-clause-built : goal.returns-clause-built
-returns-clause-built g c =
+pub returns-in-Ok-clause-built : goal.returns-in-Ok-clause-built
+returns-in-Ok-clause-built g c =
     built (task_of c.args.chip.now c.args.name.now c.args.pcf.now c.args.sound.now) c.args.effort.rounds c.in_ok-layout.layout c.in_ok-built.built c.in_ok-layout.ensures.laid
     (c.layouts_stand_on_their_chip.ensures c.args.name.now c.args.pcf.now c.in_ok-layout.layout c.in_ok-layout.ensures.laid) c.in_ok-built.ensures.finished
 
-pub returns-clause-circuit : goal.returns-clause-circuit
-returns-clause-circuit g c =
+pub returns-in-Ok-clause-circuit : goal.returns-in-Ok-clause-circuit
+returns-in-Ok-clause-circuit g c =
     let laid = c.in_ok-layout.ensures.laid in
     let stands = c.layouts_stand_on_their_chip.ensures c.args.name.now c.args.pcf.now c.in_ok-layout.layout laid in
     let finished = c.in_ok-built.ensures.finished in
     circuit c.args.sound.now c.args.chip.now c.in_ok-layout.layout c.in_ok-built.built finished.same
     (c.realised_layouts_show_their_netlist.ensures c.args.chip.now c.args.name.now c.args.pcf.now c.in_ok-layout.layout (routes_in c.in_ok-built.built.routed) c.in_ok-built.built.bits laid stands finished.written
-    (c.in_ok-built.ensures.realised (no_loop c.args.chip.now (bits_of c.in_ok-built.built.bits) c.in_ok-built.ensures.loopless c.in_ok-check_loops.ensures.loopless)))
+    (c.in_ok-built.ensures.realised (no_loop c.args.chip.now (bits_of c.in_ok-built.built.bits) c.in_ok-built.ensures.loopless c.in-Ok.ensures.loopless)))
 
-pub returns-clause-complete : goal.returns-clause-complete
-returns-clause-complete g c =
+pub returns-in-Ok-clause-complete : goal.returns-in-Ok-clause-complete
+returns-in-Ok-clause-complete g c =
     let task = task_of c.args.chip.now c.args.name.now c.args.pcf.now c.args.sound.now in
     complete task c.args.effort.rounds (Ok c.in_ok-built.built)
     (built task c.args.effort.rounds c.in_ok-layout.layout c.in_ok-built.built c.in_ok-layout.ensures.laid

@@ -6,8 +6,8 @@ use Rattle.ice_sample_run.proofs.Refusing.{refused_behind}
 use Rattle.ice_sample_run.proofs.Standing.{net_so}
 use Rattle.ice_sample_run.proofs.sampling.make_on.Goals as goal
 
-pub route_sound-requires-clause-asked : goal.route_sound-requires-clause-asked
-route_sound-requires-clause-asked g c κs within =
+pub route_sound-made-requires-clause-asked : goal.route_sound-made-requires-clause-asked
+route_sound-made-requires-clause-asked g c κs within =
     record { is_chip = c.requires.chip; is_name = refl; no_constraints = refl; is_circuit = c.in-Ok.ensures.netlist; is_sound = c.in-Ok.ensures.sound }
 
 pub returns-in-Err-clause-refused : goal.returns-in-Err-clause-refused
@@ -17,5 +17,5 @@ pub returns-in-Ok-clause-refused : goal.returns-in-Ok-clause-refused
 returns-in-Ok-clause-refused g c =
     let number = c.args.request.now.number in
     let parts = c.args.chip.now in
-    refused_behind (BlifStands number parts) (TaskStands (task_of parts package_name [] c.in-Ok.sound)) c.route_sound.result
-    (λ cause m. net_so number parts c.in-Ok.sound cause c.in-Ok.ensures.netlist c.in-Ok.ensures.sound m) c.route_sound.ensures.refused
+    refused_behind (BlifStands number parts) (TaskStands (task_of parts package_name [] c.in-Ok.sound)) c.route_sound-made.result
+    (λ cause m. net_so number parts c.in-Ok.sound cause c.in-Ok.ensures.netlist c.in-Ok.ensures.sound m) c.route_sound-made.ensures.refused
