@@ -1,8 +1,8 @@
 //! The run of a case, and what is said of it.
 use crate::pieces::{number_at, word_at};
 use crate::texts::{Text, find};
-use ice_base::{Name, lines_of, number_of, words_of};
-use ice_desk::{DeskCall, Gate, MeetGate, MemoryDesk, OpenGate};
+use ice_base::{Name, NetNo, lines_of, number_of, words_of};
+use ice_desk::{DeskCall, Gate, MeetGate, MemoryDesk};
 use ice_flow::run;
 use itoa::Buffer;
 use std::alloc::{AllocError, Global};
@@ -44,6 +44,34 @@ impl<'a> Setting<'a> {
             gate: &[],
             shows: &[],
             finds: &[],
+        }
+    }
+}
+
+// What the workers of a case pass.
+#[derive(Drop)]
+enum CaseGate {
+    /// Nothing.
+    Open,
+    /// A gate at which two workers meet.
+    Meeting(MeetGate),
+}
+
+impl CaseGate {
+    // The gate of a case with this line.
+    fn of(line: &[u8]) -> CaseGate {
+        if line.is_empty() {
+            return CaseGate::Open;
+        }
+        CaseGate::Meeting(MeetGate::new())
+    }
+}
+
+impl Gate for CaseGate {
+    fn pass(&self, worker: u32, net: NetNo) {
+        match self {
+            CaseGate::Open => {}
+            CaseGate::Meeting(gate) => gate.pass(worker, net),
         }
     }
 }
@@ -201,13 +229,13 @@ fn add_number(out: &mut Vec<u8>, before: &[u8], number: u64) -> Result<(), Alloc
 }
 
 // Does what words ask for, and adds the status behind this, and what was said.
-fn add_run<R: Threads + Sync, G: Gate + Sync>(
+fn add_run<R: Threads + Sync>(
     rt: &R,
     out: &mut Vec<u8>,
     before: &[u8],
     line: &[u8],
     desk: &mut MemoryDesk,
-    gate: &G,
+    gate: &CaseGate,
 ) -> Result<(), AllocError> {
     let alloc = *out.allocator();
     let words = words_behind(alloc, line)?;
@@ -232,12 +260,12 @@ fn add_shown(out: &mut Vec<u8>, case: &Setting<'_>, desk: &MemoryDesk) -> Result
 }
 
 // Adds the runs of a case, whose workers pass this gate.
-fn add_runs<R: Threads + Sync, G: Gate + Sync>(
+fn add_runs<R: Threads + Sync>(
     rt: &R,
     out: &mut Vec<u8>,
     case: &Setting<'_>,
     desk: &mut MemoryDesk,
-    gate: &G,
+    gate: &CaseGate,
 ) -> Result<(), AllocError> {
     add_run(rt, out, b": status ", case.words, desk, gate)?;
     if case.then.is_empty() {
@@ -246,15 +274,11 @@ fn add_runs<R: Threads + Sync, G: Gate + Sync>(
     add_run(rt, out, b"then status ", case.then, desk, gate)
 }
 
-// Adds the runs of a case whose workers pass a gate at which two meet, how often they passed it, and whether two met.
-fn add_meeting<R: Threads + Sync>(
-    rt: &R,
-    out: &mut Vec<u8>,
-    case: &Setting<'_>,
-    desk: &mut MemoryDesk,
-) -> Result<(), AllocError> {
-    let gate = MeetGate::new();
-    add_runs(rt, out, case, desk, &gate)?;
+// Adds how often a gate at which two workers meet was passed, and whether two met.
+fn add_meeting(out: &mut Vec<u8>, gate: &CaseGate) -> Result<(), AllocError> {
+    let CaseGate::Meeting(gate) = gate else {
+        return Ok(());
+    };
     add_number(out, b"gate passed ", gate.passes())?;
     out.extend_from_slice(if gate.met() {
         b", two workers met\n"
@@ -272,11 +296,9 @@ fn add_answer<R: Threads + Sync>(
 ) -> Result<(), AllocError> {
     out.extend_from_slice(case.group)?;
     add_number(out, b" ", u64::from(case.number))?;
-    if case.gate.is_empty() {
-        add_runs(rt, out, case, desk, &OpenGate)?;
-    } else {
-        add_meeting(rt, out, case, desk)?;
-    }
+    let gate = CaseGate::of(case.gate);
+    add_runs(rt, out, case, desk, &gate)?;
+    add_meeting(out, &gate)?;
     add_shown(out, case, desk)
 }
 
