@@ -3,6 +3,7 @@ use crate::asked::{Asked, expect};
 use crate::claims::expect_that;
 use ice_base::{BitAt, NoMemory, TileAt, lines_of, name_of};
 use ice_chip::{BitList, ChipFault, ChipParts, Function, TileKind, TileLine};
+use ice_chip_faults::shared_function;
 use ice_small_chips::{Change, Sample, number_at, word_at};
 use std::alloc::Global;
 use std::process::Abort;
@@ -126,7 +127,7 @@ fn expect_shared(rt: &impl Abort, alloc: Global, functions: &[u8], lines: (u32, 
     let mut parts = ChipParts::new(alloc, 5, 1, 4);
     add_tiles(&mut parts, &KINDS).expect(rt, "memory");
     add_pairs(rt, alloc, &mut parts, functions);
-    let shared = parts.shared_function(alloc).expect(rt, "memory");
+    let shared = shared_function(alloc, &parts).expect(rt, "memory");
     drop(parts);
     expect_that(rt, shared == Some(lines), functions);
 }

@@ -14,7 +14,7 @@ use Rattle.ice_chip.specs.Lookups.{wire_named, placed_at, placed_wire, placed_na
 use Rattle.ice_chip.specs.WholeFaults.{same_placed}
 use Rattle.ice_chip.specs.Places.{same_pad, same_tile}
 use Rattle.ice_chip.specs.declared.rows.Pad.{Pad}
-use Rattle.ice_chip.specs.declared.whole.PlacedName.{PlacedName}
+use Rattle.ice_chip.specs.declared.placed.PlacedName.{PlacedName}
 use Rattle.ice_bits.specs.Configuration.{Bits}
 use Rattle.ice_base.proofs.Keys.{tile_self}
 use Rattle.std.proofs.lemmas.Option.{same_Some, none-some}

@@ -6,4 +6,3 @@ pub mod Uses
 pub mod Graphs
 pub mod CellOrders
 pub mod Faulty
-pub mod Pushed

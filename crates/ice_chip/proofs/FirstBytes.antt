@@ -1,11 +1,7 @@
 -- A name with another first byte is no name of a wire of cells or pads, nor of a global.
-use Rattle.std.proofs.Common.{◌≡◌, ℕ, ◌==◌, false, Option, None, Some, List, [], ◌∷◌, refl, ap}
+use Rattle.std.proofs.Common.{◌≡◌, ℕ, ◌==◌, false, None, List, [], ◌∷◌, refl}
 use Rattle.std.specs.Prelude.{◌||◌}
 use Rattle.std.proofs.lemmas.Bool.{or_parts}
-use Rattle.std.specs.Option.{option_map_or}
-use Rattle.ice_chip.specs.PinNames.{is_input_of, is_output_of}
-use Rattle.ice_chip.specs.SharedPins.{is_pin}
-use Rattle.ice_chip.specs.declared.parts.TileLine.{TileLine}
 use Rattle.ice_chip.specs.FirstBytes.{may_be_wire}
 use Rattle.ice_chip.specs.WireNames.{tile_wire}
 
@@ -20,8 +16,3 @@ not_begun (a ∷ name) e =
     let third = or_parts ((a == 108) || (a == 105)) (a == 103) fourth.0 in
     let second = or_parts (a == 108) (a == 105) third.0 in
     by_byte a name second.0 second.1 third.1 fourth.1 last.1
-
--- a name of no such wire is that of no pin
-pub no_pin : (tile : Option TileLine) (name : List ℕ) → tile_wire name ≡ None → is_pin tile name ≡ false
-no_pin None name e = refl
-no_pin (Some tile) name e = ap (λ wire. option_map_or (is_input_of tile.kind) wire false || option_map_or (is_output_of tile.kind) wire false) e

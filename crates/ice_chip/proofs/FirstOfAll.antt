@@ -4,7 +4,7 @@ use Rattle.std.specs.Prelude.{◌⊎◌}
 use Rattle.std.proofs.lemmas.Grind.{common_steps}
 use Rattle.ice_chip.specs.FirstShared.{AreShared, AreFirstShared}
 use Rattle.ice_chip.specs.SharedFunction.{clash, two_lines, clashes_with, clashes, precedes, first_of}
-use Rattle.ice_chip.specs.declared.shared.BitUse.{BitUse}
+use Rattle.ice_chip.specs.declared.uses.BitUse.{BitUse}
 
 -- ---- the order of lines
 not_self : (p : ℕ × ℕ) → precedes p p ≡ false

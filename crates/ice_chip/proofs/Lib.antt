@@ -11,12 +11,8 @@ mod RowPlaces
 pub mod Prefixes
 mod WireNamesRead
 mod FunctionNamesRead
-mod DerivedEquality
-mod SharedLaws
-mod PlacedTexts
 mod FirstBytes
 mod FirstOfAll
-mod EachNumber
+pub mod EachNumber
 mod NeededNames
 mod LackingLaws
-mod SharedPinSteps

@@ -4,7 +4,7 @@ use Rattle.std.specs.Map.{lookup}
 use Rattle.std.specs.List.{list_any, position_or_len}
 use Rattle.ice_base.specs.declared.number.TileAt.{TileAt}
 use Rattle.ice_base.specs.Names.{with_name, number_of_name}
-use Rattle.ice_chip.specs.declared.whole.PlacedName.{PlacedName}
+use Rattle.ice_chip.specs.declared.placed.PlacedName.{PlacedName}
 use Rattle.ice_chip.specs.declared.index.NumberedName.{NumberedName}
 use Rattle.ice_chip.specs.Places.{same_tile}
 use Rattle.ice_chip.specs.WholeFaults.{same_placed}

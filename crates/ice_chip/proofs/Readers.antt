@@ -17,7 +17,7 @@ use Rattle.ice_chip.specs.declared.index.RowPlace.{RowPlace}
 use Rattle.ice_chip.specs.declared.rows.Group.{Group}
 use Rattle.ice_chip.specs.declared.rows.Pad.{Pad}
 use Rattle.ice_chip.specs.declared.rows.Row.{Row}
-use Rattle.ice_chip.specs.declared.whole.PlacedName.{PlacedName}
+use Rattle.ice_chip.specs.declared.placed.PlacedName.{PlacedName}
 use Rattle.ice_chip.proofs.Firsts.{lookup-firsts}
 use Rattle.ice_base.proofs.Keys.{nat_same, tile_same}
 use Rattle.ice_chip.proofs.Keys.{pad_same}

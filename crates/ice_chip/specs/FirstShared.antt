@@ -2,7 +2,7 @@
 use Rattle.std.specs.Prelude.{◌≡◌, ℕ, true, false, Option, None, Some, List, ◌∷◌, ◌++◌}
 use Rattle.ice_chip.specs.Database.{Parts}
 use Rattle.ice_chip.specs.SharedFunction.{bit_uses, clash, two_lines, precedes, shared_function}
-use Rattle.ice_chip.specs.declared.shared.BitUse.{BitUse}
+use Rattle.ice_chip.specs.declared.uses.BitUse.{BitUse}
 
 -- two uses, one behind the other in the list, clash and have these lines
 pub record AreShared (uses : List BitUse) (lines : ℕ × ℕ) : Type 0 where

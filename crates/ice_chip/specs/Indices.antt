@@ -9,7 +9,7 @@ use Rattle.ice_chip.specs.Places.{same_tile, same_pad}
 use Rattle.ice_chip.specs.WholeFaults.{placed}
 use Rattle.ice_chip.specs.Lookups.{in_group, enable_counts}
 use Rattle.ice_chip.specs.declared.rows.Pad.{Pad}
-use Rattle.ice_chip.specs.declared.whole.PlacedName.{PlacedName}
+use Rattle.ice_chip.specs.declared.placed.PlacedName.{PlacedName}
 use Rattle.ice_chip.specs.declared.index.NumberedName.{NumberedName}
 use Rattle.ice_chip.specs.declared.index.RowPlace.{RowPlace}
 

@@ -22,10 +22,7 @@ pub mod WholeFaults
 pub mod Within
 pub mod LeastLine
 pub mod SharedFunction
-pub mod BitsUsed
-pub mod UsedViews
 pub mod LacksFunction
 pub mod FirstShared
 pub mod FirstLacking
-pub mod PlacedTexts
 pub mod FirstBytes

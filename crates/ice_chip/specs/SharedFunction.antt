@@ -7,8 +7,8 @@ use Rattle.ice_chip.specs.Functions.{is_read, is_foreign, same_kind}
 use Rattle.ice_chip.specs.Places.{tile_known}
 use Rattle.ice_chip.specs.declared.rows.TileKind.{TileKind}
 use Rattle.ice_chip.specs.declared.parts.TileLine.{TileLine}
-use Rattle.ice_chip.specs.declared.shared.KindBit.{KindBit}
-use Rattle.ice_chip.specs.declared.shared.BitUse.{BitUse}
+use Rattle.ice_chip.specs.declared.uses.KindBit.{KindBit}
+use Rattle.ice_chip.specs.declared.uses.BitUse.{BitUse}
 
 abbrev pub same_bit : KindBit → KindBit → Bool
 same_bit a b = same_kind a.kind b.kind && ((a.bit.row == b.bit.row) && (a.bit.col == b.bit.col))

@@ -8,8 +8,8 @@ use Rattle.ice_chip.specs.Places.{same_tile, tile_known}
 use Rattle.ice_chip.specs.PinNames.{is_global_name, is_input_name, is_output_name}
 use Rattle.ice_chip.specs.WholeFaults.{placed, unless_clash}
 use Rattle.ice_chip.specs.declared.parts.TileLine.{TileLine}
-use Rattle.ice_chip.specs.declared.whole.PlacedName.{PlacedName}
-use Rattle.ice_chip.specs.declared.pins.PinLine.{PinLine}
+use Rattle.ice_chip.specs.declared.placed.PlacedName.{PlacedName}
+use Rattle.ice_chip.specs.declared.placed.PinLine.{PinLine}
 
 -- an input or output name of the tile at its place; where no tile stands, a name has no effect
 abbrev pub is_pin : Option TileLine → List ℕ → Bool

@@ -6,8 +6,8 @@ use Rattle.ice_base.specs.declared.number.BitAt.{BitAt}
 use Rattle.ice_chip.specs.Database.{SwitchGroup, WireName}
 use Rattle.ice_chip.specs.Places.{same_tile, columns, tile_known}
 use Rattle.ice_chip.specs.declared.parts.TileLine.{TileLine}
-use Rattle.ice_chip.specs.declared.whole.PlacedName.{PlacedName}
-use Rattle.ice_chip.specs.declared.whole.WireLine.{WireLine}
+use Rattle.ice_chip.specs.declared.placed.PlacedName.{PlacedName}
+use Rattle.ice_chip.specs.declared.placed.WireLine.{WireLine}
 
 -- ---- a group at a place without a tile
 abbrev pub lacks_tile : Option TileLine → Bool

@@ -1,7 +1,6 @@
 //! A chip: the rows of a database in which no fault is, each found at once.
 ghost use Rattle.std.specs.Prelude.{◌≡◌, ◌<◌, None, Some, IsSome, IfOk, map, length, slice_get, option_map};
 ghost use Rattle.std.specs.Map.{lookup};
-ghost use Rattle.ice_chip.specs.Answers.{Answers, chip_of};
 ghost use Rattle.ice_chip.specs.IsRead.{IsRead, IsChip};
 ghost use Rattle.ice_chip.specs.Whole.{whole_fault};
 ghost use Rattle.ice_chip.specs.Indices.{row_at, enables_of};
@@ -9,12 +8,11 @@ ghost use Rattle.ice_chip.specs.Places.{same_pad};
 ghost use Rattle.ice_chip.specs.Lookups.{tile_of, kind_at, names_of, wire_named, rows_of, package_of, global_of, ieren_of, colbuf_of, function_of};
 ghost use Rattle.ice_chip.specs.Views.{function_view, row_view, group_view, package_view, parts_view};
 
-use crate::both::both;
 use crate::index::RowPlace;
 use crate::indices::{PlaceIndex, ServerIndex, WireIndex};
 use crate::name_places::place_of;
-use crate::{ChipFault, ChipParts, Function, Group, Package, Pad, PlacedName, Row, Tile, TileKind};
-use ice_base::{NoMemory, RowNo, TileAt, WireNo};
+use crate::{ChipParts, Function, Group, Package, Pad, PlacedName, Row, Tile, TileKind};
+use ice_base::{NoMemory, RowNo, TileAt, WireNo, both};
 use indexmap::IndexMap;
 use std::alloc::Global;
 use std::marker::Model;
@@ -45,6 +43,26 @@ impl Model for Chip {
 }
 
 impl Chip {
+    /// The chip of rows that have no fault, neither in a line of theirs nor as a whole. It fails for want of memory alone.
+    pub fn new(alloc: Global, parts: ChipParts) -> Result<Chip, NoMemory>
+        requires read { IsRead (parts_view parts) }
+        requires faultless { whole_fault (parts_view parts) ≡ None }
+        ensures { IfOk result (λ chip. chip ≡ parts_view parts) }
+    {
+        let wires = WireIndex::new(alloc, &parts);
+        let servers = both(wires, ServerIndex::new(alloc, &parts));
+        let Ok(((wires, servers), places)) = both(servers, PlaceIndex::new(alloc, &parts)) else {
+            drop(parts);
+            return Err(NoMemory);
+        };
+        Ok(Chip {
+            parts,
+            wires,
+            servers,
+            places,
+        })
+    }
+
     /// The tiles in the order of the text.
     pub fn tiles(&self) -> &[Tile]
         ensures { result.now ≡ map tile_of self.now.tiles }
@@ -172,45 +190,4 @@ fn row_in(groups: &[Group], place: RowPlace) -> (&Group, &Row)
 {
     let group = &groups[place.group];
     (group, &group.rows[place.row])
-}
-
-/// The chip of these rows, or the first fault of the whole.
-///
-/// It asks that no line of the rows has a fault, as of those that are read from a text (`IsRead`): places, wires, pads and
-/// globals are in range, bits have one of the forms of some tile, each switch row has one value for each bit of its group,
-/// no tile and no function that is read stands twice, the limits are kept, and only functions that are kept are there. The
-/// number of each group's first row is how many rows the groups before it have, and a package's pads are the different ones
-/// of its pins. The rows are taken to stand in the order of their lines, as those of a text do: whether there is a fault
-/// doesn't rest on that, but which lines are told of it does.
-pub fn build(alloc: Global, parts: ChipParts) -> Result<Chip, ChipFault>
-    requires { IsRead (parts_view parts) }
-    ensures { Answers result (chip_of (parts_view parts)) }
-{
-    let fault = match parts.whole_fault(alloc) {
-        Ok(None) => return Ok(indexed(alloc, parts)?),
-        Ok(Some(fault)) => fault,
-        Err(NoMemory) => ChipFault::NoMemory,
-    };
-    drop(parts);
-    Err(fault)
-}
-
-// The chip of rows without a fault.
-fn indexed(alloc: Global, parts: ChipParts) -> Result<Chip, NoMemory>
-    requires read { IsRead (parts_view parts) }
-    requires faultless { whole_fault (parts_view parts) ≡ None }
-    ensures { IfOk result (λ chip. chip ≡ parts_view parts) }
-{
-    let wires = WireIndex::new(alloc, &parts);
-    let servers = both(wires, ServerIndex::new(alloc, &parts));
-    let Ok(((wires, servers), places)) = both(servers, PlaceIndex::new(alloc, &parts)) else {
-        drop(parts);
-        return Err(NoMemory);
-    };
-    Ok(Chip {
-        parts,
-        wires,
-        servers,
-        places,
-    })
 }

@@ -6,8 +6,7 @@ ghost use Rattle.ice_chip.specs.Indices.{with_first, firsts, enables_of};
 ghost use Rattle.ice_chip.specs.Views.{function_view, parts_view};
 ghost use Rattle.ice_chip.specs.BufferKinds.{IsOfKinds};
 
-use crate::lacking::has_column_buffers;
-use crate::{ChipParts, Function, Pad, Tile, TileKind, TileLine};
+use crate::{ChipParts, Function, Pad, Tile, TileKind, TileLine, has_column_buffers};
 use ice_base::{NoMemory, TileAt};
 use indexmap::IndexMap;
 use std::alloc::Global;

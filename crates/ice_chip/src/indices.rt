@@ -3,14 +3,13 @@ ghost use Rattle.std.specs.Prelude.{◌<◌, All, IfOk};
 ghost use Rattle.ice_chip.specs.IndexForms.{IsWireIndex, IsServerIndex, IsPlaceIndex};
 ghost use Rattle.ice_chip.specs.Views.{parts_view};
 
-use crate::both::both;
 use crate::index::{RowPlace, column_buffers, globals, input_enables, tiles};
 use crate::lists::names_by_wire;
 use crate::name_places::{FunctionPlaces, places_of_packages};
 use crate::names::NameIndex;
 use crate::places::row_places;
 use crate::{ChipParts, Pad, PlacedName, Tile};
-use ice_base::{NoMemory, TileAt};
+use ice_base::{NoMemory, TileAt, both};
 use indexmap::IndexMap;
 use std::alloc::Global;
 

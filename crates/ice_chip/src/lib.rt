@@ -2,33 +2,29 @@
 //! and the rows of global buffers, input enables and column buffers.
 #![tactic(auto)]
 
-mod both;
 mod chip;
 mod digits;
 mod fault;
-mod faults;
 mod function_laws;
 mod function_names;
 mod functions;
+mod has_functions;
 mod index;
 mod indices;
-mod lacking;
-mod least;
 mod lists;
 mod name_places;
 mod names;
 mod parts;
 mod pin_names;
-mod pins;
+mod placed;
 mod places;
 mod rows;
-mod shared;
 mod tile;
-mod whole;
+mod uses;
 mod wire_names;
 mod wire_text;
 
-pub use chip::{Chip, build};
+pub use chip::Chip;
 pub use digits::{digit, number_behind, number_within};
 pub use fault::ChipFault;
 pub use function_laws::{lacks_function_is_first, shared_function_is_first};
@@ -37,14 +33,14 @@ pub use function_names::{
     falling_clock_function, function_names_are_read, input_enable_function, pin_type_function,
     pull_up_function, tile_function,
 };
-pub use functions::{function_line, is_foreign, is_read, same_kind};
+pub use functions::{function_line, is_foreign, is_logic_cell, is_read, same_kind};
+pub use has_functions::{has_column_buffers, has_function};
 pub use parts::{ChipParts, Package, TileLine};
 pub use pin_names::{cell_pin, is_global_name, is_input_name, is_memory_name, is_output_name};
-pub use pins::PinLine;
+pub use placed::{PinLine, PlacedName, WireLine};
 pub use rows::{BitList, Function, Group, NameRow, Pad, Row, TileKind, ValueList};
-pub use shared::{BitUse, KindBit};
 pub use tile::Tile;
-pub use whole::{PlacedName, WireLine};
+pub use uses::{BitUse, KindBit};
 pub use wire_names::{
     TileWire, carry_in_name, carry_out_name, clock_enable_name, clock_name, fabout_name,
     first_carry_name, global_name, input_name, look_up_name, output_enable_name, output_name,

@@ -12,8 +12,8 @@ use Rattle.ice_chip.specs.Places.{tile_known}
 use Rattle.ice_chip.specs.WholeFaults.{same_placed, placed, wire_line, with_placed, with_name, name_of_two_wires}
 use Rattle.ice_chip.specs.declared.parts.TileLine.{TileLine}
 use Rattle.ice_chip.specs.declared.rows.TileKind.{TileKind}
-use Rattle.ice_chip.specs.declared.whole.PlacedName.{PlacedName}
-use Rattle.ice_chip.specs.declared.whole.WireLine.{WireLine}
+use Rattle.ice_chip.specs.declared.placed.PlacedName.{PlacedName}
+use Rattle.ice_chip.specs.declared.placed.WireLine.{WireLine}
 use Rattle.ice_value.specs.Order.{Has}
 use Rattle.ice_chip_laws.specs.Names.{HasNames}
 use Rattle.ice_chip_laws.proofs.FaultFree.{no_fault}

@@ -13,8 +13,8 @@ use Rattle.ice_chip.specs.Places.{same_tile, tile_known}
 use Rattle.ice_chip.specs.SharedPins.{is_pin, same_pin, pin_line, with_pin, with_pin_name, shared_from}
 use Rattle.ice_chip.specs.WholeFaults.{placed}
 use Rattle.ice_chip.specs.declared.parts.TileLine.{TileLine}
-use Rattle.ice_chip.specs.declared.pins.PinLine.{PinLine}
-use Rattle.ice_chip.specs.declared.whole.PlacedName.{PlacedName}
+use Rattle.ice_chip.specs.declared.placed.PinLine.{PinLine}
+use Rattle.ice_chip.specs.declared.placed.PlacedName.{PlacedName}
 use Rattle.ice_value.specs.Order.{Has}
 use Rattle.ice_chip_laws.specs.Pins.{is_pin_in, is_pin_name, pin_of, AreOnePin, IsPinOf, IsOnePin, HasPins}
 use Rattle.ice_chip_laws.proofs.FaultFree.{no_fault}

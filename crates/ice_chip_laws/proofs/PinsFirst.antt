@@ -11,8 +11,8 @@ use Rattle.ice_chip.specs.Places.{same_tile, tile_known}
 use Rattle.ice_chip.specs.SharedPins.{is_pin, same_pin, pin_line, with_pin, with_pin_name, shared_from}
 use Rattle.ice_chip.specs.WholeFaults.{placed, unless_clash}
 use Rattle.ice_chip.specs.declared.parts.TileLine.{TileLine}
-use Rattle.ice_chip.specs.declared.pins.PinLine.{PinLine}
-use Rattle.ice_chip.specs.declared.whole.PlacedName.{PlacedName}
+use Rattle.ice_chip.specs.declared.placed.PinLine.{PinLine}
+use Rattle.ice_chip.specs.declared.placed.PlacedName.{PlacedName}
 use Rattle.ice_chip_laws.specs.FirstPins.{AreTwoPins, SharedPinIsFirst}
 use Rattle.ice_chip_laws.specs.FirstTwo.{AreLinesOfFirst}
 use Rattle.ice_base.proofs.Booleans.{or_true}

@@ -5,7 +5,7 @@ use Rattle.std.proofs.lemmas.Bool.{and_parts}
 use Rattle.ice_base.proofs.Keys.{bytes_same, bytes_self, tile_same, tile_self}
 use Rattle.ice_chip.specs.declared.rows.TileKind.{TileKind}
 use Rattle.ice_chip.specs.declared.rows.TileKind.TheVariants.{Io, Logic, RamBottom, RamTop}
-use Rattle.ice_chip.specs.declared.whole.PlacedName.{PlacedName}
+use Rattle.ice_chip.specs.declared.placed.PlacedName.{PlacedName}
 use Rattle.ice_chip.specs.Functions.{same_kind}
 use Rattle.ice_chip.specs.Places.{same_tile}
 use Rattle.ice_chip.specs.WholeFaults.{same_placed}

@@ -17,7 +17,7 @@ use Rattle.ice_chip.specs.Within.{IsBit, IsKept}
 use Rattle.ice_chip.specs.SharedFunction.{bit_use, function_uses, group_uses, bit_uses, clash, two_lines}
 use Rattle.ice_chip.specs.declared.parts.TileLine.{TileLine}
 use Rattle.ice_chip.specs.declared.rows.TileKind.{TileKind}
-use Rattle.ice_chip.specs.declared.shared.BitUse.{BitUse}
+use Rattle.ice_chip.specs.declared.uses.BitUse.{BitUse}
 use Rattle.ice_chip_laws.specs.Bits.{function_place, IsReadAt, HasOwnBits}
 use Rattle.ice_value.specs.Order.{At, Has}
 use Rattle.ice_chip_laws.proofs.FaultFree.{no_fault}

@@ -4,7 +4,7 @@ use Rattle.ice_chip.specs.Database.{Parts}
 use Rattle.ice_chip.specs.Lookups.{kind_at, names_of}
 use Rattle.ice_chip.specs.PinNames.{is_global_name, is_input_name, is_output_name}
 use Rattle.ice_chip.specs.declared.rows.TileKind.{TileKind}
-use Rattle.ice_chip.specs.declared.whole.PlacedName.{PlacedName}
+use Rattle.ice_chip.specs.declared.placed.PlacedName.{PlacedName}
 use Rattle.ice_chip_laws.specs.Names.{HasName}
 
 -- the name is an input or output name in a tile of the kind

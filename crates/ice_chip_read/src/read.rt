@@ -13,7 +13,8 @@ use crate::reading::{Reading, close};
 use crate::rows::row_line;
 use crate::section::heading_named;
 use ice_base::{NoMemory, PlainLine, PlainLines, begins_with, lines_of, plain_lines};
-use ice_chip::{Chip, ChipFault, ChipParts, build};
+use ice_chip::{Chip, ChipFault, ChipParts};
+use ice_chip_faults::build;
 use std::alloc::Global;
 
 /// One line more. After an error what is read is of no use.

@@ -11,7 +11,7 @@ use Rattle.ice_chip.specs.PinNames.{is_global_name, is_output_of, is_input_name,
 use Rattle.ice_chip.specs.Places.{same_tile}
 use Rattle.ice_chip.specs.declared.rows.TileKind.{TileKind}
 use Rattle.ice_chip.specs.declared.rows.TileKind.TheVariants.{Io, Logic, RamBottom, RamTop}
-use Rattle.ice_chip.specs.declared.whole.PlacedName.{PlacedName}
+use Rattle.ice_chip.specs.declared.placed.PlacedName.{PlacedName}
 use Rattle.ice_chip.specs.WireNames.{global_name, tile_wire}
 use Rattle.ice_chip.specs.declared.wire_names.TileWire.{TileWire}
 use Rattle.ice_chip.specs.declared.wire_names.TileWire.TheVariants.{Global}

@@ -15,7 +15,7 @@ use Rattle.ice_chip.specs.PinNames.{is_global_name, cell_pin, is_output_of, is_i
 use Rattle.ice_chip.specs.WireNames.{global_name, cell_wire, outer_wire, tile_wire}
 use Rattle.ice_chip.specs.declared.rows.TileKind.{TileKind}
 use Rattle.ice_chip.specs.declared.rows.TileKind.TheVariants.{Io, Logic, RamBottom, RamTop}
-use Rattle.ice_chip.specs.declared.whole.PlacedName.{PlacedName}
+use Rattle.ice_chip.specs.declared.placed.PlacedName.{PlacedName}
 use Rattle.ice_chip.specs.declared.wire_names.TileWire.{TileWire}
 use Rattle.ice_chip.specs.declared.wire_names.TileWire.TheVariants as wire
 use Rattle.ice_chip.proofs.Prefixes.{digit_is, number_within_read, set_number}

@@ -10,7 +10,7 @@ use Rattle.ice_chip.specs.Database.{Parts, WireName}
 use Rattle.ice_chip.specs.IsRead.{IsRead}
 use Rattle.ice_chip.specs.Lookups.{wire_named, placed_at, placed_wire, placed_names, is_placed, global_of}
 use Rattle.ice_chip.specs.WholeFaults.{same_placed}
-use Rattle.ice_chip.specs.declared.whole.PlacedName.{PlacedName}
+use Rattle.ice_chip.specs.declared.placed.PlacedName.{PlacedName}
 use Rattle.ice_bits.specs.Configuration.{Bits}
 use Rattle.ice_value.specs.Inputs.{present}
 use Rattle.ice_value.specs.Order.{At, Has}

@@ -13,7 +13,7 @@ use Rattle.ice_chip.specs.Places.{same_tile}
 use Rattle.ice_chip.specs.Lookups.{colbuf_of, names_of}
 use Rattle.ice_chip.specs.PinNames.{is_global_name}
 use Rattle.ice_chip.specs.declared.rows.Pad.{Pad}
-use Rattle.ice_chip.specs.declared.whole.PlacedName.{PlacedName}
+use Rattle.ice_chip.specs.declared.placed.PlacedName.{PlacedName}
 use Rattle.ice_bits.specs.Configuration.{Bits}
 use Rattle.ice_bits.specs.Settings.{set_at}
 use Rattle.ice_net.specs.declared.drive.Drive.{Drive}

@@ -14,7 +14,7 @@ use Rattle.ice_chip.specs.Places.{same_pad, same_tile}
 use Rattle.ice_chip.specs.PinNames.{is_memory_name}
 use Rattle.ice_chip.specs.WireNames.{pad_input_name}
 use Rattle.ice_chip.specs.declared.rows.Pad.{Pad}
-use Rattle.ice_chip.specs.declared.whole.PlacedName.{PlacedName}
+use Rattle.ice_chip.specs.declared.placed.PlacedName.{PlacedName}
 use Rattle.ice_chip.proofs.Keys.{pad_same}
 use Rattle.ice_base.proofs.Keys.{tile_self, nat_self}
 use Rattle.ice_decode.specs.declared.driver.Switch.{Switch}

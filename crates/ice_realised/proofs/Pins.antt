@@ -10,7 +10,7 @@ use Rattle.ice_chip.specs.PinNames.{is_global_name}
 use Rattle.ice_chip.specs.WireNames.{input_name, output_name, carry_out_name, clock_name, clock_enable_name, set_reset_name, first_carry_name, pad_input_name, pad_output_name, output_enable_name, fabout_name, global_name}
 use Rattle.ice_chip.specs.declared.rows.TileKind.{TileKind}
 use Rattle.ice_chip.specs.declared.rows.TileKind.TheVariants.{Io, Logic}
-use Rattle.ice_chip.specs.declared.whole.PlacedName.{PlacedName}
+use Rattle.ice_chip.specs.declared.placed.PlacedName.{PlacedName}
 use Rattle.ice_chip_laws.specs.Laws.{IsLawful}
 use Rattle.ice_chip_laws.specs.Pins.{is_pin_in}
 use Rattle.ice_decode.specs.declared.role.Role.{Role}

@@ -22,7 +22,7 @@ use Rattle.ice_chip.specs.Within.{IsPad, ArePads, IsPackage}
 use Rattle.ice_chip.specs.declared.function_names.TileFunction.{TileFunction}
 use Rattle.ice_chip.specs.declared.function_names.TileFunction.TheVariants.{Cell, FallingClock, CarrySet, PinType, InputEnable, PullUp, ColumnBuffer}
 use Rattle.ice_chip.specs.declared.rows.Pad.{Pad}
-use Rattle.ice_chip.specs.declared.whole.PlacedName.{PlacedName}
+use Rattle.ice_chip.specs.declared.placed.PlacedName.{PlacedName}
 use Rattle.ice_chip.proofs.Keys.{pad_same}
 use Rattle.ice_chip.proofs.Prefixes.{set_number}
 use Rattle.ice_chip_laws.specs.Laws.{IsLawful}

@@ -11,7 +11,7 @@ use Rattle.ice_chip.specs.Database.{Parts, SwitchGroup, SwitchRow}
 use Rattle.ice_chip.specs.Lookups.{rows_of, names_of}
 use Rattle.ice_chip.specs.PinNames.{is_global_name}
 use Rattle.ice_chip.specs.Places.{same_tile}
-use Rattle.ice_chip.specs.declared.whole.PlacedName.{PlacedName}
+use Rattle.ice_chip.specs.declared.placed.PlacedName.{PlacedName}
 use Rattle.ice_decode.specs.Meaning.{global_at}
 use Rattle.ice_decode.specs.Roles.{number_at}
 use Rattle.ice_wiring.specs.Settings.{Setting}

@@ -2,7 +2,6 @@ mod Marks
 mod Counting
 mod Taking
 mod Openers
-mod Pushed
 pub mod OriginSteps
 pub mod UseLaws
 pub mod LutLaws

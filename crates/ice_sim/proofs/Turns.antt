@@ -1,7 +1,7 @@
 -- One more turn of the loops that compile netlists and chips, and that read and write texts.
 use Rattle.std.proofs.Common.{◌≡◌, ℕ, suc, ◌+◌, ◌<◌, List, [], ◌∷◌, ◌++◌, length, drop, take, map, get_or, Option, Some, Bool, refl, ap, sym, ◌∙◌, arith, append_assoc}
 use Rattle.std.specs.List.{flat_map}
-use Rattle.std.proofs.lemmas.List.{at_drop_more, take_more, map_more, flat_map_more}
+use Rattle.std.proofs.lemmas.List.{at_drop_more, take_more, flat_map_more}
 use Rattle.ice_base.specs.declared.number.TileAt.{TileAt}
 use Rattle.ice_base.specs.Lists.{all_known}
 use Rattle.ice_chip.specs.Database.{Parts}
@@ -88,15 +88,6 @@ digits_more all old new word i d x lt e pushed is =
     e ∙ digit_added old word i d x lt is ∙ ap (λ levels. levels_and levels (all_known (map digit_level (drop (i + 1) word)))) (sym pushed)
 
 -- ---- what was taken of a list
-pub mapped_more : {X Y : Type 0} (f : X → Y) (d : X) (start old new : List Y) (xs : List X) (i : ℕ) (y : Y) → i < length xs → old ≡ start ++ map f (take i xs)
-    → new ≡ old ++ y ∷ [] → y ≡ f (get_or xs i d) → new ≡ start ++ map f (take (i + 1) xs)
-mapped_more f d start old new xs i y lt e pushed is =
-    pushed
-    ∙ ap (λ ys. ys ++ y ∷ []) e
-    ∙ append_assoc start (map f (take i xs)) (y ∷ [])
-    ∙ ap (λ z. start ++ (map f (take i xs) ++ z ∷ [])) is
-    ∙ ap (λ ys. start ++ ys) (sym (map_more f xs i d lt))
-
 flat_taken : {X A : Type 0} (f : X → List A) (d : X) (old new : List A) (xs : List X) (i : ℕ) → i < length xs → old ≡ flat_map f (take i xs) → new ≡ old ++ f (get_or xs i d)
     → new ≡ flat_map f (take (i + 1) xs)
 flat_taken f d old new xs i lt e pushed =

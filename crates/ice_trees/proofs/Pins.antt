@@ -13,7 +13,7 @@ use Rattle.ice_chip.specs.PinNames.{is_global_name, is_input_of, is_output_of, i
 use Rattle.ice_chip.specs.WireNames.{IsNamedWire, IsTileWire, WireNamesAreRead, tile_wire, wire_name}
 use Rattle.ice_chip.specs.declared.rows.TileKind.{TileKind}
 use Rattle.ice_chip.specs.declared.rows.TileKind.TheVariants.{Io, Logic, RamBottom, RamTop}
-use Rattle.ice_chip.specs.declared.whole.PlacedName.{PlacedName}
+use Rattle.ice_chip.specs.declared.placed.PlacedName.{PlacedName}
 use Rattle.ice_chip.specs.declared.wire_names.TileWire.{TileWire}
 use Rattle.ice_chip.specs.declared.wire_names.TileWire.TheVariants.{CellInput, CellOutput, CarryOut, LookUp, Clock, ClockEnable, SetReset, CarryIn, FirstCarry, PadInput, PadOutput, OutputEnable, Fabout, Global}
 use Rattle.ice_chip_laws.specs.Laws.{IsLawful}

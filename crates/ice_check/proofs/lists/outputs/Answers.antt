@@ -1,6 +1,6 @@
 use Rattle.std.proofs.Common.{◌∙◌, ap, arith}
 use Rattle.ice_net.specs.Drivers.{output_of}
-use Rattle.ice_check.proofs.Pushed.{mapped_push, mapped_all}
+use Rattle.ice_base.proofs.Pushed.{mapped_push, mapped_all}
 use Rattle.ice_check.proofs.lists.outputs.Goals as goal
 
 pub loop-cell-preserved : goal.loop-cell-preserved

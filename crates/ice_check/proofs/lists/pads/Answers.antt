@@ -1,6 +1,6 @@
 use Rattle.std.proofs.Common.{◌+◌, ◌∙◌, ap, sym, map, take, length, arith}
 use Rattle.ice_net.specs.Drivers.{pad_of}
-use Rattle.ice_check.proofs.Pushed.{mapped_push, mapped_all}
+use Rattle.ice_base.proofs.Pushed.{mapped_push, mapped_all}
 use Rattle.ice_check.proofs.lists.pads.Goals as goal
 
 pub loop-port-preserved : goal.loop-port-preserved

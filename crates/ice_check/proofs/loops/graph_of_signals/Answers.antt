@@ -4,7 +4,7 @@ use Rattle.ice_net.specs.declared.driver.Driver.{Driver}
 use Rattle.ice_net.specs.Meaning.{reads, depends_on}
 use Rattle.ice_check.specs.Loops.{IsGraphOf}
 use Rattle.ice_check.proofs.Graphs.{signals_graph}
-use Rattle.ice_check.proofs.Pushed.{mapped_push, mapped_all}
+use Rattle.ice_base.proofs.Pushed.{mapped_push, mapped_all}
 use Rattle.ice_check.proofs.loops.graph_of_signals.Goals as goal
 
 pub loop-driver-preserved : goal.loop-driver-preserved

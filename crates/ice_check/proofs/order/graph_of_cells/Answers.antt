@@ -2,7 +2,7 @@ use Rattle.std.proofs.Common.{◌≡◌, List, ℕ, length, map, subst, sym, ap,
 use Rattle.std.proofs.lemmas.List.{take_all}
 use Rattle.ice_check.specs.Loops.{IsGraphOf, cells_before}
 use Rattle.ice_check.proofs.CellOrders.{row_of, cells_graph}
-use Rattle.ice_check.proofs.Pushed.{mapped_push}
+use Rattle.ice_base.proofs.Pushed.{mapped_push}
 use Rattle.ice_check.proofs.order.graph_of_cells.Goals as goal
 
 pub loop-cell-preserved : goal.loop-cell-preserved

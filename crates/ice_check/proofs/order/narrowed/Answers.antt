@@ -1,6 +1,6 @@
 use Rattle.std.proofs.Common.{◌∙◌, arith, refl}
 use Rattle.std.proofs.lemmas.List.{take_all}
-use Rattle.ice_check.proofs.Pushed.{copied_push}
+use Rattle.ice_base.proofs.Pushed.{copied_push}
 use Rattle.ice_check.proofs.order.narrowed.Goals as goal
 
 pub loop-point-preserved : goal.loop-point-preserved

@@ -1,6 +1,6 @@
 use Rattle.std.proofs.Common.{◌≡◌, ◌+◌, Bool, true, false, List, ◌∷◌, Some, find, drop, get_or, refl, sym, ap, ◌∙◌}
 use Rattle.std.proofs.lemmas.List.{at_drop_more, at_drop_all}
-use Rattle.ice_chip.specs.declared.whole.PlacedName.{PlacedName}
+use Rattle.ice_chip.specs.declared.placed.PlacedName.{PlacedName}
 use Rattle.ice_chip_laws.specs.Pins.{is_pin_name}
 use Rattle.ice_chip_laws.proofs.pins.first_pin.Goals as goal
 

@@ -1,7 +1,7 @@
 use Rattle.std.proofs.Common.{◌∙◌, ap, map, arith}
 use Rattle.std.proofs.lemmas.List.{take_all}
 use Rattle.ice_cells.specs.Uses.{taker_of}
-use Rattle.ice_share.proofs.Pushed.{mapped_push}
+use Rattle.ice_base.proofs.Pushed.{mapped_push}
 use Rattle.ice_share.proofs.known.takers_by.Goals as goal
 
 pub loop-read-preserved : goal.loop-read-preserved

@@ -1,7 +1,7 @@
 use Rattle.std.proofs.Common.{◌∙◌, ap, map, arith}
 use Rattle.std.proofs.lemmas.List.{take_all}
 use Rattle.ice_cells.specs.Pairs.{role_of}
-use Rattle.ice_share.proofs.Pushed.{mapped_push}
+use Rattle.ice_base.proofs.Pushed.{mapped_push}
 use Rattle.ice_share.proofs.pairing.roles_of.Goals as goal
 
 pub loop-cell-preserved : goal.loop-cell-preserved

@@ -1,7 +1,0 @@
-use Rattle.std.proofs.Common.{◌≡◌, drop, map, None}
-use Rattle.ice_chip.specs.LacksFunction.{wrong_bits}
-use Rattle.ice_chip.specs.Views.{function_view, parts_view}
-use Rattle.ice_chip.proofs.parts.ChipParts.wrong_bits.Given as goal
-
-abbrev pub invariant-loop-function : goal.invariant-loop-function
-invariant-loop-function l = wrong_bits (parts_view l.self).tiles None (parts_view l.self).functions ≡ wrong_bits (parts_view l.self).tiles l.known (map function_view (drop l.function-index l.self.functions.items))

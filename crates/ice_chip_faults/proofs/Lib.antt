@@ -1,0 +1,5 @@
+mod PlacedTexts
+mod SharedPinSteps
+mod DerivedEquality
+mod SharedLaws
+mod NoPins

@@ -1,0 +1,3 @@
+pub mod BitsUsed
+pub mod UsedViews
+pub mod PlacedTexts
