@@ -31,6 +31,25 @@ pub struct Setting<'a> {
     pub finds: &'a [u8],
 }
 
+/// The parts of a setting that lines say.
+#[derive(Clone, Copy)]
+pub enum Part {
+    /// The words of the run.
+    Words,
+    /// The words of a second run.
+    Then,
+    /// How many bytes a call of the desk moves.
+    Moves,
+    /// The calls that fail.
+    Fails,
+    /// The gate of the workers.
+    Gate,
+    /// The files that are told.
+    Shows,
+    /// The lines of a file that are told.
+    Finds,
+}
+
 impl<'a> Setting<'a> {
     /// Nothing but the name of the group.
     pub fn new(group: &'a [u8]) -> Setting<'a> {
@@ -44,6 +63,19 @@ impl<'a> Setting<'a> {
             gate: &[],
             shows: &[],
             finds: &[],
+        }
+    }
+
+    /// Lets this line say the part.
+    pub fn set(&mut self, part: Part, line: &'a [u8]) {
+        match part {
+            Part::Words => self.words = line,
+            Part::Then => self.then = line,
+            Part::Moves => self.moves = line,
+            Part::Fails => self.fails = line,
+            Part::Gate => self.gate = line,
+            Part::Shows => self.shows = line,
+            Part::Finds => self.finds = line,
         }
     }
 }
@@ -121,15 +153,22 @@ fn files_of(
     Ok(files)
 }
 
+// The kinds of calls by their words, but for that of saying.
+const CALLS: [(&[u8], DeskCall); 4] = [
+    (b"begin", DeskCall::Begin),
+    (b"read", DeskCall::Read),
+    (b"make", DeskCall::Make),
+    (b"put", DeskCall::Put),
+];
+
 // The kind of call that a word names.
 fn call_of(word: &[u8]) -> DeskCall {
-    match word {
-        b"begin" => DeskCall::Begin,
-        b"read" => DeskCall::Read,
-        b"make" => DeskCall::Make,
-        b"put" => DeskCall::Put,
-        _ => DeskCall::Say,
+    for (name, call) in &CALLS {
+        if *name == word {
+            return *call;
+        }
     }
+    DeskCall::Say
 }
 
 // The calls of a line: each number is that of a call of the kind before it.

@@ -1,6 +1,6 @@
 //! Groups of cases, line by line.
-use crate::answer::{Setting, answer};
-use crate::pieces::{Draft, word_at};
+use crate::answer::{Part, Setting, answer};
+use crate::pieces::{Draft, Piece, word_at};
 use crate::texts::Text;
 use ice_base::NoMemory;
 use std::alloc::{AllocError, Global};
@@ -15,6 +15,49 @@ enum Stage {
     Group,
     /// A case.
     Case,
+}
+
+/// What a line does.
+#[derive(Clone, Copy)]
+enum Does {
+    /// It begins a text.
+    Text,
+    /// It begins a group.
+    Group,
+    /// It begins a case.
+    Case,
+    /// It says what holds for a case.
+    Sets(Part),
+    /// It adds a piece to the text that is made.
+    Adds(Piece),
+}
+
+// What a line does, by its first word.
+const WORDS: [(&[u8], Does); 14] = [
+    (b"text", Does::Text),
+    (b"group", Does::Group),
+    (b"case", Does::Case),
+    (b"words", Does::Sets(Part::Words)),
+    (b"then", Does::Sets(Part::Then)),
+    (b"moves", Does::Sets(Part::Moves)),
+    (b"fails", Does::Sets(Part::Fails)),
+    (b"gate", Does::Sets(Part::Gate)),
+    (b"shows", Does::Sets(Part::Shows)),
+    (b"finds", Does::Sets(Part::Finds)),
+    (b"until", Does::Adds(Piece::Until)),
+    (b"copy", Does::Adds(Piece::Copy)),
+    (b"sample", Does::Adds(Piece::Sample)),
+    (b"netlist", Does::Adds(Piece::Netlist)),
+];
+
+// What a line of this first word does, where a word says it.
+fn said_by(first: &[u8]) -> Option<Does> {
+    for (word, does) in &WORDS {
+        if *word == first {
+            return Some(*does);
+        }
+    }
+    None
 }
 
 /// The texts so far, and what holds for the group and for the case.
@@ -115,37 +158,34 @@ impl<'a> Cases<'a> {
         }
     }
 
-    // Adds a piece to the text that is made. Whether the line is one.
-    fn add_piece(&mut self, alloc: Global, line: &[u8]) -> Result<bool, NoMemory> {
+    // Adds a piece to the text that is made. Whether there is one.
+    fn add_piece(&mut self, alloc: Global, piece: Piece, line: &[u8]) -> Result<bool, NoMemory> {
         let Some(draft) = &mut self.draft else {
             return Ok(false);
         };
-        match word_at(line, 0) {
-            b"until" => draft.until(&self.texts, line)?,
-            b"copy" => draft.copy(&self.texts, line)?,
-            b"sample" => draft.sample(alloc, line)?,
-            b"netlist" => draft.netlist(line)?,
-            _ => return Ok(draft.add_marked(&self.texts, line)?),
-        }
+        draft.add(alloc, &self.texts, piece, line)?;
         Ok(true)
+    }
+
+    // Adds a line of a mark to the text that is made. Whether the line is one, and there is such a text.
+    fn add_marked(&mut self, line: &[u8]) -> Result<bool, NoMemory> {
+        match &mut self.draft {
+            Some(draft) => Ok(draft.add_marked(&self.texts, line)?),
+            None => Ok(false),
+        }
     }
 
     /// Does what a line says. Whether it is a line of cases.
     pub fn follow(&mut self, alloc: Global, line: &'a [u8]) -> Result<bool, NoMemory> {
-        match word_at(line, 0) {
-            b"" => {}
-            [b'#', ..] => {}
-            b"text" => self.begin_text(alloc, word_at(line, 1), word_at(line, 2))?,
-            b"group" => self.begin_group(line),
-            b"case" => self.begin_case(alloc)?,
-            b"words" => self.case.words = line,
-            b"then" => self.case.then = line,
-            b"moves" => self.case.moves = line,
-            b"fails" => self.case.fails = line,
-            b"gate" => self.case.gate = line,
-            b"shows" => self.case.shows = line,
-            b"finds" => self.case.finds = line,
-            _ => return self.add_piece(alloc, line),
+        let first = word_at(line, 0);
+        match said_by(first) {
+            Some(Does::Text) => self.begin_text(alloc, word_at(line, 1), word_at(line, 2))?,
+            Some(Does::Group) => self.begin_group(line),
+            Some(Does::Case) => self.begin_case(alloc)?,
+            Some(Does::Sets(part)) => self.case.set(part, line),
+            Some(Does::Adds(piece)) => return self.add_piece(alloc, piece, line),
+            None if first.is_empty() || first.starts_with(b"#") => {}
+            None => return self.add_marked(line),
         }
         Ok(true)
     }

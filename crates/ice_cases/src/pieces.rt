@@ -5,6 +5,19 @@ use ice_sample::{sample_chip, sample_net};
 use itoa::Buffer;
 use std::alloc::{AllocError, Global};
 
+/// The pieces that a line adds by its first word.
+#[derive(Clone, Copy)]
+pub enum Piece {
+    /// The lines up to a number.
+    Until,
+    /// Another text, so many times.
+    Copy,
+    /// A sample chip.
+    Sample,
+    /// A sample netlist.
+    Netlist,
+}
+
 /// A text that is made. It follows another one, whose lines from `next` on are still to come.
 #[derive(Drop)]
 pub struct Draft<'a> {
@@ -140,28 +153,45 @@ impl<'a> Draft<'a> {
         Ok(())
     }
 
-    /// Adds the lines up to the number of a line, and no later ones.
-    pub fn until(&mut self, texts: &[Text<'_>], line: &[u8]) -> Result<(), AllocError> {
+    /// Adds the piece that a line says.
+    pub fn add(
+        &mut self,
+        alloc: Global,
+        texts: &[Text<'_>],
+        piece: Piece,
+        line: &[u8],
+    ) -> Result<(), NoMemory> {
+        match piece {
+            Piece::Until => self.until(texts, line),
+            Piece::Copy => self.copy(texts, line),
+            Piece::Sample => self.sample(alloc, line),
+            Piece::Netlist => self.netlist(line),
+        }
+    }
+
+    // Adds the lines up to the number of a line, and no later ones.
+    fn until(&mut self, texts: &[Text<'_>], line: &[u8]) -> Result<(), NoMemory> {
         self.follow_to(texts, number_at(line, 1, 0))?;
         self.base = &[];
         Ok(())
     }
 
-    /// Adds the text that a line names, so many times.
-    pub fn copy(&mut self, texts: &[Text<'_>], line: &[u8]) -> Result<(), AllocError> {
+    // Adds the text that a line names, so many times.
+    fn copy(&mut self, texts: &[Text<'_>], line: &[u8]) -> Result<(), NoMemory> {
         let text = text_of(texts, word_at(line, 1));
-        add_times(&mut self.bytes, text, number_at(line, 2, 1))
+        add_times(&mut self.bytes, text, number_at(line, 2, 1))?;
+        Ok(())
     }
 
-    /// Adds the text of the sample chip of the size that a line names.
-    pub fn sample(&mut self, alloc: Global, line: &[u8]) -> Result<(), NoMemory> {
+    // Adds the text of the sample chip of the size that a line names.
+    fn sample(&mut self, alloc: Global, line: &[u8]) -> Result<(), NoMemory> {
         let width = number_at(line, 1, 0).clamp(4, 64) as u16;
         let height = number_at(line, 2, 0).clamp(4, 64) as u16;
         sample_chip(alloc, width, height, &mut self.bytes)
     }
 
-    /// Adds the text of the sample netlist of the number and the cells that a line names.
-    pub fn netlist(&mut self, line: &[u8]) -> Result<(), NoMemory> {
+    // Adds the text of the sample netlist of the number and the cells that a line names.
+    fn netlist(&mut self, line: &[u8]) -> Result<(), NoMemory> {
         let number = u64::from(number_at(line, 1, 0));
         sample_net(number, number_at(line, 2, 1), &mut self.bytes)
     }
