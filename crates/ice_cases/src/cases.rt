@@ -1,8 +1,7 @@
 //! Groups of cases, line by line.
-use crate::answer::{Part, Setting, answer};
-use crate::pieces::{Draft, Piece, word_at};
-use crate::texts::Text;
+use crate::answer::answer;
 use ice_base::NoMemory;
+use ice_case_texts::{Draft, Part, Piece, Setting, Text, word_at};
 use std::alloc::{AllocError, Global};
 use std::thread::Threads;
 

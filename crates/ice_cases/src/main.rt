@@ -4,8 +4,6 @@
 
 mod answer;
 mod cases;
-mod pieces;
-mod texts;
 
 use cases::{Cases, heads};
 use ice_base::lines_of;

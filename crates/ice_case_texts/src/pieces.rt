@@ -21,9 +21,13 @@ pub enum Piece {
 /// A text that is made. It follows another one, whose lines from `next` on are still to come.
 #[derive(Drop)]
 pub struct Draft<'a> {
+    /// The name of the text.
     pub name: &'a [u8],
+    /// The name of the text that is followed.
     pub base: &'a [u8],
+    /// The number of the next line of that text.
     pub next: u32,
+    /// What is made so far.
     pub bytes: Vec<u8>,
 }
 

@@ -3,7 +3,9 @@
 /// A text with its name.
 #[derive(Drop)]
 pub struct Text<'a> {
+    /// The name.
     pub name: &'a [u8],
+    /// The text.
     pub bytes: Vec<u8>,
 }
 

@@ -1,0 +1,96 @@
+//! The desk of a case, and the words of its runs.
+use crate::pieces::number_at;
+use crate::setting::Setting;
+use crate::texts::{Text, find};
+use ice_base::{Name, number_of, words_of};
+use ice_desk::{DeskCall, MemoryDesk};
+use std::alloc::{AllocError, Global};
+use std::str;
+
+/// The text of a word; `''` is the empty one.
+pub fn word_text(word: &[u8]) -> &str {
+    if word == b"''".as_slice() {
+        return "";
+    }
+    str::from_utf8(word).unwrap_or("")
+}
+
+/// The words of a line behind its first.
+pub fn words_behind(alloc: Global, line: &[u8]) -> Result<Vec<String>, AllocError> {
+    let mut words = Vec::new(alloc);
+    for word in words_of(line).skip(1) {
+        words.push(String::from_str(alloc, word_text(word))?)?;
+    }
+    Ok(words)
+}
+
+// Adds the texts that words of a run name, as files.
+fn add_files(
+    alloc: Global,
+    files: &mut Vec<(Name, Vec<u8>)>,
+    line: &[u8],
+    texts: &[Text<'_>],
+) -> Result<(), AllocError> {
+    for word in words_of(line).skip(1) {
+        if let Some(bytes) = find(texts, word) {
+            let name = Name::from_bytes(Vec::from_slice(alloc, word)?);
+            files.push((name, Vec::from_slice(alloc, bytes)?))?;
+        }
+    }
+    Ok(())
+}
+
+// The texts that words of both runs name, as files.
+fn files_of(
+    alloc: Global,
+    case: &Setting<'_>,
+    texts: &[Text<'_>],
+) -> Result<Vec<(Name, Vec<u8>)>, AllocError> {
+    let mut files = Vec::new(alloc);
+    add_files(alloc, &mut files, case.words, texts)?;
+    add_files(alloc, &mut files, case.then, texts)?;
+    Ok(files)
+}
+
+// The kinds of calls by their words, but for that of saying.
+const CALLS: [(&[u8], DeskCall); 4] = [
+    (b"begin", DeskCall::Begin),
+    (b"read", DeskCall::Read),
+    (b"make", DeskCall::Make),
+    (b"put", DeskCall::Put),
+];
+
+// The kind of call that a word names.
+fn call_of(word: &[u8]) -> DeskCall {
+    for (name, call) in &CALLS {
+        if *name == word {
+            return *call;
+        }
+    }
+    DeskCall::Say
+}
+
+// The calls of a line: each number is that of a call of the kind before it.
+fn calls_of(alloc: Global, line: &[u8]) -> Result<Vec<(DeskCall, u64)>, AllocError> {
+    let mut calls = Vec::new(alloc);
+    let mut kind = DeskCall::Say;
+    for word in words_of(line).skip(1) {
+        match number_of(word) {
+            Some(number) => calls.push((kind, u64::from(number)))?,
+            None => kind = call_of(word),
+        }
+    }
+    Ok(calls)
+}
+
+/// The desk of a case.
+pub fn desk_of(
+    alloc: Global,
+    case: &Setting<'_>,
+    texts: &[Text<'_>],
+) -> Result<MemoryDesk, AllocError> {
+    let files = files_of(alloc, case, texts)?;
+    let fails = calls_of(alloc, case.fails)?;
+    let moves = number_at(case.moves, 1, 4096).max(1);
+    Ok(MemoryDesk::new(alloc, files, moves as usize, fails))
+}
