@@ -49,7 +49,12 @@ pub fn number_at(line: &[u8], place: usize, otherwise: u32) -> u32 {
 }
 
 // Adds the lines of a text from the first number to the last.
-fn add_lines(bytes: &mut Vec<u8>, text: &[u8], first: u32, last: u32) -> Result<(), AllocError> {
+fn add_lines_between(
+    bytes: &mut Vec<u8>,
+    text: &[u8],
+    first: u32,
+    last: u32,
+) -> Result<(), AllocError> {
     for line in lines_of(text) {
         if first <= line.number && line.number <= last {
             bytes.extend_from_slice(line.text)?;
@@ -108,7 +113,7 @@ impl<'a> Draft<'a> {
 
     /// Adds the lines of the text that is followed, up to this one.
     pub fn follow_to(&mut self, texts: &[Text<'_>], last: u32) -> Result<(), AllocError> {
-        add_lines(&mut self.bytes, text_of(texts, self.base), self.next, last)
+        add_lines_between(&mut self.bytes, text_of(texts, self.base), self.next, last)
     }
 
     /// Adds what a line of a number, a mark and a text says. Whether it is one.

@@ -7,7 +7,7 @@ use Rattle.ice_blif.specs.declared.fault.BlifFault.{BlifFault}
 use Rattle.ice_check.specs.Sound.{IsSound}
 use Rattle.ice_check.proofs.Faulty.{faulty}
 use Rattle.ice_check.specs.declared.fault.NetFault.{NetFault}
-use Rattle.ice_sim.specs.LevelTexts.{levels_of}
+use Rattle.ice_levels.specs.LevelTexts.{levels_of}
 use Rattle.ice_answer.specs.declared.cause.Cause.{Cause}
 use Rattle.ice_answer.specs.declared.cause.Cause.TheVariants.{Good, Usage, WriteFault, BadBlif, BadNet, BadLevels}
 use Rattle.ice_answer.specs.Texts.{text_at}

@@ -9,8 +9,8 @@ use Rattle.ice_check.specs.Sound.{IsSound}
 use Rattle.ice_check.specs.Refusals.{IsFaultOf}
 use Rattle.ice_check.specs.declared.fault.NetFault.TheVariants as net_fault
 use Rattle.ice_check.specs.declared.fault.NetFault.{NetFault}
-use Rattle.ice_sim.specs.LevelTexts.{levels_of}
-use Rattle.ice_sim.specs.DriveTexts.{drives_text}
+use Rattle.ice_levels.specs.LevelTexts.{levels_of}
+use Rattle.ice_levels.specs.DriveTexts.{drives_text}
 use Rattle.ice_answer.specs.declared.cause.Cause.{Cause}
 use Rattle.ice_answer.specs.declared.cause.Cause.TheVariants.{BadBlif, BadLevels}
 use Rattle.ice_answer.specs.declared.cause.FileRole.TheVariants.{Blif, Levels}

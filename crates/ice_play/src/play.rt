@@ -15,7 +15,8 @@ use ice_base::NoMemory;
 use ice_blif::read_blif;
 use ice_check::check;
 use ice_desk::Desk;
-use ice_sim::{LevelFault, play, read_levels};
+use ice_levels::{LevelFault, read_levels};
+use ice_sim::play;
 use std::alloc::Global;
 
 /// To play the netlist of one file with the levels of another.

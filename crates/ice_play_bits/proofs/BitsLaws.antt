@@ -2,7 +2,7 @@
 use Rattle.std.proofs.Common.{◌≡◌, ◌⊎◌, ℕ, Bool, List, length, Result, Ok, Err, inl, inr, refl, sym, subst}
 use Rattle.ice_desk.specs.Desk.{Meaning}
 use Rattle.ice_chip.specs.Database.{PackageRows}
-use Rattle.ice_sim.specs.LevelTexts.{levels_of}
+use Rattle.ice_levels.specs.LevelTexts.{levels_of}
 use Rattle.ice_answer.specs.declared.cause.Cause.{Cause}
 use Rattle.ice_answer.specs.declared.cause.Cause.TheVariants.{Usage, BadLevels}
 use Rattle.ice_answer.specs.Commands.{IsDone, IsTrueOf}

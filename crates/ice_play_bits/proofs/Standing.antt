@@ -3,8 +3,8 @@ use Rattle.std.proofs.Common.{◌≡◌, ℕ, Bool, List, length, Ok, subst}
 use Rattle.ice_chip.specs.Database.{Parts, PackageRows}
 use Rattle.ice_bits.specs.Configuration.{Configuration, bits_of}
 use Rattle.ice_decode.specs.Meaning.{shows}
-use Rattle.ice_sim.specs.DriveTexts.{drives_text}
-use Rattle.ice_sim.specs.LevelTexts.{levels_of}
+use Rattle.ice_levels.specs.DriveTexts.{drives_text}
+use Rattle.ice_levels.specs.LevelTexts.{levels_of}
 use Rattle.ice_answer.specs.Texts.{text_at}
 use Rattle.ice_bits_files.specs.Standing.{IsConfigured}
 use Rattle.ice_play_bits.specs.Played.{IsPlayed}

@@ -5,8 +5,8 @@ use Rattle.ice_base.specs.declared.number.TileAt.{TileAt}
 use Rattle.ice_chip.specs.Database.{Parts, PackageRows}
 use Rattle.ice_bits.specs.Configuration.{Configuration, bits_of}
 use Rattle.ice_decode.specs.Meaning.{shows}
-use Rattle.ice_sim.specs.LevelTexts.{levels_of}
-use Rattle.ice_sim.specs.DriveTexts.{drives_text}
+use Rattle.ice_levels.specs.LevelTexts.{levels_of}
+use Rattle.ice_levels.specs.DriveTexts.{drives_text}
 use Rattle.ice_answer.specs.declared.cause.Cause.{Cause}
 use Rattle.ice_answer.specs.declared.cause.Cause.TheVariants.{BadLevels}
 use Rattle.ice_answer.specs.declared.cause.FileRole.TheVariants.{Chip, Asc, Levels}

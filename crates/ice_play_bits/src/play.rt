@@ -21,8 +21,9 @@ use ice_chip_pieces::ChipReader;
 use ice_chip_texts::{ChipMaking, say_made_on_chip};
 use ice_decode::decode;
 use ice_desk::Desk;
+use ice_levels::{LevelFault, read_levels};
 use ice_pads::PinFault;
-use ice_sim::{LevelFault, play_chip, read_levels};
+use ice_sim::play_chip;
 use std::alloc::Global;
 
 /// To play the bits of one file on the chip of another, at the pads of a package, with the levels of a third file.

@@ -1,5 +1,3 @@
-pub mod StepLists
-pub mod Digits
 pub mod Feeding
 pub mod Copying
 pub mod Settling

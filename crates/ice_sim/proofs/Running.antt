@@ -14,7 +14,7 @@ use Rattle.ice_sim.specs.declared.parts.Memory.{Memory}
 use Rattle.ice_sim.specs.declared.parts.Feed.{Feed}
 use Rattle.ice_sim.specs.declared.parts.Feed.TheVariants.{Nothing, Port as FromPort, Kept, Made}
 use Rattle.ice_sim.specs.declared.plan.Plan.{Plan}
-use Rattle.ice_sim.specs.DriveTexts.{drives_line, drives_text}
+use Rattle.ice_levels.specs.DriveTexts.{drives_line, drives_text}
 use Rattle.ice_sim.specs.Slots.{level_at}
 use Rattle.ice_sim.specs.Feeds.{feed_of, port_in, kept_in, linked, gate_in, tap_of}
 use Rattle.ice_sim.specs.Sweeps.{blank, kept_levels, copied, made, tap_drive, remembered}

@@ -1,9 +1,8 @@
--- One more turn of the loops that compile netlists and chips, and that read and write texts.
-use Rattle.std.proofs.Common.{◌≡◌, ℕ, suc, ◌+◌, ◌<◌, List, [], ◌∷◌, ◌++◌, length, drop, take, map, get_or, Option, Some, Bool, refl, ap, sym, ◌∙◌, arith, append_assoc}
+-- One more turn of the loops that compile netlists and chips.
+use Rattle.std.proofs.Common.{◌≡◌, ℕ, suc, ◌+◌, ◌<◌, List, [], ◌∷◌, ◌++◌, length, drop, take, map, get_or, Option, refl, ap, sym, ◌∙◌, arith, append_assoc}
 use Rattle.std.specs.List.{flat_map}
 use Rattle.std.proofs.lemmas.List.{at_drop_more, take_more, flat_map_more}
 use Rattle.ice_base.specs.declared.number.TileAt.{TileAt}
-use Rattle.ice_base.specs.Lists.{all_known}
 use Rattle.ice_chip.specs.Database.{Parts}
 use Rattle.ice_chip.specs.declared.rows.Pad.{Pad}
 use Rattle.ice_bits.specs.Configuration.{Bits}
@@ -19,9 +18,7 @@ use Rattle.ice_sim.specs.Plans.{IsWiring}
 use Rattle.ice_sim.specs.Arrays.{links_from, gates_from}
 use Rattle.ice_sim.specs.ChipSlots.{number, point_slot}
 use Rattle.ice_sim.specs.Layouts.{Layout, placed, laid}
-use Rattle.ice_sim.specs.LevelTexts.{digit_level, levels_and}
 use Rattle.ice_sim.specs.Sites.{with_place, with_places}
-use Rattle.ice_sim.proofs.Digits.{digit_added}
 
 -- ---- what is left of a list
 module _ {X A : Type 0} (F : ℕ → List X → List A) (G : ℕ → X → List A) (cut : (i : ℕ) (x : X) (xs : List X) → F i (x ∷ xs) ≡ G i x ++ F (i + 1) xs) where
@@ -80,12 +77,6 @@ places_more d all old new tiles i k lt e pushed same =
     ∙ ap (λ n. with_places n (drop (i + 1) tiles) (with_place (get_or tiles i d) i old)) one
     ∙ ap (λ n. with_places (i + 1) (drop (i + 1) tiles) (with_place (get_or tiles i d) n old)) (sym same)
     ∙ ap (with_places (i + 1) (drop (i + 1) tiles)) (sym pushed)
-
-pub digits_more : (all : Option (List Bool)) (old new : List Bool) (word : List ℕ) (i d : ℕ) (x : Bool) → i < length word
-    → all ≡ levels_and old (all_known (map digit_level (drop i word))) → new ≡ old ++ x ∷ [] → digit_level (get_or word i d) ≡ Some x
-    → all ≡ levels_and new (all_known (map digit_level (drop (i + 1) word)))
-digits_more all old new word i d x lt e pushed is =
-    e ∙ digit_added old word i d x lt is ∙ ap (λ levels. levels_and levels (all_known (map digit_level (drop (i + 1) word)))) (sym pushed)
 
 -- ---- what was taken of a list
 flat_taken : {X A : Type 0} (f : X → List A) (d : X) (old new : List A) (xs : List X) (i : ℕ) → i < length xs → old ≡ flat_map f (take i xs) → new ≡ old ++ f (get_or xs i d)

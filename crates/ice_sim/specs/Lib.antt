@@ -1,6 +1,3 @@
-pub mod Steps
-pub mod LevelTexts
-pub mod DriveTexts
 pub mod Slots
 pub mod Feeds
 pub mod Sweeps

@@ -1,4 +1,4 @@
-//! Level texts, texts of drives, and the simulators of netlists and of configured chips.
+//! The simulators of netlists and of configured chips.
 #![tactic(auto)]
 
 mod chip_flops;
@@ -6,19 +6,15 @@ mod chip_plan;
 mod chip_playing;
 mod chip_run;
 mod chip_taps;
-mod drives;
-mod fault;
 mod feeds;
 mod flops;
 mod gates;
 mod layout;
-mod levels;
 mod parts;
 mod plan;
 mod playing;
 mod point_slots;
 mod points;
-mod reading;
 mod run;
 mod site;
 mod sweep;
@@ -26,9 +22,6 @@ mod wiring;
 
 pub use chip_playing::play_chip;
 pub use chip_run::ChipRun;
-pub use fault::LevelFault;
 pub use ice_net::Drive;
-pub use levels::{LevelSteps, Levels};
 pub use playing::play;
-pub use reading::read_levels;
 pub use run::NetRun;

@@ -5,9 +5,9 @@ use Rattle.std.specs.Prelude.{option_map}
 use Rattle.std.proofs.lemmas.List.{drop_more, length-map}
 use Rattle.std.proofs.lemmas.Bool.{lt-ltb}
 use Rattle.ice_base.specs.Lists.{all_known}
-use Rattle.ice_sim.specs.Steps.{steps_of}
-use Rattle.ice_sim.specs.LevelTexts.{digit_level, levels_and, word_levels}
-use Rattle.ice_sim.proofs.StepLists.{steps_more, suc_times}
+use Rattle.ice_levels.specs.Steps.{steps_of}
+use Rattle.ice_levels.specs.LevelTexts.{digit_level, levels_and, word_levels}
+use Rattle.ice_levels.proofs.StepLists.{steps_more, suc_times}
 
 onto : (levels : List Bool) (x : Bool) (o : Option (List Bool)) → levels_and levels (option_map (λ xs. x ∷ xs) o) ≡ levels_and (levels ++ x ∷ []) o
 onto levels x None = refl
@@ -17,6 +17,13 @@ onto levels x (Some others) = ap Some (sym (append_assoc levels (x ∷ []) other
 pub digit_added : (levels : List Bool) (word : List ℕ) (i d : ℕ) (x : Bool) → i < length word → digit_level (get_or word i d) ≡ Some x
     → levels_and levels (all_known (map digit_level (drop i word))) ≡ levels_and (levels ++ x ∷ []) (all_known (map digit_level (drop (i + 1) word)))
 digit_added levels word i d x lt e = rw (drop_more word i d lt, e) (onto levels x (all_known (map digit_level (drop (i + 1) word))))
+
+-- the same for a list that has the digit's level behind what it had
+pub digits_more : (all : Option (List Bool)) (old new : List Bool) (word : List ℕ) (i d : ℕ) (x : Bool) → i < length word
+    → all ≡ levels_and old (all_known (map digit_level (drop i word))) → new ≡ old ++ x ∷ [] → digit_level (get_or word i d) ≡ Some x
+    → all ≡ levels_and new (all_known (map digit_level (drop (i + 1) word)))
+digits_more all old new word i d x lt e pushed is =
+    e ∙ digit_added old word i d x lt is ∙ ap (λ levels. levels_and levels (all_known (map digit_level (drop (i + 1) word)))) (sym pushed)
 
 -- a word with another byte
 pub digit_refused : (levels : List Bool) (word : List ℕ) (i d : ℕ) → i < length word → digit_level (get_or word i d) ≡ None

@@ -1,7 +1,7 @@
 use Rattle.std.proofs.Common.{arith}
-use Rattle.ice_sim.specs.DriveTexts.{drive_byte}
+use Rattle.ice_levels.specs.DriveTexts.{drive_byte}
 use Rattle.ice_base.proofs.Pushed.{mapped_behind}
-use Rattle.ice_sim.proofs.drives.put_drives.Goals as goal
+use Rattle.ice_levels.proofs.drives.put_drives.Goals as goal
 
 pub loop-drive-preserved : goal.loop-drive-preserved
 loop-drive-preserved c =

@@ -1,6 +1,6 @@
 //! Texts of drives.
 ghost use Rattle.std.specs.Prelude.{◌≡◌, ◌++◌, OnOk};
-ghost use Rattle.ice_sim.specs.DriveTexts.{drive_byte, drives_line};
+ghost use Rattle.ice_levels.specs.DriveTexts.{drive_byte, drives_line};
 
 use ice_base::NoMemory;
 use ice_net::Drive;
@@ -18,7 +18,7 @@ fn drive_byte(drive: Drive) -> u8
 
 /// Adds the line of a step to a text: `.` for each port that drives nothing, `0` and `1` for each that drives a level, and a line
 /// feed. After want of memory a part of the line may have been added.
-pub(crate) fn put_drives(out: &mut Vec<u8>, drives: &[Drive]) -> Result<(), NoMemory>
+pub fn put_drives(out: &mut Vec<u8>, drives: &[Drive]) -> Result<(), NoMemory>
     ensures { OnOk result (out.new.items ≡ out.old.items ++ drives_line drives.now) }
 {
     for drive in drives {

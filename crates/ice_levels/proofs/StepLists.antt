@@ -2,8 +2,8 @@
 use Rattle.std.proofs.Common.{◌≡◌, ℕ, zero, suc, ◌+◌, ◌*◌, ◌<◌, ◌≤◌, Bool, List, [], ◌∷◌, ◌++◌, length, take, drop, All, refl, ap, arith}
 use Rattle.std.proofs.lemmas.List.{take-append-le, drop-append-le, length-drop, length-take-le, take_all}
 use Rattle.std.proofs.lemmas.List.Elements.{All-cons, All-nil}
-use Rattle.ice_sim.specs.Steps.{steps_of}
-use Rattle.ice_sim.specs.LevelTexts.{HasWidth}
+use Rattle.ice_levels.specs.Steps.{steps_of}
+use Rattle.ice_levels.specs.LevelTexts.{HasWidth}
 
 pub steps_counted : (width count : ℕ) (levels : List Bool) → length (steps_of width count levels) ≡ count
 steps_counted width zero levels = refl

@@ -3,8 +3,8 @@ use Rattle.std.specs.Prelude.{◌≡◌, ℕ, Bool, true, false, ◌==◌, ◌&&
 use Rattle.ice_base.specs.Text.{lines, numbered, words}
 use Rattle.ice_base.specs.Comments.{uncommented}
 use Rattle.ice_base.specs.Lists.{all_known}
-use Rattle.ice_sim.specs.declared.fault.LevelFault.{LevelFault}
-use Rattle.ice_sim.specs.declared.fault.LevelFault.TheVariants.{BadLine, NoMemory}
+use Rattle.ice_levels.specs.declared.fault.LevelFault.{LevelFault}
+use Rattle.ice_levels.specs.declared.fault.LevelFault.TheVariants.{BadLine, NoMemory}
 
 -- the level that a digit writes; 48 is `0` and 49 is `1`
 abbrev pub digit_level : ℕ → Option Bool

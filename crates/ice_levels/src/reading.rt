@@ -2,8 +2,8 @@
 ghost use Rattle.std.specs.Prelude.{◌≡◌, ◌≤◌, ◌+◌, ◌*◌, ◌++◌, ◌∷◌, [], true, map, length, All, Some, None, Ok, IfOk, IfErr, option_map, if◌then◌else◌};
 ghost use Rattle.ice_base.specs.Cursors.{line_view};
 ghost use Rattle.ice_base.specs.Lists.{all_known};
-ghost use Rattle.ice_sim.specs.Steps.{steps_of};
-ghost use Rattle.ice_sim.specs.LevelTexts.{digit_level, levels_and, word_levels, line_steps, then_steps, levels_of, Gives, IsRefusal, HasWidth};
+ghost use Rattle.ice_levels.specs.Steps.{steps_of};
+ghost use Rattle.ice_levels.specs.LevelTexts.{digit_level, levels_and, word_levels, line_steps, then_steps, levels_of, Gives, IsRefusal, HasWidth};
 
 use crate::{LevelFault, Levels};
 use ice_base::{Line, NoMemory, lines_of, plain_words_of};

@@ -1,6 +1,6 @@
 //! What is wrong with a text of levels.
 ghost use Rattle.std.specs.Prelude.{◌≡◌};
-ghost use Rattle.ice_sim.specs.declared.fault.LevelFault.TheVariants.{NoMemory as out_of_memory};
+ghost use Rattle.ice_levels.specs.declared.fault.LevelFault.TheVariants.{NoMemory as out_of_memory};
 
 use ice_base::NoMemory;
 use std::alloc::AllocFailed;

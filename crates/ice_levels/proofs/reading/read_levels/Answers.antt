@@ -1,7 +1,7 @@
 use Rattle.std.proofs.Common.{All, List, Bool, sym, subst}
-use Rattle.ice_sim.specs.LevelTexts.{HasWidth}
-use Rattle.ice_sim.proofs.StepLists.{steps_wide}
-use Rattle.ice_sim.proofs.reading.read_levels.Goals as goal
+use Rattle.ice_levels.specs.LevelTexts.{HasWidth}
+use Rattle.ice_levels.proofs.StepLists.{steps_wide}
+use Rattle.ice_levels.proofs.reading.read_levels.Goals as goal
 
 pub returns-clause-width : goal.returns-clause-width
 returns-clause-width c =

@@ -1,7 +1,7 @@
 use Rattle.std.proofs.Common.{◌≡◌, ◌*◌, length}
-use Rattle.ice_sim.specs.Steps.{steps_of}
-use Rattle.ice_sim.specs.LevelTexts.{lines_steps, then_steps, levels_of}
-use Rattle.ice_sim.proofs.reading.read_levels.Given as goal
+use Rattle.ice_levels.specs.Steps.{steps_of}
+use Rattle.ice_levels.specs.LevelTexts.{lines_steps, then_steps, levels_of}
+use Rattle.ice_levels.proofs.reading.read_levels.Given as goal
 
 abbrev pub invariant-loop-line : goal.invariant-loop-line
 invariant-loop-line l =

@@ -1,6 +1,6 @@
 use Rattle.std.proofs.Common.{arith, sym, ◌∙◌}
-use Rattle.ice_sim.proofs.Turns.{digits_more}
-use Rattle.ice_sim.proofs.reading.add_digits.Goals as goal
+use Rattle.ice_levels.proofs.Digits.{digits_more}
+use Rattle.ice_levels.proofs.reading.add_digits.Goals as goal
 
 pub loop-digit-preserved : goal.loop-digit-preserved
 loop-digit-preserved c =

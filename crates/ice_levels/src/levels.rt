@@ -1,6 +1,6 @@
 //! The levels of a text, step by step.
 ghost use Rattle.std.specs.Prelude.{◌≡◌, ◌*◌, length};
-ghost use Rattle.ice_sim.specs.Steps.{steps_of};
+ghost use Rattle.ice_levels.specs.Steps.{steps_of};
 
 use std::marker::Model;
 
@@ -15,7 +15,7 @@ pub struct Levels {
 
 impl Model for Levels {
     ghost use Rattle.std.specs.Prelude.{◌≡◌, ◌*◌, List, Bool, length};
-    ghost use Rattle.ice_sim.specs.Steps.{steps_of};
+    ghost use Rattle.ice_levels.specs.Steps.{steps_of};
 
     ghost Value = { List (List Bool) };
 
@@ -67,7 +67,7 @@ pub struct LevelSteps<'a> {
 
 impl<'a> Model for LevelSteps<'a> {
     ghost use Rattle.std.specs.Prelude.{◌≡◌, ◌*◌, List, Bool, length};
-    ghost use Rattle.ice_sim.specs.Steps.{steps_of};
+    ghost use Rattle.ice_levels.specs.Steps.{steps_of};
 
     ghost Value = { List (List Bool) };
 

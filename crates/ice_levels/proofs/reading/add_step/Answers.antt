@@ -1,7 +1,7 @@
 use Rattle.std.proofs.Common.{length, arith}
-use Rattle.ice_sim.proofs.Digits.{step_said, step_long}
-use Rattle.ice_sim.proofs.StepLists.{steps_few}
-use Rattle.ice_sim.proofs.reading.add_step.Goals as goal
+use Rattle.ice_levels.proofs.Digits.{step_said, step_long}
+use Rattle.ice_levels.proofs.StepLists.{steps_few}
+use Rattle.ice_levels.proofs.reading.add_step.Goals as goal
 
 pub returns-clause-step : goal.returns-clause-step
 returns-clause-step c =
