@@ -211,6 +211,14 @@ class Routes:
             self.routed = {("routed",): True, ("gave", "up"): False}[tuple(words)]
 
 
+def routes_on(chip, path):
+    """What a route report of this chip says."""
+    routes = Routes(path)
+    if any(row >= len(chip.rows) for rows in routes.trees.values() for row in rows):
+        raise Refusal(f"{path} numbers rows that the chip doesn't have: it is of another chip")
+    return routes
+
+
 def read_ports(path):
     """The ports of a pin report, in order."""
     return read(path, "a report on pins", lambda lines: [Port(line) for line in lines])
@@ -337,7 +345,10 @@ def read_bits(path):
 
 def digits_of(rows, bits):
     """The digits of bits of a tile, in their order."""
-    return "".join(rows[row][column] for row, column in bits)
+    try:
+        return "".join(rows[row][column] for row, column in bits)
+    except IndexError:
+        raise Refusal("a tile of the bits has fewer columns than the chip database says: they are of another chip") from None
 
 
 def rows_on(chip, path):
@@ -404,7 +415,7 @@ class Table:
     def step(self, number, words):
         """Takes a line of values; each step keeps its line, for what is said of it."""
         count = words.pop()[1:] if words[-1].startswith("*") else "1"
-        if not count.isdigit():
+        if not count.isdigit() or int(count) < 1:
             self.refuse(number, f"*{count} is no number of steps")
         if len(words) != len(self.columns):
             self.refuse(number, f"{len(words)} values for {len(self.columns)} columns")
