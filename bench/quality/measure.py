@@ -84,7 +84,8 @@ def main():
     seeds = os.environ.get("SEEDS", "1 2 3").split()
     BENCH = Bench(program, chip, package, folder)
     chosen = [design.name for design in designs(names)]
-    tasks = [(name, tool, seed) for name in chosen for tool in tools for seed in seeds]
+    # (seed by seed, so that a run that is cut off has whole seeds)
+    tasks = [(name, tool, seed) for seed in seeds for name in chosen for tool in tools]
     rows = kept(earlier, chosen) if earlier else []
     # (the workers are forks of this process, so that each has the chip)
     with multiprocessing.get_context("fork").Pool(int(os.environ.get("JOBS", "2"))) as pool, open(results, "w", encoding="utf-8", newline="") as file:

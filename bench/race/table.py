@@ -56,20 +56,21 @@ def ratios_of(netlists, peer, counted):
 
 
 def memory(netlists, tool):
-    return max((int(it.rows[tool]["memory"]) / 2**20 for it in netlists if tool in it.rows), default=0)
+    most = max((int(it.rows[tool]["memory"]) for it in netlists if tool in it.rows), default=None)
+    return "-" if most is None else f"{most / 2**20:.0f} MB"
 
 
 def summary(netlists):
-    print("| cells | " + " | ".join(f"{what} by {name}" for what in ("time", "instructions") for name in PEERS.values()) + " | most memory: this program, nextpnr-ice40, arachne-pnr |")
+    print("| cells | " + " | ".join(f"{what} to {name}" for what in ("time", "instructions") for name in PEERS.values()) + " | most memory: this program, nextpnr-ice40, arachne-pnr |")
     print("|---" * 6 + "|")
     for what, least, most in SIZES:
         within = [it for it in netlists if least <= it.cells < most]
         means = [ratios_of(within, peer, counted) for counted in (False, True) for peer in PEERS]
-        print(f"| {what} | " + " | ".join(means) + " | " + ", ".join(f"{memory(within, tool):.0f}" for tool in ("ours", *PEERS)) + " MB |")
+        print(f"| {what} | " + " | ".join(means) + " | " + ", ".join(memory(within, tool) for tool in ("ours", *PEERS)) + " |")
 
 
 def each(netlists):
-    print("| netlist | cells | this program | nextpnr-ice40 | arachne-pnr | time by nextpnr-ice40 | by arachne-pnr | million instructions | by nextpnr-ice40 | by arachne-pnr |")
+    print("| netlist | cells | this program | nextpnr-ice40 | arachne-pnr | time to nextpnr-ice40 | to arachne-pnr | million instructions | to nextpnr-ice40 | to arachne-pnr |")
     print("|---" * 10 + "|")
     for it in sorted(netlists, key=lambda it: it.cells):
         times = [f"{time:.2f} s" if (time := it.took(tool, False)) else it.rows[tool]["answer"] for tool in ("ours", *PEERS)]
