@@ -78,15 +78,17 @@ def main():
     with open(DIGESTS, encoding="ascii") as file:
         stored = {name: words for name, *words in (line.replace(":", "").split() for line in file if not line.startswith("#"))}
     builds, same = how != ["first"], True
-    now = {name: digests(os.path.realpath(program), os.path.realpath(show), os.path.join(folder, name), builds) for name in stored}
+    lines = []
+    for name, words in stored.items():
+        now = digests(os.path.realpath(program), os.path.realpath(show), os.path.join(folder, name), builds)
+        lines.append(f"{name}: {' '.join(now)}\n")
+        if how != ["write"]:
+            said, is_same = verdict(words, now, builds)
+            same &= is_same
+            print(f"{name}: {said}", flush=True)
     if how == ["write"]:
         with open(DIGESTS, "w", encoding="ascii") as out:
-            out.write(HEAD + "".join(f"{name}: {' '.join(words)}\n" for name, words in now.items()))
-        return 0
-    for name, words in stored.items():
-        said, is_same = verdict(words, now[name], builds)
-        same &= is_same
-        print(f"{name}: {said}")
+            out.writelines([HEAD, *lines])
     return 0 if same else 1
 
 
