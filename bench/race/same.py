@@ -10,6 +10,8 @@ The file digests has, for each of ten netlists, the SHA-256 of
 - what SHOW says of the netlist, without constraints, on the sample chip of 14 by 18 tiles, in two parts: up to the nets of the *first* placement (design, runs, clusters, pads, sites, nets), and from there
   on (each round's histories, moved nets and their trees, and the text of bits). First fit takes clusters in the order of the netlist, and no seed, no shake and no rewriting of the netlist comes
   before it, so this placement is held fixed while the placer changes: where the first part is the same, the second must be.
+On the real database, nets that no placer made are routed by bench/rounds, beside a C++ program that must say the same checksum of logs and trees.
+
 With `first` only that second kind is asked for; with `write` the file is written anew, for the netlists that it names. The status is 1 where anything differs.
 """
 import hashlib
