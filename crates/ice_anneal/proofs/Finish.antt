@@ -18,6 +18,7 @@ use Rattle.ice_board.specs.Board.{IsFree, Keeps, IsLeast}
 use Rattle.ice_plan.specs.Length.{half_perimeter}
 use Rattle.ice_sites.specs.Legal.{IsAmong, Follows, is_next, chunk_of, IsLegal}
 use Rattle.ice_anneal.specs.Least.{is_rigid, free_of, IsFull, IsSwapLeast}
+use Rattle.ice_anneal.specs.Order.{IsLinked}
 
 -- placements that agree on the clusters are of one length
 agree_nodes : (n : ℕ) (a b : List TileAt) → ((e : ℕ) → e < n → get_or a e origin ≡ get_or b e origin)
@@ -131,17 +132,14 @@ low_rigid chunks c d lt h = list_any_at (λ other. is_next (chunk_of chunks c) o
 high_rigid : (chunks : List (Option (ℕ × ℕ))) (c d : ℕ) → c < length chunks → is_next (chunk_of chunks c) (chunk_of chunks d) ≡ true → is_rigid chunks (chunk_of chunks d) ≡ true
 high_rigid chunks c d lt h = list_any_at (λ other. is_next (chunk_of chunks d) other || is_next other (chunk_of chunks d)) chunks c None lt (or_right (is_next (chunk_of chunks d) (chunk_of chunks c)) (is_next (chunk_of chunks c) (chunk_of chunks d)) h)
 
--- what keeps the rigid clusters keeps a legal placement
-pub legal_kept : (stretches : List (List TileAt)) (chunks : List (Option (ℕ × ℕ))) (extra : ℕ) (p q : List TileAt)
-    → length p ≡ length chunks + extra → Keeps (free_of chunks extra) p q → IsFull stretches p → IsLegal stretches chunks (take (length chunks) p) → IsLegal stretches chunks (take (length chunks) q)
-legal_kept stretches chunks extra p q n keeps full legal =
-    let f = full_kept stretches p q keeps.moved full in
-    let m = length_permutation p q keeps.moved in
+-- the same tiles in another order, with each run on linked sites
+pub legal_linked : (stretches : List (List TileAt)) (chunks : List (Option (ℕ × ℕ))) (p q : List TileAt)
+    → length chunks ≤ length p → IsPermutation p q → IsFull stretches p → IsLinked stretches chunks q → IsLegal stretches chunks (take (length chunks) q)
+legal_linked stretches chunks p q n moved full linked =
+    let f = full_kept stretches p q moved full in
+    let m = length_permutation p q moved in
     let lq = length-take-le (length chunks) q (omega arith) in
-    let lp = length-take-le (length chunks) p (omega arith) in
     let at : (c : ℕ) → c < length chunks → get_or (take (length chunks) q) c origin ≡ get_or q c origin = λ c lt. get_or-take (length chunks) q c origin lt in
-    let same : (c : ℕ) → c < length chunks → is_rigid chunks (chunk_of chunks c) ≡ true → get_or (take (length chunks) p) c origin ≡ get_or (take (length chunks) q) c origin
-    = λ c lt r. get_or-take (length chunks) p c origin lt ∙ (sym (keeps.rigid c (free_at chunks extra c lt ∙ ap not r)) ∙ sym (at c lt)) in
     record {
       counts = lq;
       sites = λ c lt. subst (λ (t : TileAt). IsAmong stretches t) (sym (at c (omega arith))) (f.sites c (omega arith));
@@ -149,10 +147,26 @@ legal_kept stretches chunks extra p q n keeps full legal =
       linked = λ c d lc ld h.
           let kc : c < length chunks = omega arith in
           let kd : d < length chunks = omega arith in
-          subst (λ (t : TileAt). Follows stretches t (get_or (take (length chunks) q) d origin)) (same c kc (low_rigid chunks c d kd h))
-          (subst (λ (t : TileAt). Follows stretches (get_or (take (length chunks) p) c origin) t) (same d kd (high_rigid chunks c d kc h))
-          (legal.linked c d (omega arith) (omega arith) h));
+          subst (λ (t : TileAt). Follows stretches t (get_or (take (length chunks) q) d origin)) (sym (at c kc))
+          (subst (λ (t : TileAt). Follows stretches (get_or q c origin) t) (sym (at d kd)) (linked c d kc kd h));
     }
+
+-- what keeps the rigid clusters keeps the runs on linked sites
+linked_kept : (stretches : List (List TileAt)) (chunks : List (Option (ℕ × ℕ))) (extra : ℕ) (p q : List TileAt)
+    → length p ≡ length chunks + extra → Keeps (free_of chunks extra) p q → IsLegal stretches chunks (take (length chunks) p) → IsLinked stretches chunks q
+linked_kept stretches chunks extra p q n keeps legal c d kc kd h =
+    let lp = length-take-le (length chunks) p (omega arith) in
+    let same : (c : ℕ) → c < length chunks → is_rigid chunks (chunk_of chunks c) ≡ true → get_or (take (length chunks) p) c origin ≡ get_or q c origin
+    = λ c lt r. get_or-take (length chunks) p c origin lt ∙ sym (keeps.rigid c (free_at chunks extra c lt ∙ ap not r)) in
+    subst (λ (t : TileAt). Follows stretches t (get_or q d origin)) (same c kc (low_rigid chunks c d kd h))
+    (subst (λ (t : TileAt). Follows stretches (get_or (take (length chunks) p) c origin) t) (same d kd (high_rigid chunks c d kc h))
+    (legal.linked c d (omega arith) (omega arith) h))
+
+-- and a legal placement
+pub legal_kept : (stretches : List (List TileAt)) (chunks : List (Option (ℕ × ℕ))) (extra : ℕ) (p q : List TileAt)
+    → length p ≡ length chunks + extra → Keeps (free_of chunks extra) p q → IsFull stretches p → IsLegal stretches chunks (take (length chunks) p) → IsLegal stretches chunks (take (length chunks) q)
+legal_kept stretches chunks extra p q n keeps full legal =
+    legal_linked stretches chunks p q (omega arith) keeps.moved full (linked_kept stretches chunks extra p q n keeps legal)
 
 least_any : (nets : List Net) (free : List Bool) (p : List TileAt) (count c d : ℕ) → length free ≡ length p → IsLeast nets free p count → c < count → c < length p → d < length p → IsFree free c → IsFree free d
     → wire_length nets p ≤ wire_length nets (swap p c d)

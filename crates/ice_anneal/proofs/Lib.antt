@@ -3,3 +3,5 @@ mod Fullness
 mod Wider
 pub mod Measured
 mod Repeats
+mod Orders
+mod Seatings

@@ -8,8 +8,8 @@ use ice_base::NoMemory;
 use ice_cells::Cluster;
 use std::alloc::Global;
 
-// Whether the second is the chunk behind the first one of the same run.
-fn is_next(low: Option<(u32, u32)>, high: Option<(u32, u32)>) -> bool
+/// Whether the second is the chunk behind the first one of the same run.
+pub fn is_next(low: Option<(u32, u32)>, high: Option<(u32, u32)>) -> bool
     ensures { result ≡ is_next low high }
 {
     match low {

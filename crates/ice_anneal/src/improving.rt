@@ -1,18 +1,24 @@
 //! The placement that is kept.
-ghost use Rattle.std.specs.Prelude.{◌≡◌, ℕ, ◌<◌, ◌≤◌, ◌^◌, List, length, IfOk, take};
+ghost use Rattle.std.specs.Prelude.{◌≡◌, ℕ, ◌-◌, ◌<◌, ◌≤◌, ◌^◌, List, length, IfOk, take};
 ghost use Rattle.std.specs.List.{All};
+ghost use Rattle.std.specs.List.Sorted.{IsPermutation};
 ghost use Rattle.ice_base.specs.declared.number.TileAt.{TileAt};
 ghost use Rattle.ice_sites.specs.Legal.{IsLegal};
 ghost use Rattle.ice_place.specs.Place.{AreStretches, chunks_of};
 ghost use Rattle.ice_board.specs.Length.{wire_length, IsNet};
 ghost use Rattle.ice_board.specs.Wiring.{IsWiring};
 ghost use Rattle.ice_board.specs.Board.{IsBoard, Keeps, IsLeast};
-ghost use Rattle.ice_anneal.specs.Least.{IsFull, IsSwapLeast};
+ghost use Rattle.ice_anneal.specs.Least.{free_of, IsFull, IsSwapLeast};
+ghost use Rattle.ice_anneal.specs.Order.{IsOrder};
 
 use crate::free::{chunks_of, free_of};
 use crate::full::full_of;
+use crate::linked::are_linked;
 use crate::once::nets_once;
+use crate::order::{SiteOrder, order_of};
+use crate::seating::{Seating, board_of};
 use crate::shake::anneal;
+use crate::units::units_of;
 use ice_base::{NoMemory, TileAt};
 use ice_board::{Board, Net, Wiring, wiring_of};
 use ice_cells::{Clusters, short};
@@ -42,35 +48,39 @@ fn annealed(
     alloc: Global,
     wiring: &Wiring,
     free: &[bool],
-    count: usize,
+    chunks: &[Option<(u32, u32)>],
+    order: &SiteOrder,
     place: &[TileAt],
     seed: u64,
 ) -> Result<(Board, u64), NoMemory>
     requires wiring { IsWiring (length place.now) wiring.now }
     requires free { length free.now ≡ length place.now }
-    requires some { 0 < count }
-    requires count { count ≤ length free.now }
+    requires some { 0 < length chunks.now }
+    requires count { length chunks.now ≤ length free.now }
     requires few { length free.now < 2 ^ 32 }
     ensures board { IfOk result (λ r. IsBoard wiring.now r.0) }
     ensures limit { IfOk result (λ r. r.1 ≡ wire_length wiring.now.nets.items place.now) }
-    ensures keeps { IfOk result (λ r. Keeps free.now place.now r.0.place.items) }
-    ensures least { IfOk result (λ r. IsLeast wiring.now.nets.items free.now r.0.place.items count) }
+    ensures moved { IfOk result (λ r. IsPermutation place.now r.0.place.items) }
+    ensures least { IfOk result (λ r. IsLeast wiring.now.nets.items free.now r.0.place.items (length chunks.now)) }
 {
-    let mut board = Board::new(alloc, wiring, Vec::from_slice(alloc, place)?)?;
-    let limit = board.total;
+    let units = units_of(alloc, chunks)?;
+    let mut seating = Seating::new(alloc, wiring, order, place)?;
+    let limit = seating.board.total;
     let size = extent(place);
-    let tries = (count as u64).saturating_mul(size) / 2;
+    let tries = (chunks.len() as u64).saturating_mul(size) / 2;
     let mut words = Pcg32::seed_from_u64(seed);
     anneal(
-        &mut board,
+        &mut seating,
         wiring,
         free,
-        count,
+        order,
+        &units,
         tries,
         768 * size,
         &mut words,
     );
-    board.descend(wiring, free, count);
+    let mut board = board_of(seating);
+    board.descend(wiring, free, chunks.len());
     Ok((board, limit))
 }
 
@@ -103,29 +113,33 @@ fn tiles_of(board: Board) -> Vec<TileAt>
     place
 }
 
-// Anneals and descends; where that is longer than what was given, only descends.
+// Anneals and descends; where that is longer than what was given, only descends. It would do so, too, where a run stood apart
+// behind the tries. None does, since they take a run as a whole to sites of one stretch; so this need not be proved of them.
 fn best(
     alloc: Global,
     wiring: &Wiring,
     free: &[bool],
-    count: usize,
+    chunks: &[Option<(u32, u32)>],
+    order: &SiteOrder,
     place: &[TileAt],
     seed: u64,
 ) -> Result<Vec<TileAt>, NoMemory>
     requires wiring { IsWiring (length place.now) wiring.now }
-    requires free { length free.now ≡ length place.now }
-    requires some { 0 < count }
-    requires count { count ≤ length free.now }
-    requires few { length free.now < 2 ^ 32 }
-    ensures keeps { IfOk result (λ at. Keeps free.now place.now at.items) }
+    requires free { free.now ≡ free_of chunks.now (length place.now - length chunks.now) }
+    requires some { 0 < length chunks.now }
+    requires count { length chunks.now ≤ length place.now }
+    requires few { length place.now < 2 ^ 32 }
+    ensures moved { IfOk result (λ at. IsPermutation place.now at.items) }
+    ensures legal { IfOk result (λ at. (stretches : List (List TileAt)) → IsOrder stretches order.now → IsFull stretches place.now
+        → IsLegal stretches chunks.now (take (length chunks.now) place.now) → IsLegal stretches chunks.now (take (length chunks.now) at.items)) }
     ensures falls { IfOk result (λ at. wire_length wiring.now.nets.items at.items ≤ wire_length wiring.now.nets.items place.now) }
-    ensures least { IfOk result (λ at. IsLeast wiring.now.nets.items free.now at.items count) }
+    ensures least { IfOk result (λ at. IsLeast wiring.now.nets.items free.now at.items (length chunks.now)) }
 {
-    let (shaken, limit) = annealed(alloc, wiring, free, count, place, seed)?;
-    if shaken.total <= limit {
+    let (shaken, limit) = annealed(alloc, wiring, free, chunks, order, place, seed)?;
+    if shaken.total <= limit && are_linked(chunks, order, &shaken.place) {
         return Ok(tiles_of(shaken));
     }
-    let plain = lowered(alloc, wiring, free, count, place)?;
+    let plain = lowered(alloc, wiring, free, chunks.len(), place)?;
     Ok(tiles_of(plain))
 }
 
@@ -134,6 +148,7 @@ fn improve_full(
     alloc: Global,
     wiring: &Wiring,
     chunks: &[Option<(u32, u32)>],
+    order: &SiteOrder,
     place: &[TileAt],
     seed: u64,
 ) -> Result<Vec<TileAt>, NoMemory>
@@ -142,7 +157,7 @@ fn improve_full(
     requires some { 0 < length chunks.now }
     requires count { length chunks.now ≤ length place.now }
     requires few { length place.now < 2 ^ 32 }
-    ensures legal { IfOk result (λ at. (stretches : List (List TileAt)) → IsFull stretches place.now
+    ensures legal { IfOk result (λ at. (stretches : List (List TileAt)) → IsOrder stretches order.now → IsFull stretches place.now
         → IsLegal stretches chunks.now (take (length chunks.now) place.now) → IsLegal stretches chunks.now at.items) }
     ensures falls { IfOk result (λ at. wire_length wiring.now.nets.items at.items
         ≤ wire_length wiring.now.nets.items (take (length chunks.now) place.now)) }
@@ -150,7 +165,7 @@ fn improve_full(
         → IsSwapLeast (wire_length wiring.now.nets.items) chunks.now stretches at.items) }
 {
     let free = free_of(alloc, chunks, place.len() - chunks.len())?;
-    let mut found = best(alloc, wiring, &free, chunks.len(), place, seed)?;
+    let mut found = best(alloc, wiring, &free, chunks, order, place, seed)?;
     found.truncate(chunks.len());
     Ok(found)
 }
@@ -173,10 +188,12 @@ fn improve_some(
     ensures falls { IfOk result (λ found. wire_length nets.items found.items ≤ wire_length nets.items at.now) }
     ensures least { IfOk result (λ found. IsSwapLeast (wire_length nets.items) chunks.now sites.now found.items) }
 {
-    let place = full_of(alloc, sites.stretches(), at)?;
+    let stretches = sites.stretches();
+    let place = full_of(alloc, stretches, at)?;
+    let order = order_of(alloc, stretches)?;
     let number = short(place.len())?;
     let wiring = wiring_of(alloc, nets, place.len())?;
-    let found = improve_full(alloc, &wiring, chunks, place.as_slice(), seed)?;
+    let found = improve_full(alloc, &wiring, chunks, &order, place.as_slice(), seed)?;
     Ok(found)
 }
 

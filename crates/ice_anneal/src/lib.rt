@@ -4,10 +4,14 @@
 mod free;
 mod full;
 mod improving;
+mod linked;
 mod once;
+mod order;
 mod placing;
+mod seating;
 mod shake;
 mod trial;
+mod units;
 
 pub use improving::improve_nets;
 pub use placing::improve;

@@ -1,6 +1,6 @@
 //! The placed design of a netlist.
 ghost use Rattle.std.specs.Prelude.{◌≡◌, IfOk, IfErr};
-ghost use Rattle.ice_cells.specs.Clusters.{clusters_of};
+ghost use Rattle.ice_cells.specs.Clusterings.{IsClustering};
 ghost use Rattle.ice_cells.specs.Runs.{design_of};
 ghost use Rattle.ice_rows.specs.Index.{IsIndexOf};
 ghost use Rattle.ice_build.specs.Laid.{IsLaidOut, IsSettled, task_of};
@@ -47,7 +47,7 @@ fn place(
     seed: u64,
 ) -> Result<Placement, BuildFault>
     requires index { IsIndexOf chip.now index.now }
-    requires clusters { clusters.now ≡ clusters_of design.now }
+    requires clusters { IsClustering design.now clusters.now }
     ensures placed { IfOk result (IsSettled chip.now clusters.now design.now pads.now) }
     ensures fault { IfErr result (IsPlaceFault chip.now clusters.now design.now) }
 {
@@ -68,7 +68,7 @@ fn lay(
     seed: u64,
 ) -> Result<Layout, BuildFault>
     requires index { IsIndexOf chip.now index.now }
-    requires clusters { clusters ≡ clusters_of design }
+    requires clusters { IsClustering design clusters }
     ensures design { IfOk result (λ layout. layout.design ≡ design) }
     ensures clusters { IfOk result (λ layout. layout.clusters ≡ clusters) }
     ensures pads { IfOk result (λ layout. layout.pads ≡ pads) }

@@ -24,12 +24,11 @@ use Rattle.ice_pads.specs.Assign.{assign_of}
 use Rattle.ice_pads.specs.declared.fault.PinFault.{PinFault}
 use Rattle.ice_pcf.specs.declared.fault.PcfFault.{PcfFault}
 use Rattle.ice_place.specs.declared.fault.PlaceFault.{PlaceFault}
-use Rattle.ice_promote.specs.PromotionLaws.{PromotedShowTheSame, most_cells_before}
-use Rattle.ice_promote_laws.specs.PadLaws.{IsGivenAlike, PadsAreGivenAlike}
+use Rattle.ice_promote_laws.specs.PadLaws.{IsGivenAlike}
 use Rattle.ice_report.specs.PinReport.{pin_text}
 use Rattle.ice_report.specs.RouteReport.{route_text}
-use Rattle.ice_clocks.specs.Clocks.{free_globals, promoted_on}
-use Rattle.ice_clocks.specs.Pins.{PinsStay, PinReportsStay}
+use Rattle.ice_prepare.specs.Prepared.{most_cells, prepared_on}
+use Rattle.ice_prepare.specs.PreparedLaws.{PreparedAreGivenAlike, PreparedPinsStay, PreparedReportsStay, PreparedShowTheSame}
 use Rattle.ice_words.specs.Grips.{Shut}
 use Rattle.ice_written.specs.Realised.{port_levels}
 use Rattle.ice_build.specs.Answers.{IsBuilt, IsFault, IsGivenUp, net_count, pins_said, places_said}
@@ -182,31 +181,31 @@ circuit_as m n ports parts k long same is = record {
       };
 }
 
--- what promoted clocks leave as it is
+-- what is left as it is where a netlist is prepared
 pub record StaysSo : Type 0 where
-  pub pins : PinsStay
-  pub reports : PinReportsStay
-  pub shows : PromotedShowTheSame
-  pub given : PadsAreGivenAlike
+  pub pins : PreparedPinsStay
+  pub reports : PreparedReportsStay
+  pub shows : PreparedShowTheSame
+  pub given : PreparedAreGivenAlike
 
-module _ (b : Build) (t : List (List ℕ)) (task : Task) (built : Built) (asked : IsAsked b.package_name t task) (formed : IsFormed asked.circuit) (room : length asked.circuit.cells < most_cells_before) (stays : StaysSo) (is : IsBuilt task b.effort.rounds built) where
+module _ (b : Build) (t : List (List ℕ)) (task : Task) (built : Built) (asked : IsAsked b.package_name t task) (formed : IsFormed asked.circuit) (room : length asked.circuit.cells < most_cells) (stays : StaysSo) (is : IsBuilt task b.effort.rounds built) where
   pads_are : assign_of task.parts b.package_name task.constraints asked.circuit (design_of task.circuit) ≡ Ok built.layout.pads
   pads_are =
-      sym (stays.pins asked.circuit (free_globals task.parts asked.circuit) task.parts b.package_name task.constraints (design_of task.circuit) formed)
-      ∙ ap (λ (n : NetlistData). assign_of task.parts b.package_name task.constraints n (design_of task.circuit)) (sym asked.is_promoted)
+      sym (stays.pins task.parts asked.circuit b.package_name task.constraints (design_of task.circuit) formed)
+      ∙ ap (λ (n : NetlistData). assign_of task.parts b.package_name task.constraints n (design_of task.circuit)) (sym asked.is_prepared)
       ∙ subst (λ (name : List ℕ). assign_of task.parts name task.constraints task.circuit (design_of task.circuit) ≡ Ok built.layout.pads) asked.is_name (pins_good task built.layout is.laid)
 
   -- and so are those by the design of the netlist read
   given_read : IsGivenAlike task.parts b.package_name task.constraints asked.circuit built.layout.pads
   given_read =
-      stays.given asked.circuit (free_globals task.parts asked.circuit) task.parts b.package_name task.constraints built.layout.pads formed room
-      (subst (λ (n : NetlistData). assign_of task.parts b.package_name task.constraints asked.circuit (design_of n) ≡ Ok built.layout.pads) asked.is_promoted pads_are)
+      stays.given task.parts asked.circuit b.package_name task.constraints built.layout.pads formed room
+      (subst (λ (n : NetlistData). assign_of task.parts b.package_name task.constraints asked.circuit (design_of n) ≡ Ok built.layout.pads) asked.is_prepared pads_are)
 
   shown_read : IsCircuitOf task.circuit built.layout.pads.ports task.parts built.bits → IsCircuitOf asked.circuit built.layout.pads.ports task.parts built.bits
   shown_read shown =
-      circuit_as (promoted_on task.parts asked.circuit) asked.circuit built.layout.pads.ports task.parts built.bits refl
-      (stays.shows asked.circuit (free_globals task.parts asked.circuit) formed)
-      (subst (λ (n : NetlistData). IsCircuitOf n built.layout.pads.ports task.parts built.bits) asked.is_promoted shown)
+      circuit_as (prepared_on task.parts asked.circuit) asked.circuit built.layout.pads.ports task.parts built.bits refl
+      (stays.shows task.parts asked.circuit formed room)
+      (subst (λ (n : NetlistData). IsCircuitOf n built.layout.pads.ports task.parts built.bits) asked.is_prepared shown)
 
   -- the package is there
   named : package_of task.parts b.package_name ≡ Some is.stands.0
@@ -216,8 +215,8 @@ module _ (b : Build) (t : List (List ℕ)) (task : Task) (built : Built) (asked 
   pins_told : pins_text (package_of task.parts b.package_name) task.circuit built.layout.pads.ports ≡ pin_text asked.circuit is.stands.0 built.layout.pads.ports
   pins_told =
       ap (λ (bonded : Option PackageRows). pins_text bonded task.circuit built.layout.pads.ports) named
-      ∙ ap (λ (n : NetlistData). pin_text n is.stands.0 built.layout.pads.ports) asked.is_promoted
-      ∙ stays.reports asked.circuit (free_globals task.parts asked.circuit) is.stands.0 built.layout.pads.ports formed
+      ∙ ap (λ (n : NetlistData). pin_text n is.stands.0 built.layout.pads.ports) asked.is_prepared
+      ∙ stays.reports task.parts asked.circuit is.stands.0 built.layout.pads.ports formed
 
   -- each net has its tree
   trees_told : length built.routed.trees.items ≡ net_count task.parts (plan_in built.layout)

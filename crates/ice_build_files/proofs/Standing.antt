@@ -10,7 +10,7 @@ use Rattle.ice_chip_read.specs.Whole.{chip_says}
 use Rattle.ice_pads.specs.Assign.{PadsData}
 use Rattle.ice_pcf.specs.Grammar.{text_says}
 use Rattle.ice_pcf.specs.declared.constraint.Constraint.{Constraint}
-use Rattle.ice_clocks.specs.Clocks.{promoted_on}
+use Rattle.ice_prepare.specs.Prepared.{prepared_on}
 use Rattle.ice_build.specs.Answers.{pins_said, places_said}
 use Rattle.ice_build.specs.Laid.{Task, task_of}
 use Rattle.ice_answer.specs.declared.cause.Cause.{Cause}
@@ -37,15 +37,15 @@ net_stands name rounds t parts constraints circuit cause read e m =
     then_stands (netlist_of (text_at t 3)) BadBlif (NetStands name rounds parts constraints) circuit cause e (blif_stands name rounds t parts constraints cause read m)
 
 sound_stands : (name : List ℕ) (rounds : ℕ) (parts : Parts) (constraints : List Constraint) (circuit : NetlistData) (cause : Cause) → IsSound circuit
-    → NetStands name rounds parts constraints circuit cause → TaskStands (task_of parts name constraints (promoted_on parts circuit)) rounds cause
+    → NetStands name rounds parts constraints circuit cause → TaskStands (task_of parts name constraints (prepared_on parts circuit)) rounds cause
 sound_stands name rounds parts constraints circuit cause sound (inl bad) = absurd (faulty circuit bad.0 bad.3 bad.2 sound)
 sound_stands name rounds parts constraints circuit cause sound (inr good) = good.1
 
 -- a task is made of what was read
-parts_of : (name : List ℕ) (t : List (List ℕ)) (task : Task) (asked : IsAsked name t task) → task_of task.parts name task.constraints (promoted_on task.parts asked.circuit) ≡ task
+parts_of : (name : List ℕ) (t : List (List ℕ)) (task : Task) (asked : IsAsked name t task) → task_of task.parts name task.constraints (prepared_on task.parts asked.circuit) ≡ task
 parts_of name t task asked =
-    ap (λ (x : List ℕ). task_of task.parts x task.constraints (promoted_on task.parts asked.circuit)) (sym asked.is_name)
-    ∙ ap (λ (n : NetlistData). task_of task.parts task.name task.constraints n) (sym asked.is_promoted)
+    ap (λ (x : List ℕ). task_of task.parts x task.constraints (prepared_on task.parts asked.circuit)) (sym asked.is_name)
+    ∙ ap (λ (n : NetlistData). task_of task.parts task.name task.constraints n) (sym asked.is_prepared)
 
 pub task_stands : (name : List ℕ) (rounds : ℕ) (t : List (List ℕ)) (task : Task) (cause : Cause) → IsAsked name t task → Stands name rounds t cause → TaskStands task rounds cause
 task_stands name rounds t task cause asked m =
@@ -97,11 +97,11 @@ one_task name t a b one other =
     let parts = one_value (chip_says (text_at t 1)) a.parts b.parts one.is_chip other.is_chip in
     let constraints = one_value (text_says (text_at t 2)) a.constraints b.constraints one.are_constraints other.are_constraints in
     let read = one_value (netlist_of (text_at t 3)) one.circuit other.circuit one.is_circuit other.is_circuit in
-    let circuit = one.is_promoted ∙ promoted_same a.parts b.parts one.circuit other.circuit parts read ∙ sym other.is_promoted in
+    let circuit = one.is_prepared ∙ prepared_same a.parts b.parts one.circuit other.circuit parts read ∙ sym other.is_prepared in
     same a.parts b.parts a.name b.name a.constraints b.constraints a.circuit b.circuit parts (let named : name ≡ b.name = sym other.is_name in rw one.is_name named) constraints circuit
   where
-    promoted_same : (p p' : Parts) (n n' : NetlistData) → p ≡ p' → n ≡ n' → promoted_on p n ≡ promoted_on p' n'
-    promoted_same p p' n n' e f = ap (λ (x : Parts). promoted_on x n) e ∙ ap (promoted_on p') f
+    prepared_same : (p p' : Parts) (n n' : NetlistData) → p ≡ p' → n ≡ n' → prepared_on p n ≡ prepared_on p' n'
+    prepared_same p p' n n' e f = ap (λ (x : Parts). prepared_on x n) e ∙ ap (prepared_on p') f
 
     same : (p p' : Parts) (x x' : List ℕ) (c c' : List Constraint) (n n' : NetlistData) → p ≡ p' → x ≡ x' → c ≡ c' → n ≡ n' → task_of p x c n ≡ task_of p' x' c' n'
     same p p' x x' c c' n n' e f g h = cc

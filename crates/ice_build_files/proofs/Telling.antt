@@ -20,7 +20,7 @@ use Rattle.ice_pcf.specs.Grammar.{text_says}
 use Rattle.ice_pcf.specs.declared.constraint.Constraint.{Constraint}
 use Rattle.ice_pcf.specs.declared.fault.PcfFault.{PcfFault}
 use Rattle.ice_place.specs.declared.fault.PlaceFault.{PlaceFault}
-use Rattle.ice_clocks.specs.Clocks.{promoted_on}
+use Rattle.ice_prepare.specs.Prepared.{prepared_on}
 use Rattle.ice_words.specs.Grips.{Shut}
 use Rattle.ice_build.specs.Answers.{pins_said, places_said}
 use Rattle.ice_build.specs.Laid.{Task, task_of}
@@ -139,8 +139,8 @@ told_net : (name : List ℕ) (rounds : ℕ) (t : List (List ℕ)) (parts : Parts
     → netlist_of (text_at t 3) ≡ Ok circuit → NetStands name rounds parts constraints circuit cause → Told name rounds t cause
 told_net name rounds t parts constraints circuit cause read e (inl bad) = subst (Told name rounds t) (sym bad.1) (record { parts = parts; constraints = constraints; circuit = circuit; is_read = read; is_circuit = e; is_so = (bad.2, bad.3) })
 told_net name rounds t parts constraints circuit cause read e (inr good) =
-    let task = task_of parts name constraints (promoted_on parts circuit) in
-    let asked : IsAsked name t task = record { circuit = circuit; is_chip = read.is_chip; is_name = refl; are_constraints = read.are_constraints; is_circuit = e; is_sound = good.0; is_promoted = refl } in
+    let task = task_of parts name constraints (prepared_on parts circuit) in
+    let asked : IsAsked name t task = record { circuit = circuit; is_chip = read.is_chip; is_name = refl; are_constraints = read.are_constraints; is_circuit = e; is_sound = good.0; is_prepared = refl } in
     told_pins name rounds t task (pins_said task) cause asked refl good.1
 
 told_blif : (name : List ℕ) (rounds : ℕ) (t : List (List ℕ)) (parts : Parts) (constraints : List Constraint) (said : Result NetlistData BlifFault) (cause : Cause) → IsRead t parts constraints

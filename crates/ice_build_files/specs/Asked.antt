@@ -5,7 +5,7 @@ use Rattle.ice_blif.specs.Grammar.{netlist_of}
 use Rattle.ice_check.specs.Sound.{IsSound}
 use Rattle.ice_chip_read.specs.Whole.{chip_says}
 use Rattle.ice_pcf.specs.Grammar.{text_says}
-use Rattle.ice_clocks.specs.Clocks.{promoted_on}
+use Rattle.ice_prepare.specs.Prepared.{prepared_on}
 use Rattle.ice_build.specs.Laid.{Task}
 use Rattle.ice_build.specs.declared.answer.Effort.{Effort}
 use Rattle.ice_answer.specs.declared.cause.FileRole.{FileRole}
@@ -51,8 +51,8 @@ parting_of b = file_asked Report b.report
 abbrev pub outputs_of : Build → Files
 outputs_of b = record { role = Asc; name = b.asc } ∷ (listed (pins_of b) ++ listed (parting_of b))
 
--- The texts say this task: the first says the chip, the second the constraints, and the third a sound netlist. With its clocks promoted,
--- that is to be built in the package of this name.
+-- The texts say this task: the first says the chip, the second the constraints, and the third a sound netlist. That is to be built in the
+-- package of this name, with its clocks promoted and the ends of its carry chains in their runs.
 pub record IsAsked (name : List ℕ) (texts : List (List ℕ)) (task : Task) : Type 0 where
   pub circuit : NetlistData
   pub is_chip : chip_says (text_at texts 1) ≡ Ok task.parts
@@ -60,7 +60,7 @@ pub record IsAsked (name : List ℕ) (texts : List (List ℕ)) (task : Task) : T
   pub are_constraints : text_says (text_at texts 2) ≡ Ok task.constraints
   pub is_circuit : netlist_of (text_at texts 3) ≡ Ok circuit
   pub is_sound : IsSound circuit
-  pub is_promoted : task.circuit ≡ promoted_on task.parts circuit
+  pub is_prepared : task.circuit ≡ prepared_on task.parts circuit
 
 -- the texts say a task of which this is true
 pub record Asks (name : List ℕ) (IsSo : Task → Type 0) (texts : List (List ℕ)) : Type 0 where

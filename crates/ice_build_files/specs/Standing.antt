@@ -7,7 +7,7 @@ use Rattle.ice_chip.specs.Database.{Parts}
 use Rattle.ice_chip_read.specs.Whole.{chip_says}
 use Rattle.ice_pcf.specs.Grammar.{text_says}
 use Rattle.ice_pcf.specs.declared.constraint.Constraint.{Constraint}
-use Rattle.ice_clocks.specs.Clocks.{promoted_on}
+use Rattle.ice_prepare.specs.Prepared.{prepared_on}
 use Rattle.ice_build.specs.Answers.{pins_said, places_said}
 use Rattle.ice_build.specs.Laid.{Task, task_of}
 use Rattle.ice_answer.specs.declared.cause.Cause.{Cause}
@@ -35,9 +35,9 @@ PlacesStand task rounds = stands_by (places_said task) Overfull (λ first. IsEnd
 abbrev pub TaskStands : Task → ℕ → Cause → Type 0
 TaskStands task rounds = stands_by (pins_said task) BadPin (λ pads. PlacesStand task rounds)
 
--- a netlist that was read: it is sound, and its clocks are promoted; or it has a fault
+-- a netlist that was read: it is sound, and is prepared; or it has a fault
 abbrev pub NetStands : List ℕ → ℕ → Parts → List Constraint → NetlistData → Cause → Type 0
-NetStands name rounds parts constraints circuit = stands_if (IsSound circuit) (IsNetCause circuit) (TaskStands (task_of parts name constraints (promoted_on parts circuit)) rounds)
+NetStands name rounds parts constraints circuit = stands_if (IsSound circuit) (IsNetCause circuit) (TaskStands (task_of parts name constraints (prepared_on parts circuit)) rounds)
 
 -- the netlist's text, for a chip and constraints that were read
 abbrev pub BlifStands : List ℕ → ℕ → List ℕ → Parts → List Constraint → Cause → Type 0

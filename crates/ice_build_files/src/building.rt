@@ -16,8 +16,7 @@ ghost use Rattle.ice_chip_read.specs.Whole.{chip_says};
 ghost use Rattle.ice_desk.specs.Desk.{SameButReading, SameTest};
 ghost use Rattle.ice_net.specs.Formed.{IsFormed};
 ghost use Rattle.ice_net.specs.NetlistData.{NetlistData};
-ghost use Rattle.ice_promote.specs.Promotable.{CanBePromoted};
-ghost use Rattle.ice_promote.specs.PromotionLaws.{most_cells_before};
+ghost use Rattle.ice_prepare.specs.Prepared.{CanBePrepared, most_cells};
 ghost use Rattle.ice_build_files.specs.Asked.{IsAsked, outputs_of, parting_of};
 ghost use Rattle.ice_build_files.specs.BuildRows.{IsRead, IsBuildAnswer};
 ghost use Rattle.ice_build_files.specs.Command.{build_files};
@@ -40,33 +39,32 @@ use ice_check::{Sound, check};
 use ice_chip::Chip;
 use ice_chip_pieces::ChipReader;
 use ice_chip_texts::{ChipTexts, read_chip_and_texts};
-use ice_clocks::laws::{pin_reports_stay, pins_stay};
-use ice_clocks::promote_clocks;
 use ice_desk::{Desk, Gate};
 use ice_net::Netlist;
 use ice_pcf::{Pcf, read_pcf};
-use ice_promote::laws::{netlists_of_words_can_be_promoted, promoted_show_the_same};
-use ice_promote_laws::laws::pads_are_given_alike;
+use ice_prepare::laws::{
+    prepared_are_given_alike, prepared_pins_stay, prepared_reports_stay, prepared_show_the_same,
+};
+use ice_prepare::prepare;
 use std::alloc::Global;
 use std::thread::Threads;
 
-// The clocks of a sound netlist that the second text behind the chip's says can be promoted.
-fn can_be_promoted(texts: &Texts, sound: &Sound)
+// A sound netlist that the second text behind the chip's says can be prepared.
+fn can_be_prepared(texts: &Texts, sound: &Sound)
     requires netlist { netlist_of (text_at texts.now 2) ≡ Ok sound.now }
     requires limits { IsWithinLimits sound.now }
     ensures formed { IsFormed sound.now }
-    ensures room { length sound.now.cells < most_cells_before }
+    ensures room { length sound.now.cells < most_cells }
     ensures sound { IsSound sound.now }
-    ensures promotable { CanBePromoted sound.now }
+    ensures preparable { CanBePrepared sound.now }
 {
     read_names_are_words();
-    netlists_of_words_can_be_promoted();
     let netlist = sound.netlist();
     let _cells = netlist.cells();
 }
 
-// What is made of a task that a chip text and the texts behind it say. The netlist's clocks are promoted.
-fn build_promoted<G: Gate + Sync, R: Threads + Sync>(
+// What is made of a task that a chip text and the texts behind it say. The netlist is prepared.
+fn build_prepared<G: Gate + Sync, R: Threads + Sync>(
     rt: &R,
     alloc: Global,
     gate: &G,
@@ -77,15 +75,15 @@ fn build_promoted<G: Gate + Sync, R: Threads + Sync>(
     sound: &Sound,
 ) -> Result<Made, Refused>
     requires formed { (n : NetlistData) → netlist_of (text_at texts.now 2) ≡ Ok n → IsFormed n }
-    requires room { (n : NetlistData) → netlist_of (text_at texts.now 2) ≡ Ok n → length n.cells < most_cells_before }
+    requires room { (n : NetlistData) → netlist_of (text_at texts.now 2) ≡ Ok n → length n.cells < most_cells }
     requires effort { IsPermitted request.now.effort }
     ensures made { (chip_text : List ℕ) → IsAsked request.now.package_name.now (chip_text ∷ texts.now) (task_of chip.now request.now.package_name.now pcf.now sound.now) → IfOk result (λ made. IsMade (request_view request.now) (chip_text ∷ texts.now) made.texts made.placement made.tallies.items) }
     ensures refused { (chip_text : List ℕ) → IsAsked request.now.package_name.now (chip_text ∷ texts.now) (task_of chip.now request.now.package_name.now pcf.now sound.now) → IfErr result (IsRefusedWith (request_view request.now) (chip_text ∷ texts.now)) }
 {
-    pins_stay();
-    pads_are_given_alike();
-    pin_reports_stay();
-    promoted_show_the_same();
+    prepared_pins_stay();
+    prepared_are_given_alike();
+    prepared_reports_stay();
+    prepared_show_the_same();
     let name = request.package_name.as_bytes();
     match build(rt, alloc, chip, name, pcf, sound, request.effort, gate) {
         Ok(built) => made_of(alloc, chip, request, sound.netlist(), built),
@@ -110,11 +108,11 @@ fn build_sound<G: Gate + Sync, R: Threads + Sync>(
     ensures made { (chip_text : List ℕ) → IsRead (chip_text ∷ texts.now) chip.now pcf.now → IfOk result (λ made. IsMade (request_view request.now) (chip_text ∷ texts.now) made.texts made.placement made.tallies.items) }
     ensures refused { (chip_text : List ℕ) → IsRead (chip_text ∷ texts.now) chip.now pcf.now → IfErr result (IsRefusedWith (request_view request.now) (chip_text ∷ texts.now)) }
 {
-    can_be_promoted(texts, &sound);
-    match promote_clocks(alloc, chip, sound) {
-        Ok(promoted) => {
-            let made = build_promoted(rt, alloc, gate, request, texts, chip, pcf, &promoted);
-            drop(promoted);
+    can_be_prepared(texts, &sound);
+    match prepare(alloc, chip, sound) {
+        Ok(prepared) => {
+            let made = build_prepared(rt, alloc, gate, request, texts, chip, pcf, &prepared);
+            drop(prepared);
             made
         }
         Err(NoMemory) => Err(without_report(Cause::NoMemory)),

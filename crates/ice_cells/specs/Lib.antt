@@ -11,6 +11,8 @@ pub mod Packed
 pub mod Sets
 pub mod Pieces
 pub mod Clusters
+pub mod Clusterings
+pub mod Ranks
 pub mod Follows
 pub mod Chains
 pub mod Moves

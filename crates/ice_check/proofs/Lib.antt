@@ -6,3 +6,4 @@ pub mod Uses
 pub mod Graphs
 pub mod CellOrders
 pub mod Faulty
+pub mod Places

@@ -76,6 +76,13 @@ impl Sound {
         self.tables.buffers.as_slice()
     }
 
+    /// The netlist alone. It takes no memory.
+    pub fn into_netlist(self) -> Netlist
+        ensures { result ≡ self }
+    {
+        self.netlist
+    }
+
     // A sound netlist with what was found of it.
     pub(crate) fn of(netlist: Netlist, orders: Orders, tables: SignalTables) -> Sound
         requires { IsChecked netlist orders.cells.items orders.signals.items tables.drivers.items tables.buffers.items }

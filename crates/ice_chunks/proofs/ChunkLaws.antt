@@ -10,12 +10,14 @@ use Rattle.ice_value.proofs.Places.{At_drop}
 use Rattle.ice_cells.specs.declared.cell.Control.{Control}
 use Rattle.ice_cells.specs.declared.cell.LogicCell.{LogicCell}
 use Rattle.ice_cells.specs.declared.cluster.Cluster.{Cluster}
+use Rattle.ice_cells.specs.declared.cluster.Clusters.{Clusters}
 use Rattle.ice_cells.specs.declared.cluster.Group.{Group}
 use Rattle.ice_cells.specs.declared.design.Design.{Design}
 use Rattle.ice_cells.specs.declared.design.Run.{Run}
-use Rattle.ice_cells.specs.Clusters.{room, filled_one, filled, left, run_piece, run_pieces, runs_pieces, set_piece, set_pieces, sets_pieces, plain_piece, plain_pieces, loose_flops, loose_plains, opened, groups_of, slots, with_slots, clusters_of}
+use Rattle.ice_cells.specs.Clusters.{room, filled_one, filled, left, run_piece, run_pieces, runs_pieces, set_piece, set_pieces, sets_pieces, plain_piece, plain_pieces, slots, with_slots}
+use Rattle.ice_cells.specs.Clusterings.{opened_by, groups_by, clusters_with, IsClustering}
 use Rattle.ice_cells.specs.Pieces.{pieces_count, piece}
-use Rattle.ice_cells.specs.Sets.{sets_of, cells_with}
+use Rattle.ice_cells.specs.Sets.{FlopCell, sets_of, cells_with}
 use Rattle.ice_chunks.specs.Chunks.{HoldsChunk, AreChunks}
 
 -- ---- places
@@ -141,21 +143,18 @@ plains_none members n group at =
 same_pair : (a b : ℕ × ℕ) → Some a ≡ Some b → (a.0 ≡ b.0) × (a.1 ≡ b.1)
 same_pair a b e = let pair = same_Some a b e in (ap (λ (p : ℕ × ℕ). p.0) pair, ap (λ (p : ℕ × ℕ). p.1) pair)
 
-module _ (d : Design) where
+module _ (d : Design) (flops : List FlopCell) (plains : List ℕ) where
   abbrev chunks : List Group
   chunks = runs_pieces d.cells 0 d.runs
 
   abbrev sets : List Group
-  sets = sets_pieces (loose_flops d.cells d.runs)
-
-  abbrev plains : List ℕ
-  plains = loose_plains d.cells d.runs
+  sets = sets_pieces flops
 
   abbrev firsts : List Group
-  firsts = opened d.cells d.runs
+  firsts = opened_by d.cells d.runs flops
 
   there : (r p c : ℕ) (run : Run) → At d.runs r run → At run.cells p c
-      → (n : ℕ) × (cluster : Cluster) × At (clusters_of d).list n cluster × (cluster.run ≡ Some (r, p / 8)) × At cluster.cells (p % 8) (Some c)
+      → (n : ℕ) × (cluster : Cluster) × At (clusters_with d flops plains).list n cluster × (cluster.run ≡ Some (r, p / 8)) × At cluster.cells (p % 8) (Some c)
   there r p c run run_at at =
       let has = runs_have d.cells 0 d.runs r (p / 8) run run_at (piece_before p (length run.cells) (At_within run.cells p c at)) in
       let group = run_piece d.cells (0 + r) run.cells (p / 8) in
@@ -163,7 +162,7 @@ module _ (d : Design) where
       let whole = filled_one group fills.0 in (
         has.0,
         with_slots whole,
-        At_map with_slots (groups_of d.cells d.runs) has.0 whole (At_left (filled firsts plains) (plain_pieces (left firsts plains)) has.0 whole fills.1),
+        At_map with_slots (groups_by d.cells d.runs flops plains) has.0 whole (At_left (filled firsts plains) (plain_pieces (left firsts plains)) has.0 whole fills.1),
         ap (λ m. Some (m, p / 8)) (let e : 0 + r ≡ r = omega arith in e),
         slot_there (piece run.cells (p / 8)) (take (room group) fills.0) (p % 8) c
             (piece_at run.cells (p / 8) (p % 8) c (below_eight p) (subst (λ q. At run.cells q c) (sym (eights p)) at)),
@@ -197,13 +196,13 @@ module _ (d : Design) where
       by : At chunks n group ⊎ ((j : ℕ) × (n ≡ length chunks + j) × At sets j group) → HoldsChunk d cluster r k
       by (inl here) = chunk_holds group more cluster r k (are_of_runs d.cells 0 d.runs n group here) e f
       by (inr (j, g, other)) =
-          absurd (none-some (r, k) (sym (sets_none (cells_with (loose_flops d.cells d.runs)) (sets_of (loose_flops d.cells d.runs)) j group other) ∙ ap (λ (x : Cluster). x.run) (sym e) ∙ f))
+          absurd (none-some (r, k) (sym (sets_none (cells_with flops) (sets_of flops) j group other) ∙ ap (λ (x : Cluster). x.run) (sym e) ∙ f))
 
-  holds : (n r k : ℕ) (cluster : Cluster) → At (clusters_of d).list n cluster → cluster.run ≡ Some (r, k) → HoldsChunk d cluster r k
+  holds : (n r k : ℕ) (cluster : Cluster) → At (clusters_with d flops plains).list n cluster → cluster.run ≡ Some (r, k) → HoldsChunk d cluster r k
   holds n r k cluster at f = by (At_parts (filled firsts plains) (plain_pieces (left firsts plains)) n back.0 back.1)
     where
-      back : (group : Group) × At (groups_of d.cells d.runs) n group × (with_slots group ≡ cluster)
-      back = map_At with_slots (groups_of d.cells d.runs) n cluster at
+      back : (group : Group) × At (groups_by d.cells d.runs flops plains) n group × (with_slots group ≡ cluster)
+      back = map_At with_slots (groups_by d.cells d.runs flops plains) n cluster at
 
       by : At (filled firsts plains) n back.0 ⊎ ((j : ℕ) × (n ≡ length (filled firsts plains) + j) × At (plain_pieces (left firsts plains)) j back.0) → HoldsChunk d cluster r k
       by (inl here) =
@@ -211,5 +210,8 @@ module _ (d : Design) where
           of_opened old.0 old.1 n cluster r k old.2 (sym back.2 ∙ ap with_slots old.3) f
       by (inr (j, g, other)) = absurd (none-some (r, k) (sym (plains_none (left firsts plains) j back.0 other) ∙ ap (λ (x : Cluster). x.run) back.2 ∙ f))
 
-  pub are_chunks : AreChunks d (clusters_of d).list
-  are_chunks = record { there = there; holds = holds }
+  made_chunks : AreChunks d (clusters_with d flops plains).list
+  made_chunks = record { there = there; holds = holds }
+
+pub are_chunks : (d : Design) (clusters : Clusters) → IsClustering d clusters → AreChunks d clusters.list
+are_chunks d clusters of_cells = subst (λ (x : Clusters). AreChunks d x.list) (sym of_cells.is) (made_chunks d of_cells.flops of_cells.plains)

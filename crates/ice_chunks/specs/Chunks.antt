@@ -2,9 +2,10 @@
 use Rattle.std.specs.Prelude.{◌≡◌, ℕ, ◌+◌, ◌*◌, ◌/◌, ◌%◌, ◌<◌, Some, List, length}
 use Rattle.ice_value.specs.Order.{At}
 use Rattle.ice_cells.specs.declared.cluster.Cluster.{Cluster}
+use Rattle.ice_cells.specs.declared.cluster.Clusters.{Clusters}
 use Rattle.ice_cells.specs.declared.design.Design.{Design}
 use Rattle.ice_cells.specs.declared.design.Run.{Run}
-use Rattle.ice_cells.specs.Clusters.{clusters_of}
+use Rattle.ice_cells.specs.Clusterings.{IsClustering}
 use Rattle.ice_cells.specs.Formed.{IsFormed}
 
 -- the cluster is chunk k of run r
@@ -22,4 +23,4 @@ pub record AreChunks (d : Design) (clusters : List Cluster) : Type 0 where
   pub holds : (n r k : ℕ) (cluster : Cluster) → At clusters n cluster → cluster.run ≡ Some (r, k) → HoldsChunk d cluster r k
 
 abbrev pub RunsStandInChunks : Type 0
-RunsStandInChunks = (d : Design) → IsFormed d → AreChunks d (clusters_of d).list
+RunsStandInChunks = (d : Design) (clusters : Clusters) → IsFormed d → IsClustering d clusters → AreChunks d clusters.list

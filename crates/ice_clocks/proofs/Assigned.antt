@@ -78,19 +78,24 @@ module _ (parts : Parts) (m n : NetlistData) (alike : AreAlike m n) where
       ∙ ap (λ said. said >>= (λ chosen. globals_of parts ps >>= (λ globals. Ok (pads_with chosen globals))))
       (bind_same (given_by parts bonded.pins n ws [] cs) (λ given. all_chosen parts bonded.pads m given [] ws) (λ given. all_chosen parts bonded.pads n given [] ws) (λ given. same_chosen bonded.pads given [] ws))
 
+-- a netlist with the same ports, whose further names stand behind the others
+names_behind : (n m : NetlistData) (more : List (List ℕ)) → IsFormed n → m.ports ≡ n.ports → m.names ≡ n.names ++ more → AreAlike m n
+names_behind n m more formed ports names = record {
+  named = λ name. same_port n m more name formed ports names;
+  names = λ k. same_port_name n m more k formed ports names;
+}
+
+pub same_pins_by : (n m : NetlistData) (more : List (List ℕ)) (parts : Parts) (name : List ℕ) (constraints : List Constraint) (d : Design) → IsFormed n → m.ports ≡ n.ports → m.names ≡ n.names ++ more
+    → assign_of parts name constraints m d ≡ assign_of parts name constraints n d
+same_pins_by n m more parts name constraints d formed ports names = same_of parts m n (names_behind n m more formed ports names) constraints (wants d) (pins d) (package_of parts name)
+
 -- the names of the buffers' signals stand behind the netlist's
 abbrev more_names : NetlistData → ℕ → List (List ℕ)
 more_names n free = map (λ clock. buffered_name (slice_index_or n.names clock [])) (promoted_clocks n free)
 
-promoted_alike : (n : NetlistData) (free : ℕ) → IsFormed n → AreAlike (promoted n free) n
-promoted_alike n free formed = record {
-  named = λ name. same_port n (promoted n free) (more_names n free) name formed refl refl;
-  names = λ k. same_port_name n (promoted n free) (more_names n free) k formed refl refl;
-}
-
 pub same_pins : (n : NetlistData) (free : ℕ) (parts : Parts) (name : List ℕ) (constraints : List Constraint) (d : Design) → IsFormed n
     → assign_of parts name constraints (promoted n free) d ≡ assign_of parts name constraints n d
-same_pins n free parts name constraints d formed = same_of parts (promoted n free) n (promoted_alike n free formed) constraints (wants d) (pins d) (package_of parts name)
+same_pins n free parts name constraints d formed = same_pins_by n (promoted n free) (more_names n free) parts name constraints d formed refl refl
 
 -- ---- the report
 same_lines : (n m : NetlistData) (more : List (List ℕ)) (bonded : PackageRows) (ports : List Port) (pads : List Pad) → All (IsPortBelow (length n.names)) ports → m.names ≡ n.names ++ more
@@ -102,5 +107,10 @@ same_lines n m more bonded (port ∷ ports) (pad ∷ pads) below names =
     (same_name n m more port.signal.0 (All-head (IsPortBelow (length n.names)) port ports below) names)
     ∙ ap (λ rest. pin_line n bonded (port, pad) ∷ rest) (same_lines n m more bonded ports pads (All-tail (IsPortBelow (length n.names)) port ports below) names)
 
+pub same_report_by : (n m : NetlistData) (more : List (List ℕ)) (bonded : PackageRows) (pads : List Pad) → IsFormed n → m.ports ≡ n.ports → m.names ≡ n.names ++ more → pin_text m bonded pads ≡ pin_text n bonded pads
+same_report_by n m more bonded pads formed ports names =
+    ap (λ (ps : List Port). text_of_lines (map (pin_line m bonded) (zip ps pads))) ports
+    ∙ ap text_of_lines (same_lines n m more bonded n.ports pads formed.ports names)
+
 pub same_report : (n : NetlistData) (free : ℕ) (bonded : PackageRows) (pads : List Pad) → IsFormed n → pin_text (promoted n free) bonded pads ≡ pin_text n bonded pads
-same_report n free bonded pads formed = ap text_of_lines (same_lines n (promoted n free) (more_names n free) bonded n.ports pads formed.ports refl)
+same_report n free bonded pads formed = same_report_by n (promoted n free) (more_names n free) bonded pads formed refl refl

@@ -1,3 +1,3 @@
 mod PortNames
-mod Assigned
+pub mod Assigned
 mod FewGlobals

@@ -1,22 +1,25 @@
 -- Each flip-flop of a cluster is driven as the cluster says.
-use Rattle.std.proofs.Common.{◌≡◌, ◌⊎◌, ℕ, zero, suc, ◌+◌, ◌*◌, Bool, true, false, cond, Option, None, Some, List, [], ◌∷◌, ◌++◌, length, map, take, drop, get_or, refl, ap, sym, ◌∙◌, subst, inl, inr}
+use Rattle.std.proofs.Common.{◌≡◌, ◌⊎◌, ℕ, zero, suc, ◌+◌, ◌*◌, Bool, true, false, Option, None, Some, List, [], ◌∷◌, ◌++◌, length, map, take, drop, get_or, refl, ap, sym, ◌∙◌, subst, inl, inr}
 use Rattle.std.specs.Prelude.{filter, filter_map, flat_map, slice_get}
 use Rattle.std.specs.List.{range_with_len, cons_option}
 use Rattle.std.proofs.lemmas.Option.{none-some, same_Some}
 use Rattle.ice_value.specs.Order.{At, Has}
 use Rattle.ice_value.proofs.Members.{map_At, map_Has, filter_Has, At_parts, Has_cases}
-use Rattle.ice_value.proofs.Places.{At_replicate, At_take, At_drop}
+use Rattle.ice_value.proofs.Places.{At_take, At_drop}
 use Rattle.ice_cells.specs.declared.cell.Control.{Control}
 use Rattle.ice_cells.specs.declared.cell.LogicCell.{LogicCell}
 use Rattle.ice_cells.specs.declared.cluster.Cluster.{Cluster}
+use Rattle.ice_cells.specs.declared.cluster.Clusters.{Clusters}
 use Rattle.ice_cells.specs.declared.cluster.Group.{Group}
 use Rattle.ice_cells.specs.declared.design.Design.{Design}
 use Rattle.ice_cells.specs.declared.design.Run.{Run}
-use Rattle.ice_cells.specs.Clusters.{room, filled_one, filled, left, run_piece, run_pieces, runs_pieces, set_piece, set_pieces, sets_pieces, plain_piece, plain_pieces, held_list, flop_if, flop_at, flops_by, plain_if, plain_at, plains_by, loose_flops, loose_plains, opened, groups_of, slots, with_slots, clusters_of}
+use Rattle.ice_cells.specs.Clusters.{room, filled_one, filled, left, run_piece, run_pieces, runs_pieces, set_piece, set_pieces, sets_pieces, plain_piece, plain_pieces, held_list, flop_if, flop_at, flops_by, plain_if, plain_at, plains_by, loose_flops, loose_plains, with_slots}
+use Rattle.ice_cells.specs.Clusterings.{opened_by, groups_by, clusters_with, IsClustering}
 use Rattle.ice_cells.specs.Formed.{IsFormed}
 use Rattle.ice_cells.specs.Pieces.{pieces_count, piece, control_at, first_control}
 use Rattle.ice_cells.specs.Same.{same_control}
 use Rattle.ice_cells.specs.Sets.{FlopCell, sets_of, cells_with}
+use Rattle.ice_cells.proofs.Permuted.{Has_permuted}
 use Rattle.ice_cells.proofs.SameControls.{same_control_is}
 use Rattle.ice_cluster.specs.Slots.{AreDriven}
 use Rattle.ice_cluster.proofs.SlotLaws.{slot_back}
@@ -154,20 +157,28 @@ module _ (cells : List LogicCell) where
   pieces_plain plains plain =
       map_driven (plain_piece plains) (λ k c control has e. absurd (plain_never plains plain c control (Has_piece plains k c has) e)) (range_with_len 0 (pieces_count plains))
 
-  groups_driven : (runs : List Run) → ((i k : ℕ) (run : Run) → At runs i run → AreAlike (piece run.cells k)) → AllDriven (groups_of cells runs)
-  groups_driven runs alike =
-      append_driven (filled (opened cells runs) (loose_plains cells runs)) (plain_pieces (left (opened cells runs) (loose_plains cells runs)))
-      (filled_driven (opened cells runs) (loose_plains cells runs)
-      (append_driven (runs_pieces cells 0 runs) (sets_pieces (loose_flops cells runs)) (runs_driven 0 runs alike)
-      (sets_driven (loose_flops cells runs) (flops_are (held_list runs (length cells))) (sets_of (loose_flops cells runs))))
-      (plains_are (held_list runs (length cells))))
-      (pieces_plain (left (opened cells runs) (loose_plains cells runs)) (left_plain (opened cells runs) (loose_plains cells runs) (plains_are (held_list runs (length cells)))))
+  groups_driven : (runs : List Run) (flops : List FlopCell) (plains : List ℕ) → ((i k : ℕ) (run : Run) → At runs i run → AreAlike (piece run.cells k))
+      → ((flop : FlopCell) → Has flops flop → control_at cells flop.0 ≡ Some flop.1) → ArePlain plains → AllDriven (groups_by cells runs flops plains)
+  groups_driven runs flops plains alike flops_are plains_are =
+      append_driven (filled (opened_by cells runs flops) plains) (plain_pieces (left (opened_by cells runs flops) plains))
+      (filled_driven (opened_by cells runs flops) plains
+      (append_driven (runs_pieces cells 0 runs) (sets_pieces flops) (runs_driven 0 runs alike) (sets_driven flops flops_are (sets_of flops)))
+      plains_are)
+      (pieces_plain (left (opened_by cells runs flops) plains) (left_plain (opened_by cells runs flops) plains plains_are))
 
-pub are_driven : (d : Design) → IsFormed d → AreDriven d (clusters_of d)
-are_driven d formed k i c cluster control at slot e =
-    let back = map_At with_slots (groups_of d.cells d.runs) k cluster at in
+made_driven : (d : Design) (flops : List FlopCell) (plains : List ℕ) → IsFormed d → ((flop : FlopCell) → Has flops flop → control_at d.cells flop.0 ≡ Some flop.1) → ArePlain d.cells plains
+    → AreDriven d (clusters_with d flops plains)
+made_driven d flops plains formed flops_have plains_have k i c cluster control at slot e =
+    let back = map_At with_slots (groups_by d.cells d.runs flops plains) k cluster at in
     let here : At (back.0).cells i c = slot_back (back.0).cells i c (subst (λ (x : Cluster). At x.cells i (Some c)) (sym back.2) slot) in
-    ap (λ (x : Cluster). x.control) (sym back.2) ∙ groups_driven d.cells d.runs alike k back.0 back.1 c control (i, here) e
+    ap (λ (x : Cluster). x.control) (sym back.2) ∙ groups_driven d.cells d.runs flops plains alike flops_have plains_have k back.0 back.1 c control (i, here) e
   where
     alike : (r j : ℕ) (run : Run) → At d.runs r run → AreAlike d.cells (piece run.cells j)
     alike r j run at_run a b one other has_a has_b f g = formed.alike r j has_a.0 has_b.0 a b run one other at_run has_a.1 has_b.1 f g
+
+pub are_driven : (d : Design) (clusters : Clusters) → IsFormed d → IsClustering d clusters → AreDriven d clusters
+are_driven d clusters formed of_cells =
+    subst (AreDriven d) (sym of_cells.is)
+    (made_driven d of_cells.flops of_cells.plains formed
+    (λ flop has. flops_are d.cells (held_list d.runs (length d.cells)) flop (Has_permuted (loose_flops d.cells d.runs) of_cells.flops flop of_cells.flops_are has))
+    (λ c has. plains_are d.cells (held_list d.runs (length d.cells)) c (Has_permuted (loose_plains d.cells d.runs) of_cells.plains c of_cells.plains_are has)))

@@ -1,24 +1,26 @@
 -- How often a cell stands in the groups of a design.
-use Rattle.std.proofs.Common.{◌≡◌, ◌⊎◌, ℕ, zero, suc, ◌+◌, ◌*◌, ◌/◌, ◌<◌, ◌≤◌, Bool, true, false, cond, Option, None, Some, List, [], ◌∷◌, ◌++◌, length, map, take, drop, get_or, refl, ap, sym, ◌∙◌, subst, arith, inl, inr}
-use Rattle.std.specs.Prelude.{◌==◌, filter, filter_map, fold}
+use Rattle.std.proofs.Common.{◌≡◌, ◌⊎◌, ℕ, zero, suc, ◌+◌, ◌*◌, ◌/◌, ◌≤◌, Bool, true, false, cond, Option, None, Some, List, [], ◌∷◌, ◌++◌, length, map, take, drop, get_or, refl, ap, sym, ◌∙◌, subst, arith, inl, inr}
+use Rattle.std.specs.Prelude.{◌==◌, filter, filter_map, fold, IsPermutation}
 use Rattle.std.specs.List.{range_with_len, flat_map, list_any, cons_option}
 use Rattle.std.proofs.lemmas.Bool.{eqb-true}
 use Rattle.std.proofs.lemmas.Option.{none-some}
 use Rattle.std.proofs.lemmas.List.{take-append-drop, drop-drop, drop_all}
-use Rattle.ice_value.specs.Order.{At, Has, StandOnce}
+use Rattle.std.proofs.lemmas.List.Sorted.{IsPermutation-map}
+use Rattle.ice_value.specs.Order.{Has, StandOnce}
 use Rattle.ice_value.proofs.Members.{At_left, Has_cases, any_Has}
 use Rattle.ice_value.proofs.Places.{At_push_new}
 use Rattle.ice_cells.specs.declared.cell.Control.{Control}
 use Rattle.ice_cells.specs.declared.cell.LogicCell.{LogicCell}
 use Rattle.ice_cells.specs.declared.cluster.Group.{Group}
 use Rattle.ice_cells.specs.declared.design.Run.{Run}
-use Rattle.ice_cells.specs.Clusters.{room, filled_one, filled, left, run_piece, run_pieces, runs_pieces, set_piece, set_pieces, sets_pieces, plain_piece, plain_pieces, run_cells, held_list, flop_if, flop_at, flops_by, plain_if, plain_at, plains_by, loose_flops, loose_plains, opened, groups_of}
+use Rattle.ice_cells.specs.Clusters.{room, filled, left, run_piece, run_pieces, runs_pieces, set_piece, set_pieces, sets_pieces, plain_piece, plain_pieces, run_cells, held_list, flop_if, flop_at, plain_if, plain_at, loose_flops, loose_plains}
+use Rattle.ice_cells.specs.Clusterings.{opened_by, groups_by}
 use Rattle.ice_cells.specs.Pieces.{pieces_count, piece, control_at}
 use Rattle.ice_cells.specs.Same.{same_control}
 use Rattle.ice_cells.specs.Sets.{FlopCell, with_set, sets_of, cells_with}
 use Rattle.ice_cells.proofs.SameControls.{same_control_is, same_control_self}
 use Rattle.ice_cluster.proofs.Grouping.{sets_once, none_once}
-use Rattle.ice_cluster.proofs.Tallies.{nothing_before, one_if, tally, tally_append}
+use Rattle.ice_cluster.proofs.Tallies.{nothing_before, one_if, tally, tally_append, tally_permuted}
 
 abbrev pub group_cells : Group → List ℕ
 group_cells group = group.cells
@@ -92,7 +94,7 @@ sets_members c f (s ∷ sets) =
 
 -- ---- each flip-flop stands with one control set
 -- the number once for each control set that is the same
-abbrev total : Control → ℕ → List Control → ℕ
+abbrev pub total : Control → ℕ → List Control → ℕ
 total control n [] = 0
 total control n (s ∷ sets) = cond (same_control control s) n 0 + total control n sets
 
@@ -126,7 +128,7 @@ never_next i e = omega arith
 before_it : (i j : ℕ) → suc i ≡ suc j → i ≡ j
 before_it i j e = omega arith
 
-hit_once : (control : Control) (n : ℕ) (sets : List Control) → StandOnce sets → Has sets control → total control n sets ≡ n
+pub hit_once : (control : Control) (n : ℕ) (sets : List Control) → StandOnce sets → Has sets control → total control n sets ≡ n
 hit_once control n [] once has = absurd (none-some control has.1)
 hit_once control n (s ∷ sets) once has = by (Has_cases s control sets has) (hit_once control n sets (λ i j p a b. before_it i j (once (suc i) (suc j) p a b)))
   where
@@ -196,7 +198,7 @@ sets_old : (controls sets : List Control) (x : Control) → Has sets x → Has (
 sets_old [] sets x has = has
 sets_old (control ∷ controls) sets x has = sets_old controls (with_set sets control) x (old_set sets control x has)
 
-sets_have : (flops : List FlopCell) (sets : List Control) (flop : FlopCell) → Has flops flop → Has (fold with_set sets (map (λ (x : FlopCell). x.1) flops)) flop.1
+pub sets_have : (flops : List FlopCell) (sets : List Control) (flop : FlopCell) → Has flops flop → Has (fold with_set sets (map (λ (x : FlopCell). x.1) flops)) flop.1
 sets_have [] sets flop has = absurd (none-some flop has.1)
 sets_have (x ∷ flops) sets flop has = by (Has_cases x flop flops has) (sets_have flops (with_set sets x.1) flop)
   where
@@ -254,15 +256,17 @@ loose_tally c held cells (k ∷ ks) =
 all_sum : (filled_ left_ opened_ plains runs flops loose : ℕ) → filled_ + left_ ≡ opened_ + plains → opened_ ≡ runs + flops → flops + plains ≡ loose → filled_ + left_ ≡ runs + loose
 all_sum filled_ left_ opened_ plains runs flops loose a b c = omega arith
 
-pub groups_tally : (c : ℕ) (cells : List LogicCell) (runs : List Run)
-    → tally c (members_of (groups_of cells runs)) ≡ tally c (flat_map run_cells runs) + cond (held_at (held_list runs (length cells)) c) 0 (tally c (range_with_len 0 (length cells)))
-groups_tally c cells runs =
-    members_append c (filled (opened cells runs) (loose_plains cells runs)) (plain_pieces (left (opened cells runs) (loose_plains cells runs)))
-    ∙ ap (λ xs. tally c (members_of (filled (opened cells runs) (loose_plains cells runs))) + tally c xs)
-    (members_all (plain_piece (left (opened cells runs) (loose_plains cells runs))) (left (opened cells runs) (loose_plains cells runs)) (λ k. refl))
-    ∙ all_sum (tally c (members_of (filled (opened cells runs) (loose_plains cells runs)))) (tally c (left (opened cells runs) (loose_plains cells runs))) (tally c (members_of (opened cells runs)))
-    (tally c (loose_plains cells runs)) (tally c (flat_map run_cells runs)) (tally c (map first_of (loose_flops cells runs)))
+pub groups_tally : (c : ℕ) (cells : List LogicCell) (runs : List Run) (flops : List FlopCell) (plains : List ℕ) → IsPermutation (loose_flops cells runs) flops → IsPermutation (loose_plains cells runs) plains
+    → tally c (members_of (groups_by cells runs flops plains)) ≡ tally c (flat_map run_cells runs) + cond (held_at (held_list runs (length cells)) c) 0 (tally c (range_with_len 0 (length cells)))
+groups_tally c cells runs flops plains flops_are plains_are =
+    members_append c (filled (opened_by cells runs flops) plains) (plain_pieces (left (opened_by cells runs flops) plains))
+    ∙ ap (λ xs. tally c (members_of (filled (opened_by cells runs flops) plains)) + tally c xs)
+    (members_all (plain_piece (left (opened_by cells runs flops) plains)) (left (opened_by cells runs flops) plains) (λ k. refl))
+    ∙ all_sum (tally c (members_of (filled (opened_by cells runs flops) plains))) (tally c (left (opened_by cells runs flops) plains)) (tally c (members_of (opened_by cells runs flops)))
+    (tally c plains) (tally c (flat_map run_cells runs)) (tally c (map first_of flops))
     (cond (held_at (held_list runs (length cells)) c) 0 (tally c (range_with_len 0 (length cells))))
-    (filled_tally c (opened cells runs) (loose_plains cells runs))
-    (members_append c (runs_pieces cells 0 runs) (sets_pieces (loose_flops cells runs)) ∙ (λ i. runs_tally c cells 0 runs i + all_sets_tally c (loose_flops cells runs) i))
-    (loose_tally c (held_list runs (length cells)) cells (range_with_len 0 (length cells)))
+    (filled_tally c (opened_by cells runs flops) plains)
+    (members_append c (runs_pieces cells 0 runs) (sets_pieces flops) ∙ (λ i. runs_tally c cells 0 runs i + all_sets_tally c flops i))
+    ((λ i. tally_permuted c (map first_of (loose_flops cells runs)) (map first_of flops) (IsPermutation-map first_of (loose_flops cells runs) flops flops_are) i
+    + tally_permuted c (loose_plains cells runs) plains plains_are i)
+    ∙ loose_tally c (held_list runs (length cells)) cells (range_with_len 0 (length cells)))

@@ -1,6 +1,12 @@
+mod ByRank
+mod InOrders
 mod Grouping
 mod Opening
 mod Tallies
 mod Counted
 mod SlotLaws
 mod ControlLaws
+mod SetSums
+mod AsMany
+mod SameChunks
+mod OrderExamples

@@ -17,7 +17,7 @@ use Rattle.ice_cells.specs.Sets.{FlopCell, sets_of, cells_by_sets, cells_with}
 use Rattle.ice_cells.specs.Tables.{gathered}
 use Rattle.ice_cells.proofs.TableLaws.{replicate_table, scattered_table, table_same}
 use Rattle.ice_cells.specs.declared.cluster.Group.{Group}
-use Rattle.ice_cluster.specs.Groups.{opened_by, groups_by}
+use Rattle.ice_cells.specs.Clusterings.{opened_by, groups_by}
 
 pub filled_append : (a b : List Group) (plains : List ℕ) → filled (a ++ b) plains ≡ filled a plains ++ filled b (left a plains)
 filled_append [] b plains = refl

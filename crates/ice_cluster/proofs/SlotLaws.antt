@@ -1,12 +1,12 @@
 -- Each cell of a design stands in exactly one slot of its clusters.
-use Rattle.std.proofs.Common.{◌≡◌, ◌⊎◌, ℕ, zero, suc, ◌+◌, ◌-◌, ◌*◌, ◌<◌, ◌≤◌, Bool, true, false, cond, Option, None, Some, List, [], ◌∷◌, ◌++◌, length, map, take, drop, get_or, replicate, min, refl, ap, sym, ◌∙◌, subst, arith, inl, inr}
-use Rattle.std.specs.Prelude.{◌==◌, flat_map}
+use Rattle.std.proofs.Common.{◌≡◌, ◌⊎◌, ℕ, zero, suc, ◌+◌, ◌-◌, ◌*◌, ◌<◌, ◌≤◌, Bool, true, false, cond, Option, None, Some, List, [], ◌∷◌, ◌++◌, length, map, take, drop, replicate, min, refl, ap, sym, ◌∙◌, subst, arith, inl, inr}
+use Rattle.std.specs.Prelude.{◌==◌, flat_map, IsPermutation}
 use Rattle.std.specs.List.{range_with_len, list_any}
 use Rattle.std.proofs.lemmas.Bool.{cases_lt, eqb-true, eq-eqb}
 use Rattle.std.proofs.lemmas.Option.{none-some, same_Some}
-use Rattle.std.proofs.lemmas.List.{length-append, length-map, length-replicate, length-take, get_or_past}
-use Rattle.ice_value.specs.Order.{At, Has, StandOnce}
-use Rattle.ice_value.proofs.Members.{At_map, map_At, At_left, At_right, At_parts, Has_any, any_Has, Has_cases}
+use Rattle.std.proofs.lemmas.List.{length-append, length-map, length-replicate, length-take}
+use Rattle.ice_value.specs.Order.{At, Has}
+use Rattle.ice_value.proofs.Members.{At_map, map_At, At_left, At_parts, Has_any, any_Has}
 use Rattle.ice_value.proofs.Places.{At_replicate}
 use Rattle.ice_cells.specs.declared.cluster.Cluster.{Cluster}
 use Rattle.ice_cells.specs.declared.cluster.Clusters.{Clusters}
@@ -14,14 +14,15 @@ use Rattle.ice_cells.specs.declared.cluster.Group.{Group}
 use Rattle.ice_cells.specs.declared.cell.LogicCell.{LogicCell}
 use Rattle.ice_cells.specs.declared.design.Design.{Design}
 use Rattle.ice_cells.specs.declared.design.Run.{Run}
-use Rattle.ice_cells.specs.Clusters.{room, filled_one, filled, left, run_piece, run_pieces, runs_pieces, set_piece, set_pieces, sets_pieces, plain_piece, plain_pieces, run_cells, is_held, held_list, loose_flops, loose_plains, opened, groups_of, slots, with_slots, clusters_of}
+use Rattle.ice_cells.specs.Clusters.{room, filled_one, filled, left, run_piece, run_pieces, runs_pieces, set_piece, set_pieces, sets_pieces, plain_piece, plain_pieces, run_cells, is_held, held_list, loose_flops, loose_plains, slots, with_slots}
+use Rattle.ice_cells.specs.Clusterings.{opened_by, groups_by, clusters_with, IsClustering}
 use Rattle.ice_cells.specs.Pieces.{pieces_count, piece}
-use Rattle.ice_cells.specs.Sets.{sets_of, cells_with}
+use Rattle.ice_cells.specs.Sets.{FlopCell, sets_of, cells_with}
 use Rattle.ice_cells.specs.declared.cell.Control.{Control}
-use Rattle.ice_cells.specs.Formed.{IsFormed, cells_in_runs}
-use Rattle.ice_cells.proofs.TableLaws.{length-table, get_or-table}
+use Rattle.ice_cells.specs.Formed.{IsFormed}
+use Rattle.ice_cells.proofs.TableLaws.{get_or-table}
 use Rattle.ice_cluster.specs.Slots.{Stands, AreSlots}
-use Rattle.ice_cluster.proofs.Counted.{group_cells, members_of, held_at, groups_tally}
+use Rattle.ice_cluster.proofs.Counted.{members_of, held_at, groups_tally}
 use Rattle.ice_cluster.proofs.Tallies.{tally, tally_append, at_tally, one_place, has_tally, once_tally, row_tally, high_tally}
 
 -- ---- a place among groups
@@ -172,13 +173,13 @@ filled_short (g ∷ groups) plains short zero group at =
     (fill_few (length g.cells) (length (take (room g) plains)) (length plains) (short 0 g refl) (length-take (room g) plains)))
 filled_short (g ∷ groups) plains short (suc k) group at = filled_short groups (drop (room g) plains) (λ j other there. short (suc j) other there) k group at
 
-groups_short : (cells : List LogicCell) (runs : List Run) → AreShort (groups_of cells runs)
-groups_short cells runs =
-    append_short (filled (opened cells runs) (loose_plains cells runs)) (plain_pieces (left (opened cells runs) (loose_plains cells runs)))
-    (filled_short (opened cells runs) (loose_plains cells runs)
-    (append_short (runs_pieces cells 0 runs) (sets_pieces (loose_flops cells runs)) (runs_short cells 0 runs) (sets_short (cells_with (loose_flops cells runs)) (sets_of (loose_flops cells runs)))))
-    (map_short (plain_piece (left (opened cells runs) (loose_plains cells runs))) (λ k. piece_short (left (opened cells runs) (loose_plains cells runs)) k)
-    (range_with_len 0 (pieces_count (left (opened cells runs) (loose_plains cells runs)))))
+groups_short : (cells : List LogicCell) (runs : List Run) (flops : List FlopCell) (plains : List ℕ) → AreShort (groups_by cells runs flops plains)
+groups_short cells runs flops plains =
+    append_short (filled (opened_by cells runs flops) plains) (plain_pieces (left (opened_by cells runs flops) plains))
+    (filled_short (opened_by cells runs flops) plains
+    (append_short (runs_pieces cells 0 runs) (sets_pieces flops) (runs_short cells 0 runs) (sets_short (cells_with flops) (sets_of flops))))
+    (map_short (plain_piece (left (opened_by cells runs flops) plains)) (λ k. piece_short (left (opened_by cells runs flops) plains) k)
+    (range_with_len 0 (pieces_count (left (opened_by cells runs flops) plains))))
 
 -- ---- each cell stands once
 count_one : (a b : ℕ) → a ≡ 1 → b ≡ 0 → a + b ≡ 1
@@ -190,7 +191,8 @@ count_other a b e f = omega arith
 count_none : (a b : ℕ) → a ≡ 0 → b ≡ 0 → a + b ≡ 0
 count_none a b e f = omega arith
 
-module _ (d : Design) (formed : IsFormed d) where
+module _ (d : Design) (formed : IsFormed d) (flops : List FlopCell) (plains : List ℕ) (flops_are : IsPermutation (loose_flops d.cells d.runs) flops)
+    (plains_are : IsPermutation (loose_plains d.cells d.runs) plains) where
   abbrev n : ℕ
   n = length d.cells
 
@@ -203,8 +205,8 @@ module _ (d : Design) (formed : IsFormed d) where
   held_is : (c : ℕ) → c < n → held_at held c ≡ list_any (λ x. x == c) in_runs
   held_is c lt = get_or-table (is_held d.runs) n c false lt
 
-  tally_within : (c : ℕ) → c < n → tally c (members_of (groups_of d.cells d.runs)) ≡ 1
-  tally_within c lt = groups_tally c d.cells d.runs ∙ by (list_any (λ x. x == c) in_runs) refl
+  tally_within : (c : ℕ) → c < n → tally c (members_of (groups_by d.cells d.runs flops plains)) ≡ 1
+  tally_within c lt = groups_tally c d.cells d.runs flops plains flops_are plains_are ∙ by (list_any (λ x. x == c) in_runs) refl
     where
       row : tally c (range_with_len 0 n) ≡ 1
       row = row_tally c n 0 (omega arith) (omega arith)
@@ -224,9 +226,9 @@ module _ (d : Design) (formed : IsFormed d) where
           absent (inl none) = none
           absent (inr (i, at)) = (let found : list_any (λ x. x == c) in_runs ≡ true = Has_any (λ x. x == c) in_runs c i at (eq-eqb c c refl) in cc (found, e))
 
-  tally_beyond : (c : ℕ) → n ≤ c → tally c (members_of (groups_of d.cells d.runs)) ≡ 0
+  tally_beyond : (c : ℕ) → n ≤ c → tally c (members_of (groups_by d.cells d.runs flops plains)) ≡ 0
   tally_beyond c le =
-      groups_tally c d.cells d.runs
+      groups_tally c d.cells d.runs flops plains flops_are plains_are
       ∙ count_none (tally c in_runs) (cond (held_at held c) 0 (tally c (range_with_len 0 n))) (absent (has_tally c in_runs)) (by (held_at held c))
     where
       row : tally c (range_with_len 0 n) ≡ 0
@@ -240,27 +242,30 @@ module _ (d : Design) (formed : IsFormed d) where
       absent (inl none) = none
       absent (inr has) = (let lt = formed.inside c has in absurd (omega arith))
 
-  tally_few : (c : ℕ) → tally c (members_of (groups_of d.cells d.runs)) ≤ 1
+  tally_few : (c : ℕ) → tally c (members_of (groups_by d.cells d.runs flops plains)) ≤ 1
   tally_few c = elim (cases_lt c n) [
     | inl lt ↦ (let e = tally_within c lt in omega arith)
     | inr le ↦ (let e = tally_beyond c le in omega arith)
   ]
 
   abbrev all_groups : List Group
-  all_groups = groups_of d.cells d.runs
+  all_groups = groups_by d.cells d.runs flops plains
 
-  eight_at : (k : ℕ) (cluster : Cluster) → At (clusters_of d).list k cluster → length cluster.cells ≡ 8
+  abbrev made : Clusters
+  made = clusters_with d flops plains
+
+  eight_at : (k : ℕ) (cluster : Cluster) → At made.list k cluster → length cluster.cells ≡ 8
   eight_at k cluster at =
       let back = map_At with_slots all_groups k cluster at in
-      ap (λ (x : Cluster). length x.cells) (sym back.2) ∙ slots_length (back.0).cells (groups_short d.cells d.runs k back.0 back.1)
+      ap (λ (x : Cluster). length x.cells) (sym back.2) ∙ slots_length (back.0).cells (groups_short d.cells d.runs flops plains k back.0 back.1)
 
-  stands_there : (c : ℕ) → c < n → (k : ℕ) × (i : ℕ) × Stands (clusters_of d) k i c
+  stands_there : (c : ℕ) → c < n → (k : ℕ) × (i : ℕ) × Stands made k i c
   stands_there c lt =
       let there = tally_stands c all_groups (tally_within c lt) in
-      (there.0, there.1, stands_on all_groups (clusters_of d) refl there.0 there.1 c there.2)
+      (there.0, there.1, stands_on all_groups made refl there.0 there.1 c there.2)
 
-  stands_within : (k i c : ℕ) → Stands (clusters_of d) k i c → c < n
-  stands_within k i c a = by (cases_lt c n) (stands_back all_groups (clusters_of d) refl k i c a)
+  stands_within : (k i c : ℕ) → Stands made k i c → c < n
+  stands_within k i c a = by (cases_lt c n) (stands_back all_groups made refl k i c a)
     where
       by : (c < n) ⊎ (n ≤ c) → StandsIn all_groups k i c → c < n
       by (inl lt) one = lt
@@ -269,11 +274,14 @@ module _ (d : Design) (formed : IsFormed d) where
           let none = tally_beyond c le in
           absurd (omega arith)
 
-  stands_once : (c k i m j : ℕ) → Stands (clusters_of d) k i c → Stands (clusters_of d) m j c → (k ≡ m) × (i ≡ j)
+  stands_once : (c k i m j : ℕ) → Stands made k i c → Stands made m j c → (k ≡ m) × (i ≡ j)
   stands_once c k i m j a b =
-      let one = stands_back all_groups (clusters_of d) refl k i c a in
-      let two = stands_back all_groups (clusters_of d) refl m j c b in
+      let one = stands_back all_groups made refl k i c a in
+      let two = stands_back all_groups made refl m j c b in
       same_place c all_groups (tally_few c) k i m j one.group two.group one.at one.slot two.at two.slot
 
-  pub are_slots : AreSlots d (clusters_of d)
-  are_slots = record { eight = eight_at; there = stands_there; within = stands_within; once = stands_once }
+  made_slots : AreSlots d made
+  made_slots = record { eight = eight_at; there = stands_there; within = stands_within; once = stands_once }
+
+pub are_slots : (d : Design) (clusters : Clusters) → IsFormed d → IsClustering d clusters → AreSlots d clusters
+are_slots d clusters formed of_cells = subst (AreSlots d) (sym of_cells.is) (made_slots d formed of_cells.flops of_cells.plains of_cells.flops_are of_cells.plains_are)

@@ -1,8 +1,10 @@
 -- How often a number stands in a list.
-use Rattle.std.proofs.Common.{◌≡◌, ◌⊎◌, ℕ, zero, suc, ◌+◌, ◌<◌, ◌≤◌, Bool, true, false, cond, Some, List, [], ◌∷◌, ◌++◌, refl, ap, sym, ◌∙◌, subst, arith, inl, inr}
-use Rattle.std.specs.Prelude.{◌==◌}
-use Rattle.std.specs.List.{range_with_len}
-use Rattle.std.proofs.lemmas.Bool.{eq-eqb, eqb-true, ne_eqb, cases_eq, cases_lt}
+use Rattle.std.proofs.Common.{◌≡◌, ◌⊎◌, ℕ, zero, suc, ◌+◌, ◌<◌, ◌≤◌, Bool, true, false, Some, List, [], ◌∷◌, ◌++◌, refl, ap, sym, ◌∙◌, arith, inl, inr}
+use Rattle.std.specs.Prelude.{◌==◌, IsPermutation}
+use Rattle.std.specs.List.{range_with_len, sum_by}
+use Rattle.std.proofs.lemmas.Bool.{eq-eqb, ne_eqb, cases_eq, cases_lt}
+use Rattle.std.proofs.lemmas.List.Sorted.{sum_by-IsPermutation}
+use Rattle.std.proofs.lemmas.List.Sums.{sum_by-cons}
 use Rattle.std.proofs.lemmas.Option.{none-some, same_Some}
 use Rattle.ice_value.specs.Order.{At, Has, StandOnce}
 
@@ -58,6 +60,14 @@ elsewhere x c ne = ap one_if (ne_eqb x c ne)
 pub tally_append : (c : ℕ) (a b : List ℕ) → tally c (a ++ b) ≡ tally c a + tally c b
 tally_append c [] b = nothing_before (tally c b)
 tally_append c (x ∷ a) b = shift (one_if (x == c)) (tally c (a ++ b)) (tally c a) (tally c b) (tally_append c a b)
+
+tally_sum : (c : ℕ) (xs : List ℕ) → tally c xs ≡ sum_by (λ x. one_if (x == c)) xs
+tally_sum c [] = refl
+tally_sum c (x ∷ xs) = ap (λ n. one_if (x == c) + n) (tally_sum c xs) ∙ sym (sum_by-cons (λ x. one_if (x == c)) x xs)
+
+-- an order of a list has each number as often
+pub tally_permuted : (c : ℕ) (xs ys : List ℕ) → IsPermutation xs ys → tally c ys ≡ tally c xs
+tally_permuted c xs ys moved = tally_sum c ys ∙ sum_by-IsPermutation (λ x. one_if (x == c)) xs ys moved ∙ sym (tally_sum c xs)
 
 pub at_tally : (c : ℕ) (xs : List ℕ) (i : ℕ) → At xs i c → 1 ≤ tally c xs
 at_tally c [] i at = absurd (none-some c at)

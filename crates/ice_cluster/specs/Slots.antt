@@ -5,7 +5,7 @@ use Rattle.ice_cells.specs.declared.cell.Control.{Control}
 use Rattle.ice_cells.specs.declared.cluster.Cluster.{Cluster}
 use Rattle.ice_cells.specs.declared.cluster.Clusters.{Clusters}
 use Rattle.ice_cells.specs.declared.design.Design.{Design}
-use Rattle.ice_cells.specs.Clusters.{clusters_of}
+use Rattle.ice_cells.specs.Clusterings.{IsClustering}
 use Rattle.ice_cells.specs.Formed.{IsFormed}
 use Rattle.ice_cells.specs.Pieces.{control_at}
 
@@ -30,7 +30,7 @@ AreDriven d clusters =
 
 -- ---- the laws
 abbrev pub CellsStandInOneSlot : Type 0
-CellsStandInOneSlot = (d : Design) → IsFormed d → AreSlots d (clusters_of d)
+CellsStandInOneSlot = (d : Design) (clusters : Clusters) → IsFormed d → IsClustering d clusters → AreSlots d clusters
 
 abbrev pub FlopsAreDrivenAsTheirCluster : Type 0
-FlopsAreDrivenAsTheirCluster = (d : Design) → IsFormed d → AreDriven d (clusters_of d)
+FlopsAreDrivenAsTheirCluster = (d : Design) (clusters : Clusters) → IsFormed d → IsClustering d clusters → AreDriven d clusters

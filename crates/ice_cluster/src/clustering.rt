@@ -1,9 +1,11 @@
 //! The clusters of a design.
 ghost use Rattle.std.specs.Prelude.{◌≡◌, ◌++◌, length, map, IfOk};
 ghost use Rattle.ice_cells.specs.Clusters.{slots, with_slots, clusters_of, need, ends, sets_pieces};
-ghost use Rattle.ice_cluster.specs.Groups.{groups_by};
+ghost use Rattle.ice_cells.specs.Clusterings.{IsClustering, groups_by};
+ghost use Rattle.ice_cells.specs.Ranks.{clusters_by};
 
 use crate::filling::{open_lists, open_plains, open_runs};
+use crate::ranking::{rank_flops, rank_plains};
 use crate::sets::by_sets;
 use crate::sorting::loose_cells;
 use ice_base::NoMemory;
@@ -76,12 +78,15 @@ fn clusters_in(alloc: Global, groups: &[Group]) -> Result<Vec<Cluster>, NoMemory
     Ok(clusters)
 }
 
-/// The clusters of a design; as many as it needs. It fails for want of memory alone.
-pub fn cluster(alloc: Global, design: &Design) -> Result<Clusters, NoMemory>
-    ensures clusters { IfOk result (λ clusters. clusters ≡ clusters_of design.now) }
-    ensures need { IfOk result (λ clusters. length clusters.list ≡ need design.now) }
+/// The clusters of a design, of its cells in the order of their ranks, whatever these are: those without one have rank 0, and those of one rank stay in
+/// order. As many as it needs. It fails for want of memory alone.
+pub fn cluster_by(alloc: Global, design: &Design, ranks: &[u32]) -> Result<Clusters, NoMemory>
+    ensures clusters { IfOk result (λ clusters. clusters ≡ clusters_by ranks.now design.now) }
+    ensures clustering { IfOk result (IsClustering design.now) }
 {
-    let (flops, plains) = loose_cells(alloc, design.cells(), design.runs())?;
+    let (mut flops, mut plains) = loose_cells(alloc, design.cells(), design.runs())?;
+    rank_flops(&mut flops, ranks)?;
+    rank_plains(&mut plains, ranks)?;
     let groups = groups_in(
         alloc,
         design.cells(),
@@ -92,4 +97,14 @@ pub fn cluster(alloc: Global, design: &Design) -> Result<Clusters, NoMemory>
     Ok(Clusters {
         list: Items::from_vec(clusters_in(alloc, groups.as_slice())?),
     })
+}
+
+/// The clusters of a design; as many as it needs. It fails for want of memory alone.
+pub fn cluster(alloc: Global, design: &Design) -> Result<Clusters, NoMemory>
+    ensures clusters { IfOk result (λ clusters. clusters ≡ clusters_of design.now) }
+    ensures clustering { IfOk result (IsClustering design.now) }
+    ensures need { IfOk result (λ clusters. length clusters.list ≡ need design.now) }
+{
+    let clusters = cluster_by(alloc, design, &[])?;
+    Ok(clusters)
 }

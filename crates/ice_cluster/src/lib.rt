@@ -4,7 +4,8 @@
 mod clustering;
 mod filling;
 pub mod laws;
+mod ranking;
 mod sets;
 mod sorting;
 
-pub use clustering::cluster;
+pub use clustering::{cluster, cluster_by};

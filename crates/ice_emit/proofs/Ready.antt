@@ -11,13 +11,12 @@ use Rattle.ice_chip.specs.Lookups.{rows_of}
 use Rattle.ice_chip.specs.Places.{same_tile, columns}
 use Rattle.ice_chip.specs.declared.parts.TileLine.{TileLine}
 use Rattle.ice_bits.specs.Configuration.{Configuration, bits_of, bit_at, blank, blank_rows, blank_tile}
-use Rattle.ice_cells.specs.Clusters.{clusters_of}
 use Rattle.ice_cells.specs.Tables.{table}
 use Rattle.ice_cluster.specs.Slots.{CellsStandInOneSlot}
 use Rattle.ice_negotiate.specs.Trees.{route_of}
 use Rattle.ice_nets.specs.Plans.{plan_in}
 use Rattle.ice_nets.specs.Rooted.{wires_in, root_wires}
-use Rattle.ice_plan.specs.Plan.{Plan, slot_among}
+use Rattle.ice_plan.specs.Plan.{Plan, listed}
 use Rattle.ice_wiring.specs.Settings.{function_bits}
 use Rattle.ice_wiring.specs.Wanted.{sets_of, sets_switch}
 use Rattle.ice_writing.specs.Adds.{Adds}
@@ -42,8 +41,8 @@ are_routed routed pullups stand on trees wires owners = record {
   wires = wires;
   owners = owners;
   cells = λ c le.
-      let d = routed.placed.design.now in
-      ap (λ cs. slot_among cs routed.placed.tiles.now c) on.1.clusters ∙ no_slot d (clusters_of d) routed.placed.tiles.now (stand d on.1.formed) c le;
+      let plan = plan_in routed.placed in
+      no_slot plan.design (listed plan) plan.at (stand plan.design (listed plan) on.1.formed on.1.clusters) c le;
   apart = trees.apart;
   within = trees.within;
 }

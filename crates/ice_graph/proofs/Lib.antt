@@ -5,3 +5,5 @@ pub mod Growing
 pub mod Bounding
 pub mod Beside
 pub mod Nearest
+pub mod Drawing
+pub mod Hopping

@@ -3,3 +3,6 @@ pub mod Boxes
 pub mod Network
 pub mod Nearest
 pub mod Sorting
+pub mod Walks
+pub mod Hops
+pub mod Levels

@@ -7,6 +7,7 @@ use Rattle.ice_graph.specs.declared.edge.End.TheVariants.{Source, Target}
 use Rattle.ice_graph.specs.declared.extent.Extent.{Extent}
 use Rattle.ice_graph.specs.declared.graph.Graph.TheInside.{Inside}
 use Rattle.ice_graph.specs.Boxes.{AreBoxes, IsSpread, box_of, distance, in_spreads}
+use Rattle.ice_graph.specs.Hops.{IsTable}
 use Rattle.ice_graph.specs.Sorting.{IsIndex}
 
 -- the number of the wires, the edges in the order of their rows, the box of each wire, and the greatest half perimeter of the boxes of wires with an edge into them
@@ -62,3 +63,4 @@ pub record IsSorted (a : Inside) : Type 0 where
   pub small : a.spread ≤ 131070
   pub placed : length places ≡ length a.edges.items
   pub are_places : ArePlaces (network_of a) places
+  pub hops : IsTable a.edges.items a.hops

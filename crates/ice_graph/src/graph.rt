@@ -1,6 +1,7 @@
 //! Graphs of wires and rows.
 ghost use Rattle.std.specs.Prelude.{◌≡◌, ◌+◌, ◌<◌, ◌≤◌, ◌^◌, ℕ, Some, length, replicate, slice_get, IfOk, List};
 ghost use Rattle.ice_base.specs.declared.number.WireNo.{WireNo as Wire};
+ghost use Rattle.ice_graph.specs.Hops.{AreHops};
 ghost use Rattle.ice_graph.specs.Rows.{rows_into, rows_from};
 ghost use Rattle.ice_graph.specs.Boxes.{box_of, in_spreads, same_box};
 ghost use Rattle.ice_graph.specs.Network.{ArePlaces, AreBetween, BoundsFall, RowsRise, bound, least_bound};
@@ -10,6 +11,7 @@ use crate::boxes::{boxes_of, spread_of};
 use crate::edge::{Edge, End};
 use crate::extent::{Extent, distance, same_box};
 use crate::index::Index;
+use crate::table::Hops;
 use ice_base::{NoMemory, RowNo, TileAt, WireNo};
 use std::alloc::Global;
 use std::marker::Model;
@@ -25,6 +27,7 @@ pub struct Graph {
     from: Index,
     boxes: Vec<Option<Extent>>,
     spread: u32,
+    hops: Hops,
 }
 
 impl Model for Graph {
@@ -128,6 +131,7 @@ impl Graph {
             from,
             boxes,
             spread,
+            hops: Hops::none(alloc),
         })
     }
 
@@ -227,5 +231,29 @@ impl Graph {
         ensures small { result ≤ 131071 }
     {
         bound_to(self.spread, self.nearest(wire, targets))
+    }
+
+    /// Has the graph know how many rows lead at least from each wire to each of so many sets of wires, of which each wire is
+    /// in one or in none. It answers `NoMemory` where it finds none.
+    pub fn aim(
+        &mut self,
+        alloc: Global,
+        sets: Vec<Option<u8>>,
+        count: usize,
+    ) -> Result<(), NoMemory>
+        requires { length sets.items ≡ self.old.wires }
+        ensures { self.new ≡ self.old }
+    {
+        let hops = Hops::new(alloc, &self.edges, sets, count)?;
+        self.hops = hops;
+        Ok(())
+    }
+
+    /// How many rows lead at least from each wire to the targets, of which there is one at least.
+    pub fn hops(&self, targets: &[WireNo]) -> &[u8]
+        requires { 0 < length targets.now }
+        ensures { AreHops self.now.edges targets.now result.now }
+    {
+        self.hops.to(targets)
     }
 }

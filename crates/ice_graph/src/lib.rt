@@ -7,9 +7,13 @@ mod edge;
 mod extent;
 mod graph;
 mod index;
+pub mod laws;
+mod levels;
+mod table;
 mod tree;
 
 pub use edge::Edge;
 pub use extent::Extent;
 pub use graph::Graph;
+pub use table::Hops;
 pub use tree::Tree;

@@ -8,3 +8,5 @@ pub mod Found
 pub mod Parts
 pub mod Packs
 pub mod Ready
+pub mod PadRoots
+pub mod PadReaders

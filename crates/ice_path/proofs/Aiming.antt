@@ -1,194 +1,172 @@
 -- What a search knows before it begins is a bound that falls along each edge by no more than a price.
-use Rattle.std.proofs.Common.{◌≡◌, ℕ, ◌+◌, ◌-◌, ◌≤◌, ◌<◌, Bool, true, false, not, cond, List, [], Option, Some, None, length, slice_get, take, ◌∷◌, zero, suc, refl, sym, ap, ◌∙◌, arith, inl, inr, ◌⊎◌}
-use Rattle.std.specs.Prelude.{◌||◌, is_some, IfSome}
+use Rattle.std.proofs.Common.{◌≡◌, ℕ, ◌+◌, ◌*◌, ◌-◌, ◌≤◌, ◌<◌, min, max, Bool, true, false, List, [], ◌∷◌, Option, Some, None, length, slice_get, slice_index, refl, sym, ap, ◌∙◌, subst, arith, inl, inr, ◌⊎◌}
+use Rattle.std.specs.Prelude.{is_some, not, eqb, if◌then◌else◌, IfSome}
 use Rattle.std.proofs.lemmas.Bool.{false≢true}
+use Rattle.std.proofs.lemmas.Option.{same_Some}
 use Rattle.ice_base.specs.declared.number.WireNo.{WireNo}
 use Rattle.ice_core.specs.declared.prices.Prices.{Prices}
 use Rattle.ice_core.specs.Congestion.{price as price_of}
 use Rattle.ice_graph.specs.declared.edge.Edge.{Edge}
 use Rattle.ice_graph.specs.Network.{Network, BoundsFall, least_bound}
-use Rattle.ice_graph.specs.Boxes.{box_of}
-use Rattle.ice_graph.proofs.Beside.{least_beside}
 use Rattle.ice_graph.proofs.Bounding.{least_falls}
-use Rattle.std.proofs.lemmas.Option.{slice_get_within}
-use Rattle.ice_path.specs.Aims.{AreGuides, IsAim, Knows, ahead, bound_in, leads}
-use Rattle.ice_path.specs.Room.{AreWires}
-use Rattle.ice_path.specs.Search.{AreEnds, label, done}
+use Rattle.ice_graph.specs.Hops.{HopsFall, hop, said}
+use Rattle.ice_path.specs.Aims.{AreCosts, Fits, IsAim, Knows, RestFalls, ahead, at_least, beyond_at, bound_in, leads, rest}
+use Rattle.ice_path.specs.Search.{AtMost, label}
 use Rattle.ice_path.specs.Walks.{HasEdge, IsTarget, FallsBy, AreSettled}
 use Rattle.ice_path.specs.declared.aim.Aim.{Aim}
 use Rattle.ice_path.proofs.Ending.{targets_home, home_targets}
 use Rattle.ice_path.proofs.Settling.{price_positive, bounds_fall_by}
 
-module _ (aim : Aim) where
-  -- ---- which wires lead on
-  pub near_leads : (w c : ℕ) → label aim.near.now w ≡ Some c → leads aim w ≡ true
-  unfolding leads
-  near_leads w c at = by_end (not (done aim.ends.now w))
-    where
-      by_end : (b : Bool) → (b || is_some (label aim.near.now w)) ≡ true
-      by_end true = refl
-      by_end false = ap is_some at
+-- ---- how many rows are left
+at_least_back : (b : ℕ) (o : Option ℕ) (k : ℕ) → at_least b o ≡ Some k → (j : ℕ) × (o ≡ Some j) × (k ≡ max j b)
+at_least_back b None k is = absurd (cc)
+at_least_back b (Some j) k is = (j, refl, sym (same_Some (max j b) k is))
 
-  pub no_end_leads : (w : ℕ) → done aim.ends.now w ≡ false → leads aim w ≡ true
-  unfolding leads
-  no_end_leads w is = ap (λ b. not b || is_some (label aim.near.now w)) is
+pub rest_falls : (graph : Network) (hops : List ℕ) (guides : List WireNo) → BoundsFall graph → HopsFall graph.edges hops → RestFalls graph.edges (rest graph hops guides)
+rest_falls graph hops guides falls fall e k has is =
+    let to = at_least_back (least_bound graph guides e.to.0) (hop hops e.to.0) k is in
+    let from = fall e to.0 has to.1 in
+    let step = least_falls graph falls guides has.0 e has.1 in
+    (max from.0 (least_bound graph guides e.from.0), ap (at_least (least_bound graph guides e.from.0)) from.1, (let le = from.2 in let k_is = to.2 in omega (arith, step, le, k_is)))
 
-  astray_is_end : (w : ℕ) → leads aim w ≡ false → done aim.ends.now w ≡ true
-  astray_is_end w h = by_end (done aim.ends.now w) refl
-    where
-      by_end : (b : Bool) → done aim.ends.now w ≡ b → b ≡ true
-      by_end true is = refl
-      by_end false is = absurd (false≢true (sym h ∙ no_end_leads w is))
-
-  end_astray : (w : ℕ) → done aim.ends.now w ≡ true → label aim.near.now w ≡ None → leads aim w ≡ false
-  unfolding leads
-  end_astray w shut none = ap (λ b. not b || is_some (label aim.near.now w)) shut ∙ ap is_some none
-
-  pub end_leads : (w : ℕ) → done aim.ends.now w ≡ true → leads aim w ≡ is_some (label aim.near.now w)
-  unfolding leads
-  end_leads w is = ap (λ b. not b || is_some (label aim.near.now w)) is
+-- where the column says something, so many rows are left
+pub rest_of_hop : (graph : Network) (hops : List ℕ) (guides : List WireNo) (w k : ℕ) → hop hops w ≡ Some k → rest graph hops guides w ≡ Some (max k (least_bound graph guides w))
+rest_of_hop graph hops guides w k is = ap (at_least (least_bound graph guides w)) is
 
 module _ (graph : Network) (aim : Aim) where
+  abbrev left : ℕ → Option ℕ
+  left = rest graph aim.hops.now aim.guides.now
+
+  pub leads_rest : (w : ℕ) → leads aim w ≡ true → (k : ℕ) × (left w ≡ Some k)
+  unfolding leads
+  leads_rest w is = by_hop (hop aim.hops.now w) refl
+    where
+      by_hop : (o : Option ℕ) → hop aim.hops.now w ≡ o → (k : ℕ) × (left w ≡ Some k)
+      by_hop (Some k) at = (max k (least_bound graph aim.guides.now w), rest_of_hop graph aim.hops.now aim.guides.now w k at)
+      by_hop None at = absurd (false≢true (sym (ap is_some at) ∙ is))
+
+  pub rest_leads : (w k : ℕ) → left w ≡ Some k → leads aim w ≡ true
+  unfolding leads
+  rest_leads w k is = (let t = at_least_back (least_bound graph aim.guides.now w) (hop aim.hops.now w) k is in ap is_some t.1)
+
+  -- the test of a column's number
+  pub leads_is : (w n : ℕ) → n ≡ slice_index aim.hops.now w → not (eqb n 255) ≡ leads aim w
+  unfolding leads
+  leads_is w n is = by_test (eqb n 255) refl ∙ ap (λ m. is_some (said m)) is
+    where
+      by_test : (b : Bool) → eqb n 255 ≡ b → not (eqb n 255) ≡ is_some (said n)
+      by_test true e = ap not e ∙ sym (ap (λ b. is_some (if b then None else Some n)) e)
+      by_test false e = ap not e ∙ sym (ap (λ b. is_some (if b then None else Some n)) e)
+
+  pub astray_rest : (w : ℕ) → leads aim w ≡ false → left w ≡ None
+  astray_rest w off = by_rest (left w) refl
+    where
+      by_rest : (o : Option ℕ) → left w ≡ o → left w ≡ None
+      by_rest None at = at
+      by_rest (Some k) at = absurd (false≢true (sym off ∙ rest_leads w k at))
+
   -- ---- the bound, by what is known of the wire
-  pub bound_leads : (w : ℕ) → leads aim w ≡ true → bound_in graph aim w ≡ ahead graph aim w (label aim.near.now w)
+  pub bound_near : (w c k : ℕ) → label aim.near.now w ≡ Some c → left w ≡ Some k → bound_in graph aim w ≡ c
   unfolding bound_in
-  bound_leads w is = ap (λ b. cond b (ahead graph aim w (label aim.near.now w)) (18446744073709551616 + (aim.far + least_bound graph aim.guides.now w))) is
+  bound_near w c k at is = ap (λ o. ahead aim.beyond.now o (left w)) at ∙ ap (ahead aim.beyond.now (Some c)) is
 
-  pub bound_astray : (w : ℕ) → leads aim w ≡ false → bound_in graph aim w ≡ 18446744073709551616 + (aim.far + least_bound graph aim.guides.now w)
+  pub bound_far : (w k : ℕ) → label aim.near.now w ≡ None → left w ≡ Some k → bound_in graph aim w ≡ beyond_at aim.beyond.now k
   unfolding bound_in
-  bound_astray w is = ap (λ b. cond b (ahead graph aim w (label aim.near.now w)) (18446744073709551616 + (aim.far + least_bound graph aim.guides.now w))) is
+  bound_far w k at is = ap (λ o. ahead aim.beyond.now o (left w)) at ∙ ap (ahead aim.beyond.now None) is
 
-  pub bound_near : (w c : ℕ) → label aim.near.now w ≡ Some c → bound_in graph aim w ≡ c
-  bound_near w c at = bound_leads w (near_leads aim w c at) ∙ ap (ahead graph aim w) at
+  pub bound_astray : (w : ℕ) → left w ≡ None → bound_in graph aim w ≡ 18446744073709551616
+  unfolding bound_in
+  bound_astray w is = ap (ahead aim.beyond.now (label aim.near.now w)) is
 
-  pub bound_far : (w : ℕ) → label aim.near.now w ≡ None → leads aim w ≡ true → bound_in graph aim w ≡ aim.far + (least_bound graph aim.guides.now w - aim.depth)
-  bound_far w at is = bound_leads w is ∙ ap (ahead graph aim w) at
-
-  -- a wire is near, or leads on all the same, or leads nowhere
+  -- a wire is near, or not near but leads on, or leads nowhere
   abbrev Sort : ℕ → Type 0
-  Sort w = ((c : ℕ) × (label aim.near.now w ≡ Some c)) ⊎ ((label aim.near.now w ≡ None) × (leads aim w ≡ true) ⊎ (label aim.near.now w ≡ None) × (leads aim w ≡ false))
+  Sort w = ((k : ℕ) × (c : ℕ) × (left w ≡ Some k) × (label aim.near.now w ≡ Some c)) ⊎ (((k : ℕ) × (left w ≡ Some k) × (label aim.near.now w ≡ None)) ⊎ (left w ≡ None))
 
   sort : (w : ℕ) → Sort w
-  sort w = by_near (label aim.near.now w) refl
+  sort w = by_rest (left w) refl
     where
-      by_lead : label aim.near.now w ≡ None → (b : Bool) → leads aim w ≡ b → Sort w
-      by_lead at true is = inr (inl (at, is))
-      by_lead at false is = inr (inr (at, is))
+      by_near : (k : ℕ) → left w ≡ Some k → (o : Option ℕ) → label aim.near.now w ≡ o → Sort w
+      by_near k is (Some c) at = inl (k, c, is, at)
+      by_near k is None at = inr (inl (k, is, at))
 
-      by_near : (o : Option ℕ) → label aim.near.now w ≡ o → Sort w
-      by_near (Some c) at = inl (c, at)
-      by_near None at = by_lead at (leads aim w) refl
+      by_rest : (o : Option ℕ) → left w ≡ o → Sort w
+      by_rest (Some k) is = by_near k is (label aim.near.now w) refl
+      by_rest None is = inr (inr is)
 
-  -- ---- where one has looked back
-  module _ (p : Prices) (depth : aim.depth ≡ 3) (guide : AreGuides graph aim.targets.now aim.guides.now) (falls : BoundsFall graph) (ends : AreEnds graph.edges aim.ends.now) (knows : Knows graph (price_of p) aim.targets.now aim.near.now aim.far) where
-    -- from an end one gets only to a wire that no edge leaves, and where that is a target, the end is near
-    end_is_near : (e : Edge) → HasEdge graph.edges e → done aim.ends.now e.from.0 ≡ true → leads aim e.to.0 ≡ true → (l : ℕ) × (label aim.near.now e.from.0 ≡ Some l)
-    end_is_near e has end' is = elim (sort e.to.0) [
-      | inl near ↦ elim (knows.back e near.0 has near.1) [
-        | inl source ↦ source
-        | inr on ↦ absurd (ends.last e on.0 has on.1 (sym on.2) end')
-      ]
+  module _ (p : Prices) (fall : RestFalls graph.edges left) (knows : Knows graph.edges (price_of p) aim.targets.now aim.near.now left (beyond_at aim.beyond.now))
+      (near_small : (w c : ℕ) → label aim.near.now w ≡ Some c → c ≤ 18446744073709551616) (small : (k : ℕ) → beyond_at aim.beyond.now k ≤ 18446744073709551616) where
+    bound_most : (w : ℕ) → bound_in graph aim w ≤ 18446744073709551616
+    bound_most w = elim (sort w) [
+      | inl t ↦ (let e = bound_near w t.1 t.0 t.3 t.2 in let le = near_small w t.1 t.3 in omega (arith, e, le))
       | inr other ↦ elim other [
-        | inl far ↦ by_end far.0 (done aim.ends.now e.to.0) refl
-        | inr astray ↦ absurd (false≢true (sym astray.1 ∙ is))
+        | inl t ↦ (let e = bound_far w t.0 t.2 t.1 in let le = small t.0 in omega (arith, e, le))
+        | inr none ↦ (let e = bound_astray w none in omega (arith, e))
       ]
     ]
-      where
-        by_end : label aim.near.now e.to.0 ≡ None → (b : Bool) → done aim.ends.now e.to.0 ≡ b → (l : ℕ) × (label aim.near.now e.from.0 ≡ Some l)
-        by_end none false open' = (let f = ends.left e has open' in absurd (ends.last e f.0 has f.1 (sym f.2) end'))
-        by_end none true shut = absurd (false≢true (sym (end_astray aim e.to.0 shut none) ∙ is))
-
-    near_back : (e : Edge) → HasEdge graph.edges e → leads aim e.to.0 ≡ true → leads aim e.from.0 ≡ true
-    near_back e has is = by_end (done aim.ends.now e.from.0) refl
-      where
-        by_end : (b : Bool) → done aim.ends.now e.from.0 ≡ b → leads aim e.from.0 ≡ true
-        by_end false open' = no_end_leads aim e.from.0 open'
-        by_end true shut = (let t = end_is_near e has shut is in near_leads aim e.from.0 t.0 t.1)
-
-    -- a wire that leads on has a bound of at most what is known of far wires and the graph's bound
-    lead_most : (w : ℕ) → leads aim w ≡ true → bound_in graph aim w ≤ aim.far + least_bound graph aim.guides.now w
-    lead_most w is = elim (sort w) [
-      | inl near ↦ (let e = bound_near w near.0 near.1 in let l = knows.low w near.0 near.1 in omega (arith, e, l))
-      | inr other ↦ elim other [
-        | inl far ↦ (let e = bound_far w far.0 is in omega (arith, e))
-        | inr astray ↦ absurd (false≢true (sym astray.1 ∙ is))
-      ]
-    ]
-
-    off_target : (w : ℕ) → label aim.near.now w ≡ None → IsTarget aim.targets.now w → ⊥
-    off_target w none target = absurd (let home = knows.home w target in let bad = sym home ∙ none in cc)
 
     near_falls : FallsBy graph.edges (price_of p) (bound_in graph aim)
     near_falls e has = elim (sort e.to.0) [
-      | inl near ↦ to_near near.0 near.1
-      | inr other ↦ elim other [ inl far ↦ to_far far.0 far.1 | inr astray ↦ to_astray astray.1 ]
+      | inl t ↦ to_near t.0 t.1 t.2 t.3
+      | inr other ↦ elim other [ inl t ↦ to_far t.0 t.1 t.2 | inr none ↦ (let b = bound_astray e.to.0 none in let a = bound_most e.from.0 in omega (arith, a, b)) ]
     ]
       where
-        step : least_bound graph aim.guides.now e.from.0 ≤ 1 + least_bound graph aim.guides.now e.to.0
-        step = least_falls graph falls aim.guides.now has.0 e has.1
-
         paid : 1 ≤ price_of p e.to.0
         paid = price_positive p e.to.0
 
-        to_near : (c : ℕ) → label aim.near.now e.to.0 ≡ Some c → bound_in graph aim e.from.0 ≤ price_of p e.to.0 + bound_in graph aim e.to.0
-        to_near c at =
-            let b = bound_near e.to.0 c at in
+        to_near : (k c : ℕ) → left e.to.0 ≡ Some k → label aim.near.now e.to.0 ≡ Some c → bound_in graph aim e.from.0 ≤ price_of p e.to.0 + bound_in graph aim e.to.0
+        to_near k c is at =
+            let b = bound_near e.to.0 c k at is in
+            let from = fall e k has is in
             elim (knows.falls e c has at) [
-              | inl t ↦ (let a = bound_near e.from.0 t.0 t.1 in let le = t.2 in omega (arith, a, b, le))
-              | inr t ↦ (
-                  let a = bound_far e.from.0 t.0 (near_back e has (near_leads aim e.to.0 c at)) in
-                  let le = t.1 in
-                  let few = t.2 in
-                  let near' = guide e.from.0 (λ target. off_target e.from.0 t.0 target) in
-                  omega (arith, a, b, le, few, near', depth))
+              | inl t ↦ (let a = bound_near e.from.0 t.0 from.0 t.1 from.1 in let le = t.2 in omega (arith, a, b, le))
+              | inr t ↦ (let a = bound_far e.from.0 from.0 t.0 from.1 in let le = t.1 from.0 from.1 in omega (arith, a, b, le))
             ]
 
-        to_far : label aim.near.now e.to.0 ≡ None → leads aim e.to.0 ≡ true → bound_in graph aim e.from.0 ≤ price_of p e.to.0 + bound_in graph aim e.to.0
-        to_far none is =
-            let b = bound_far e.to.0 none is in
-            elim (sort e.from.0) [
-              | inl near ↦ (let a = bound_near e.from.0 near.0 near.1 in let l = knows.low e.from.0 near.0 near.1 in omega (arith, a, b, l))
-              | inr other ↦ elim other [
-                | inl far ↦ (let a = bound_far e.from.0 far.0 far.1 in let s = step in let one' = paid in omega (arith, a, b, s, one'))
-                | inr astray ↦ absurd (false≢true (sym astray.1 ∙ near_back e has is))
-              ]
-            ]
-
-        to_astray : leads aim e.to.0 ≡ false → bound_in graph aim e.from.0 ≤ price_of p e.to.0 + bound_in graph aim e.to.0
-        to_astray is = by_lead (leads aim e.from.0) refl
+        to_far : (k : ℕ) → left e.to.0 ≡ Some k → label aim.near.now e.to.0 ≡ None → bound_in graph aim e.from.0 ≤ price_of p e.to.0 + bound_in graph aim e.to.0
+        to_far k is none =
+            let b = bound_far e.to.0 k none is in
+            let from = fall e k has is in
+            by_near from.0 from.1 from.2 (label aim.near.now e.from.0) refl
           where
-            by_lead : (b : Bool) → leads aim e.from.0 ≡ b → bound_in graph aim e.from.0 ≤ price_of p e.to.0 + bound_in graph aim e.to.0
-            by_lead true on = (let a = lead_most e.from.0 on in let b = bound_astray e.to.0 is in let s = step in omega (arith, a, b, s))
-            by_lead false off = (let a = bound_astray e.from.0 off in let b = bound_astray e.to.0 is in let s = step in let one' = paid in omega (arith, a, b, s, one'))
+            by_near : (l : ℕ) → left e.from.0 ≡ Some l → l ≤ k + 1 → (o : Option ℕ) → label aim.near.now e.from.0 ≡ o → bound_in graph aim e.from.0 ≤ price_of p e.to.0 + bound_in graph aim e.to.0
+            by_near l at le (Some c) near = (let b = bound_far e.to.0 k none is in let a = bound_near e.from.0 c l near at in let low = knows.low e.from.0 c k near in omega (arith, a, b, low))
+            by_near l at le None near = (let b = bound_far e.to.0 k none is in let a = bound_far e.from.0 l near at in let s = knows.costs.slope l k le in let one' = paid in omega (arith, a, b, s, one'))
 
     near_away : (w : ℕ) → bound_in graph aim w ≡ 0 → IsTarget aim.targets.now w
     near_away w z = elim (sort w) [
-      | inl near ↦ knows.away w (near.1 ∙ ap (λ c. Some c) (let e = bound_near w near.0 near.1 in let same : near.0 ≡ 0 = omega (arith, e, z) in same))
+      | inl t ↦ knows.away w (t.3 ∙ ap (λ c. Some c) (let e = bound_near w t.1 t.0 t.3 t.2 in let same : t.1 ≡ 0 = omega (arith, e, z) in same))
       | inr other ↦ elim other [
-        | inl far ↦ absurd (let e = bound_far w far.0 far.1 in let some = knows.some in omega (arith, e, some, z))
-        | inr astray ↦ absurd (let e = bound_astray w astray.1 in omega (arith, e, z))
+        | inl t ↦ absurd (let e = bound_far w t.0 t.2 t.1 in let some = knows.costs.some t.0 in omega (arith, e, some, z))
+        | inr none ↦ absurd (let e = bound_astray w none in omega (arith, e, z))
       ]
     ]
+
+    near_back : (e : Edge) → HasEdge graph.edges e → leads aim e.to.0 ≡ true → leads aim e.from.0 ≡ true
+    near_back e has is = (let to = leads_rest e.to.0 is in let from = fall e to.0 has to.1 in rest_leads e.from.0 from.0 from.1)
 
     pub near_aim : IsAim graph.edges (price_of p) aim.targets.now (bound_in graph aim) (leads aim)
     near_aim = record {
       falls = near_falls;
-      home = λ w t. bound_near w 0 (knows.home w t);
+      home = λ w t. (let at = knows.home w t in let on = knows.on w 0 at in bound_near w 0 on.0 at on.1);
       away = near_away;
       back = near_back;
-      astray = λ w is. (let e = bound_astray w is in omega (arith, e));
+      astray = λ w off. (let e = bound_astray w (astray_rest w off) in omega (arith, e));
     }
 
   -- ---- where nothing is known but the graph's bound
-  module _ (p : Prices) (falls : BoundsFall graph) (none : (w : ℕ) → label aim.near.now w ≡ None) (empty : aim.ends.now ≡ []) (far : aim.far ≡ 0) (depth : aim.depth ≡ 0) (same : aim.guides.now ≡ aim.targets.now) where
+  module _ (p : Prices) (falls : BoundsFall graph) (none : aim.near.now ≡ []) (empty : aim.hops.now ≡ []) (plain : aim.beyond.now ≡ []) (same : aim.guides.now ≡ aim.targets.now) where
+    plain_rest : (w : ℕ) → left w ≡ Some (max 0 (least_bound graph aim.guides.now w))
+    plain_rest w = rest_of_hop graph aim.hops.now aim.guides.now w 0 (ap (λ (hops : List ℕ). hop hops w) empty)
+
     pub plain_leads : (w : ℕ) → leads aim w ≡ true
-    plain_leads w = no_end_leads aim w (ap (λ ends. done ends w) empty)
+    plain_leads w = rest_leads w (max 0 (least_bound graph aim.guides.now w)) (plain_rest w)
 
     pub plain_bound : (w : ℕ) → bound_in graph aim w ≡ least_bound graph aim.targets.now w
     plain_bound w =
-        let e = bound_far w (none w) (plain_leads w) in
+        let e = bound_far w (max 0 (least_bound graph aim.guides.now w)) (ap (λ (near : List (Option ℕ)). label near w) none) (plain_rest w) in
+        let far = ap (λ (beyond : List ℕ). beyond_at beyond (max 0 (least_bound graph aim.guides.now w))) plain in
         let guided : least_bound graph aim.guides.now w ≡ least_bound graph aim.targets.now w = ap (λ ts. least_bound graph ts w) same in
-        omega (arith, e, far, depth, guided)
+        omega (arith, e, far, guided)
 
     pub plain_aim : 0 < length aim.targets.now → IsAim graph.edges (price_of p) aim.targets.now (bound_in graph aim) (leads aim)
     plain_aim some = record {
@@ -203,6 +181,26 @@ module _ (graph : Network) (aim : Aim) where
       astray = λ w is. absurd (false≢true (sym is ∙ plain_leads w));
     }
 
+  -- ---- where nothing is known at all
+  module _ (none : aim.near.now ≡ []) (empty : aim.hops.now ≡ []) (plain : aim.beyond.now ≡ []) (no_guides : aim.guides.now ≡ []) where
+    blind_rest : (w : ℕ) → left w ≡ Some (max 0 (least_bound graph aim.guides.now w))
+    blind_rest w = rest_of_hop graph aim.hops.now aim.guides.now w 0 (ap (λ (hops : List ℕ). hop hops w) empty)
+
+    pub blind_leads : (w : ℕ) → leads aim w ≡ true
+    blind_leads w = rest_leads w (max 0 (least_bound graph aim.guides.now w)) (blind_rest w)
+
+    pub blind_bound : (w : ℕ) → bound_in graph aim w ≡ 0
+    blind_bound w =
+        let e = bound_far w (max 0 (least_bound graph aim.guides.now w)) (ap (λ (near : List (Option ℕ)). label near w) none) (blind_rest w) in
+        let far = ap (λ (beyond : List ℕ). beyond_at beyond (max 0 (least_bound graph aim.guides.now w))) plain in
+        let guided : least_bound graph aim.guides.now w ≡ 0 = ap (λ ts. least_bound graph ts w) no_guides in
+        omega (arith, e, far, guided)
+
+-- what is known beforehand is small
+pub beyond_small : (beyond : List ℕ) (k most : ℕ) → ((j : ℕ) → slice_index beyond j ≤ most) → k ≤ most → beyond_at beyond k ≤ most
+beyond_small [] k most h le = le
+beyond_small (c ∷ costs) k most h le = h (min k (length costs))
+
 -- what is settled by one bound is settled by another that is the same
 pub settled_by : (edges : List Edge) (price : ℕ → ℕ) (tree : List WireNo) (one other : ℕ → ℕ) → ((w : ℕ) → one w ≡ other w) → (c : ℕ) (wires : List WireNo) → AreSettled edges price tree one c wires → AreSettled edges price tree other c wires
 settled_by edges price tree one other same c wires h = record {
@@ -214,22 +212,3 @@ settled_by edges price tree one other same c wires h = record {
 pub settled_if : (edges : List Edge) (price : ℕ → ℕ) (tree : List WireNo) (one other : ℕ → ℕ) (o : Option ℕ) (wires : List WireNo) → IfSome o (λ c. AreSettled edges price tree one c wires) → ((w : ℕ) → one w ≡ other w) → IfSome o (λ c. AreSettled edges price tree other c wires)
 settled_if edges price tree one other (Some c) wires h same = settled_by edges price tree one other same c wires h
 settled_if edges price tree one other None wires h same = tt
-
--- where all targets have one box, the first is guide enough
-pub one_guide : (graph : Network) (targets : List WireNo) (n : ℕ) (first : WireNo) → slice_get targets 0 ≡ Some first → length targets ≤ n → ((k : ℕ) (t : WireNo) → k < n → slice_get targets k ≡ Some t → box_of graph.boxes t.0 ≡ box_of graph.boxes first.0)
-    → AreGuides graph targets (take 1 targets)
-one_guide graph [] n first at le same w off = absurd (cc)
-one_guide graph (t ∷ rest) n first at le same w off =
-    let is : t ≡ first = (cc) in
-    least_beside graph w t rest (λ e. off (0, t, refl, sym e)) (λ k u here. (
-      (λ e. off (suc k, u, here, sym e)),
-      same (suc k) u (let lt = slice_get_within rest k u here in omega (arith, lt, le)) here ∙ ap (λ (x : WireNo). box_of graph.boxes x.0) (sym is),
-    ))
-
-pub own_guides : (graph : Network) (targets : List WireNo) → AreGuides graph targets targets
-own_guides graph targets w off = omega arith
-
-pub first_within : (n : ℕ) (targets : List WireNo) → AreWires n targets → AreWires n (take 1 targets)
-first_within n [] h k v at = absurd (cc)
-first_within n (t ∷ rest) h zero v at = h 0 v at
-first_within n (t ∷ rest) h (suc k) v at = absurd (cc)

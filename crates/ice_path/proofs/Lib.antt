@@ -1,6 +1,6 @@
 pub mod Aiming
-pub mod Leaving
 pub mod Looking
+pub mod Levelling
 pub mod Listing
 pub mod Queueing
 pub mod Relaxing

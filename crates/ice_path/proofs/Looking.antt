@@ -1,267 +1,244 @@
--- Looking back from the targets, one wire after another.
-use Rattle.std.proofs.Common.{◌≡◌, ℕ, ◌+◌, ◌≤◌, ◌<◌, List, [], ◌∷◌, ◌++◌, Option, Some, None, length, slice_get, refl, sym, ap, ◌∙◌, subst, arith, inl, inr, ◌⊎◌, get_or-set_same, get_or-set_other}
-use Rattle.std.proofs.lemmas.Bool.{cases_eq, cases_lt}
-use Rattle.std.proofs.lemmas.List.{length_push}
-use Rattle.std.proofs.lemmas.Option.{slice_get_within, slice_get-get_or}
+-- Looking back from the targets by price, one wire after another.
+use Rattle.std.proofs.Common.{◌≡◌, ℕ, zero, suc, ◌+◌, ◌-◌, ◌*◌, ◌≤◌, ◌<◌, min, Bool, true, false, cond, List, [], ◌∷◌, Option, Some, None, length, map, slice_get, slice_index, slice_set, eqb, refl, sym, ap, ◌∙◌, subst, arith, inl, inr, ◌⊎◌, get_or-set_same, get_or-set_other}
+use Rattle.std.proofs.lemmas.Bool.{cases_eq, cases_lt, false≢true}
+use Rattle.std.proofs.lemmas.Option.{same_Some, slice_get_within, slice_get-get_or}
 use Rattle.std.specs.List.{Contains}
 use Rattle.ice_base.specs.declared.number.WireNo.{WireNo}
 use Rattle.ice_graph.specs.declared.edge.Edge.{Edge}
-use Rattle.ice_graph.specs.Network.{Network, BoundsFall, least_bound}
-use Rattle.ice_graph.specs.Rows.{rows_into}
-use Rattle.ice_graph.proofs.Bounding.{least_falls}
-use Rattle.ice_path.specs.Aims.{Closed, Homes, Knows, Leaves, Looks, Marks, Opens, Spreads}
-use Rattle.ice_path.specs.Search.{AtMost, Touches, label}
-use Rattle.ice_path.specs.Walks.{HasEdge}
-use Rattle.ice_path.proofs.Ending.{targets_home}
-use Rattle.ice_path.proofs.Settling.{one_label}
+use Rattle.ice_graph.specs.Rows.{rows_from, rows_into}
+use Rattle.ice_path.specs.Aims.{AreCosts, Knows, RestFalls, beyond_at}
+use Rattle.ice_path.specs.Looks.{AreFar, Ends, Keeps, Looks, Reaches, flip, flips}
+use Rattle.ice_path.specs.Search.{AtMost, IsLeastOpen, IsNext, Lowers, Relaxes, Starts, Touches, done, label}
+use Rattle.ice_path.specs.Walks.{HasEdge, InTree, IsTarget}
+use Rattle.ice_path.proofs.Relaxing.{relax_none, relax_skip, relax_step}
+use Rattle.ice_path.proofs.Settling.{one_label, open_edges_set}
 use Rattle.ice_path.proofs.Taking.{in_rows_into, of_rows_into}
-use Rattle.ice_value.proofs.Places.{At_push_cases}
 
--- ---- one wire
-module _ (old new : List (Option ℕ)) (before after : List ℕ) (w cost : ℕ) (lt : w < length old) where
-  -- marks stay
-  pub mark_kept : Marks old new before after w cost → (v c : ℕ) → label old v ≡ Some c → label new v ≡ Some c
-  mark_kept (inl t) v c at = elim (cases_eq v w) [
-    | inl same ↦ (let bad : Some c ≡ None = sym at ∙ (ap (label old) same ∙ t.0) in absurd (cc))
-    | inr other ↦ ap (λ ls. label ls v) t.1 ∙ (get_or-set_other old w v (Some cost) None other ∙ at)
+-- ---- edges the other way round
+of_flips : (rows : List Edge) (k : ℕ) (e : Edge) → slice_get (flips rows) k ≡ Some e → (f : Edge) × (slice_get rows k ≡ Some f) × (flip f ≡ e)
+of_flips [] k e at = absurd (cc)
+of_flips (f ∷ rows) zero e at = (f, refl, same_Some (flip f) e at)
+of_flips (f ∷ rows) (suc k) e at = of_flips rows k e at
+
+pub in_flips : (rows : List Edge) (k : ℕ) (f : Edge) → slice_get rows k ≡ Some f → slice_get (flips rows) k ≡ Some (flip f)
+in_flips [] k f at = absurd (cc)
+in_flips (g ∷ rows) zero f at = ap (λ (x : Edge). Some (flip x)) (same_Some g f at)
+in_flips (g ∷ rows) (suc k) f at = in_flips rows k f at
+
+-- the rows from a wire the other way round are those into it
+pub rows_flipped : (edges : List Edge) (u : ℕ) → length (rows_from (flips edges) u) ≡ length (rows_into edges u)
+rows_flipped [] u = refl
+rows_flipped (e ∷ edges) u = by_test (rows_flipped edges u) (eqb e.to.0 u) refl
+  where
+    by_test : length (rows_from (flips edges) u) ≡ length (rows_into edges u) → (b : Bool) → eqb e.to.0 u ≡ b → length (rows_from (flips (e ∷ edges)) u) ≡ length (rows_into (e ∷ edges) u)
+    by_test r true is = (
+        let a = ap (λ t. length (cond t (flip e ∷ rows_from (flips edges) u) (rows_from (flips edges) u))) is in
+        let b = ap (λ t. length (cond t (e ∷ rows_into edges u) (rows_into edges u))) is in
+        a ∙ (ap suc r ∙ sym b))
+    by_test r false is = (
+        let a = ap (λ t. length (cond t (flip e ∷ rows_from (flips edges) u) (rows_from (flips edges) u))) is in
+        let b = ap (λ t. length (cond t (e ∷ rows_into edges u) (rows_into edges u))) is in
+        a ∙ (r ∙ sym b))
+
+pub widen_none : (rows : List Edge) (cost : ℕ) (settled : List Bool) (near : List (Option ℕ)) → Relaxes (flips rows) (λ w. cost) (λ w. true) settled 0 0 near near
+widen_none rows cost settled near = relax_none (flips rows) (λ w. cost) (λ w. true) settled 0 near
+
+-- ---- the targets alone have a label
+pub looks_first : (edges : List Edge) (price : ℕ → ℕ) (targets : List WireNo) (rest : ℕ → Option ℕ) (near : List (Option ℕ)) (settled : List Bool) → ((w : ℕ) → IsTarget targets w → (k : ℕ) × (rest w ≡ Some k))
+    → Starts targets (λ w. true) (length targets) near settled → Looks edges price targets rest 0 near settled
+looks_first edges price targets rest near settled on s = record {
+  closed = λ w shut. absurd (false≢true (sym (s.fresh w) ∙ shut));
+  order = λ a b la lb shut open' at bt. absurd (false≢true (sym (s.fresh a) ∙ shut));
+  on = λ w c at. on w (s.made w c at).0;
+  home = λ w t. ap (label near) (sym t.3) ∙ s.rooted t.0 t.1 (slice_get_within targets t.0 t.1 t.2) t.2 refl;
+  away = λ w at. (s.made w 0 at).0;
+  low = λ w c at. (let z = (s.made w c at).1 in omega (arith, z));
+}
+
+module _ (edges : List Edge) (price : ℕ → ℕ) (positive : (w : ℕ) → 1 ≤ price w) (targets : List WireNo) (rest : ℕ → Option ℕ) (fall : RestFalls edges rest) (most next : ℕ) (near new : List (Option ℕ)) (settled : List Bool) (u c d : ℕ)
+    (lt : u < length settled) (has' : label near u ≡ Some c) (unsettled : done settled u ≡ false) (least : (w k : ℕ) → label near w ≡ Some k → done settled w ≡ false → c ≤ k) (d_is : d ≡ price u + c) (more : most ≤ next) (d_low : d ≤ next)
+    (h : Looks edges price targets rest most near settled) (r : Relaxes (flips (rows_into edges u)) (λ w. d) (λ w. true) (slice_set settled u true) 0 (length (rows_into edges u)) near new) where
+  abbrev shut : List Bool
+  shut = slice_set settled u true
+
+  u_shut : done shut u ≡ true
+  u_shut = get_or-set_same settled u true false lt
+
+  was_shut : (w : ℕ) → (w ≡ u → ⊥) → done shut w ≡ true → done settled w ≡ true
+  was_shut w other is = sym (get_or-set_other settled u w true false other) ∙ is
+
+  was_open : (w : ℕ) → done shut w ≡ false → done settled w ≡ false
+  was_open w is = (let other : w ≡ u → ⊥ = (λ same. false≢true (sym is ∙ (ap (done shut) same ∙ u_shut))) in sym (get_or-set_other settled u w true false other) ∙ is)
+
+  -- what is settled costs at most c
+  shut_low : (w l : ℕ) → done shut w ≡ true → label near w ≡ Some l → l ≤ c
+  shut_low w l is at = elim (cases_eq w u) [
+    | inl same ↦ (let eq = one_label near u l c (ap (label near) (sym same) ∙ at) has' in omega (arith, eq))
+    | inr other ↦ h.order w u l c (was_shut w other is) unsettled at has'
   ]
-  mark_kept (inr t) v c at = ap (λ ls. label ls v) t.2 ∙ at
 
-  pub mark_made : Marks old new before after w cost → (v c : ℕ) → label new v ≡ Some c → (label old v ≡ Some c) ⊎ ((c ≡ cost) × (w ≡ v))
-  mark_made (inl t) v c at = elim (cases_eq v w) [
-    | inl same ↦ (let now : Some c ≡ Some cost = sym at ∙ (ap (label new) same ∙ (ap (λ ls. label ls w) t.1 ∙ get_or-set_same old w (Some cost) None lt)) in let is : c ≡ cost = (cc) in inr (is, sym same))
-    | inr other ↦ inl (sym (ap (λ ls. label ls v) t.1 ∙ get_or-set_other old w v (Some cost) None other) ∙ at)
+  -- a label that was made comes from the wire u
+  made : (w l : ℕ) → label new w ≡ Some l → (label near w ≡ Some l) ⊎ ((l ≡ d) × ((f : Edge) × HasEdge edges f × (f.from.0 ≡ w) × (f.to.0 ≡ u)))
+  made w l at = elim (r.made w l at) [
+    | inl was ↦ inl was
+    | inr t ↦ (
+        let f = of_flips (rows_into edges u) t.1.0 t.0 t.1.1 in
+        let row = of_rows_into edges u f.0 (t.1.0, f.1) in
+        inr ((let e = t.3 in omega (arith, e)), (f.0, row.0, ap (λ (x : Edge). x.to.0) f.2 ∙ t.2, row.1)))
   ]
-  mark_made (inr t) v c at = inl (sym (ap (λ ls. label ls v) t.2) ∙ at)
 
-  pub mark_there : Marks old new before after w cost → (l : ℕ) × (label new w ≡ Some l)
-  mark_there (inl t) = (cost, ap (λ ls. label ls w) t.1 ∙ get_or-set_same old w (Some cost) None lt)
-  mark_there (inr t) = (t.0, ap (λ ls. label ls w) t.2 ∙ t.1)
-
-  pub mark_more : Marks old new before after w cost → (j v : ℕ) → slice_get after j ≡ Some v → slice_get before j ≡ Some v ⊎ (length before ≤ j) × (label new v ≡ Some cost)
-  mark_more (inl t) j v at = elim (At_push_cases before w j v (ap (λ (xs : List ℕ). slice_get xs j) (sym t.2) ∙ at)) [
-    | inl old' ↦ inl old'
-    | inr new' ↦ inr ((let e = new'.0 in omega (arith, e)), ap (label new) (sym new'.1) ∙ (ap (λ ls. label ls w) t.1 ∙ get_or-set_same old w (Some cost) None lt))
+  by_source : (e : Edge) → HasEdge edges e → e.to.0 ≡ u → (b : Bool) → done shut e.from.0 ≡ b → AtMost new e.from.0 d
+  by_source e has enters false is = (
+      let row = in_rows_into edges u e has enters in
+      let s = r.reached row.0 (flip e) (slice_get_within (rows_into edges u) row.0 e row.1) (in_flips (rows_into edges u) row.0 e row.1) refl is in
+      (s.0, s.1, (let le = s.2 in omega (arith, le))))
+  by_source e has enters true is = elim (cases_eq e.from.0 u) [
+    | inl same ↦ (c, r.fixed e.from.0 is ∙ (ap (label near) same ∙ has'), omega (arith, d_is))
+    | inr other ↦ (
+        let old = h.closed e.from.0 (was_shut e.from.0 other is) in
+        let le = shut_low e.from.0 old.0 is old.1 in
+        (old.0, r.fixed e.from.0 is ∙ old.1, omega (arith, le, d_is)))
   ]
-  mark_more (inr t) j v at = inl (ap (λ (xs : List ℕ). slice_get xs j) (sym t.3) ∙ at)
 
-  pub mark_longer : Marks old new before after w cost → length before ≤ length after
-  mark_longer (inl t) = let more = length_push before w in let is : length after ≡ length (before ++ w ∷ []) = ap length t.2 in omega (arith, more, is)
-  mark_longer (inr t) = let is : length after ≡ length before = ap length t.3 in omega (arith, is)
-
--- ---- the sources of rows
-pub spreads_none : (rows : List Edge) (cost : ℕ) (near : List (Option ℕ)) (marked : List ℕ) → Spreads rows 0 cost near near marked marked
-spreads_none rows cost near marked = record {
-  kept = λ w c at. at;
-  made = λ w c at. inl at;
-  reached = λ k e lt at. absurd (omega arith);
-  more = λ j w at. inl at;
-  longer = omega arith;
-}
-
-pub spreads_more : (rows : List Edge) (n cost : ℕ) (old mid new : List (Option ℕ)) (before between after : List ℕ) (e : Edge) → e.from.0 < length mid → slice_get rows n ≡ Some e
-    → Spreads rows n cost old mid before between → Marks mid new between after e.from.0 cost → Spreads rows (n + 1) cost old new before after
-spreads_more rows n cost old mid new before between after e lt here h m = record {
-  kept = λ w c at. mark_kept mid new between after e.from.0 cost lt m w c (h.kept w c at);
-  made = λ w c at. elim (mark_made mid new between after e.from.0 cost lt m w c at) [
-    | inl was ↦ h.made w c was
-    | inr t ↦ inr (t.0, (e, (n, here), t.1))
-  ];
-  reached = λ k f k_lt at. elim (cases_eq k n) [
-    | inl same ↦ (let eq : Some f ≡ Some e = sym at ∙ (ap (λ i. slice_get rows i) same ∙ here) in let is : f ≡ e = (cc) in
-        subst (λ (g : Edge). (l : ℕ) × (label new g.from.0 ≡ Some l)) (sym is) (mark_there mid new between after e.from.0 cost lt m))
-    | inr other ↦ (let t = h.reached k f (grind arith) at in (t.0, mark_kept mid new between after e.from.0 cost lt m f.from.0 t.0 t.1))
-  ];
-  more = λ j w at. elim (mark_more mid new between after e.from.0 cost lt m j w at) [
-    | inl was ↦ elim (h.more j w was) [
-      | inl old' ↦ inl old'
-      | inr t ↦ inr (t.0, mark_kept mid new between after e.from.0 cost lt m w cost t.1)
-    ]
-    | inr t ↦ inr ((let le = h.longer in omega (arith, t.0, le)), t.1)
-  ];
-  longer = (let a = h.longer in let b = mark_longer mid new between after e.from.0 cost lt m in omega (arith, a, b));
-}
-
--- ---- the targets
-pub homes_none : (targets : List WireNo) (near : List (Option ℕ)) (marked : List ℕ) → ((w : ℕ) → label near w ≡ None) → marked ≡ [] → Homes targets 0 near marked
-homes_none targets near marked fresh empty = record {
-  home = λ k t lt at. absurd (omega arith);
-  made = λ w c at. (let bad : Some c ≡ None = sym at ∙ fresh w in absurd (cc));
-  each = λ j w at. (let bad : slice_get [] j ≡ Some w = ap (λ (xs : List ℕ). slice_get xs j) (sym empty) ∙ at in absurd (cc));
-}
-
-pub homes_more : (targets : List WireNo) (n : ℕ) (near new : List (Option ℕ)) (marked after : List ℕ) (t : WireNo) → t.0 < length near → slice_get targets n ≡ Some t
-    → Homes targets n near marked → Marks near new marked after t.0 0 → Homes targets (n + 1) new after
-homes_more targets n near new marked after t lt here h m = record {
-  home = λ k u k_lt at. elim (cases_eq k n) [
-    | inl same ↦ (
-        let eq : Some u ≡ Some t = sym at ∙ (ap (λ i. slice_get targets i) same ∙ here) in
-        let is : u ≡ t = (cc) in
-        let l = mark_there near new marked after t.0 0 lt m in
-        let zero' : l.0 ≡ 0 = elim (mark_made near new marked after t.0 0 lt m t.0 l.0 l.1) [ inl was ↦ (h.made t.0 l.0 was).0 | inr now ↦ now.0 ] in
-        ap (λ (x : WireNo). label new x.0) is ∙ (l.1 ∙ ap (λ c. Some c) zero'))
-    | inr other ↦ mark_kept near new marked after t.0 0 lt m u.0 0 (h.home k u (grind arith) at)
-  ];
-  made = λ w c at. elim (mark_made near new marked after t.0 0 lt m w c at) [
-    | inl was ↦ h.made w c was
-    | inr now ↦ (now.0, (n, t, here, now.1))
-  ];
-  each = λ j w at. elim (mark_more near new marked after t.0 0 lt m j w at) [
-    | inl was ↦ mark_kept near new marked after t.0 0 lt m w 0 (h.each j w was)
-    | inr now ↦ now.1
-  ];
-}
-
--- ---- levels
-module _ (graph : Network) (price : ℕ → ℕ) (targets : List WireNo) where
-  -- the targets alone are marked
-  pub looks_first : (near : List (Option ℕ)) (marked : List ℕ) (next : ℕ) → Homes targets (length targets) near marked → ((j w : ℕ) → 0 ≤ j → slice_get marked j ≡ Some w → next ≤ price w)
-      → Looks graph price targets near marked 0 (length marked) next 1
-  looks_first near marked next h least = record {
-    within = omega arith;
-    closed = λ j w lt at. absurd (omega arith);
-    opened = λ j w le lt at. (
-        let is = h.each j w at in
-        let z = targets_home graph targets w (h.made w 0 is).1 in
-        record { cost = 0; is = is; further = (let low = least j w le at in omega (arith, low)); within = omega (arith, z); dear = inl refl });
-    new = λ j w le at. absurd (let lt = slice_get_within marked j w at in omega (arith, le, lt));
-    low = λ w c at. (let z = (h.made w c at).0 in omega (arith, z));
-    by = λ w c at. (let z = targets_home graph targets w (h.made w c at).1 in omega (arith, z));
-    leaves = λ w c at. inl (h.made w c at).0;
-    home = λ w t. ap (label near) (sym t.3) ∙ h.home t.0 t.1 (slice_get_within targets t.0 t.1 t.2) t.2;
-    away = λ w at. (h.made w 0 at).1;
+  pub looks_more : Looks edges price targets rest next new shut
+  looks_more = record {
+    closed = λ w is. elim (cases_eq w u) [
+      | inl same ↦ (
+        c,
+        (r.fixed w is ∙ (ap (label near) same ∙ has')),
+        λ e has enters. (let s = by_source e has (enters ∙ same) (done shut e.from.0) refl in let eq : price w ≡ price u = ap price same in (s.0, s.1, (let le = s.2 in omega (arith, le, d_is, eq)))),
+      )
+      | inr other ↦ (
+          let old = h.closed w (was_shut w other is) in
+          (old.0, r.fixed w is ∙ old.1, λ e has enters. (let t = old.2 e has enters in let s = r.lower e.from.0 t.0 t.1 in (s.0, s.1, (let a = s.2 in let b = t.2 in omega (arith, a, b))))))
+    ];
+    order = λ a b la lb a_shut b_open at bt.
+        let le = shut_low a la a_shut (sym (r.fixed a a_shut) ∙ at) in
+        elim (made b lb bt) [
+          | inl was ↦ (let k = least b lb was (was_open b b_open) in omega (arith, le, k))
+          | inr t ↦ (let e = t.0 in omega (arith, le, e, d_is))
+        ];
+    on = λ w l at. elim (made w l at) [
+      | inl was ↦ h.on w l was
+      | inr t ↦ (
+          let f : Edge = t.1.0 in
+          let on' = h.on u c has' in
+          let from = fall f on'.0 t.1.1 (ap rest t.1.3 ∙ on'.1) in
+          (from.0, ap rest (sym t.1.2) ∙ from.1))
+    ];
+    home = λ w t. (let s = r.lower w 0 (h.home w t) in s.1 ∙ ap (λ n. Some n) (let le = s.2 in let z : s.0 ≡ 0 = omega (arith, le) in z));
+    away = λ w at. elim (made w 0 at) [ inl was ↦ h.away w was | inr t ↦ absurd (let e = t.0 in let p = positive u in omega (arith, e, d_is, p)) ];
+    low = λ w l at. elim (made w l at) [ inl was ↦ (let le = h.low w l was in omega (arith, le, more)) | inr t ↦ (let e = t.0 in omega (arith, e, d_low)) ];
   }
 
-  -- the wires of the next level are looked at
-  pub looks_next : (near : List (Option ℕ)) (marked : List ℕ) (end' next steps more : ℕ) → Looks graph price targets near marked end' end' next steps → 1 ≤ next
-      → ((j w : ℕ) → end' ≤ j → slice_get marked j ≡ Some w → more ≤ price w) → Looks graph price targets near marked end' (length marked) (next + more) (steps + 1)
-  looks_next near marked end' next steps more h some least = record {
-    within = omega arith;
-    closed = h.closed;
-    opened = λ j w le lt at. (
-        let is = h.new j w le at in
-        let s = h.by w next is in
-        let low = least j w le at in
-        record { cost = next; is = is; further = omega (arith, low); within = omega (arith, s); dear = inr some });
-    new = λ j w le at. absurd (let lt = slice_get_within marked j w at in omega (arith, le, lt));
-    low = λ w c at. (let l = h.low w c at in omega (arith, l));
-    by = λ w c at. (let s = h.by w c at in omega (arith, s));
-    leaves = h.leaves;
-    home = h.home;
-    away = h.away;
-  }
+-- ---- what is known in the end
+-- the costs of 64 numbers of rows
+pub beyond_is : (beyond : List ℕ) (k : ℕ) → length beyond ≡ 64 → beyond_at beyond k ≡ slice_index beyond (min k 63)
+beyond_is [] k long = absurd (cc)
+beyond_is (c ∷ costs) k long = ap (λ n. slice_index (c ∷ costs) (min k n)) (let e : length costs ≡ 63 = omega (arith, long) in e)
 
-  module _ (falls : BoundsFall graph) (near new : List (Option ℕ)) (marked after : List ℕ) (k end' next steps w : ℕ) (lt : k < end') (here : slice_get marked k ≡ Some w) (some : 1 ≤ next)
-      (h : Looks graph price targets near marked k end' next steps) (s : Spreads (rows_into graph.edges w) (length (rows_into graph.edges w)) next near new marked after) where
-    stands : (j v : ℕ) → j < end' → slice_get after j ≡ Some v → slice_get marked j ≡ Some v
-    stands j v j_lt at = elim (s.more j v at) [ inl was ↦ was | inr t ↦ absurd (let le = h.within in omega (arith, t.0, le, j_lt)) ]
+module _ (beyond : List ℕ) (rises : (k : ℕ) → k < 63 → slice_index beyond k ≤ slice_index beyond (k + 1)) where
+  rises_by : (n k : ℕ) → k + n ≤ 63 → slice_index beyond k ≤ slice_index beyond (k + n)
+  rises_by zero k le = (let e : k ≡ k + 0 = omega arith in subst (λ m. slice_index beyond k ≤ slice_index beyond m) e (omega arith))
+  rises_by (suc n) k le =
+      let a = rises_by n k (omega (arith, le)) in
+      let b = rises (k + n) (omega (arith, le)) in
+      let e : (k + n) + 1 ≡ k + suc n = omega arith in
+      let c : slice_index beyond k ≤ slice_index beyond ((k + n) + 1) = omega (arith, a, b) in
+      subst (λ m. slice_index beyond k ≤ slice_index beyond m) e c
 
-    at_most : (v c : ℕ) → AtMost near v c → AtMost new v c
-    at_most v c t = (t.0, s.kept v t.0 t.1, t.2)
+  rises_to : (j k : ℕ) → j ≤ k → k ≤ 63 → slice_index beyond j ≤ slice_index beyond k
+  rises_to j k le most = (let e : j + (k - j) ≡ k = omega (arith, le) in subst (λ m. slice_index beyond j ≤ slice_index beyond m) e (rises_by (k - j) j (omega (arith, le, most))))
 
-    still_closed : (v : ℕ) → Closed graph.edges price near v → Closed graph.edges price new v
-    still_closed v t = (t.0, s.kept v t.0 t.1, λ e has enters. at_most e.from.0 (price v + t.0) (t.2 e has enters))
+  pub slope_by : ((k : ℕ) → k < 63 → slice_index beyond (k + 1) ≤ slice_index beyond k + 1) → (j k : ℕ) → j ≤ 63 → k ≤ 63 → j ≤ k + 1 → slice_index beyond j ≤ slice_index beyond k + 1
+  slope_by slope j k j_le k_le le = elim (cases_lt k 63) [
+    | inl lt ↦ (let a = rises_to j (k + 1) le (omega (arith, lt)) in let b = slope k lt in omega (arith, a, b))
+    | inr ge ↦ (let a = rises_to j k (omega (arith, j_le, ge)) k_le in omega (arith, a))
+  ]
 
-    still_open : (v : ℕ) → Opens graph price targets near next steps v → Opens graph price targets new next steps v
-    still_open v o = record { cost = o.cost; is = s.kept v o.cost o.is; further = o.further; within = o.within; dear = o.dear }
+pub costs_are : (beyond : List ℕ) (far : ℕ) → length beyond ≡ 64 → 1 ≤ far → AreFar far beyond → ((k : ℕ) → k < 63 → slice_index beyond k ≤ slice_index beyond (k + 1)) → ((k : ℕ) → k < 63 → slice_index beyond (k + 1) ≤ slice_index beyond k + 1) → AreCosts (beyond_at beyond)
+costs_are beyond far long some far' rises slope = record {
+  some = λ k. (let e = beyond_is beyond k long in let f = far' (min k 63) (omega arith) in omega (arith, e, f, some));
+  slope = λ j k le. (let a = beyond_is beyond j long in let b = beyond_is beyond k long in let s = slope_by beyond rises slope (min j 63) (min k 63) (omega arith) (omega arith) (omega (arith, le)) in omega (arith, a, b, s));
+}
 
-    low' : (v c : ℕ) → label new v ≡ Some c → c ≤ next
-    low' v c at = elim (s.made v c at) [ inl was ↦ h.low v c was | inr t ↦ (let e = t.0 in omega (arith, e)) ]
+module _ (edges : List Edge) (price : ℕ → ℕ) (targets : List WireNo) (rest : ℕ → Option ℕ) (most far : ℕ) (near new : List (Option ℕ)) (settled : List Bool) (marked beyond : List ℕ) (h : Looks edges price targets rest most near settled) (ends : Ends near settled far)
+    (keeps : Keeps settled near new) (touches : Touches near marked) (long : length beyond ≡ 64) (reach : Reaches marked (length marked) rest near settled beyond) (costs : AreCosts (beyond_at beyond)) (far' : AreFar far beyond) where
+  -- what has a label in the end was settled
+  stays : (w c : ℕ) → label new w ≡ Some c → (done settled w ≡ true) × (label near w ≡ Some c)
+  stays w c at = by_shut (done settled w) refl
+    where
+      by_shut : (b : Bool) → done settled w ≡ b → (done settled w ≡ true) × (label near w ≡ Some c)
+      by_shut true is = (is, sym (keeps.kept w is) ∙ at)
+      by_shut false is = absurd (let bad : None ≡ Some c = sym (keeps.gone w is) ∙ at in cc)
 
-    -- the wire that was looked at is closed
-    closes : Opens graph price targets near next steps w → Closed graph.edges price new w
-    closes o = (
-      o.cost,
-      s.kept w o.cost o.is,
-      λ e has enters.
-          let row = in_rows_into graph.edges w e has enters in
-          let t = s.reached row.0 e (slice_get_within (rows_into graph.edges w) row.0 e row.1) row.1 in
-          let le = low' e.from.0 t.0 t.1 in
-          let next' = o.further in
-          (t.0, t.1, omega (arith, le, next')),
-    )
+  -- an open wire's label is at least what a walk costs by its rows
+  reached : (w c k : ℕ) → done settled w ≡ false → label near w ≡ Some c → rest w ≡ Some k → beyond_at beyond k ≤ c
+  reached w c k is at left =
+      let t : Contains marked w = touches.covers w c at in
+      let here : slice_get marked t.0 ≡ Some w = slice_get-get_or marked t.0 w t.1 ∙ ap (λ x. Some x) t.2 in
+      let le = reach t.0 w c k t.1 here is at left in
+      let e = beyond_is beyond k long in
+      omega (arith, le, e)
 
-    -- one step more leads from the source of an edge into it
-    one_more : Opens graph price targets near next steps w → (e : Edge) → HasEdge (rows_into graph.edges w) e → least_bound graph targets e.from.0 ≤ steps
-    one_more o e row =
-        let t = of_rows_into graph.edges w e row in
-        let step = least_falls graph falls targets t.0.0 e t.0.1 in
-        let same : least_bound graph targets e.to.0 ≡ least_bound graph targets w = ap (least_bound graph targets) t.1 in
-        let in' = o.within in
-        omega (arith, step, same, in')
-
-    pub looks_more : Looks graph price targets new after (k + 1) end' next steps
-    looks_more =
-        let o = h.opened k w (omega arith) lt here in
-        record {
-          within = (let a = h.within in let b = s.longer in omega (arith, a, b));
-          closed = λ j v j_lt at. elim (cases_eq j k) [
-            | inl same ↦ (
-                let was = stands j v (omega arith) at in
-                let eq : Some v ≡ Some w = sym was ∙ (ap (λ i. slice_get marked i) same ∙ here) in
-                let is : v ≡ w = (cc) in
-                subst (Closed graph.edges price new) (sym is) (closes o))
-            | inr other ↦ still_closed v (h.closed j v (grind arith) (stands j v (omega arith) at))
-          ];
-          opened = λ j v le j_lt at. still_open v (h.opened j v (omega arith) j_lt (stands j v j_lt at));
-          new = λ j v le at. elim (s.more j v at) [ inl was ↦ s.kept v next (h.new j v le was) | inr t ↦ t.1 ];
-          low = low';
-          by = λ v c at. elim (s.made v c at) [
-            | inl was ↦ h.by v c was
-            | inr t ↦ subst (λ x. least_bound graph targets x ≤ steps) t.1.2 (one_more o t.1.0 t.1.1)
-          ];
-          leaves = λ v c at. elim (s.made v c at) [
-            | inl was ↦ h.leaves v c was
-            | inr t ↦ inr (t.1.0, (of_rows_into graph.edges w t.1.0 t.1.1).0, t.1.2)
-          ];
-          home = λ v t. s.kept v 0 (h.home v t);
-          away = λ v at. elim (s.made v 0 at) [ inl was ↦ h.away v was | inr t ↦ absurd (let e = t.0 in omega (arith, e, some)) ];
-        }
-
-  -- what is known in the end
-  pub knows : BoundsFall graph → (near : List (Option ℕ)) (marked : List ℕ) (from far : ℕ) → Touches near marked → 1 ≤ far → Looks graph price targets near marked from (length marked) far 3 → Knows graph price targets near far
-  knows falls near marked from far touches some h = record {
-    falls = λ e c has at. by_place e c has at (touches.covers e.to.0 c at);
-    back = λ e c has at. by_level e c has at (touches.covers e.to.0 c at);
-    low = h.low;
-    home = h.home;
-    away = h.away;
-    some = some;
+  pub knows : Knows edges price targets new rest (beyond_at beyond)
+  knows = record {
+    falls = λ e c has at. (
+        let to = stays e.to.0 c at in
+        let t = h.closed e.to.0 to.0 in
+        let same = one_label near e.to.0 t.0 c t.1 to.1 in
+        let s = t.2 e has refl in
+        by_shut e c has s.0 s.1 (let le = s.2 in omega (arith, le, same)) (done settled e.from.0) refl);
+    low = λ w c k at. (let t = stays w c at in let a = ends.shut w c t.0 t.1 in let b = far' (min k 63) (omega arith) in let e = beyond_is beyond k long in omega (arith, a, b, e));
+    on = λ w c at. h.on w c (stays w c at).1;
+    home = λ w t. at_home w (h.home w t) (done settled w) refl;
+    away = λ w at. h.away w (stays w 0 at).1;
+    costs = costs;
   }
     where
-      stands : (w : ℕ) (t : Contains marked w) → slice_get marked t.0 ≡ Some w
-      stands w t = slice_get-get_or marked t.0 w t.1 ∙ ap (λ x. Some x) t.2
+      at_home : (w : ℕ) → label near w ≡ Some 0 → (b : Bool) → done settled w ≡ b → label new w ≡ Some 0
+      at_home w at true is = keeps.kept w is ∙ at
+      at_home w at false is = absurd (let le = ends.open_wires w 0 is at in let some = ends.some in omega (arith, le, some))
 
-      of_closed : (e : Edge) (c : ℕ) → HasEdge graph.edges e → label near e.to.0 ≡ Some c → Closed graph.edges price near e.to.0 → AtMost near e.from.0 (price e.to.0 + c)
-      of_closed e c has at t = let s = t.2 e has refl in let same = one_label near e.to.0 t.0 c t.1 at in (s.0, s.1, (let le = s.2 in omega (arith, le, same)))
+      by_shut : (e : Edge) (c : ℕ) → HasEdge edges e → (l : ℕ) → label near e.from.0 ≡ Some l → l ≤ price e.to.0 + c → (b : Bool) → done settled e.from.0 ≡ b
+          → AtMost new e.from.0 (price e.to.0 + c) ⊎ (label new e.from.0 ≡ None) × ((k : ℕ) → rest e.from.0 ≡ Some k → beyond_at beyond k ≤ price e.to.0 + c)
+      by_shut e c has l at le true is = inl (l, keeps.kept e.from.0 is ∙ at, le)
+      by_shut e c has l at le false is = inr (keeps.gone e.from.0 is, λ k left. (let low = reached e.from.0 l k is at left in omega (arith, low, le)))
 
-      of_open : (e : Edge) (c : ℕ) → HasEdge graph.edges e → label near e.to.0 ≡ Some c → Opens graph price targets near far 3 e.to.0 → (o : Option ℕ) → label near e.from.0 ≡ o
-          → AtMost near e.from.0 (price e.to.0 + c) ⊎ (label near e.from.0 ≡ None) × (far ≤ price e.to.0 + c) × (least_bound graph targets e.from.0 ≤ 3)
-      of_open e c has at o (Some l) is = inl (l, is, (let le = h.low e.from.0 l is in let next' = o.further in let same = one_label near e.to.0 o.cost c o.is at in omega (arith, le, next', same)))
-      of_open e c has at o None is = inr (
-        is,
-        (let next' = o.further in let same = one_label near e.to.0 o.cost c o.is at in omega (arith, next', same)),
-        (let step = least_falls graph falls targets has.0 e has.1 in let in' = o.within in omega (arith, step, in')),
-      )
+  pub near_low : (w c : ℕ) → label new w ≡ Some c → c ≤ most
+  near_low w c at = h.low w c (stays w c at).1
 
-      by_place : (e : Edge) (c : ℕ) → HasEdge graph.edges e → label near e.to.0 ≡ Some c → Contains marked e.to.0
-          → AtMost near e.from.0 (price e.to.0 + c) ⊎ (label near e.from.0 ≡ None) × (far ≤ price e.to.0 + c) × (least_bound graph targets e.from.0 ≤ 3)
-      by_place e c has at t = elim (cases_lt t.0 from) [
-        | inl less ↦ inl (of_closed e c has at (h.closed t.0 e.to.0 less (stands e.to.0 t)))
-        | inr le ↦ of_open e c has at (h.opened t.0 e.to.0 le t.1 (stands e.to.0 t)) (label near e.from.0) refl
-      ]
+-- ---- where looking back ends
+-- no wire is open
+pub ends_none : (edges : List Edge) (price : ℕ → ℕ) (targets : List WireNo) (rest : ℕ → Option ℕ) (bound : ℕ → ℕ) (most far : ℕ) (near : List (Option ℕ)) (settled : List Bool) → Looks edges price targets rest most near settled → IsLeastOpen bound near settled None → 1 ≤ far → most ≤ far → Ends near settled far
+ends_none edges price targets rest bound most far near settled h best some le = record {
+  some = some;
+  shut = λ w c is at. (let low = h.low w c at in omega (arith, low, le));
+  open_wires = λ w c is at. absurd (false≢true (sym is ∙ best w c at));
+}
 
-      dear_leaves : (w c : ℕ) → label near w ≡ Some c → Opens graph price targets near far 3 w → Leaves graph.edges w
-      dear_leaves w c at o = elim (h.leaves w c at) [
-        | inr there ↦ there
-        | inl none ↦ elim o.dear [
-          | inl bad ↦ absurd (omega (arith, bad))
-          | inr some' ↦ absurd (let same = one_label near w o.cost c o.is at in omega (arith, same, some', none))
-        ]
-      ]
+module _ (edges : List Edge) (price : ℕ → ℕ) (targets : List WireNo) (rest : ℕ → Option ℕ) (bound : ℕ → ℕ) (flat : (w : ℕ) → bound w ≡ 0) (most : ℕ) (near : List (Option ℕ)) (settled : List Bool) (u c : ℕ) (h : Looks edges price targets rest most near settled) (best : IsLeastOpen bound near settled (Some (u, c))) where
+  -- the least open wire has the label c
+  cost_is : best.0.0 ≡ c
+  cost_is = (let e = best.0.2 in let z = flat u in omega (arith, e, z))
 
-      by_level : (e : Edge) (c : ℕ) → HasEdge graph.edges e → label near e.to.0 ≡ Some c → Contains marked e.to.0 → ((l : ℕ) × (label near e.from.0 ≡ Some l)) ⊎ Leaves graph.edges e.to.0
-      by_level e c has at t = elim (cases_lt t.0 from) [
-        | inl less ↦ (let s = of_closed e c has at (h.closed t.0 e.to.0 less (stands e.to.0 t)) in inl (s.0, s.1))
-        | inr le ↦ inr (dear_leaves e.to.0 c at (h.opened t.0 e.to.0 le t.1 (stands e.to.0 t)))
-      ]
+  pub cost_low : c ≤ most
+  cost_low = (let low = h.low u best.0.0 best.0.1 in let e = cost_is in omega (arith, low, e))
+
+  pub ends_at : 1 ≤ c → Ends near settled c
+  ends_at some = record {
+    some = some;
+    shut = λ w l is at. (let le = h.order w u l best.0.0 is best.1 at best.0.1 in let e = cost_is in omega (arith, le, e));
+    open_wires = λ w l is at. (let le = best.2 w l at is in let z = flat w in omega (arith, le, z));
+  }
+
+-- a test of wires that is true of each
+pub starts_by : (tree : List WireNo) (leads : ℕ → Bool) (n : ℕ) (labels : List (Option ℕ)) (settled : List Bool) → ((w : ℕ) → leads w ≡ true) → Starts tree leads n labels settled → Starts tree (λ w. true) n labels settled
+starts_by tree leads n labels settled all s = record { rooted = λ k v lt at on. s.rooted k v lt at (all v.0); made = s.made; fresh = s.fresh }
+
+pub reaches_lower : (marked : List ℕ) (n : ℕ) (rest : ℕ → Option ℕ) (near : List (Option ℕ)) (settled : List Bool) (old new : List ℕ) → ((k : ℕ) → slice_index new k ≤ slice_index old k) → Reaches marked n rest near settled old → Reaches marked n rest near settled new
+reaches_lower marked n rest near settled old new lower h j w c k lt at open' label' left = (let a = h j w c k lt at open' label' left in let b = lower (min k 63) in omega (arith, a, b))
+
+-- costs that are all the same
+pub far_all : (beyond : List ℕ) (cost far : ℕ) → length beyond ≡ 64 → ((k : ℕ) → k < length beyond → slice_index beyond k ≡ cost) → far ≤ cost → AreFar far beyond
+far_all beyond cost far long all le k lt = (let e = all k (omega (arith, lt, long)) in omega (arith, e, le))

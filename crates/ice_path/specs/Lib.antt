@@ -4,5 +4,5 @@ pub mod Paths
 pub mod Queue
 pub mod Room
 pub mod Aims
-pub mod Leaving
+pub mod Looks
 pub mod Bounds

@@ -5,26 +5,25 @@ use Rattle.ice_graph.specs.Network.{Network}
 use Rattle.ice_graph.specs.declared.edge.Edge.{Edge}
 use Rattle.ice_path.specs.declared.scratch.Scratch.TheInside.{Inside}
 use Rattle.ice_path.specs.Queue.{IsEmpty, IsQueue, queue_len}
-use Rattle.ice_path.specs.Search.{AreEnds, label, done}
+use Rattle.ice_path.specs.Search.{label, done}
 
--- for graphs of how many wires and how many edges there is room, of the last search the path if it found one and the wires that it settled, and which wires lead nowhere
+-- for graphs of how many wires and how many edges there is room, and of the last search the path if it found one and the wires that it settled
 pub record Room : Type 0 where
   pub wires : ℕ
   pub edges : ℕ
   pub path : Option (List Edge)
   pub settled : List WireNo
-  pub ends : List Bool
 
--- the room is for this graph, and its ends are those of the graph
+-- the room is for this graph
 abbrev pub IsFor : Network → Room → Type 0
-IsFor graph room = (room.wires ≡ graph.wires) × (room.edges ≡ length graph.edges) × AreEnds graph.edges room.ends
+IsFor graph room = (room.wires ≡ graph.wires) × (room.edges ≡ length graph.edges)
 
 -- each wire of the tree is below n
 abbrev pub AreWires : ℕ → List WireNo → Type 0
 AreWires n tree = (k : ℕ) (v : WireNo) → slice_get tree k ≡ Some v → v.0 < n
 
 abbrev pub room_of : Inside → Room
-room_of a = record { wires = length a.labels.items; edges = a.edges; path = cond a.found (Some a.path.items) None; settled = a.order.items; ends = a.ahead.ends.items }
+room_of a = record { wires = length a.labels.items; edges = a.edges; path = cond a.found (Some a.path.items) None; settled = a.order.items }
 
 -- between two searches no wire has a label, none is settled, touched or near a target, the queue is empty, and a path of all wires and a list of them have room
 pub record IsClear (a : Inside) : Type 0 where
@@ -43,3 +42,4 @@ pub record IsClear (a : Inside) : Type 0 where
   pub far : (w : ℕ) → label a.ahead.near.items w ≡ None
   pub marked : a.ahead.marked.items ≡ []
   pub marks : length a.labels.items ≤ vec_capacity a.ahead.marked
+  pub beyond : length a.ahead.beyond.items ≡ 64

@@ -135,8 +135,3 @@ abbrev pub IsFirstLabelled : List (Option ℕ) → ℕ → List WireNo → Optio
 IsFirstLabelled labels l targets None = (k : ℕ) (t : WireNo) → slice_get targets k ≡ Some t → label labels t.0 ≡ Some l → ⊥
 IsFirstLabelled labels l targets (Some t) = (k : ℕ) × (slice_get targets k ≡ Some t) × (label labels t.0 ≡ Some l)
     × ((j : ℕ) (u : WireNo) → j < k → slice_get targets j ≡ Some u → label labels u.0 ≡ Some l → ⊥)
-
--- the wires that are marked lead nowhere but to wires that no edge leaves, and these are marked, too
-pub record AreEnds (edges : List Edge) (ends : List Bool) : Type 0 where
-  pub last : (e f : Edge) → HasEdge edges e → HasEdge edges f → e.to.0 ≡ f.from.0 → done ends e.from.0 ≡ true → ⊥
-  pub left : (e : Edge) → HasEdge edges e → done ends e.to.0 ≡ false → (f : Edge) × HasEdge edges f × (f.from.0 ≡ e.to.0)

@@ -2,15 +2,8 @@
 use Rattle.std.specs.Prelude.{◌≡◌, ℕ, ◌+◌, ◌≤◌, List, [], ◌∷◌, Some, slice_get}
 use Rattle.ice_base.specs.declared.number.WireNo.{WireNo}
 use Rattle.ice_graph.specs.declared.edge.Edge.{Edge}
-
--- the edge stands in the graph
-abbrev pub HasEdge : List Edge → Edge → Type 0
-HasEdge edges e = (k : ℕ) × (slice_get edges k ≡ Some e)
-
--- a walk of edges of the graph from the wire a to the wire b: each edge enters the wire that the next one leaves
-abbrev pub IsWalk : List Edge → ℕ → List Edge → ℕ → Type 0
-IsWalk edges a [] b = a ≡ b
-IsWalk edges a (e ∷ walk) b = HasEdge edges e × (e.from.0 ≡ a) × IsWalk edges e.to.0 walk b
+use Rattle.ice_graph.specs.Walks.{HasEdge, IsTarget, IsWalk}
+pub use Rattle.ice_graph.specs.Walks.{HasEdge, IsTarget, IsWalk}
 
 -- the sum of the prices of the wires that the walk enters
 abbrev pub cost : (ℕ → ℕ) → List Edge → ℕ
@@ -36,10 +29,6 @@ IsLabel edges price tree w c = HasWalk edges price tree w c × IsLeast edges pri
 -- no walk leads from the tree to the wire
 abbrev pub NoWalk : List Edge → List WireNo → ℕ → Type 0
 NoWalk edges tree w = (start : ℕ) (walk : List Edge) → InTree tree start → IsWalk edges start walk w → ⊥
-
--- the wire is one of the targets
-abbrev pub IsTarget : List WireNo → ℕ → Type 0
-IsTarget targets w = (k : ℕ) × (t : WireNo) × (slice_get targets k ≡ Some t) × (t.0 ≡ w)
 
 -- the cost of a sink with these targets: the least cost of a walk from the tree to any of them
 abbrev pub IsCostTo : List Edge → (ℕ → ℕ) → List WireNo → List WireNo → ℕ → Type 0

@@ -1,7 +1,10 @@
 //! What a search knows of the way to its targets before it begins.
-ghost use Rattle.std.specs.Prelude.{◌≡◌, ◌+◌, ◌*◌, ◌<◌, ◌≤◌, length, true};
-ghost use Rattle.ice_path.specs.Aims.{Fits, bound_in, leads};
-ghost use Rattle.ice_path.specs.Search.{done};
+ghost use Rattle.std.specs.Prelude.{◌≡◌, ◌+◌, ◌*◌, ◌<◌, ◌≤◌, ℕ, Option, None, Some, length, true, max, is_some, slice_index, IfSome};
+ghost use Rattle.ice_graph.specs.Network.{Network, least_bound};
+ghost use Rattle.ice_graph.specs.Hops.{hop, said};
+ghost use Rattle.ice_path.specs.Aims.{Fits, beyond_at, bound_in, leads, rest};
+ghost use Rattle.ice_path.specs.Room.{AreWires};
+ghost use Rattle.ice_path.specs.Search.{label};
 
 use ice_base::WireNo;
 use ice_graph::Graph;
@@ -11,37 +14,85 @@ use ice_graph::Graph;
 pub struct Aim<'a> {
     /// The targets.
     pub targets: &'a [WireNo],
-    /// The targets by which the graph's bound is taken, of which there is one at least: of those whose boxes are the same one
-    /// is enough.
+    /// Wires to which the graph's bound is taken, too, where there are some.
     pub guides: &'a [WireNo],
+    /// Of each wire how many rows lead at least to a target: 255 where no walk leads there. Nothing is said beyond the end.
+    pub hops: &'a [u8],
     /// Of each wire near a target what a walk from it to a target costs at least.
     pub near: &'a [Option<u64>],
-    /// Which wires lead nowhere but to wires that no edge leaves: where such a wire is not near, no walk leads from it to a
-    /// target. Wires beyond the end are not marked.
-    pub ends: &'a [bool],
-    /// What a walk to a target costs at least from a wire that is not near.
-    pub far: u64,
-    /// How many of the steps that the graph's bound counts are paid by `far`.
-    pub depth: u64,
+    /// What a walk to a target costs at least from a wire that is not near, by how many rows it has at least; the last number
+    /// holds for all beyond it. Where there is none, a walk costs as much as it has rows.
+    pub beyond: &'a [u64],
+}
+
+// The number that a column has for a wire, or 0 beyond its end.
+fn number_at(column: &[u8], wire: WireNo) -> u8
+    ensures { result ≡ slice_index column.now wire.0 }
+{
+    match column.get(wire.0 as usize) {
+        Some(number) => *number,
+        None => 0,
+    }
+}
+
+// What a walk costs at least that has at least so many rows.
+fn cost_of(beyond: &[u64], rows: u64) -> u64
+    ensures value { result ≡ beyond_at beyond.now rows }
+{
+    if beyond.is_empty() {
+        return rows;
+    }
+    beyond[(rows as usize).min(beyond.len() - 1)]
+}
+
+// The label of a wire, if it has one.
+fn label_at(labels: &[Option<u64>], wire: WireNo) -> Option<u64>
+    ensures { result ≡ label labels.now wire.0 }
+{
+    match labels.get(wire.0 as usize) {
+        Some(label) => *label,
+        None => None,
+    }
+}
+
+/// What is known of nothing: from each wire a walk may lead on, and costs nothing at least.
+pub fn blind() -> Aim<'static>
+    ensures fits { (graph : Network) → Fits graph result }
+    ensures bound { (graph : Network) (w : ℕ) → bound_in graph result w ≡ 0 }
+    ensures leads { (w : ℕ) → leads result w ≡ true }
+{
+    Aim {
+        targets: &[],
+        guides: &[],
+        hops: &[],
+        near: &[],
+        beyond: &[],
+    }
 }
 
 impl Aim<'_> {
-    // Whether the wire is marked as an end.
-    fn is_end(&self, wire: WireNo) -> bool
-        ensures { result ≡ done self.now.ends.now wire.0 }
-    {
-        match self.ends.get(wire.0 as usize) {
-            Some(end) => *end,
-            None => false,
-        }
-    }
-
     /// Whether a walk from the wire may lead to a target.
     pub fn leads(&self, wire: WireNo) -> bool
-        requires { wire.0 < length self.now.near.now }
         ensures { result ≡ leads self.now wire.0 }
     {
-        !self.is_end(wire) || self.near[wire.0 as usize].is_some()
+        number_at(self.hops, wire) != 255
+    }
+
+    /// How many rows lead at least from the wire to a target, or None where no walk leads there.
+    pub fn rest(&self, graph: &Graph, wire: WireNo) -> Option<u64>
+        requires guides { AreWires graph.now.wires self.now.guides.now }
+        requires wire { wire.0 < graph.now.wires }
+        ensures rest { result ≡ rest graph.now self.now.hops.now self.now.guides.now wire.0 }
+        ensures small { IfSome result (λ k. k ≤ 131071) }
+    {
+        let number = number_at(self.hops, wire);
+        if number == 255 {
+            return None;
+        }
+        if self.guides.is_empty() {
+            return Some(number as u64);
+        }
+        Some((number as u64).max(graph.least_bound(wire, self.guides)))
     }
 
     /// What a walk to a target costs at least from a wire that leads on.
@@ -50,14 +101,14 @@ impl Aim<'_> {
         requires wire { wire.0 < graph.now.wires }
         requires leads { leads self.now wire.0 ≡ true }
         ensures bound { result ≡ bound_in graph.now self.now wire.0 }
-        ensures small { result ≤ 3 * 17046213234436 + 131071 }
+        ensures small { result ≤ 1024 * 17046213234436 }
     {
-        match self.near[wire.0 as usize] {
-            Some(cost) => cost,
-            None => {
-                let steps = graph.least_bound(wire, self.guides);
-                self.far + steps.saturating_sub(self.depth)
-            }
+        if let Some(cost) = label_at(self.near, wire) {
+            return cost;
         }
+        let Some(rows) = self.rest(graph, wire) else {
+            unreachable!()
+        };
+        cost_of(self.beyond, rows)
     }
 }

@@ -2,18 +2,18 @@
 ghost use Rattle.std.specs.Prelude.{◌≡◌, ◌+◌, ◌*◌, ◌<◌, ◌≤◌, ◌^◌, ℕ, [], Bool, List, Option, None, false, length, vec_capacity, Some, is_some, IsSome, OnSome, IfOk, IfSome, IfNone};
 ghost use Rattle.ice_path.specs.Queue.{IsEmpty, IsQueue, queue_len};
 ghost use Rattle.ice_path.specs.Aims.{Fits, IsAim, bound_in, leads};
-ghost use Rattle.ice_path.specs.Search.{AreEnds, label, done};
+ghost use Rattle.ice_graph.specs.Hops.{AreHops};
+ghost use Rattle.ice_path.specs.Search.{label, done};
 ghost use Rattle.ice_core.specs.Congestion.{ArePrices, price};
 ghost use Rattle.ice_path.specs.Room.{IsFor, AreWires};
 ghost use Rattle.ice_graph.specs.Network.{least_bound};
 ghost use Rattle.ice_path.specs.Walks.{AreSettled, IsCostTo, NoWalkTo};
 ghost use Rattle.ice_path.specs.Paths.{IsTakenTo};
 
-use crate::ahead::{guides_of, look_back};
 use crate::aim::Aim;
 use crate::back::take_path;
 use crate::clear::wipe;
-use crate::ends::ends_of;
+use crate::look::look_back;
 use crate::queue::{Queue, clear, queue_for};
 use crate::search::search;
 use crate::start::root_all;
@@ -38,16 +38,15 @@ pub struct Scratch {
     ahead: Ahead,
 }
 
-/// What a search may know of the way before it begins: which wires are near a target, the marked ones among them, and which
-/// wires of the graph lead nowhere.
+/// What a search may know of the way before it begins: which wires are near a target, and what a walk costs from others.
 #[derive(Drop)]
 pub struct Ahead {
     /// Of each wire near a target what a walk to a target costs at least.
     pub near: Vec<Option<u64>>,
-    /// The wires that are near.
+    /// The wires that were looked at, among them those that are near.
     pub marked: Vec<u32>,
-    /// The wires that lead nowhere but to wires that no edge leaves.
-    pub ends: Vec<bool>,
+    /// What a walk costs at least from another wire, by how many rows it has at least.
+    pub beyond: Vec<u64>,
 }
 
 impl Model for Scratch {
@@ -72,7 +71,7 @@ impl Scratch {
         let (labels, done) = marks(alloc, wires)?;
         let (touched, order, path) = lists(alloc, wires)?;
         let edges = graph.edges().len();
-        let ahead = ahead_of(alloc, graph)?;
+        let ahead = ahead_of(alloc, wires)?;
         let queue = queue_for(alloc, wires + edges)?;
         Ok(Scratch {
             labels,
@@ -120,10 +119,9 @@ pub fn connect(
     let aim = Aim {
         targets,
         guides: targets,
-        near: &scratch.ahead.near,
-        ends: &[],
-        far: 0,
-        depth: 0,
+        hops: &[],
+        near: &[],
+        beyond: &[],
     };
     let cost = find(
         graph,
@@ -141,8 +139,8 @@ pub fn connect(
     cost
 }
 
-/// The same as `connect`, found sooner where targets or the ways into them are dear: it first looks three steps back from the
-/// targets. It says nothing of the wires that it settles.
+/// The same as `connect`, found sooner: by how many rows lead at least from each wire to the targets, and by looking back from
+/// them first. It says nothing of the wires that it settles.
 pub fn connect_ahead(
     graph: &Graph,
     prices: &Prices,
@@ -163,40 +161,22 @@ pub fn connect_ahead(
     ensures path { IfSome scratch.new.path (IsTakenTo graph.now.edges (price prices.now) tree.now.wires.items targets.now) }
     ensures scratch { IsFor graph.now scratch.new }
 {
-    let _edges = graph.edges();
-    let far = look_back(
-        graph,
-        prices,
-        targets,
-        &mut scratch.ahead.near,
-        &mut scratch.ahead.marked,
-    );
-    let aim = Aim {
-        targets,
-        guides: guides_of(graph, targets),
-        near: &scratch.ahead.near,
-        ends: &scratch.ahead.ends,
-        far,
-        depth: 3,
-    };
-    let least = find(
+    let least = find_ahead(
         graph,
         prices,
         &tree.wires,
-        &aim,
+        targets,
+        graph.hops(targets),
         &mut scratch.labels,
         &mut scratch.done,
         &mut scratch.order,
         &mut scratch.touched,
         &mut scratch.queue,
         &mut scratch.path,
-    );
-    wipe(
         &mut scratch.ahead.near,
-        &mut scratch.done,
-        &scratch.ahead.marked,
+        &mut scratch.ahead.marked,
+        &mut scratch.ahead.beyond,
     );
-    scratch.ahead.marked.clear();
     scratch.found = least.is_some();
     least
 }
@@ -242,17 +222,41 @@ fn lists(alloc: Global, wires: usize) -> Result<(Vec<u32>, Vec<WireNo>, Vec<Edge
     Ok((touched, order, path))
 }
 
-// What a search may know of the way, where it knows nothing yet.
-fn ahead_of(alloc: Global, graph: &Graph) -> Result<Ahead, NoMemory>
-    ensures near { IfOk result (λ a. (length a.near.items ≡ graph.now.wires) × ((w : ℕ) → label a.near.items w ≡ None)) }
-    ensures marked { IfOk result (λ a. (a.marked.items ≡ []) × (graph.now.wires ≤ vec_capacity a.marked)) }
-    ensures ends { IfOk result (λ a. AreEnds graph.now.edges a.ends.items) }
+// No label for each wire.
+fn no_labels(alloc: Global, wires: usize) -> Result<Vec<Option<u64>>, NoMemory>
+    ensures long { IfOk result (λ labels. length labels.items ≡ wires) }
+    ensures none { IfOk result (λ labels. (w : ℕ) → label labels.items w ≡ None) }
 {
-    let wires = graph.wires() as usize;
-    let ends = ends_of(alloc, graph)?;
-    let near = vec![in alloc; None; wires]?;
+    let labels = vec![in alloc; None; wires]?;
+    Ok(labels)
+}
+
+// What a search may know of the way, where it knows nothing yet.
+fn ahead_of(alloc: Global, wires: usize) -> Result<Ahead, NoMemory>
+    ensures near { IfOk result (λ a. (length a.near.items ≡ wires) × ((w : ℕ) → label a.near.items w ≡ None)) }
+    ensures marked { IfOk result (λ a. (a.marked.items ≡ []) × (wires ≤ vec_capacity a.marked)) }
+    ensures beyond { IfOk result (λ a. length a.beyond.items ≡ 64) }
+{
+    let near = no_labels(alloc, wires)?;
+    let beyond = vec![in alloc; 0; 64]?;
     let marked = Vec::with_capacity(alloc, wires)?;
-    Ok(Ahead { near, marked, ends })
+    Ok(Ahead {
+        near,
+        marked,
+        beyond,
+    })
+}
+
+// The first target, where nothing is known of rows.
+fn guides_of<'a>(targets: &'a [WireNo], hops: &[u8]) -> &'a [WireNo]
+    requires { 0 < length targets.now }
+    ensures { (n : ℕ) → AreWires n targets.now → AreWires n result.now }
+{
+    if hops.is_empty() {
+        &targets[..1]
+    } else {
+        &targets[..0]
+    }
 }
 
 // The least cost of a walk to one of the targets, from memory that is clear. It leaves the memory clear but for the
@@ -308,4 +312,79 @@ fn find(
     touched.clear();
     clear(queue);
     cost
+}
+
+// The same by how many rows lead at least to the targets, and by looking back from them first.
+fn find_ahead(
+    graph: &Graph,
+    prices: &Prices,
+    tree: &[WireNo],
+    targets: &[WireNo],
+    hops: &[u8],
+    labels: &mut [Option<u64>],
+    settled: &mut [bool],
+    order: &mut Vec<WireNo>,
+    touched: &mut Vec<u32>,
+    queue: &mut Queue,
+    path: &mut Vec<Edge>,
+    near: &mut [Option<u64>],
+    marked: &mut Vec<u32>,
+    beyond: &mut [u64],
+) -> Option<u64>
+    requires prices { ArePrices prices.now }
+    requires lengths { (length prices.now.history.items ≡ graph.now.wires) × (length labels.old ≡ graph.now.wires) × (length settled.old ≡ graph.now.wires) × (length near.old ≡ graph.now.wires) × (length beyond.old ≡ 64) }
+    requires tree { AreWires graph.now.wires tree.now }
+    requires targets { AreWires graph.now.wires targets.now }
+    requires some { 0 < length targets.now }
+    requires hops { AreHops graph.now.edges targets.now hops.now }
+    requires labels { (w : ℕ) → label labels.old w ≡ None }
+    requires settled { (w : ℕ) → done settled.old w ≡ false }
+    requires list { graph.now.wires ≤ vec_capacity order.old }
+    requires touched { touched.old.items ≡ [] }
+    requires space { graph.now.wires ≤ vec_capacity touched.old }
+    requires queue { IsEmpty queue.old × (queue_len queue.old ≡ 0) × IsQueue queue.old }
+    requires room { graph.now.wires + length graph.now.edges ≤ queue.old.room }
+    requires path { graph.now.wires ≤ vec_capacity path.old }
+    requires near { (w : ℕ) → label near.old w ≡ None }
+    requires marked { marked.old.items ≡ [] }
+    requires marks { graph.now.wires ≤ vec_capacity marked.old }
+    ensures some { IfSome result (IsCostTo graph.now.edges (price prices.now) tree.now targets.now) }
+    ensures bound { IfSome result (λ cost. cost ≤ 1048575 * 17046213234436) }
+    ensures taken { OnSome result (IsTakenTo graph.now.edges (price prices.now) tree.now targets.now path.new.items) }
+    ensures path { vec_capacity path.new ≡ vec_capacity path.old }
+    ensures none { IfNone result (NoWalkTo graph.now.edges tree.now targets.now) }
+    ensures list { vec_capacity order.new ≡ vec_capacity order.old }
+    ensures labels { (w : ℕ) → label labels.new w ≡ None }
+    ensures settled { (w : ℕ) → done settled.new w ≡ false }
+    ensures touched { touched.new.items ≡ [] }
+    ensures space { vec_capacity touched.new ≡ vec_capacity touched.old }
+    ensures queue { IsEmpty queue.new × (queue_len queue.new ≡ 0) × IsQueue queue.new }
+    ensures capacity { queue.new.room ≡ queue.old.room }
+    ensures near { (w : ℕ) → label near.new w ≡ None }
+    ensures marked { marked.new.items ≡ [] }
+    ensures marks { vec_capacity marked.new ≡ vec_capacity marked.old }
+{
+    let _edges = graph.edges();
+    let guides = guides_of(targets, hops);
+    let way = Aim {
+        targets,
+        guides,
+        hops,
+        near: &[],
+        beyond: &[],
+    };
+    look_back(graph, prices, &way, near, settled, marked, beyond, queue);
+    let aim = Aim {
+        targets,
+        guides,
+        hops,
+        near: &*near,
+        beyond: &*beyond,
+    };
+    let least = find(
+        graph, prices, tree, &aim, labels, settled, order, touched, queue, path,
+    );
+    wipe(near, settled, marked);
+    marked.clear();
+    least
 }

@@ -17,7 +17,7 @@ use ice_base::WireNo;
 use ice_core::Prices;
 use ice_graph::{Edge, Graph};
 
-// Gives the wire a label that is lower than the one that it has, and puts it into the queue.
+/// Gives the wire a label that is lower than the one that it has, and puts it into the queue.
 #[tactic(auto, using(crate::proofs::Queueing::marked, crate::proofs::Queueing::lowers_by_set))]
 pub fn mark(
     graph: &Graph,
@@ -46,9 +46,9 @@ pub fn mark(
     push(queue, cost + aim.bound(graph, WireNo(wire)), wire);
 }
 
-// Lowers the label of a wire to this cost, unless it is no more than that.
+/// Lowers the label of a wire to this cost, unless it is no more than that.
 #[tactic(auto, using(crate::proofs::Touching::touched_new, crate::proofs::Touching::touched_again, crate::proofs::Touching::room_left, crate::proofs::Touching::no_label, crate::proofs::Touching::one_label, crate::proofs::Relaxing::lowers_not))]
-fn lower(
+pub fn lower(
     graph: &Graph,
     aim: &Aim,
     labels: &mut [Option<u64>],

@@ -9,10 +9,12 @@ use Rattle.std.proofs.lemmas.List.FromFn.{length-map-range_with_len, get_or-map-
 use Rattle.ice_base.specs.declared.number.TileAt.{TileAt}
 use Rattle.ice_cells.specs.declared.cell.Control.{Control}
 use Rattle.ice_cells.specs.declared.cell.LogicCell.{LogicCell}
+use Rattle.ice_cells.specs.declared.cluster.Clusters.{Clusters}
 use Rattle.ice_cells.specs.declared.cluster.Group.{Group}
 use Rattle.ice_cells.specs.declared.design.Design.{Design}
 use Rattle.ice_cells.specs.declared.design.Run.{Run}
-use Rattle.ice_cells.specs.Clusters.{run_piece, run_pieces, runs_pieces, set_piece, set_pieces, sets_pieces, plain_piece, plain_pieces, filled, left, room, opened, groups_of, with_slots, clusters_of, loose_flops, loose_plains}
+use Rattle.ice_cells.specs.Clusters.{run_piece, run_pieces, runs_pieces, set_piece, set_pieces, sets_pieces, plain_piece, plain_pieces, filled, left, room, with_slots}
+use Rattle.ice_cells.specs.Clusterings.{opened_by, groups_by, clusters_with, IsClustering}
 use Rattle.ice_cells.specs.Pieces.{pieces_count}
 use Rattle.ice_cells.specs.Sets.{FlopCell, sets_of, cells_with}
 use Rattle.ice_place.specs.Fit.{chunks}
@@ -99,19 +101,23 @@ pub record AreChunks (all : List Chunk) (runs : List ℕ) : Type 0 where
   pub is : all ≡ runs_chunks 0 runs ++ others
   pub none : NoChunks others
 
-pub chunks_stand : (d : Design) → AreChunks (chunks_of (clusters_of d).list) (lengths d.runs)
-chunks_stand d =
-    let sets = map group_run (sets_pieces (loose_flops d.cells d.runs)) in
-    let plains = left (opened d.cells d.runs) (loose_plains d.cells d.runs) in
+made_stand : (d : Design) (flops : List FlopCell) (plains : List ℕ) → AreChunks (chunks_of (clusters_with d flops plains).list) (lengths d.runs)
+made_stand d flops plains =
+    let sets = map group_run (sets_pieces flops) in
+    let firsts = opened_by d.cells d.runs flops in
+    let last = left firsts plains in
     record {
-      others = sets ++ map group_run (plain_pieces plains);
-      is = run_of_slots (groups_of d.cells d.runs) ∙ map-append group_run (filled (opened d.cells d.runs) (loose_plains d.cells d.runs)) (plain_pieces plains)
-          ∙ ap (λ xs. xs ++ map group_run (plain_pieces plains))
-          (run_of_filled (opened d.cells d.runs) (loose_plains d.cells d.runs) ∙ map-append group_run (runs_pieces d.cells 0 d.runs) (sets_pieces (loose_flops d.cells d.runs))
+      others = sets ++ map group_run (plain_pieces last);
+      is = run_of_slots (groups_by d.cells d.runs flops plains) ∙ map-append group_run (filled firsts plains) (plain_pieces last)
+          ∙ ap (λ xs. xs ++ map group_run (plain_pieces last))
+          (run_of_filled firsts plains ∙ map-append group_run (runs_pieces d.cells 0 d.runs) (sets_pieces flops)
           ∙ ap (λ xs. xs ++ sets) (runs_of_pieces d.cells 0 d.runs))
-          ∙ append_assoc (runs_chunks 0 (lengths d.runs)) sets (map group_run (plain_pieces plains));
-      none = no_join sets (map group_run (plain_pieces plains)) (no_sets (loose_flops d.cells d.runs) (sets_of (loose_flops d.cells d.runs))) (no_plain plains (range_with_len 0 (pieces_count plains)));
+          ∙ append_assoc (runs_chunks 0 (lengths d.runs)) sets (map group_run (plain_pieces last));
+      none = no_join sets (map group_run (plain_pieces last)) (no_sets flops (sets_of flops)) (no_plain last (range_with_len 0 (pieces_count last)));
     }
+
+pub chunks_stand : (d : Design) (clusters : Clusters) → IsClustering d clusters → AreChunks (chunks_of clusters.list) (lengths d.runs)
+chunks_stand d clusters of_cells = subst (λ (x : Clusters). AreChunks (chunks_of x.list) (lengths d.runs)) (sym of_cells.is) (made_stand d of_cells.flops of_cells.plains)
 
 -- ---- places in lists
 get_left : {X : Type 0} → (xs ys : List X) (i : ℕ) → i < length xs → slice_get (xs ++ ys) i ≡ slice_get xs i

@@ -9,7 +9,7 @@ use Rattle.ice_base.specs.declared.number.TileAt.{TileAt}
 use Rattle.ice_cells.specs.declared.cluster.Cluster.{Cluster}
 use Rattle.ice_cells.specs.declared.cluster.Clusters.{Clusters}
 use Rattle.ice_cells.specs.declared.design.Design.{Design}
-use Rattle.ice_cells.specs.Clusters.{clusters_of}
+use Rattle.ice_cells.specs.Clusterings.{IsClustering}
 use Rattle.ice_sites.specs.Legal.{Follows, is_next, chunk_of, tile_at, IsLegal}
 use Rattle.ice_place.specs.declared.fault.PlaceFault.{PlaceFault}
 use Rattle.ice_place.specs.declared.fault.PlaceFault.TheVariants.{RunTooLong, Overfull}
@@ -155,13 +155,13 @@ by_legal stretches runs all at are chunks said = by (refusal stretches runs (len
     by (Some fault) is said = absurd (cc)
     by None is said = after (fitted stretches runs) refl (not_refused stretches runs (length all) is) said
 
-pub place_legal : (stretches : List (List TileAt)) (clusters : Clusters) (d : Design) (at : List TileAt) → AreStretches stretches → clusters ≡ clusters_of d → place_of stretches clusters d ≡ Ok at → IsLegal stretches (chunks_of clusters.list) at
+pub place_legal : (stretches : List (List TileAt)) (clusters : Clusters) (d : Design) (at : List TileAt) → AreStretches stretches → IsClustering d clusters → place_of stretches clusters d ≡ Ok at → IsLegal stretches (chunks_of clusters.list) at
 place_legal stretches clusters d at are is said =
     let count : length (chunks_of clusters.list) ≡ length clusters.list = length-map clusters.list (λ (c : Cluster). c.run) in
-    by_legal stretches (lengths d.runs) (chunks_of clusters.list) at are (subst (λ (x : Clusters). AreChunks (chunks_of x.list) (lengths d.runs)) (sym is) (chunks_stand d))
+    by_legal stretches (lengths d.runs) (chunks_of clusters.list) at are (chunks_stand d clusters is)
     (ap (place_by stretches (lengths d.runs)) count ∙ said)
 
-pub answers_legal : (stretches : List (List TileAt)) (clusters : Clusters) (d : Design) (r : Result (List TileAt) PlaceFault) → AreStretches stretches → clusters ≡ clusters_of d → Answers r (place_of stretches clusters d)
+pub answers_legal : (stretches : List (List TileAt)) (clusters : Clusters) (d : Design) (r : Result (List TileAt) PlaceFault) → AreStretches stretches → IsClustering d clusters → Answers r (place_of stretches clusters d)
     → IfOk r (IsLegal stretches (chunks_of clusters.list))
 answers_legal stretches clusters d (Ok at) are is said = place_legal stretches clusters d at are is said
 answers_legal stretches clusters d (Err fault) are is said = tt

@@ -2,7 +2,7 @@
 ghost use Rattle.std.specs.Prelude.{◌≡◌, ◌≤◌, ◌++◌, List, IfOk, OnOk, length, map, take, flat_map};
 ghost use Rattle.std.specs.List.{All};
 ghost use Rattle.ice_base.specs.declared.number.TileAt.{TileAt};
-ghost use Rattle.ice_cells.specs.Clusters.{clusters_of};
+ghost use Rattle.ice_cells.specs.Clusterings.{IsClustering};
 ghost use Rattle.ice_sites.specs.Legal.{IsLegal};
 ghost use Rattle.ice_place.specs.Place.{AreStretches, lengths, chunks_of, sites_count, joined, placed, fitted, place_by, place_of};
 ghost use Rattle.ice_place.specs.Views.{tiles_of, fitting};
@@ -91,7 +91,7 @@ pub fn first_place(
     design: &Design,
 ) -> Result<Placement, PlaceFault>
     requires sites { AreStretches sites.now }
-    requires clusters { clusters.now ≡ clusters_of design.now }
+    requires clusters { IsClustering design.now clusters.now }
     ensures answers { Answers result (place_of sites.now clusters.now design.now) }
     ensures legal { IfOk result (λ placement. IsLegal sites.now (chunks_of clusters.now.list) placement) }
 {

@@ -1,6 +1,6 @@
 //! What is asked of a chip and a netlist. One chain of functions, each of which owns one thing, leads from their texts to the packed design.
 use crate::claims::expect_that;
-use crate::places::{expect_first, expect_seeds};
+use crate::places::{Wanted, expect_first, expect_seeds};
 use crate::said::said;
 use ice_blif::read_blif;
 use ice_carry::runs;
@@ -23,6 +23,8 @@ pub enum Asked {
     First(&'static [u8]),
     /// Placements by this many seeds, at least so many of which differ from that of the first.
     Seeds(u64, u64),
+    /// Placements by this many seeds, in at least so many of which the first cluster stands elsewhere than in the first placement.
+    Moves(u64, u64),
 }
 
 // Fails unless this comes of a text of constraints.
@@ -50,13 +52,13 @@ fn expect_placed(
     chip: &Chip,
     sound: &Sound,
     design: &Design,
-    seeds: (u64, u64),
+    asked: Wanted,
 ) {
     let pcf = read_pcf(alloc, b"").expect(rt, "constraints");
     let answer = assign(alloc, chip, b"sample", &pcf, sound.netlist(), design);
     drop(pcf);
     let pads = answer.expect(rt, "pads");
-    expect_seeds(rt, alloc, chip, design, &pads, seeds);
+    expect_seeds(rt, alloc, chip, design, &pads, asked);
     drop(pads);
 }
 
@@ -73,7 +75,20 @@ fn expect_design(
         Asked::Pins(text, wanted) => expect_pins(rt, alloc, chip, sound, design, text, wanted),
         Asked::First(wanted) => expect_first(rt, alloc, chip, design, wanted),
         Asked::Seeds(count, least) => {
-            expect_placed(rt, alloc, chip, sound, design, (count, least));
+            let asked = Wanted {
+                count,
+                least,
+                moves: false,
+            };
+            expect_placed(rt, alloc, chip, sound, design, asked);
+        }
+        Asked::Moves(count, least) => {
+            let asked = Wanted {
+                count,
+                least,
+                moves: true,
+            };
+            expect_placed(rt, alloc, chip, sound, design, asked);
         }
     }
 }

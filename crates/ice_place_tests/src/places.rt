@@ -1,6 +1,6 @@
 //! Placements of a design.
 ghost use Rattle.std.specs.Prelude.{◌≡◌};
-ghost use Rattle.ice_cells.specs.Clusters.{clusters_of};
+ghost use Rattle.ice_cells.specs.Clusterings.{IsClustering};
 ghost use Rattle.ice_sites.specs.Stretches.{stretches_of};
 
 use crate::claims::expect_that;
@@ -36,6 +36,25 @@ pub fn expect_first(rt: &impl Abort, alloc: Global, chip: &Chip, design: &Design
     drop(fault);
 }
 
+/// What is asked of placements by so many seeds: that at least so many differ from that by the first, or that in at least so many
+/// the first cluster stands elsewhere than in the first placement.
+#[derive(Clone, Copy)]
+pub struct Wanted {
+    pub count: u64,
+    pub least: u64,
+    pub moves: bool,
+}
+
+// The tile of the first cluster as a number.
+fn first_of(placement: &Placement) -> u64 {
+    match placement.tiles().get(0) {
+        None => 0,
+        Some(tile) => u64::from(tile.x)
+            .wrapping_mul(256)
+            .wrapping_add(u64::from(tile.y)),
+    }
+}
+
 // The tiles of a placement as one number.
 fn sum_of(placement: &Placement) -> u64 {
     let mut sum = 0u64;
@@ -48,7 +67,7 @@ fn sum_of(placement: &Placement) -> u64 {
     sum
 }
 
-// The same of the placement by a seed.
+// The tiles of the first cluster in the first placement and in that by a seed, and all tiles of this one, as numbers.
 fn placed(
     rt: &impl Abort,
     alloc: Global,
@@ -58,18 +77,19 @@ fn placed(
     design: &Design,
     pads: &Pads,
     seed: u64,
-) -> u64
+) -> (u64, u64, u64)
     requires sites { sites.now ≡ stretches_of chip.now }
-    requires clusters { clusters.now ≡ clusters_of design.now }
+    requires clusters { IsClustering design.now clusters.now }
 {
     let first = first_place(alloc, sites, clusters, design).expect(rt, "a placement");
+    let start = first_of(&first);
     let improved = improve(alloc, chip, first, sites, clusters, design, pads, seed);
     let placement = improved.expect(rt, "memory");
-    sum_of(&placement)
+    (start, first_of(&placement), sum_of(&placement))
 }
 
-// Fails unless so many placements by seeds differ from that by the first.
-fn expect_different(
+// Fails unless this is so of placements.
+fn expect_all(
     rt: &impl Abort,
     alloc: Global,
     chip: &Chip,
@@ -77,35 +97,48 @@ fn expect_different(
     clusters: &Clusters,
     design: &Design,
     pads: &Pads,
-    seeds: (u64, u64),
+    asked: Wanted,
 )
     requires sites { sites.now ≡ stretches_of chip.now }
-    requires clusters { clusters.now ≡ clusters_of design.now }
+    requires clusters { IsClustering design.now clusters.now }
 {
-    let (count, least) = seeds;
-    let first = placed(rt, alloc, chip, sites, clusters, design, pads, 1);
-    let mut different = 0u64;
-    for behind in 0..count {
-        let seed = behind + 1;
-        if placed(rt, alloc, chip, sites, clusters, design, pads, seed) != first {
-            different = different.saturating_add(1);
+    let (_, _, sum) = placed(rt, alloc, chip, sites, clusters, design, pads, 1);
+    let mut found = 0u64;
+    for behind in 0..asked.count {
+        let (start, end, other) = placed(
+            rt,
+            alloc,
+            chip,
+            sites,
+            clusters,
+            design,
+            pads,
+            behind + 1,
+        );
+        let counts = if asked.moves {
+            start != end
+        } else {
+            other != sum
+        };
+        if counts {
+            found = found.saturating_add(1);
         }
     }
-    expect_that(rt, different >= least, b"seeds");
+    expect_that(rt, found >= asked.least, b"seeds");
 }
 
-/// Fails unless of the placements by so many seeds so many differ from that by the first.
+/// Fails unless this is so of placements by seeds.
 pub fn expect_seeds(
     rt: &impl Abort,
     alloc: Global,
     chip: &Chip,
     design: &Design,
     pads: &Pads,
-    seeds: (u64, u64),
+    asked: Wanted,
 ) {
     let sites = sites_of(alloc, chip).expect(rt, "memory");
     let clusters = cluster(alloc, design).expect(rt, "memory");
-    expect_different(rt, alloc, chip, &sites, &clusters, design, pads, seeds);
+    expect_all(rt, alloc, chip, &sites, &clusters, design, pads, asked);
     drop(clusters);
     drop(sites);
 }

@@ -34,9 +34,13 @@ fn put_runs(rt: &impl Abort, alloc: Global, text: &mut Vec<u8>, runs: &[u32]) {
 
 const BEGINNING: &[u8] = b".model runs\n.inputs a\n.outputs y\n.names a y\n1 1\n";
 
+// The same behind twenty other inputs, which take the first pads.
+const FAR: &[u8] =
+    b".model runs\n.inputs b c d e f g h i j k l m n o p q r s t u a\n.outputs y\n.names a y\n1 1\n";
+
 // The text of a netlist with runs of so many carries each.
-fn runs_of(rt: &impl Abort, alloc: Global, runs: &[u32]) -> Vec<u8> {
-    let mut text = Vec::from_slice(alloc, BEGINNING).expect(rt, "memory");
+fn runs_of(rt: &impl Abort, alloc: Global, beginning: &[u8], runs: &[u32]) -> Vec<u8> {
+    let mut text = Vec::from_slice(alloc, beginning).expect(rt, "memory");
     put_runs(rt, alloc, &mut text, runs);
     text.extend_from_slice(b".end\n").expect(rt, "memory");
     text
@@ -63,7 +67,7 @@ const LARGE: [Case; 2] = [
 // Fails unless each case comes of placing on the chip of a text.
 fn expect_cases(rt: &impl Abort, alloc: Global, chip: &[u8], cases: &[Case]) {
     for (runs, wanted) in cases {
-        let text = runs_of(rt, alloc, runs);
+        let text = runs_of(rt, alloc, BEGINNING, runs);
         expect(rt, alloc, chip, &text, Asked::First(*wanted));
     }
 }
@@ -72,4 +76,12 @@ fn expect_cases(rt: &impl Abort, alloc: Global, chip: &[u8], cases: &[Case]) {
 fn runs_are_fitted(rt: HostRuntime) {
     expect_cases(&rt, rt.alloc(), &small_chip(&rt, rt.alloc()), &SMALL);
     expect_cases(&rt, rt.alloc(), &large_chip(&rt, rt.alloc()), &LARGE);
+}
+
+// The first placement has the run at the left, and its input comes in further to the right.
+#[test]
+fn runs_of_several_chunks_move(rt: HostRuntime) {
+    let chip = large_chip(&rt, rt.alloc());
+    let text = runs_of(&rt, rt.alloc(), FAR, &[20]);
+    expect(&rt, rt.alloc(), &chip, &text, Asked::Moves(4, 4));
 }

@@ -3,6 +3,7 @@ use Rattle.std.specs.Prelude.{ℕ, Option, None, Some, List, [], ◌∷◌, posi
 use Rattle.ice_base.specs.declared.number.TileAt.{TileAt}
 use Rattle.ice_chip.specs.declared.rows.Pad.{Pad}
 use Rattle.ice_cells.specs.declared.cluster.Cluster.{Cluster}
+use Rattle.ice_cells.specs.declared.cluster.Clusters.{Clusters}
 use Rattle.ice_cells.specs.declared.design.Design.{Design}
 use Rattle.ice_cells.specs.declared.root.Root.{Root}
 use Rattle.ice_cells.specs.declared.root.Root.TheVariants.{PadIn, CellOut, GlobalOut, CarryOut}
@@ -17,6 +18,10 @@ pub record Plan : Type 0 where
   pub ports : List Pad
   -- the number of the global of each global buffer
   pub globals : List ℕ
+
+-- its clusters, as they are made
+abbrev pub listed : Plan → Clusters
+listed plan = record { list = plan.clusters }
 
 -- ---- cells
 -- a slot of a tile: the tile, and the number of the slot from below

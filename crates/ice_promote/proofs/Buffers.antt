@@ -14,7 +14,7 @@ use Rattle.ice_net.specs.Drives.{uses_by}
 use Rattle.ice_check.specs.Faults.{uses_of}
 use Rattle.ice_check.specs.Tables.{once, times}
 use Rattle.ice_promote.specs.Promoted.{buffered, buffered_pin, buffered_first, buffered_ins, buffered_cell, buffer, buffers}
-use Rattle.ice_promote.proofs.Places.{wire}
+use Rattle.ice_check.proofs.Places.{wire}
 
 -- ---- the list of buffers
 pub length_buffers : (next : ℕ) (clocks : List ℕ) → length (buffers next clocks) ≡ length clocks

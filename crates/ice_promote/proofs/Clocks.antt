@@ -16,7 +16,7 @@ use Rattle.ice_net.specs.Drives.{uses_by}
 use Rattle.ice_check.specs.Faults.{uses_of, is_used}
 use Rattle.ice_check.specs.Tables.{times}
 use Rattle.ice_promote.specs.Promoted.{clock_by, clock_of, is_clock, settled_of, is_promotable, most_signals, promoted_clocks}
-use Rattle.ice_promote.proofs.Places.{wire, times_has, has_place}
+use Rattle.ice_check.proofs.Places.{wire, times_has, has_place}
 
 in_range : (a count i x : ℕ) → At (range_with_len a count) i x → x < a + count
 in_range a zero i x at = absurd (none-some x at)

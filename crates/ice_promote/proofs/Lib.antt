@@ -1,4 +1,3 @@
-pub mod Places
 pub mod Buffers
 pub mod NewDrivers
 mod NewValues

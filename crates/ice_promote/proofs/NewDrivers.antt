@@ -20,7 +20,7 @@ use Rattle.ice_net.specs.Meaning.{makes_by, cell_reads, pad_level, reads, makes,
 use Rattle.ice_check.proofs.Graphs.{reads_below}
 use Rattle.ice_check.proofs.ListsBelow.{pads_below, outputs_below}
 use Rattle.ice_promote.specs.Promoted.{buffered_name, buffered_cell, buffer, buffers, with_buffers}
-use Rattle.ice_promote.proofs.Places.{place_left, place_right, place_above, place_within}
+use Rattle.ice_check.proofs.Places.{place_left, place_right, place_above, place_within}
 use Rattle.ice_promote.proofs.Buffers as own
 
 pub length_names : (n : NetlistData) (clocks : List ℕ) → length (with_buffers n clocks).names ≡ length n.names + length clocks

@@ -24,7 +24,7 @@ use Rattle.ice_check.specs.Sound.{IsSound}
 use Rattle.ice_check.specs.Tables.{times}
 use Rattle.ice_check.proofs.ListsBelow.{pads_below, outputs_below}
 use Rattle.ice_promote.specs.Promoted.{buffered_cell, buffer, buffers, with_buffers, promoted_clocks, promoted}
-use Rattle.ice_promote.proofs.Places.{wire, place_has, has_place, times_above, times_append}
+use Rattle.ice_check.proofs.Places.{wire, place_has, has_place, times_above, times_append}
 use Rattle.ice_promote.proofs.Buffers.{at_buffer, pin_same, count_no_pins, count_outs_above, count_outs, buffers_use, ins_old}
 use Rattle.ice_promote.proofs.NewDrivers.{length_names, pins_are, outputs_are, buffered_same, pads_same, driver_old, driver_new, depends_old, depends_below, reads_new}
 use Rattle.ice_promote.proofs.Clocks.{clock_below, clock_used}

@@ -23,7 +23,7 @@ use Rattle.ice_net.specs.Formed.{IsBelow, IsPortBelow, IsFormedCell, IsFormed}
 use Rattle.ice_net.specs.Meaning.{State, enable_level, set_level, kept_by, clock_by, kept_after, signal_value, step, start, shows}
 use Rattle.ice_check.proofs.ListsBelow.{at_below}
 use Rattle.ice_promote.specs.Promoted.{buffered, buffered_pin, buffered_first, buffered_ins, buffered_cell, buffers, with_buffers}
-use Rattle.ice_promote.proofs.Places.{place_within}
+use Rattle.ice_check.proofs.Places.{place_within}
 use Rattle.ice_promote.proofs.NewDrivers.{buffer_same, cell_kept, at_place}
 use Rattle.ice_promote.proofs.NewValues.{Follows, follows}
 

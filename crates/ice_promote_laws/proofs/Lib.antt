@@ -1,5 +1,3 @@
-mod PadRoots
-mod PadReaders
 mod NewOrigins
 mod NewReaders
 mod Wanted

@@ -23,8 +23,8 @@ use Rattle.ice_promote.specs.Promoted.{buffered, buffered_ins, buffered_cell, bu
 use Rattle.ice_promote.proofs.Buffers.{at_buffer}
 use Rattle.ice_promote.proofs.NewDrivers.{length_names, old_cells, added, long_cells, cell_kept, cell_added, buffer_same}
 use Rattle.ice_promote_laws.proofs.NewOrigins.{origin_old, origin_new, listed}
-use Rattle.ice_promote_laws.proofs.PadRoots.{IsBufferOf, IsOfPad}
-use Rattle.ice_promote_laws.proofs.PadReaders.{read_ins, kind_ins, pad_ins, IsAtPad, ReadsPad, by_cell, by_port}
+use Rattle.ice_pack_laws.proofs.PadRoots.{IsBufferOf, IsOfPad}
+use Rattle.ice_pack_laws.proofs.PadReaders.{read_ins, kind_ins, pad_ins, IsAtPad, ReadsPad, by_cell, by_port}
 
 -- a flip-flop has the signal as its clock
 pub record HasClock (n : NetlistData) (clock : ℕ) : Type 0 where

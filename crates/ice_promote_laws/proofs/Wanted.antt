@@ -29,9 +29,9 @@ use Rattle.ice_pads.specs.Wants.{want_at, wants}
 use Rattle.ice_promote.specs.Promoted.{clock_by, clock_of, is_clock, settled_of, promoted_clocks, promoted}
 use Rattle.ice_promote.proofs.Clocks.{promotable}
 use Rattle.ice_promote.proofs.NewDrivers.{buffer_same}
-use Rattle.ice_promote.proofs.Places.{wire, times_has}
+use Rattle.ice_check.proofs.Places.{wire, times_has}
 use Rattle.ice_promote_laws.proofs.NewReaders.{HasClock, by_place, reads_new, reads_old}
-use Rattle.ice_promote_laws.proofs.PadReaders.{read_back, read_there}
+use Rattle.ice_pack_laws.proofs.PadReaders.{read_back, read_there}
 
 -- ---- a promoted clock is the clock of some flip-flop
 first_in : (ins : List (Option SignalNo)) (x : SignalNo) → slice_index_or ins 0 None ≡ Some x → At ins 0 (Some x)

@@ -5,19 +5,14 @@ use Rattle.ice_chip.specs.IsRead.{IsRead}
 use Rattle.ice_chip_laws.specs.Laws.{IsLawful}
 use Rattle.ice_bits.specs.Configuration.{Bits}
 use Rattle.ice_decode.specs.declared.driver.Switch.{Switch}
-use Rattle.ice_cells.specs.declared.cluster.Clusters.{Clusters}
 use Rattle.ice_cluster.specs.Slots.{AreSlots, AreDriven}
 use Rattle.ice_chunks.specs.Chunks.{AreChunks}
 use Rattle.ice_wiring.specs.Wanted.{IsWired}
-use Rattle.ice_plan.specs.Plan.{Plan}
+use Rattle.ice_plan.specs.Plan.{Plan, listed}
 use Rattle.ice_written.specs.Arrivals.{Held}
 use Rattle.ice_written.specs.Led.{AreLed}
 use Rattle.ice_written.specs.Routed.{IsPlaced}
 use Rattle.ice_written.specs.Set.{AreSet}
-
--- the clusters of a plan, as they are made
-abbrev pub listed : Plan → Clusters
-listed plan = record { list = plan.clusters }
 
 pub record Premises : Type 0 where
   pub parts : Parts

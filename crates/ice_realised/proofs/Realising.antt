@@ -1,17 +1,15 @@
 -- The bits of a placed and routed design realise it.
-use Rattle.std.proofs.Common.{◌≡◌, Bool, List, sym, ap, subst}
+use Rattle.std.proofs.Common.{Bool, List}
 use Rattle.ice_chip.specs.Database.{Parts, PackageRows}
 use Rattle.ice_chip.specs.IsRead.{IsRead}
 use Rattle.ice_chip_laws.specs.Laws.{IsLawful}
 use Rattle.ice_bits.specs.Configuration.{Bits}
 use Rattle.ice_decode.specs.Faults.{HasNoLoop}
 use Rattle.ice_decode.specs.declared.driver.Switch.{Switch}
-use Rattle.ice_cells.specs.Clusters.{clusters_of}
-use Rattle.ice_cells.specs.declared.cluster.Cluster.{Cluster}
-use Rattle.ice_chunks.specs.Chunks.{AreChunks, RunsStandInChunks}
-use Rattle.ice_cluster.specs.Slots.{AreSlots, AreDriven, CellsStandInOneSlot, FlopsAreDrivenAsTheirCluster}
+use Rattle.ice_chunks.specs.Chunks.{RunsStandInChunks}
+use Rattle.ice_cluster.specs.Slots.{CellsStandInOneSlot, FlopsAreDrivenAsTheirCluster}
 use Rattle.ice_wiring.specs.Wanted.{IsWired}
-use Rattle.ice_plan.specs.Plan.{Plan}
+use Rattle.ice_plan.specs.Plan.{Plan, listed}
 use Rattle.ice_written.specs.Arrivals.{Held}
 use Rattle.ice_written.specs.Led.{AreLed}
 use Rattle.ice_written.specs.Realised.{Realises}
@@ -19,7 +17,7 @@ use Rattle.ice_written.specs.Routed.{IsPlaced}
 use Rattle.ice_written.specs.Set.{AreSet}
 use Rattle.ice_realised.specs.Feeds.{FeedsNoGlobal}
 use Rattle.ice_realised.proofs.AllWires.{unfed_loopless}
-use Rattle.ice_realised.proofs.Premises.{Premises, listed}
+use Rattle.ice_realised.proofs.Premises.{Premises}
 use Rattle.ice_realised.proofs.Faultless.{faultless}
 use Rattle.ice_realised.proofs.Steps.{shows_same, off_elsewhere}
 
@@ -36,8 +34,6 @@ module _ (parts : Parts) (read : IsRead parts) (lawful : IsLawful parts) (slots 
     (wanted : List Switch) (held : Held) (bits : Bits) where
   abbrev premises : IsPlaced parts bonded plan pullups → AreLed parts plan wanted held → AreSet parts plan wanted held bits → IsWired parts bits wanted → Premises
   premises placed led are_set wired =
-      let made : (clusters_of plan.design).list ≡ plan.clusters = sym placed.clusters in
-      let all : clusters_of plan.design ≡ listed plan = ap (λ (list : List Cluster). record { list = list }) made in
       record {
         parts = parts;
         bonded = bonded;
@@ -52,9 +48,9 @@ module _ (parts : Parts) (read : IsRead parts) (lawful : IsLawful parts) (slots 
         led = led;
         are_set = are_set;
         wired = wired;
-        slots = subst (AreSlots plan.design) all (slots plan.design placed.formed);
-        driven = subst (AreDriven plan.design) all (driven plan.design placed.formed);
-        chunks = subst (AreChunks plan.design) made (chunks plan.design placed.formed);
+        slots = slots plan.design (listed plan) placed.formed placed.clusters;
+        driven = driven plan.design (listed plan) placed.formed placed.clusters;
+        chunks = chunks plan.design (listed plan) placed.formed placed.clusters;
       }
 
   pub realise : HasNoLoop parts bits → IsPlaced parts bonded plan pullups → AreLed parts plan wanted held → AreSet parts plan wanted held bits → IsWired parts bits wanted → Realises parts plan wanted bits

@@ -20,9 +20,9 @@ use Rattle.ice_cells.specs.declared.cluster.Cluster.{Cluster}
 use Rattle.ice_cells.specs.Tables.{is_place}
 use Rattle.ice_cluster.specs.Slots.{Stands}
 use Rattle.ice_sites.specs.Site.{leads, has_cell, has_controls, has_entry, has_chain, is_logic, all_below, is_site}
-use Rattle.ice_plan.specs.Plan.{Slot, slot_in, in_tile, first_slot, slot_among, slot_of}
+use Rattle.ice_plan.specs.Plan.{Slot, slot_in, in_tile, first_slot, slot_among, slot_of, listed}
 use Rattle.ice_written.specs.Slots.{IsOn, StandsIn}
-use Rattle.ice_realised.proofs.Premises.{Premises, listed}
+use Rattle.ice_realised.proofs.Premises.{Premises}
 use Rattle.ice_realised.proofs.Read.{item_there}
 
 -- ---- places that are found

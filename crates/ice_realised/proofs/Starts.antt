@@ -26,12 +26,12 @@ use Rattle.ice_cells.specs.declared.root.Root.TheVariants.{PadIn, CellOut, Globa
 use Rattle.ice_cells.specs.Nodes.{Node, Net, Level}
 use Rattle.ice_cluster.specs.Slots.{Stands}
 use Rattle.ice_pads.specs.Globals.{global_wire}
-use Rattle.ice_plan.specs.Plan.{slot_of}
+use Rattle.ice_plan.specs.Plan.{slot_of, listed}
 use Rattle.ice_nets.specs.Ends.{wire_no}
 use Rattle.ice_nets.specs.Nets.{pad_wire, slot_wire, root_wire}
 use Rattle.ice_written.specs.Led.{IsEntryLed}
 use Rattle.ice_written.specs.Slots.{IsOn, StandsIn}
-use Rattle.ice_realised.proofs.Premises.{Premises, listed}
+use Rattle.ice_realised.proofs.Premises.{Premises}
 use Rattle.ice_realised.proofs.CarriesIn.{IsInRun, run_before}
 use Rattle.ice_realised.proofs.Read.{IsReadable, item_beside, item_there}
 use Rattle.ice_realised.proofs.Slots.{first_there, slot_stands, stands_on}

@@ -38,7 +38,7 @@ use Rattle.ice_cells.specs.declared.design.DesignPad.{DesignPad}
 use Rattle.ice_cluster.specs.Slots.{CellsStandInOneSlot}
 use Rattle.ice_wiring.specs.Settings.{Setting}
 use Rattle.ice_plan.specs.Loads.{slots_give}
-use Rattle.ice_plan.specs.Plan.{Plan}
+use Rattle.ice_plan.specs.Plan.{Plan, listed}
 use Rattle.ice_written.specs.Arrivals.{Held, written_table}
 use Rattle.ice_written.specs.Functions.{setting, setting_if, cell_settings, edge_settings, is_set, carry_settings, clusters_settings, type_settings, off_setting, pull_up_settings, ports_settings, read_pads, is_needed, enable_settings, buffer_at, global_settings, buffer_settings, settings}
 use Rattle.ice_written.specs.Routed.{IsPlaced}
@@ -132,7 +132,7 @@ module _ (z : Case) where
   -- ---- clusters
   eight : (t : TileAt) (cluster : Cluster) → IsOn z.plan t cluster → length cluster.cells ≡ 8
   eight t cluster on =
-      (z.known.slots z.plan.design z.placed.formed).eight on.number cluster (subst (λ (xs : List Cluster). At xs on.number cluster) z.placed.clusters on.cluster_is)
+      (z.known.slots z.plan.design (listed z.plan) z.placed.formed z.placed.clusters).eight on.number cluster on.cluster_is
 
   slot_below : (n place : ℕ) → n ≡ 8 → place < n → place < 8
   slot_below n place e lt = omega arith

@@ -12,6 +12,7 @@ mod ports;
 mod tracing;
 
 pub use known::{Facts, facts_of};
+pub use pairing::luts_behind;
 pub use placing::{Homes, homes_of};
 pub use ports::bare_outputs;
 pub use tracing::origins;

@@ -1,9 +1,10 @@
 //! Carries take look-up tables with the same two inputs, one after another.
-ghost use Rattle.std.specs.Prelude.{◌≡◌, ◌+◌, ◌&&◌, ◌==◌, ℕ, [], length, map, IfOk, OnOk, Some, if◌then◌else◌};
+ghost use Rattle.std.specs.Prelude.{◌≡◌, ◌+◌, ◌++◌, ◌<◌, ◌&&◌, ◌==◌, ℕ, [], All, length, map, IfOk, OnOk, Some, if◌then◌else◌};
 ghost use Rattle.ice_cells.specs.declared.share.Pair.{Pair};
 ghost use Rattle.ice_cells.specs.Pairs.{pair_of, role_of, roles_of, gives, takes, luts_of};
 ghost use Rattle.ice_cells.specs.Same.{same_pair};
 ghost use Rattle.ice_share.specs.declared.pairing.Turn.{Turn};
+ghost use Rattle.ice_share.specs.Behind.{role_at, roles_behind};
 ghost use Rattle.ice_share.specs.Turns.{same_turn, turn_of, count_in, one_if, lut_at, lut_taken, AreSmall, AreByTurn};
 
 use crate::inputs::{input_origin, is_dropped, is_table, signal_at};
@@ -169,6 +170,50 @@ fn pair_carries(alloc: Global, roles: &[Role]) -> Result<Vec<Option<usize>>, NoM
     let mut luts = Vec::new(alloc);
     let done = take_luts(&by_turn, &mut counts, &mut luts, roles);
     done.and(Ok(luts))
+}
+
+// What a carry would be that stands at a look-up table and reads what the table reads.
+fn role_at(origins: &[Origin], cells: &[Cell], table: usize) -> Role
+    requires { table < length cells.now }
+    ensures { result ≡ role_at origins.now cells.now table }
+{
+    Role::Takes(pair_of(origins, cells[table].ins.as_slice(), 1, 2))
+}
+
+// Adds what carries would be that stand at look-up tables.
+fn push_roles(
+    roles: &mut Vec<Role>,
+    origins: &[Origin],
+    cells: &[Cell],
+    tables: &[usize],
+) -> Result<(), NoMemory>
+    requires { All (λ table. table < length cells.now) tables.now }
+    ensures { OnOk result (roles.new.items ≡ roles.old.items ++ map (role_at origins.now cells.now) tables.now) }
+{
+    for table in tables {
+        roles.push(role_at(origins, cells, *table))?;
+    }
+    Ok(())
+}
+
+/// The look-up table whose logic cell each carry would share, by the number of the carry, where behind all cells stood one carry more for
+/// each of these look-up tables, with the table's second and third input as its own two.
+///
+/// # Errors
+/// Want of memory alone.
+pub fn luts_behind(
+    alloc: Global,
+    cells: &[Cell],
+    origins: &[Origin],
+    tables: &[usize],
+) -> Result<Vec<Option<usize>>, NoMemory>
+    requires { All (λ table. table < length cells.now) tables.now }
+    ensures { IfOk result (λ luts. luts.items ≡ luts_of (roles_behind origins.now cells.now tables.now)) }
+{
+    let mut roles = roles_of(alloc, cells, origins)?;
+    push_roles(&mut roles, origins, cells, tables)?;
+    let luts = pair_carries(alloc, &roles)?;
+    Ok(luts)
 }
 
 /// The look-up table whose logic cell each carry shares, by the number of the carry.

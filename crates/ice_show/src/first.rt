@@ -1,6 +1,6 @@
 //! The first placement of a design.
 ghost use Rattle.std.specs.Prelude.{◌≡◌, IfOk};
-ghost use Rattle.ice_cells.specs.Clusters.{clusters_of};
+ghost use Rattle.ice_cells.specs.Clusterings.{IsClustering};
 ghost use Rattle.ice_place.specs.Place.{chunks_of};
 ghost use Rattle.ice_sites.specs.Legal.{IsLegal};
 ghost use Rattle.ice_sites.specs.Stretches.{stretches_of};
@@ -21,7 +21,7 @@ pub fn first_placement(
     clusters: &Clusters,
     design: &Design,
 ) -> Result<Placement, PlaceFault>
-    requires { clusters.now ≡ clusters_of design.now }
+    requires { IsClustering design.now clusters.now }
     ensures { IfOk result (λ placement. IsLegal (stretches_of chip.now) (chunks_of clusters.now.list) placement) }
 {
     let sites = sites_of(alloc, chip)?;

@@ -1,6 +1,6 @@
 //! What stands between the passes, as it is said.
 ghost use Rattle.std.specs.Prelude.{◌≡◌};
-ghost use Rattle.ice_cells.specs.Clusters.{clusters_of};
+ghost use Rattle.ice_cells.specs.Clusterings.{IsClustering};
 
 use crate::cases::Case;
 use crate::design::{say_clusters, say_design};
@@ -27,7 +27,7 @@ fn say_places(
     clusters: &Clusters,
     pads: &Pads,
 ) -> Result<()>
-    requires { clusters.now ≡ clusters_of design.now }
+    requires { IsClustering design.now clusters.now }
 {
     match first_placement(alloc, chip, clusters, design) {
         Ok(placement) => say_placed(rt, alloc, chip, clusters, design, &placement, pads),
@@ -44,7 +44,7 @@ fn say_pinned(
     clusters: &Clusters,
     pads: &Pads,
 ) -> Result<()>
-    requires { clusters.now ≡ clusters_of design.now }
+    requires { IsClustering design.now clusters.now }
 {
     say_pads(rt, pads)?;
     say_places(rt, alloc, chip, design, clusters, pads)

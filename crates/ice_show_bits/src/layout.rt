@@ -1,7 +1,7 @@
 //! The design of a netlist on its first placement.
 ghost use Rattle.std.specs.Prelude.{◌≡◌, IfOk};
 ghost use Rattle.ice_build.specs.Laid.{plan_in};
-ghost use Rattle.ice_cells.specs.Clusters.{clusters_of};
+ghost use Rattle.ice_cells.specs.Clusterings.{IsClustering};
 ghost use Rattle.ice_emit.specs.Placed.{IsPlacedOn};
 ghost use Rattle.ice_place.specs.Place.{chunks_of};
 ghost use Rattle.ice_sites.specs.Legal.{IsLegal};
@@ -26,7 +26,7 @@ fn lay(
     clusters: Clusters,
     pads: Pads,
 ) -> Result<Layout, BuildFault>
-    requires { clusters ≡ clusters_of design }
+    requires { IsClustering design clusters }
     ensures design { IfOk result (λ layout. layout.design ≡ design) }
     ensures clusters { IfOk result (λ layout. layout.clusters ≡ clusters) }
     ensures pads { IfOk result (λ layout. layout.pads ≡ pads) }

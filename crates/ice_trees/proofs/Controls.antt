@@ -11,13 +11,16 @@ use Rattle.ice_net.specs.declared.kind.Reset.{Reset}
 use Rattle.ice_cells.specs.declared.cell.Control.{Control}
 use Rattle.ice_cells.specs.declared.cell.LogicCell.{LogicCell}
 use Rattle.ice_cells.specs.declared.cluster.Cluster.{Cluster}
+use Rattle.ice_cells.specs.declared.cluster.Clusters.{Clusters}
 use Rattle.ice_cells.specs.declared.cluster.Group.{Group}
 use Rattle.ice_cells.specs.declared.design.Design.{Design}
 use Rattle.ice_cells.specs.declared.design.Run.{Run}
-use Rattle.ice_cells.specs.Clusters.{room, filled_one, filled, left, run_piece, run_pieces, runs_pieces, set_piece, set_pieces, sets_pieces, plain_piece, plain_pieces, held_list, flop_if, flop_at, flops_by, loose_flops, loose_plains, opened, groups_of, with_slots, clusters_of}
+use Rattle.ice_cells.specs.Clusters.{room, filled_one, filled, left, run_piece, run_pieces, runs_pieces, set_piece, set_pieces, sets_pieces, plain_piece, plain_pieces, held_list, flop_if, flop_at, flops_by, loose_flops, with_slots}
+use Rattle.ice_cells.specs.Clusterings.{opened_by, groups_by, clusters_with, IsClustering}
 use Rattle.ice_cells.specs.Pieces.{pieces_count, piece, control_by, control_at}
 use Rattle.ice_cells.specs.Same.{same_control}
 use Rattle.ice_cells.specs.Sets.{FlopCell, with_set, sets_of, cells_with}
+use Rattle.ice_cells.proofs.Permuted.{Has_permuted}
 use Rattle.ice_wiring.proofs.Mapped.{Has_mapped_by}
 
 -- ---- control sets are those of flip-flops
@@ -81,36 +84,37 @@ module _ (cells : List LogicCell) where
       (map_told (set_piece s (cells_with flops s)) (λ k control e. subst IsOfFlop (same_Some s control e) (each s (0, refl))) (range_with_len 0 (pieces_count (cells_with flops s))))
       (sets_told flops sets (λ other has. each other (suc has.0, has.1)))
 
-  set_of_flop : (held : List Bool) (s : Control) → Has (sets_of (flops_by held cells)) s → IsOfFlop s
-  set_of_flop held s has = elim (sets_back [] (map (λ (flop : FlopCell). flop.1) (flops_by held cells)) s has) [
+  set_of_flop : (held : List Bool) (flops : List FlopCell) → ((flop : FlopCell) → Has flops flop → Has (flops_by held cells) flop) → (s : Control) → Has (sets_of flops) s → IsOfFlop s
+  set_of_flop held flops among s has = elim (sets_back [] (map (λ (flop : FlopCell). flop.1) flops) s has) [
     | inl none ↦ absurd (Has_none s none)
     | inr some ↦ (
-        let flop = map_Has (λ (flop : FlopCell). flop.1) (flops_by held cells) s some in
-        let from = Has_mapped_by (flop_at held cells) (range_with_len 0 (length cells)) flop.0 flop.1 in
+        let flop = map_Has (λ (flop : FlopCell). flop.1) flops s some in
+        let from = Has_mapped_by (flop_at held cells) (range_with_len 0 (length cells)) flop.0 (among flop.0 flop.1) in
         (from.0, flop_is (get_or held from.0 false) from.0 (control_at cells from.0) flop.0 from.2 ∙ ap (λ (c : Control). Some c) flop.2))
   ]
 
   plain_told : (plains : List ℕ) → AllTold (plain_pieces plains)
   plain_told plains = map_told (plain_piece plains) (λ k control e. absurd (none-some control e)) (range_with_len 0 (pieces_count plains))
 
-  groups_told : (runs : List Run) → AllTold (groups_of cells runs)
-  groups_told runs =
-      append_told (filled (opened cells runs) (loose_plains cells runs)) (plain_pieces (left (opened cells runs) (loose_plains cells runs)))
-      (filled_told (opened cells runs) (loose_plains cells runs)
-      (append_told (runs_pieces cells 0 runs) (sets_pieces (loose_flops cells runs)) (runs_told 0 runs)
-      (sets_told (loose_flops cells runs) (sets_of (loose_flops cells runs)) (set_of_flop (held_list runs (length cells))))))
-      (plain_told (left (opened cells runs) (loose_plains cells runs)))
+  groups_told : (runs : List Run) (flops : List FlopCell) (plains : List ℕ) → ((flop : FlopCell) → Has flops flop → Has (loose_flops cells runs) flop) → AllTold (groups_by cells runs flops plains)
+  groups_told runs flops plains among =
+      append_told (filled (opened_by cells runs flops) plains) (plain_pieces (left (opened_by cells runs flops) plains))
+      (filled_told (opened_by cells runs flops) plains
+      (append_told (runs_pieces cells 0 runs) (sets_pieces flops) (runs_told 0 runs) (sets_told flops (sets_of flops) (set_of_flop (held_list runs (length cells)) flops among))))
+      (plain_told (left (opened_by cells runs flops) plains))
 
 by_flop : (o : Option (Control × Reset)) (control : Control) → control_by o ≡ Some control → (kind : Reset) × (o ≡ Some (control, kind))
 by_flop None control e = absurd (none-some control e)
 by_flop (Some flop) control e = (flop.1, ap (λ (c : Control). Some (c, flop.1)) (same_Some flop.0 control e))
 
 -- a flip-flop of the design has the control set of a cluster
-pub control_told : (d : Design) (n : ℕ) (cluster : Cluster) (control : Control) → At (clusters_of d).list n cluster → cluster.control ≡ Some control
+pub control_told : (d : Design) (clusters : Clusters) → IsClustering d clusters → (n : ℕ) (cluster : Cluster) (control : Control) → At clusters.list n cluster → cluster.control ≡ Some control
     → (c : ℕ) × (cell : LogicCell) × (kind : Reset) × At d.cells c cell × (cell.flop ≡ Some (control, kind))
-control_told d n cluster control at e =
-    let back = map_At with_slots (groups_of d.cells d.runs) n cluster at in
-    let told = groups_told d.cells d.runs n back.0 back.1 control (ap (λ (x : Cluster). x.control) back.2 ∙ e) in
+control_told d clusters of_cells n cluster control at e =
+    let made : At (clusters_with d of_cells.flops of_cells.plains).list n cluster = subst (λ (x : Clusters). At x.list n cluster) of_cells.is at in
+    let back = map_At with_slots (groups_by d.cells d.runs of_cells.flops of_cells.plains) n cluster made in
+    let among : (flop : FlopCell) → Has of_cells.flops flop → Has (loose_flops d.cells d.runs) flop = λ flop has. Has_permuted (loose_flops d.cells d.runs) of_cells.flops flop of_cells.flops_are has in
+    let told = groups_told d.cells d.runs of_cells.flops of_cells.plains among n back.0 back.1 control (ap (λ (x : Cluster). x.control) back.2 ∙ e) in
     let cell = and_then_some (λ (x : LogicCell). control_by x.flop) (slice_get d.cells told.0) control told.1 in
     let flop = by_flop cell.0.flop control cell.2 in
     (told.0, cell.0, flop.0, cell.1, flop.1)

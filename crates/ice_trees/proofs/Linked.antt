@@ -23,7 +23,6 @@ use Rattle.ice_rows.specs.FirstSound.{first_of, first_among, first_sound}
 use Rattle.ice_rows.specs.Sound.{is_sound}
 use Rattle.ice_cells.specs.declared.cell.LogicCell.{LogicCell}
 use Rattle.ice_chunks.specs.Chunks.{HoldsChunk}
-use Rattle.ice_cells.specs.Clusters.{clusters_of}
 use Rattle.ice_cells.specs.declared.cluster.Cluster.{Cluster}
 use Rattle.ice_sites.specs.Site.{leads, is_same_wire, is_above, is_link}
 use Rattle.ice_sites.specs.Legal.{is_next, chunk_of, tile_at}
@@ -233,14 +232,13 @@ module _ (parts : Parts) (rows : PackageRows) (plan : Plan) (pullups : List Bool
   tile_below t cluster r k is e = by (on.chunks.there r (8 * k) c.0 holds.run holds.run_is c.1)
     where
       holds : HoldsChunk plan.design cluster r (suc k)
-      holds = on.chunks.holds is.number r (suc k) cluster (subst (λ (cs : List Cluster). At cs is.number cluster) on.placed.clusters is.cluster_is) e
+      holds = on.chunks.holds is.number r (suc k) cluster is.cluster_is e
 
       c : (c : ℕ) × At holds.run.cells (8 * k) c
       c = at_below holds.run.cells (8 * k) (let lt : 8 * suc k < length holds.run.cells = holds.some in omega (arith, lt))
 
-      by : (n : ℕ) × (below : Cluster) × At (clusters_of plan.design).list n below × (below.run ≡ Some (r, 8 * k / 8)) × At below.cells (8 * k % 8) (Some c.0) → IsBelow parts plan t r k
-      by (n, below, at, run, slot) =
-          let below_is : At plan.clusters n below = subst (λ (cs : List Cluster). At cs n below) (sym on.placed.clusters) at in
+      by : (n : ℕ) × (below : Cluster) × At plan.clusters n below × (below.run ≡ Some (r, 8 * k / 8)) × At below.cells (8 * k % 8) (Some c.0) → IsBelow parts plan t r k
+      by (n, below, below_is, run, slot) =
           let run_is : below.run ≡ Some (r, k) = run ∙ ap (λ (j : ℕ). Some (r, j)) (eighth k) in
           let low = tile_of_cluster parts rows plan pullups on n below below_is in
           let link = link_parts parts low.0 t (linked_tiles n is.number r k below cluster low.0 t below_is is.cluster_is low.1 is.tile_is run_is e) in

@@ -119,7 +119,7 @@ module _ (parts : Parts) (rows : PackageRows) (plan : Plan) (pullups : List Bool
   -- ---- cells in slots
   pub slot_below : (t : TileAt) (i c : ℕ) (cell : LogicCell) → StandsIn plan t i c cell → i < 8
   slot_below t i c cell s =
-      let eight : length s.cluster.cells ≡ 8 = on.slots.eight s.on.number s.cluster (subst (λ (cs : List Cluster). At cs s.on.number s.cluster) on.placed.clusters s.on.cluster_is) in
+      let eight : length s.cluster.cells ≡ 8 = on.slots.eight s.on.number s.cluster s.on.cluster_is in
       let lt = slice_get_within s.cluster.cells i (Some c) s.slot in
       omega (arith, eight, lt)
 

@@ -19,7 +19,7 @@ use Rattle.ice_cells.specs.declared.cell.LogicCell.{LogicCell}
 use Rattle.ice_cells.specs.declared.cluster.Cluster.{Cluster}
 use Rattle.ice_cells.specs.declared.design.DesignPad.{DesignPad}
 use Rattle.ice_cells.specs.declared.root.Root.{Root}
-use Rattle.ice_plan.specs.Plan.{Plan}
+use Rattle.ice_plan.specs.Plan.{Plan, listed}
 use Rattle.ice_plan.specs.Loads.{Pin, pin_name}
 use Rattle.ice_nets.specs.Ends.{End, ends}
 use Rattle.ice_written.specs.Slots.{IsOn}
@@ -64,7 +64,7 @@ module _ (parts : Parts) (rows : PackageRows) (plan : Plan) (pullups : List Bool
   of_control : (t : TileAt) (cluster : Cluster) (control : Control) (root : Root) → IsOn plan t cluster → cluster.control ≡ Some control → (j : ℕ)
       → At (control.clock ∷ control.enable ∷ control.reset ∷ []) j (Some root) → is_read plan.design root ≡ true
   of_control t cluster control root is e j at =
-      let told = control_told plan.design is.number cluster control (subst (λ (cs : List Cluster). At cs is.number cluster) on.placed.clusters is.cluster_is) e in
+      let told = control_told plan.design (listed plan) on.placed.clusters is.number cluster control is.cluster_is e in
       let roots : Has (control_roots told.1.flop) (Some root) = subst (λ (o : Option (Control × Reset)). Has (control_roots o) (Some root)) (sym told.4) (j, at) in
       of_cell told.0 told.1 root told.3
       (Has_right (slice_index_or told.1.ins 0 None ∷ slice_index_or told.1.ins 1 None ∷ slice_index_or told.1.ins 2 None ∷ slice_index_or told.1.ins 3 None ∷ []) (control_roots told.1.flop) (Some root) roots)

@@ -196,9 +196,8 @@ module _ (parts : Parts) (rows : PackageRows) (plan : Plan) (pullups : List Bool
   cell_slot : (c : ℕ) → c < length plan.design.cells → (slot : Slot) × (slot_of plan c ≡ Some slot)
   cell_slot c lt =
       let there = on.slots.there c lt in
-      let cluster_is : At plan.clusters there.0 there.2.cluster = subst (λ (cs : List Cluster). At cs there.0 there.2.cluster) (sym on.placed.clusters) there.2.at in
-      let tile = tile_of_cluster parts rows plan pullups on there.0 there.2.cluster cluster_is in
-      slot_there plan.clusters plan.at c there.0 there.1 there.2.cluster tile.0 cluster_is tile.1 there.2.slot
+      let tile = tile_of_cluster parts rows plan pullups on there.0 there.2.cluster there.2.at in
+      slot_there plan.clusters plan.at c there.0 there.1 there.2.cluster tile.0 there.2.at tile.1 there.2.slot
 
   cell_stands : (c : ℕ) (slot : Slot) → c < length plan.design.cells → slot_of plan c ≡ Some slot → (cell : LogicCell) × StandsIn plan slot.0 slot.1 c cell
   cell_stands c slot lt e =

@@ -7,12 +7,11 @@ use Rattle.ice_chip.specs.WireNames.{WireNamesAreRead}
 use Rattle.ice_chip_laws.specs.Laws.{IsLawful}
 use Rattle.ice_decode.specs.declared.driver.Switch.{Switch}
 use Rattle.ice_rows.specs.WireNames.{may_leave, may_enter}
-use Rattle.ice_cells.specs.Clusters.{clusters_of}
 use Rattle.ice_cells.specs.Readings.{is_read}
 use Rattle.ice_cells.specs.declared.root.Root.{Root}
 use Rattle.ice_cluster.specs.Slots.{AreSlots}
 use Rattle.ice_chunks.specs.Chunks.{AreChunks}
-use Rattle.ice_plan.specs.Plan.{Plan}
+use Rattle.ice_plan.specs.Plan.{Plan, listed}
 use Rattle.ice_nets.specs.Ends.{ends}
 use Rattle.ice_nets.specs.Nets.{Bare, root_wire, sinks_of, nets_of}
 use Rattle.ice_negotiate.specs.Trees.{Route}
@@ -25,8 +24,8 @@ pub record IsOnChip (parts : Parts) (rows : PackageRows) (plan : Plan) (pullups 
   pub read : IsRead parts
   pub lawful : IsLawful parts
   pub names : WireNamesAreRead
-  pub slots : AreSlots plan.design (clusters_of plan.design)
-  pub chunks : AreChunks plan.design (clusters_of plan.design).list
+  pub slots : AreSlots plan.design (listed plan)
+  pub chunks : AreChunks plan.design plan.clusters
 
 -- the route is the tree of the root's net
 pub record IsTreeOf (parts : Parts) (plan : Plan) (routes : List Route) (root : Root) (route : Route) : Type 0 where

@@ -1,16 +1,16 @@
 -- Placed and routed designs: what has to hold of one for its bits to mean it.
-use Rattle.std.specs.Prelude.{◌≡◌, ◌<◌, ℕ, Bool, Some, List, length}
+use Rattle.std.specs.Prelude.{◌≡◌, ◌<◌, ℕ, Bool, List, length}
 use Rattle.ice_base.specs.declared.number.WireNo.{WireNo}
 use Rattle.ice_value.specs.Order.{At, Has}
 use Rattle.ice_chip.specs.Database.{Parts, PackageRows}
-use Rattle.ice_cells.specs.Clusters.{clusters_of}
+use Rattle.ice_cells.specs.Clusterings.{IsClustering}
 use Rattle.ice_cells.specs.Formed.{IsFormed}
 use Rattle.ice_cells.specs.Meaning.{HasValues}
 use Rattle.ice_sites.specs.Legal.{IsLegalOn}
 use Rattle.ice_place.specs.Place.{chunks_of}
 use Rattle.ice_pads.specs.Assign.{PadsData}
 use Rattle.ice_pads.specs.Facts.{ArePads}
-use Rattle.ice_plan.specs.Plan.{Plan}
+use Rattle.ice_plan.specs.Plan.{Plan, listed}
 use Rattle.ice_nets.specs.Ends.{wire_no}
 use Rattle.ice_nets.specs.Nets.{Bare, nets_of}
 use Rattle.ice_fabric.specs.Edges.{usable_rows}
@@ -25,7 +25,7 @@ pads_of plan pullups = record { ports = plan.ports; pullups = pullups; globals =
 pub record IsPlaced (parts : Parts) (rows : PackageRows) (plan : Plan) (pullups : List Bool) : Type 0 where
   pub formed : IsFormed plan.design
   pub values : HasValues plan.design
-  pub clusters : plan.clusters ≡ (clusters_of plan.design).list
+  pub clusters : IsClustering plan.design (listed plan)
   pub legal : IsLegalOn parts (chunks_of plan.clusters) plan.at
   pub «package» : Has parts.packages rows
   pub pads : ArePads parts rows plan.design (pads_of plan pullups)

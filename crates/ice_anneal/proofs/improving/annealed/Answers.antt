@@ -1,28 +1,29 @@
-use Rattle.std.proofs.Common.{◌≡◌, List, length, sym, subst, ap, ◌∙◌}
-use Rattle.std.proofs.lemmas.List.Sorted.{length_permutation}
+use Rattle.std.proofs.Common.{List, length, sym, subst, ap, ◌∙◌, arith}
+use Rattle.std.specs.List.{All}
+use Rattle.std.specs.List.Sorted.{IsPermutation}
+use Rattle.std.proofs.lemmas.List.Sorted.{IsPermutation-trans}
 use Rattle.ice_base.specs.declared.number.TileAt.{TileAt}
+use Rattle.ice_board.specs.declared.board.Board.{Board}
 use Rattle.ice_board.specs.Length.{wire_length}
-use Rattle.ice_board.specs.Board.{Keeps}
-use Rattle.ice_board.specs.Wiring.{IsWiring}
 use Rattle.ice_board.proofs.Boards.{total_is}
-use Rattle.ice_board.proofs.Sweeps.{keeps_trans}
+use Rattle.ice_anneal.specs.declared.units.MoveUnit.{MoveUnit}
+use Rattle.ice_anneal.specs.Seating.{IsUnit}
+use Rattle.ice_anneal.proofs.Seatings.{wider_units}
 use Rattle.ice_anneal.proofs.improving.annealed.Goals as goal
-use Rattle.ice_anneal.proofs.improving.annealed.Goals.{After-anneal}
 
--- the board has as many places after the tries
-shaken : (c : After-anneal) → length c.anneal.new.board.place.items ≡ length c.args.place.now
-shaken c = length_permutation c.in_ok-board.board.place.items c.anneal.new.board.place.items c.anneal.ensures.keeps.moved ∙ ap length (c.in_ok-board.ensures.place ∙ c.in_ok-from_slice.ensures.items)
-
-pub descend-requires-clause-wiring : goal.descend-requires-clause-wiring
-descend-requires-clause-wiring c = subst (λ n. IsWiring n c.args.wiring.now) (sym (shaken (goal.at.descend-requires-clause-wiring c).After-anneal)) c.requires.wiring
-
-pub descend-requires-clause-free : goal.descend-requires-clause-free
-descend-requires-clause-free c = c.requires.free ∙ sym (shaken (goal.at.descend-requires-clause-free c).After-anneal)
+pub anneal-requires-clause-units : goal.anneal-requires-clause-units
+anneal-requires-clause-units c =
+    let places = length c.args.wiring.now.touching.items in
+    let n = c.requires.wiring.counts in
+    let m = c.requires.free in
+    let k = c.requires.count in
+    subst (λ (units : List MoveUnit). All (IsUnit places) units) (sym c.deref.ensures.value) (wider_units (length c.args.chunks.now) places c.in_ok-units.units.items (omega arith) c.in_ok-units.ensures.units)
 
 pub returns-clause-limit : goal.returns-clause-limit
-returns-clause-limit c = total_is c.args.wiring.now c.in_ok-board.board c.in_ok-board.ensures.board ∙ ap (wire_length c.args.wiring.now.nets.items) (c.in_ok-board.ensures.place ∙ c.in_ok-from_slice.ensures.items)
+returns-clause-limit c = total_is c.args.wiring.now c.in_ok-seating.seating.board c.in_ok-seating.ensures.seating.board ∙ ap (wire_length c.args.wiring.now.nets.items) c.in_ok-seating.ensures.place
 
-pub returns-clause-keeps : goal.returns-clause-keeps
-returns-clause-keeps c =
-    subst (λ (p : List TileAt). Keeps c.args.free.now p c.descend.new.self.place.items) (c.in_ok-board.ensures.place ∙ c.in_ok-from_slice.ensures.items)
-    (keeps_trans c.args.free.now c.in_ok-board.board.place.items c.anneal.new.board.place.items c.descend.new.self.place.items c.anneal.ensures.keeps c.descend.ensures.keeps)
+pub returns-clause-moved : goal.returns-clause-moved
+returns-clause-moved c =
+    let place = c.args.place.now in
+    let shaken = subst (λ (p : List TileAt). IsPermutation p c.anneal.new.seating.board.place.items) c.in_ok-seating.ensures.place c.anneal.ensures.moved in
+    IsPermutation-trans place c.board_of-board.result.place.items c.descend.new.self.place.items (subst (λ (b : Board). IsPermutation place b.place.items) (sym c.board_of-board.ensures) shaken) c.descend.ensures.keeps.moved

@@ -1,5 +1,9 @@
-use Rattle.ice_board.specs.Board.{IsBoard, Keeps}
+use Rattle.std.specs.List.Sorted.{IsPermutation}
+use Rattle.ice_anneal.specs.Seating.{IsSeating}
 use Rattle.ice_anneal.proofs.shake.anneal.Given as goal
 
 abbrev pub invariant-loop-step : goal.invariant-loop-step
-invariant-loop-step l = record { board : IsBoard l.wiring l.board; keeps : Keeps l.free l.fn.board.place.items l.board.place.items }
+invariant-loop-step l = record {
+  seating : IsSeating l.wiring l.seating;
+  moved : IsPermutation l.fn.seating.board.place.items l.seating.board.place.items;
+}

@@ -9,26 +9,26 @@ returns-in-Err-clause-refused g c = λ chip_text read.
 
 pub returns-in-Ok-clause-made : goal.returns-in-Ok-clause-made
 returns-in-Ok-clause-made g c = λ chip_text read.
-    c.build_promoted-made.ensures.made chip_text
+    c.build_prepared-made.ensures.made chip_text
     (record {
       circuit = c.args.sound;
       is_chip = read.is_chip;
       is_name = refl;
       are_constraints = read.are_constraints;
       is_circuit = c.requires.netlist;
-      is_sound = c.can_be_promoted.ensures.sound;
-      is_promoted = c.in-Ok.ensures.netlist;
+      is_sound = c.can_be_prepared.ensures.sound;
+      is_prepared = c.in-Ok.ensures.netlist;
     })
 
 pub returns-in-Ok-clause-refused : goal.returns-in-Ok-clause-refused
 returns-in-Ok-clause-refused g c = λ chip_text read.
-    c.build_promoted-made.ensures.refused chip_text
+    c.build_prepared-made.ensures.refused chip_text
     (record {
       circuit = c.args.sound;
       is_chip = read.is_chip;
       is_name = refl;
       are_constraints = read.are_constraints;
       is_circuit = c.requires.netlist;
-      is_sound = c.can_be_promoted.ensures.sound;
-      is_promoted = c.in-Ok.ensures.netlist;
+      is_sound = c.can_be_prepared.ensures.sound;
+      is_prepared = c.in-Ok.ensures.netlist;
     })

@@ -1,24 +1,35 @@
-use Rattle.std.proofs.Common.{◌∙◌, ℕ, List, Option, refl, sym, subst}
-use Rattle.std.proofs.lemmas.Bool.{false≢true}
+use Rattle.std.proofs.Common.{◌≡◌, ◌∙◌, ◌+◌, ◌≤◌, ℕ, List, Bool, Option, length, refl, sym, subst, ap, arith}
 use Rattle.std.proofs.lemmas.List.{with_items_is}
-use Rattle.ice_core.specs.Congestion.{price}
-use Rattle.ice_path.specs.Aims.{Knows}
-use Rattle.ice_path.specs.Room.{Room}
-use Rattle.ice_path.specs.Search.{AreEnds}
-use Rattle.ice_path.proofs.Aiming.{near_aim}
-use Rattle.ice_path.proofs.Touching.{only_at}
+use Rattle.ice_path.specs.Search.{done, label}
 use Rattle.ice_path.proofs.scratch.connect_ahead.Goals as goal
 
-pub find-least-requires-clause-aim : goal.find-least-requires-clause-aim
-find-least-requires-clause-aim c =
-    let near_is = c.deref.ensures.value ∙ with_items_is c.scratch.inside.ahead.near c.look_back-far.new.near (c.look_back-far.auto.near ∙ c.deref_mut.ensures.len) in
-    let ends = subst (AreEnds c.args.graph.now.edges) (sym c.deref-2.ensures.value) (subst (λ (r : Room). AreEnds c.args.graph.now.edges r.ends) (sym c.scratch.view_is) c.requires.scratch.2) in
-    let knows = subst (λ (near : List (Option ℕ)). Knows c.args.graph.now (price c.args.prices.now) c.args.targets.now near c.look_back-far.result) (sym near_is) c.look_back-far.ensures.knows in
-    near_aim _ _ c.args.prices.now refl c.guides_of.ensures.guides c.edges-edges.ensures.bounds ends knows
-
-pub wipe-requires-clause-only : goal.wipe-requires-clause-only
-wipe-requires-clause-only c =
-    let near_is = c.deref_mut-4.ensures.value ∙ with_items_is c.scratch.inside.ahead.near c.look_back-far.new.near (c.look_back-far.auto.near ∙ c.deref_mut.ensures.len) in
-    let done_is = c.deref_mut-5.ensures.value ∙ with_items_is c.scratch.inside.done c.find-least.new.settled (c.find-least.auto.settled ∙ c.deref_mut-3.ensures.len) in
-    only_at c.deref-4.result.now c.look_back-far.new.marked.items c.deref_mut-4.result.now c.look_back-far.new.near c.deref_mut-5.result.now c.find-least.new.settled c.deref-4.ensures.value near_is done_is c.look_back-far.ensures.touches
-    (λ w is. absurd (false≢true (sym (c.find-least.ensures.settled w) ∙ is)))
+pub invariant_of-scratch : goal.invariant_of-scratch
+invariant_of-scratch c =
+    let i = c.scratch.invariant in
+    let f = c.find_ahead-least.ensures in
+    let labels_is = with_items_is c.scratch.inside.labels c.find_ahead-least.new.labels (c.find_ahead-least.auto.labels ∙ c.deref_mut.ensures.len) in
+    let done_is = with_items_is c.scratch.inside.done c.find_ahead-least.new.settled (c.find_ahead-least.auto.settled ∙ c.deref_mut-2.ensures.len) in
+    let near_is = with_items_is c.scratch.inside.ahead.near c.find_ahead-least.new.near (c.find_ahead-least.auto.near ∙ c.deref_mut-3.ensures.len) in
+    let beyond_is = with_items_is c.scratch.inside.ahead.beyond c.find_ahead-least.new.beyond (c.find_ahead-least.auto.beyond ∙ c.deref_mut-4.ensures.len) in
+    let labels_len = ap length labels_is ∙ (c.find_ahead-least.auto.labels ∙ ap length c.deref_mut.ensures.value) in
+    let done_len = ap length done_is ∙ (c.find_ahead-least.auto.settled ∙ ap length c.deref_mut-2.ensures.value) in
+    let near_len = ap length near_is ∙ (c.find_ahead-least.auto.near ∙ ap length c.deref_mut-3.ensures.value) in
+    let beyond_len = ap length beyond_is ∙ (c.find_ahead-least.auto.beyond ∙ ap length c.deref_mut-4.ensures.value) in
+    record {
+      long = (let a = i.long in omega (arith, a, labels_len, done_len));
+      fresh = λ w. ap (λ ls. label ls w) labels_is ∙ f.labels w;
+      open_wires = λ w. ap (λ bs. done bs w) done_is ∙ f.settled w;
+      touched = f.touched;
+      space = (let a = i.space in let b = f.space in omega (arith, a, b, labels_len));
+      queue = f.queue.0;
+      len = f.queue.1;
+      order = f.queue.2;
+      room = (let a = i.room in let b = f.capacity in omega (arith, a, b, labels_len));
+      path = (let a = i.path in let b = f.path in omega (arith, a, b, labels_len));
+      list = (let a = i.list in let b = f.list in omega (arith, a, b, labels_len));
+      near = (let a = i.near in omega (arith, a, labels_len, near_len));
+      far = λ w. ap (λ ls. label ls w) near_is ∙ f.near w;
+      marked = f.marked;
+      marks = (let a = i.marks in let b = f.marks in omega (arith, a, b, labels_len));
+      beyond = beyond_len ∙ i.beyond;
+    }

@@ -1,3 +1,4 @@
+use Rattle.ice_plan.specs.Plan.{listed}
 use Rattle.ice_pins.proofs.Pinned.{pins_led}
 use Rattle.ice_pins.proofs.laws.pins_are_led.Goals as goal
 
@@ -8,6 +9,6 @@ returns c parts rows plan pullups routes chip placed trees =
       read = chip.read;
       lawful = c.lookups_are_lawful.ensures parts chip;
       names = c.wire_names_are_read.ensures;
-      slots = c.cells_stand_in_one_slot.ensures plan.design placed.formed;
-      chunks = c.runs_stand_in_chunks.ensures plan.design placed.formed;
+      slots = c.cells_stand_in_one_slot.ensures plan.design (listed plan) placed.formed placed.clusters;
+      chunks = c.runs_stand_in_chunks.ensures plan.design (listed plan) placed.formed placed.clusters;
     }) routes trees

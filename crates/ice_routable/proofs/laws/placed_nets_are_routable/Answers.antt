@@ -1,3 +1,4 @@
+use Rattle.ice_plan.specs.Plan.{listed}
 use Rattle.ice_routable.proofs.Routable.{nets_are}
 use Rattle.ice_routable.proofs.laws.placed_nets_are_routable.Goals as goal
 
@@ -8,6 +9,6 @@ returns c parts rows plan pullups graph nets chip placed fabric bare =
       read = chip.read;
       lawful = c.lookups_are_lawful.ensures parts chip;
       names = c.wire_names_are_read.ensures;
-      slots = c.cells_stand_in_one_slot.ensures plan.design placed.formed;
-      chunks = c.runs_stand_in_chunks.ensures plan.design placed.formed;
+      slots = c.cells_stand_in_one_slot.ensures plan.design (listed plan) placed.formed placed.clusters;
+      chunks = c.runs_stand_in_chunks.ensures plan.design (listed plan) placed.formed placed.clusters;
     }) graph nets fabric bare

@@ -1,3 +1,4 @@
+use Rattle.ice_plan.specs.Plan.{listed}
 use Rattle.ice_trees.proofs.Rows.{rows_led}
 use Rattle.ice_trees.proofs.laws.rows_lead_on_from_roots.Goals as goal
 
@@ -8,6 +9,6 @@ returns c rows plan pullups routes placed trees =
       read = c.wires.ensures.chip.read;
       lawful = c.chip_is_lawful.ensures;
       names = c.wire_names_are_read.ensures;
-      slots = c.cells_stand_in_one_slot.ensures plan.design placed.formed;
-      chunks = c.runs_stand_in_chunks.ensures plan.design placed.formed;
+      slots = c.cells_stand_in_one_slot.ensures plan.design (listed plan) placed.formed placed.clusters;
+      chunks = c.runs_stand_in_chunks.ensures plan.design (listed plan) placed.formed placed.clusters;
     }) routes trees

@@ -1,0 +1,4 @@
+mod NewOrigins
+mod NewReaders
+mod Wanted
+mod Given
