@@ -8,7 +8,7 @@ use Rattle.ice_base.specs.declared.number.WireNo.{WireNo}
 use Rattle.ice_graph.specs.declared.tree.Tree.{Tree}
 use Rattle.ice_cells.specs.Tables.{table, is_place, put_at, keep}
 use Rattle.ice_cells.proofs.TableLaws.{scattered_kept, table_same}
-use Rattle.ice_negotiate.specs.Trees.{Route, route_of}
+use Rattle.ice_graph.specs.Leading.{Route, route_of}
 use Rattle.ice_nets.specs.Ends.{wire_no}
 use Rattle.ice_written.specs.Arrivals.{holds}
 use Rattle.ice_emit.specs.Holding.{Holding, holding, held_wire, holder, noted, tree_holdings, all_holdings}

@@ -7,7 +7,7 @@ use Rattle.ice_chip.specs.Database.{Parts, PackageRows}
 use Rattle.ice_bits.specs.Configuration.{Bits, Configuration, bits_of}
 use Rattle.ice_decode.specs.Faults.{HasNoLoop}
 use Rattle.ice_decode.specs.declared.driver.Switch.{Switch}
-use Rattle.ice_negotiate.specs.Trees.{Route}
+use Rattle.ice_graph.specs.Leading.{Route}
 use Rattle.ice_plan.specs.Plan.{Plan}
 use Rattle.ice_realised.specs.Feeds.{FeedsNoGlobal}
 use Rattle.ice_set.specs.SetLaws.{SetsDesigns, SetsNoGroups, design_bits}

@@ -7,7 +7,7 @@ use Rattle.std.proofs.lemmas.Option.{same_Some}
 use Rattle.ice_base.specs.declared.number.WireNo.{WireNo}
 use Rattle.ice_value.specs.Order.{At, Has}
 use Rattle.ice_value.proofs.Members.{any_Has, Has_any}
-use Rattle.ice_negotiate.specs.Trees.{Route}
+use Rattle.ice_graph.specs.Leading.{Route}
 use Rattle.ice_nets.specs.Ends.{wire_no}
 use Rattle.ice_written.specs.Arrivals.{holds}
 use Rattle.ice_written.specs.Written.{starts_at, tree_from, held_from}

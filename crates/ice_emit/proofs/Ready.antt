@@ -13,7 +13,7 @@ use Rattle.ice_chip.specs.declared.parts.TileLine.{TileLine}
 use Rattle.ice_bits.specs.Configuration.{Configuration, bits_of, bit_at, blank, blank_rows, blank_tile}
 use Rattle.ice_cells.specs.Tables.{table}
 use Rattle.ice_cluster.specs.Slots.{CellsStandInOneSlot}
-use Rattle.ice_negotiate.specs.Trees.{route_of}
+use Rattle.ice_graph.specs.Leading.{route_of}
 use Rattle.ice_nets.specs.Plans.{plan_in}
 use Rattle.ice_nets.specs.Rooted.{wires_in, root_wires}
 use Rattle.ice_plan.specs.Plan.{Plan, listed}

@@ -6,7 +6,7 @@ use Rattle.ice_graph.specs.declared.tree.Tree.{Tree}
 use Rattle.ice_chip.specs.Database.{Parts}
 use Rattle.ice_chip.specs.Indices.{enables_of}
 use Rattle.ice_decode.specs.declared.driver.Switch.{Switch}
-use Rattle.ice_negotiate.specs.Trees.{route_of}
+use Rattle.ice_graph.specs.Leading.{route_of}
 use Rattle.ice_plan.specs.Plan.{Plan}
 use Rattle.ice_wiring.specs.Settings.{Setting}
 use Rattle.ice_written.specs.Arrivals.{Held}

@@ -2,7 +2,7 @@
 use Rattle.std.specs.Prelude.{ℕ, suc, Option, None, Some, List, [], ◌∷◌, ◌++◌, map}
 use Rattle.ice_base.specs.declared.number.WireNo.{WireNo}
 use Rattle.ice_cells.specs.Tables.{keep, scattered}
-use Rattle.ice_negotiate.specs.Trees.{Route}
+use Rattle.ice_graph.specs.Leading.{Route}
 
 -- the tree of that number holds the wire
 pub record Holding : Type 0 where

@@ -6,7 +6,7 @@ use Rattle.ice_base.specs.declared.number.TileAt.{TileAt}
 use Rattle.ice_chip.specs.Database.{Parts}
 use Rattle.ice_plan.specs.Loads.{Input}
 use Rattle.ice_nets.specs.Ends.{pin_wire}
-use Rattle.ice_negotiate.specs.Trees.{Route}
+use Rattle.ice_graph.specs.Leading.{Route}
 use Rattle.ice_written.specs.Written.{starts_at}
 use Rattle.ice_emit.specs.Routed.{owner_from}
 

@@ -5,7 +5,7 @@ use Rattle.ice_base.specs.declared.number.WireNo.{WireNo}
 use Rattle.ice_value.specs.Order.{At, Has}
 use Rattle.ice_cells.specs.declared.cluster.Cluster.{Cluster}
 use Rattle.ice_cells.specs.Tables.{table}
-use Rattle.ice_negotiate.specs.Trees.{Route, route_of}
+use Rattle.ice_graph.specs.Leading.{Route, route_of}
 use Rattle.ice_plan.specs.Plan.{slot_of}
 use Rattle.ice_nets.specs.Plans.{plan_in}
 use Rattle.ice_nets.specs.Rooted.{wires_in, root_wires}

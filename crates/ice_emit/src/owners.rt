@@ -1,7 +1,7 @@
 //! Which tree holds each wire.
 ghost use Rattle.std.specs.Prelude.{◌≡◌, ◌<◌, ◌^◌, ◌∷◌, [], None, length, map, replicate, IfOk};
 ghost use Rattle.ice_cells.specs.Tables.{keep, table};
-ghost use Rattle.ice_negotiate.specs.Trees.{route_of};
+ghost use Rattle.ice_graph.specs.Leading.{route_of};
 ghost use Rattle.ice_emit.specs.Holding.{holding, holder, noted, tree_holdings, all_holdings};
 ghost use Rattle.ice_emit.specs.Routed.{owner_from};
 

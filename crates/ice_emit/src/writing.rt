@@ -2,7 +2,7 @@
 ghost use Rattle.std.specs.Prelude.{◌≡◌, map, IfOk};
 ghost use Rattle.ice_bits.specs.Configuration.{bits_of};
 ghost use Rattle.ice_decode.specs.Faults.{HasNoLoop};
-ghost use Rattle.ice_negotiate.specs.Trees.{route_of};
+ghost use Rattle.ice_graph.specs.Leading.{route_of};
 ghost use Rattle.ice_nets.specs.Plans.{plan_in, plan_of};
 ghost use Rattle.ice_written.specs.Functions.{settings};
 ghost use Rattle.ice_realised.specs.Feeds.{FeedsNoGlobal};

@@ -4,5 +4,6 @@ pub mod Network
 pub mod Nearest
 pub mod Sorting
 pub mod Walks
+pub mod Leading
 pub mod Hops
 pub mod Levels

@@ -1,23 +1,15 @@
 -- Trees of nets: the sinks joined to the root one by one.
 use Rattle.std.specs.Prelude.{◌≡◌, ℕ, ◌<◌, ◌++◌, length, List, [], ◌∷◌, Some, map, slice_get}
 use Rattle.ice_base.specs.declared.number.WireNo.{WireNo}
-use Rattle.ice_base.specs.declared.number.RowNo.{RowNo}
 use Rattle.ice_graph.specs.declared.edge.Edge.{Edge}
-use Rattle.ice_graph.specs.declared.tree.Tree.{Tree}
 use Rattle.ice_graph.specs.Network.{Network}
+use Rattle.ice_graph.specs.Leading.{Route}
+pub use Rattle.ice_graph.specs.Leading.{AreOnce, Route, route_of}
 use Rattle.ice_path.specs.Walks.{InTree, IsWalk}
 use Rattle.ice_path.specs.Paths.{IsTakenTo}
 use Rattle.ice_path.specs.Room.{AreWires}
 use Rattle.ice_negotiate.specs.declared.stop.TreeStop.{TreeStop}
 use Rattle.ice_negotiate.specs.declared.stop.TreeStop.TheVariants.{Unreachable, NoMemory}
-
--- the route of a net: its wires and its rows in the order of addition
-pub record Route : Type 0 where
-  pub wires : List WireNo
-  pub rows : List RowNo
-
-abbrev pub route_of : Tree → Route
-route_of tree = record { wires = tree.wires.items; rows = tree.rows.items }
 
 -- the route that holds the root alone
 abbrev pub bare : WireNo → Route
@@ -55,10 +47,6 @@ IsSinkReached edges root targets = (k : ℕ) × (t : WireNo) × (slice_get targe
 -- walks lead from the root to all of these sinks, to one target of each
 abbrev pub AreReached : List Edge → WireNo → List (List WireNo) → Type 0
 AreReached edges root sinks = (k : ℕ) (targets : List WireNo) → slice_get sinks k ≡ Some targets → IsSinkReached edges root targets
-
--- no wire stands twice in the list
-abbrev pub AreOnce : List WireNo → Type 0
-AreOnce wires = (j k : ℕ) (v : WireNo) → slice_get wires j ≡ Some v → slice_get wires k ≡ Some v → j ≡ k
 
 -- wires of the graph, the root among them, to which walks lead from the root
 pub record IsRooted (graph : Network) (root : WireNo) (wires : List WireNo) : Type 0 where

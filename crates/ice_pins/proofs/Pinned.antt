@@ -24,7 +24,7 @@ use Rattle.ice_pads.specs.PadWires.{has_io_wire}
 use Rattle.ice_plan.specs.Plan.{Plan}
 use Rattle.ice_plan.specs.Loads.{Pin, Input, Clock, Enable, SetReset, Feed, Drive, DriveEnable, pin_name}
 use Rattle.ice_nets.specs.Ends.{End, wire_no, pin_wires, is_free, inputs_of, ends}
-use Rattle.ice_negotiate.specs.Trees.{Route}
+use Rattle.ice_graph.specs.Leading.{Route}
 use Rattle.ice_written.specs.Arrivals.{arrival}
 use Rattle.ice_written.specs.Led.{IsLed, IsFreeLed, IsControlLed, IsPadLed, IsLink}
 use Rattle.ice_written.specs.Routed.{AreTrees}

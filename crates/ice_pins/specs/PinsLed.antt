@@ -16,7 +16,7 @@ use Rattle.ice_cells.specs.declared.design.DesignPad.{DesignPad}
 use Rattle.ice_cells.specs.declared.root.Root.{Root}
 use Rattle.ice_plan.specs.Plan.{Plan}
 use Rattle.ice_nets.specs.Ends.{is_free}
-use Rattle.ice_negotiate.specs.Trees.{Route}
+use Rattle.ice_graph.specs.Leading.{Route}
 use Rattle.ice_written.specs.Arrivals.{Held}
 use Rattle.ice_written.specs.Led.{IsLed, IsFreeLed, IsControlLed, IsPadLed}
 use Rattle.ice_written.specs.Routed.{IsPlaced, AreTrees}

@@ -17,10 +17,10 @@ use Rattle.ice_graph.specs.declared.edge.Edge.{Edge}
 use Rattle.ice_graph.specs.declared.tree.Tree.{Tree}
 use Rattle.ice_negotiate.proofs.Leading.{rounds_lead}
 use Rattle.ice_negotiate.proofs.Leaving.{stands_at}
-use Rattle.ice_negotiate.specs.Leading.{Leads}
+use Rattle.ice_graph.specs.Leading.{Leads}
 use Rattle.ice_negotiate.specs.Logs.{AreRouted}
 use Rattle.ice_negotiate.specs.Rounds.{Past, AreRounds}
-use Rattle.ice_negotiate.specs.Trees.{Route, route_of}
+use Rattle.ice_graph.specs.Leading.{Route, route_of}
 use Rattle.ice_negotiate.specs.declared.fault.Routed.{Routed}
 use Rattle.ice_nets.specs.Ends.{wire_no}
 use Rattle.ice_nets.specs.Nets.{Bare, bare_net, nets_of}

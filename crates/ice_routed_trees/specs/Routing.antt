@@ -5,7 +5,7 @@ use Rattle.ice_core.specs.declared.net.Net.{Net}
 use Rattle.ice_fabric.specs.Edges.{usable_rows}
 use Rattle.ice_graph.specs.Network.{Network}
 use Rattle.ice_negotiate.specs.Logs.{AreRouted}
-use Rattle.ice_negotiate.specs.Trees.{route_of}
+use Rattle.ice_graph.specs.Leading.{route_of}
 use Rattle.ice_negotiate.specs.declared.fault.Routed.{Routed}
 use Rattle.ice_nets.specs.Nets.{bare_net, nets_of}
 use Rattle.ice_plan.specs.Plan.{Plan}

@@ -15,7 +15,7 @@ use Rattle.ice_rows.specs.Sound.{is_sound}
 use Rattle.ice_rows.specs.Usable.{is_usable}
 use Rattle.ice_rows.specs.WireNames.{may_leave, may_enter}
 use Rattle.ice_fabric.specs.Edges.{edge, edges_of, edges_from, usable_rows}
-use Rattle.ice_path.specs.Walks.{HasEdge}
+use Rattle.ice_graph.specs.Walks.{HasEdge}
 use Rattle.ice_wiring.specs.Wanted.{IsRowOf}
 use Rattle.ice_written.specs.Links.{switch_of_row, switch_numbered, tree_switch}
 

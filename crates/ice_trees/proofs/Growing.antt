@@ -6,9 +6,9 @@ use Rattle.ice_base.specs.declared.number.WireNo.{WireNo}
 use Rattle.ice_value.specs.Order.{At, Has}
 use Rattle.ice_graph.specs.declared.edge.Edge.{Edge}
 use Rattle.ice_decode.specs.declared.driver.Switch.{Switch}
-use Rattle.ice_path.specs.Walks.{HasEdge}
-use Rattle.ice_negotiate.specs.Trees.{Route}
-use Rattle.ice_negotiate.specs.Leading.{Grows, AreEnds}
+use Rattle.ice_graph.specs.Walks.{HasEdge}
+use Rattle.ice_graph.specs.Leading.{Route}
+use Rattle.ice_graph.specs.Leading.{Grows, AreEnds}
 use Rattle.ice_written.specs.Led.{LeadFrom, Here, ByRow}
 use Rattle.ice_trees.proofs.Roots.{at_below}
 

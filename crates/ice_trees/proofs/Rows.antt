@@ -33,7 +33,7 @@ use Rattle.ice_cells.specs.declared.root.Root.TheVariants.{PadIn}
 use Rattle.ice_plan.specs.Plan.{Plan}
 use Rattle.ice_plan.specs.Loads.{Pin, Input, Clock, Enable, SetReset, Feed, Drive, DriveEnable}
 use Rattle.ice_nets.specs.Ends.{wire_no}
-use Rattle.ice_negotiate.specs.Trees.{Route}
+use Rattle.ice_graph.specs.Leading.{Route}
 use Rattle.ice_written.specs.Led.{IsBare, IsEntryLed, IsOfRoot, IsLink}
 use Rattle.ice_written.specs.Links.{switch_numbered, carry_source, tree_switch}
 use Rattle.ice_written.specs.Routed.{AreTrees}

@@ -25,9 +25,9 @@ use Rattle.ice_plan.specs.Plan.{Plan}
 use Rattle.ice_fabric.specs.Edges.{usable_rows}
 use Rattle.ice_nets.specs.Ends.{End, ends, wire_no}
 use Rattle.ice_nets.specs.Nets.{Bare, pad_root, cell_root, global_root, root_wire, roots, target_of, sinks_of, net_with, net_of, nets_of}
-use Rattle.ice_path.specs.Walks.{HasEdge}
-use Rattle.ice_negotiate.specs.Trees.{Route}
-use Rattle.ice_negotiate.specs.Leading.{Leads}
+use Rattle.ice_graph.specs.Walks.{HasEdge}
+use Rattle.ice_graph.specs.Leading.{Route}
+use Rattle.ice_graph.specs.Leading.{Leads}
 use Rattle.ice_wiring.proofs.Mapped.{Has_mapped_by, mapped_by_Has}
 use Rattle.ice_written.specs.Led.{LeadFrom}
 use Rattle.ice_written.specs.Links.{tree_switch, all_links}

@@ -26,7 +26,7 @@ use Rattle.ice_plan.specs.Plan.{Plan}
 use Rattle.ice_fabric.specs.Edges.{usable_rows}
 use Rattle.ice_plan.specs.Loads.{Pin}
 use Rattle.ice_nets.specs.Ends.{End, ends, wire_no}
-use Rattle.ice_negotiate.specs.Trees.{Route}
+use Rattle.ice_graph.specs.Leading.{Route}
 use Rattle.ice_wiring.specs.Wanted.{IsRowOf}
 use Rattle.ice_wiring.proofs.Mapped.{Has_mapped_by}
 use Rattle.ice_written.specs.Led.{IsLinked, IsLink}

@@ -14,7 +14,7 @@ use Rattle.ice_chunks.specs.Chunks.{AreChunks}
 use Rattle.ice_plan.specs.Plan.{Plan, listed}
 use Rattle.ice_nets.specs.Ends.{ends}
 use Rattle.ice_nets.specs.Nets.{Bare, root_wire, sinks_of, nets_of}
-use Rattle.ice_negotiate.specs.Trees.{Route}
+use Rattle.ice_graph.specs.Leading.{Route}
 use Rattle.ice_written.specs.Links.{tree_switch}
 use Rattle.ice_written.specs.Routed.{IsPlaced}
 

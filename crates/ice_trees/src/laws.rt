@@ -2,7 +2,7 @@
 ghost use Rattle.std.specs.Prelude.{Bool, List};
 ghost use Rattle.ice_chip.specs.Database.{PackageRows};
 ghost use Rattle.ice_plan.specs.Plan.{Plan};
-ghost use Rattle.ice_negotiate.specs.Trees.{Route};
+ghost use Rattle.ice_graph.specs.Leading.{Route};
 ghost use Rattle.ice_written.specs.Routed.{AreTrees, IsPlaced};
 ghost use Rattle.ice_written.specs.Written.{wanted_rows};
 ghost use Rattle.ice_trees.specs.RowsLed.{AreRowsLed};

@@ -14,8 +14,8 @@ use Rattle.ice_plan.specs.Plan.{Plan, listed}
 use Rattle.ice_nets.specs.Ends.{wire_no}
 use Rattle.ice_nets.specs.Nets.{Bare, nets_of}
 use Rattle.ice_fabric.specs.Edges.{usable_rows}
-use Rattle.ice_negotiate.specs.Leading.{Leads}
-use Rattle.ice_negotiate.specs.Trees.{Route}
+use Rattle.ice_graph.specs.Leading.{Leads}
+use Rattle.ice_graph.specs.Leading.{Route}
 
 abbrev pub pads_of : Plan → List Bool → PadsData
 pads_of plan pullups = record { ports = plan.ports; pullups = pullups; globals = plan.globals }

@@ -11,7 +11,7 @@ use Rattle.ice_wiring.specs.Wanted.{set_bits}
 use Rattle.ice_wiring.specs.Settings.{function_bits}
 use Rattle.ice_plan.specs.Plan.{Plan}
 use Rattle.ice_nets.specs.Nets.{root_wire}
-use Rattle.ice_negotiate.specs.Trees.{Route}
+use Rattle.ice_graph.specs.Leading.{Route}
 use Rattle.ice_written.specs.Arrivals.{Held}
 use Rattle.ice_written.specs.Links.{wanted}
 use Rattle.ice_written.specs.Functions.{settings}

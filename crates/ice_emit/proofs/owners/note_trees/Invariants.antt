@@ -1,5 +1,5 @@
 use Rattle.std.proofs.Common.{◌≡◌, drop, map}
-use Rattle.ice_negotiate.specs.Trees.{route_of}
+use Rattle.ice_graph.specs.Leading.{route_of}
 use Rattle.ice_emit.specs.Holding.{noted, all_holdings}
 use Rattle.ice_emit.proofs.owners.note_trees.Given as goal
 

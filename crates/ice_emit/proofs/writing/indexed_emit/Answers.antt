@@ -1,6 +1,6 @@
 use Rattle.std.proofs.Common.{map}
 use Rattle.ice_nets.specs.Plans.{plan_in, plan_of}
-use Rattle.ice_negotiate.specs.Trees.{route_of}
+use Rattle.ice_graph.specs.Leading.{route_of}
 use Rattle.ice_emit.proofs.Meant.{are_wired, are_meant, have_no_loop}
 use Rattle.ice_emit.proofs.Ready.{written_for}
 use Rattle.ice_emit.proofs.writing.indexed_emit.Goals as goal

@@ -1,6 +1,6 @@
 use Rattle.std.proofs.Common.{map, ap, ◌∙◌}
 use Rattle.ice_cells.specs.Tables.{table}
-use Rattle.ice_negotiate.specs.Trees.{route_of}
+use Rattle.ice_graph.specs.Leading.{route_of}
 use Rattle.ice_emit.specs.Routed.{owner_from}
 use Rattle.ice_emit.proofs.Ready.{are_routed}
 use Rattle.ice_emit.proofs.writing.settings_in.Goals as goal
