@@ -1,6 +1,7 @@
 //! From a netlist that was read and checked to the bits of a chip: the design is packed, placed, routed and written.
 #![tactic(auto)]
 
+mod aiming;
 mod answer;
 mod building;
 mod checking;

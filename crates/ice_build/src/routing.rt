@@ -14,13 +14,13 @@ ghost use Rattle.ice_build.specs.Laid.{plan_in};
 ghost use Rattle.ice_build.specs.Stages.{IsPermitted, IsRouteFault, IsFinished, IsEndFault, unrouted};
 ghost use Rattle.ice_build.specs.declared.answer.BuildFault.TheVariants.{NoMemory as out_of_memory};
 
+use crate::aiming::aimed_fabric;
 use crate::answer::{BuildFault, Built, Effort, Layout};
 use ice_base::NoMemory;
 use ice_chip::Chip;
 use ice_core::Net;
 use ice_desk::Gate;
 use ice_emit::indexed_emit;
-use ice_fabric::indexed_fabric;
 use ice_negotiate::{RouteFault, Routed};
 use ice_nets::nets_of;
 use ice_rounds::negotiate;
@@ -83,7 +83,7 @@ pub fn indexed_route<G: Gate + Sync, R: Threads + Sync>(
     let _wires = chip.wires();
     placed_nets_are_routable();
     routed_nets_are_trees();
-    let graph = indexed_fabric(alloc, chip, index)?;
+    let graph = aimed_fabric(alloc, chip, index, nets)?;
     negotiate(rt, alloc, &graph, nets, effort.rounds, effort.workers, gate)
 }
 

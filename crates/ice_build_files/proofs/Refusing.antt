@@ -24,7 +24,7 @@ use Rattle.ice_pads.specs.Assign.{assign_of}
 use Rattle.ice_pads.specs.declared.fault.PinFault.{PinFault}
 use Rattle.ice_pcf.specs.declared.fault.PcfFault.{PcfFault}
 use Rattle.ice_place.specs.declared.fault.PlaceFault.{PlaceFault}
-use Rattle.ice_promote_laws.specs.PadLaws.{IsGivenAlike}
+use Rattle.ice_pads.specs.Assign.{IsGivenAlike}
 use Rattle.ice_report.specs.PinReport.{pin_text}
 use Rattle.ice_report.specs.RouteReport.{route_text}
 use Rattle.ice_prepare.specs.Prepared.{most_cells, prepared_on}

@@ -7,7 +7,7 @@ use Rattle.ice_chip.specs.Database.{PackageRows}
 use Rattle.ice_chip.specs.Lookups.{package_of}
 use Rattle.ice_core.specs.declared.log.RoundLog.{RoundLog}
 use Rattle.ice_decode.specs.declared.fault.DecodeFault.{DecodeFault}
-use Rattle.ice_promote_laws.specs.PadLaws.{IsGivenAlike}
+use Rattle.ice_pads.specs.Assign.{IsGivenAlike}
 use Rattle.ice_report.specs.PinReport.{pin_text}
 use Rattle.ice_words.specs.Grips.{Shut}
 use Rattle.ice_build.specs.Answers.{IsBuilt, IsGivenUp, IsUndecoded}

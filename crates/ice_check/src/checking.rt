@@ -11,6 +11,7 @@ ghost use Rattle.ice_check.specs.Refusals.{IsFaultOf, pin_type_by};
 
 use crate::cells::{pin_not_port, pin_type_out};
 use crate::drivers::signal_tables;
+use crate::laws::faults_are_not_sound;
 use crate::loops::search_signals;
 use crate::naming::{names_of, port_name, signal_name};
 use crate::order::order_of_cells;
@@ -18,6 +19,7 @@ use crate::ports::{inout_bare, pad_shared};
 use crate::signals::{driven_twice, undriven};
 use crate::sound::Orders;
 use crate::{NetFault, Sound};
+use ice_base::NoMemory;
 use ice_net::{CellKind, Driver, Netlist};
 use ice_value::Outcome;
 use std::alloc::Global;
@@ -138,4 +140,20 @@ pub fn check(alloc: Global, netlist: Netlist) -> Result<Sound, NetFault>
     let orders = orders(alloc, &netlist, &tables.drivers)?;
     check_pads(alloc, &netlist)?;
     Ok(Sound::of(netlist, orders, tables))
+}
+
+/// What is known of a netlist that is sound.
+///
+/// # Errors
+/// Want of memory alone.
+pub fn check_sound(alloc: Global, netlist: Netlist) -> Result<Sound, NoMemory>
+    requires { IsSound netlist }
+    ensures { IfOk result (λ sound. sound ≡ netlist) }
+{
+    faults_are_not_sound();
+    match check(alloc, netlist) {
+        Ok(sound) => Ok(sound),
+        Err(NetFault::NoMemory) => Err(NoMemory),
+        Err(_) => unreachable!(),
+    }
 }

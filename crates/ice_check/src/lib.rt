@@ -18,7 +18,8 @@ mod signals;
 mod sound;
 mod tables;
 
-pub use checking::check;
+pub use checking::{check, check_sound};
 pub use fault::NetFault;
 pub use names::Names;
 pub use sound::Sound;
+pub use tables::times_of;

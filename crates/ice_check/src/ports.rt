@@ -6,7 +6,7 @@ ghost use Rattle.ice_check.specs.Faults.{port_is, is_shared, is_bare, is_bare_by
 
 use crate::drivers::buffers;
 use crate::lists::pins;
-use crate::tables::counts;
+use crate::tables::times_of;
 use ice_base::NoMemory;
 use ice_net::{Netlist, Way};
 use std::alloc::Global;
@@ -46,7 +46,7 @@ pub(crate) fn pad_shared(alloc: Global, netlist: &Netlist) -> Result<Option<usiz
     ensures { IfOk result (λ place. place ≡ pad_shared netlist.now) }
 {
     let pins = pins(alloc, netlist.cells())?;
-    let counts = counts(alloc, netlist.signals() as usize, &pins)?;
+    let counts = times_of(alloc, netlist.signals() as usize, &pins)?;
     let place = first_shared(netlist, &counts);
     Ok(place)
 }

@@ -9,7 +9,7 @@ ghost use Rattle.ice_check.specs.Faults.{uses_of, shown_by, shown_of, is_nothing
 use crate::cells::{ENABLED_TYPE, OUTPUT_TYPE};
 use crate::drivers::{buffers, drivers};
 use crate::lists::{outputs, pads, signal_at};
-use crate::tables::{counts, places};
+use crate::tables::{places, times_of};
 use ice_base::{NoMemory, SignalNo};
 use ice_net::{Cell, CellKind, Driver, Netlist, Port, Way};
 use std::alloc::Global;
@@ -177,7 +177,7 @@ fn pad_counts(alloc: Global, netlist: &Netlist) -> Result<Vec<usize>, NoMemory>
 {
     let buffers = buffers(alloc, netlist)?;
     let pads = pads(alloc, netlist, &buffers)?;
-    let table = counts(alloc, netlist.signals() as usize, &pads)?;
+    let table = times_of(alloc, netlist.signals() as usize, &pads)?;
     Ok(table)
 }
 
@@ -187,7 +187,7 @@ fn output_counts(alloc: Global, netlist: &Netlist) -> Result<Vec<usize>, NoMemor
     ensures { IfOk result (λ table. AreTimes (length netlist.now.names) (outputs netlist.now) table.items) }
 {
     let outputs = outputs(alloc, netlist.cells())?;
-    let table = counts(alloc, netlist.signals() as usize, &outputs)?;
+    let table = times_of(alloc, netlist.signals() as usize, &outputs)?;
     Ok(table)
 }
 

@@ -57,9 +57,12 @@ fn claim(table: &mut Vec<Option<usize>>, index: usize, place: usize)
     }
 }
 
-// How often each signal stands in a list.
+/// How often each of so many signals stands in a list, by the number of the signal.
+///
+/// # Errors
+/// Want of memory alone.
 #[tactic(auto, using(crate::proofs::TableSteps::times_none))]
-pub(crate) fn counts(
+pub fn times_of(
     alloc: Global,
     count: usize,
     list: &[Option<SignalNo>],

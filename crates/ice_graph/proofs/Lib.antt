@@ -3,7 +3,6 @@ pub mod Placing
 pub mod Rising
 pub mod Growing
 pub mod Bounding
-pub mod Beside
 pub mod Nearest
 pub mod Drawing
 pub mod Hopping

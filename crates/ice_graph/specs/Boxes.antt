@@ -1,5 +1,5 @@
 -- Boxes around wires, and how far two of them are apart.
-use Rattle.std.specs.Prelude.{◌≡◌, ℕ, ◌+◌, ◌-◌, ◌/◌, ◌≤◌, ◌<◌, ◌⊎◌, min, max, eqb, ◌&&◌, Bool, true, false, List, Option, Some, None, length, slice_get, slice_index_or, if◌then◌else◌}
+use Rattle.std.specs.Prelude.{◌≡◌, ℕ, ◌+◌, ◌-◌, ◌/◌, ◌≤◌, ◌<◌, ◌⊎◌, min, max, eqb, List, Option, Some, None, length, slice_get, slice_index_or, if◌then◌else◌}
 use Rattle.ice_base.specs.declared.number.TileAt.{TileAt}
 use Rattle.ice_graph.specs.declared.edge.Edge.{Edge}
 use Rattle.ice_graph.specs.declared.extent.Extent.{Extent}
@@ -77,10 +77,3 @@ distance (Some b) (Some c) = gap b.west b.east c.west c.east + gap b.south b.nor
 -- the distance in boxes of the greatest half perimeter, rounded up
 abbrev pub in_spreads : ℕ → ℕ → ℕ
 in_spreads spread d = if eqb spread 0 then 0 else (d + (spread - 1)) / spread
-
--- whether two boxes are the same, or both are missing
-abbrev pub same_box : Option Extent → Option Extent → Bool
-same_box (Some a) (Some b) = eqb a.west b.west && eqb a.east b.east && eqb a.south b.south && eqb a.north b.north
-same_box None None = true
-same_box (Some a) None = false
-same_box None (Some b) = false

@@ -1,6 +1,6 @@
 //! Boxes of tiles.
 ghost use Rattle.std.specs.Prelude.{◌≡◌, ◌+◌, ◌-◌, ◌≤◌};
-ghost use Rattle.ice_graph.specs.Boxes.{box_at, grown, half_perimeter, gap, distance, same_box};
+ghost use Rattle.ice_graph.specs.Boxes.{box_at, grown, half_perimeter, gap, distance};
 
 use ice_base::TileAt;
 
@@ -59,22 +59,6 @@ fn gap(first: u16, last: u16, other_first: u16, other_last: u16) -> u32
 {
     let before = other_first.saturating_sub(last);
     before.max(first.saturating_sub(other_last)) as u32
-}
-
-// Whether two boxes are the same, or both are missing.
-pub fn same_box(one: Option<Extent>, other: Option<Extent>) -> bool
-    ensures { result ≡ same_box one other }
-{
-    match (one, other) {
-        (Some(one), Some(other)) => {
-            one.west == other.west
-                && one.east == other.east
-                && one.south == other.south
-                && one.north == other.north
-        }
-        (None, None) => true,
-        _ => false,
-    }
 }
 
 // How many steps lie between two boxes. It is 0 where one of them is missing.

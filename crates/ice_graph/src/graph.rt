@@ -3,13 +3,13 @@ ghost use Rattle.std.specs.Prelude.{◌≡◌, ◌+◌, ◌<◌, ◌≤◌, ◌^
 ghost use Rattle.ice_base.specs.declared.number.WireNo.{WireNo as Wire};
 ghost use Rattle.ice_graph.specs.Hops.{AreHops};
 ghost use Rattle.ice_graph.specs.Rows.{rows_into, rows_from};
-ghost use Rattle.ice_graph.specs.Boxes.{box_of, in_spreads, same_box};
+ghost use Rattle.ice_graph.specs.Boxes.{box_of, in_spreads};
 ghost use Rattle.ice_graph.specs.Network.{ArePlaces, AreBetween, BoundsFall, RowsRise, bound, least_bound};
 ghost use Rattle.ice_graph.specs.Nearest.{apart, nearest, nearest_from, bound_of};
 
 use crate::boxes::{boxes_of, spread_of};
 use crate::edge::{Edge, End};
-use crate::extent::{Extent, distance, same_box};
+use crate::extent::{Extent, distance};
 use crate::index::Index;
 use crate::table::Hops;
 use ice_base::{NoMemory, RowNo, TileAt, WireNo};
@@ -182,14 +182,15 @@ impl Graph {
         bound_to(self.spread, self.apart(wire, target))
     }
 
-    /// Whether the boxes of two wires are the same, so that all other wires are as far from one as from the other. The wires
-    /// are of the graph.
-    pub fn is_beside(&self, wire: WireNo, other: WireNo) -> bool
-        requires wire { wire.0 < self.now.wires }
-        requires other { other.0 < self.now.wires }
-        ensures { result ≡ same_box (box_of self.now.boxes wire.0) (box_of self.now.boxes other.0) }
+    /// The box of the tiles at which the wire's rows stand: none where no row leads into the wire or from it, nor of what is no
+    /// wire of the graph.
+    pub fn extent(&self, wire: WireNo) -> Option<Extent>
+        ensures { result ≡ box_of self.now.boxes wire.0 }
     {
-        same_box(self.boxes[wire.0 as usize], self.boxes[other.0 as usize])
+        match self.boxes.get(wire.0 as usize) {
+            Some(extent) => *extent,
+            None => None,
+        }
     }
 
     // How far a target is: 0 where it is the wire itself, and else 1 and the steps between the boxes.

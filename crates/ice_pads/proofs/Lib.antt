@@ -12,3 +12,4 @@ mod ChosenLaws
 mod PackageLaws
 mod GlobalLaws
 mod AssignLaws
+pub mod Fewer

@@ -1,5 +1,5 @@
 -- The pads, pull-ups and globals of a design, or the fault.
-use Rattle.std.specs.Prelude.{ℕ, Bool, Option, None, Some, Result, Ok, Err, List, [], map}
+use Rattle.std.specs.Prelude.{◌≡◌, ℕ, Bool, Option, None, Some, Result, Ok, Err, List, [], map}
 use Rattle.ice_net.specs.NetlistData.{NetlistData}
 use Rattle.ice_pcf.specs.declared.constraint.Constraint.{Constraint}
 use Rattle.ice_chip.specs.Database.{Parts, PackageRows}
@@ -15,6 +15,7 @@ use Rattle.ice_pads.specs.Ports.{all_chosen}
 use Rattle.ice_pads.specs.Globals.{globals_of}
 use Rattle.ice_pads.specs.Wants.{wants, pins}
 use Rattle.ice_cells.specs.declared.design.Design.{Design}
+use Rattle.ice_cells.specs.Runs.{design_of}
 
 -- a pad and whether it has a pull-up for each port, and a global for each global buffer
 pub record PadsData : Type 0 where
@@ -43,3 +44,8 @@ assign_by parts name constraints n ws ps = assigned parts constraints n ws ps (p
 -- the pads, pull-ups and globals of a design of the netlist, or the fault
 abbrev pub assign_of : Parts → List ℕ → List Constraint → NetlistData → Design → Result PadsData PinFault
 assign_of parts name constraints n d = assign_by parts name constraints n (wants d) (pins d)
+
+-- by the netlist's own design the constraints give the same pads and pull-ups, with some globals
+abbrev pub IsGivenAlike : Parts → List ℕ → List Constraint → NetlistData → PadsData → Type 0
+IsGivenAlike parts name constraints n pads =
+    (globals : List ℕ) × (assign_of parts name constraints n (design_of n) ≡ Ok (record { ports = pads.ports; pullups = pads.pullups; globals = globals }))

@@ -13,7 +13,8 @@ use Rattle.ice_pads.specs.Assign.{PadsData, assign_of}
 use Rattle.ice_pcf.specs.declared.constraint.Constraint.{Constraint}
 use Rattle.ice_promote.specs.Promoted.{buffered_name, promoted_clocks}
 use Rattle.ice_promote.specs.PromotionLaws.{PromotedAreFormed}
-use Rattle.ice_promote_laws.specs.PadLaws.{IsGivenAlike, PadsAreGivenAlike}
+use Rattle.ice_pads.specs.Assign.{IsGivenAlike}
+use Rattle.ice_promote_laws.specs.PadLaws.{PadsAreGivenAlike}
 use Rattle.ice_report.specs.PinReport.{pin_text}
 use Rattle.ice_tails.specs.Ends.{tables_of}
 use Rattle.ice_tails.specs.Tails.{tail_names}

@@ -9,7 +9,7 @@ use Rattle.ice_cells.specs.declared.design.Design.{Design}
 use Rattle.ice_cells.specs.Runs.{design_of}
 use Rattle.ice_pcf.specs.declared.constraint.Constraint.{Constraint}
 use Rattle.ice_pads.specs.Assign.{PadsData, assign_of}
-use Rattle.ice_promote_laws.specs.PadLaws.{IsGivenAlike}
+use Rattle.ice_pads.specs.Assign.{IsGivenAlike}
 use Rattle.ice_report.specs.PinReport.{pin_text}
 use Rattle.ice_prepare.specs.Prepared.{most_cells, prepared_on}
 

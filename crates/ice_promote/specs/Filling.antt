@@ -1,9 +1,8 @@
 -- How the netlist with promoted clocks is made: by tables, and name by name, port by port and cell by cell.
-use Rattle.std.specs.Prelude.{◌≡◌, ℕ, ◌+◌, ◌<◌, ◌≤◌, List, [], ◌++◌, length, map, All, bytes_eq, slice_index_or}
-use Rattle.std.specs.List.{IsDistinct}
-use Rattle.ice_net.specs.declared.cell.Cell.{Cell}
-use Rattle.ice_net.specs.Formed.{IsFormed, IsSingle, IsFormedCell}
+use Rattle.std.specs.Prelude.{◌≡◌, ℕ, ◌<◌, List, [], length, map, All, slice_index_or}
+use Rattle.ice_net.specs.Formed.{IsFormed, IsSingle}
 use Rattle.ice_net.specs.NetlistData.{NetlistData}
+use Rattle.ice_added.specs.Adding.{HasRoomForNames}
 use Rattle.ice_check.specs.Tables.{AreTimes}
 use Rattle.ice_promote.specs.declared.counting.Counts.{Counts}
 use Rattle.ice_promote.specs.declared.targets.Targets.{Targets}
@@ -26,23 +25,6 @@ AreTargets targets = AreReadAs targets.count targets.clocks.items targets.table.
 -- the names of the buffers' signals
 abbrev pub buffer_names : NetlistData → List ℕ → List (List ℕ)
 buffer_names n clocks = map (λ clock. buffered_name (slice_index_or n.names clock [])) clocks
-
--- these names behind the others: none of them is there, or stands twice
-abbrev pub with_names : NetlistData → List (List ℕ) → NetlistData
-with_names n names = record n { names = n.names ++ names }
-
-pub record HasRoomForNames (n : NetlistData) (names : List (List ℕ)) : Type 0 where
-  pub few : length n.names + length names ≤ 1073741823
-  pub once : IsDistinct bytes_eq (n.names ++ names)
-
--- ---- cells
--- these cells behind the others, each well formed
-abbrev pub with_cells : NetlistData → List Cell → NetlistData
-with_cells n cells = record n { cells = n.cells ++ cells }
-
-pub record HasRoomForCells (n : NetlistData) (cells : List Cell) : Type 0 where
-  pub few : length n.cells + length cells ≤ 1073741823
-  pub formed : All (IsFormedCell (length n.names)) cells
 
 -- ---- the whole
 -- what is known of a netlist and of clocks that get buffers

@@ -1,12 +1,11 @@
 //! How many flip-flops each signal is the clock of, and which signals need no buffer.
-ghost use Rattle.std.specs.Prelude.{◌≡◌, ◌≢◌, ℕ, ◌+◌, ◌<◌, ◌≤◌, None, All, length, map, slice_index_or, IfOk};
-ghost use Rattle.ice_net.specs.Formed.{IsBelow, IsFormed};
-ghost use Rattle.ice_net.specs.Drivers.{is_signal};
-ghost use Rattle.ice_check.specs.Tables.{AreTimes, once};
+ghost use Rattle.std.specs.Prelude.{◌≡◌, None, length, map, slice_index_or, IfOk};
+ghost use Rattle.ice_check.specs.Tables.{AreTimes};
 ghost use Rattle.ice_promote.specs.Filling.{AreCounts};
 ghost use Rattle.ice_promote.specs.Promoted.{clock_of, is_settled, settled_of};
 
 use ice_base::{NoMemory, SignalNo};
+use ice_check::times_of;
 use ice_net::{Cell, CellKind, Netlist};
 use std::alloc::Global;
 
@@ -80,44 +79,6 @@ fn settled(alloc: Global, cells: &[Cell]) -> Result<Vec<Option<SignalNo>>, NoMem
         list.push(settled_of(cell))?;
     }
     Ok(list)
-}
-
-fn add_one(table: &mut Vec<usize>, index: usize)
-    requires index { index < length table.old.items }
-    requires room { slice_index_or table.old.items index 0 < 9223372036854775808 }
-    ensures length { length table.new.items ≡ length table.old.items }
-    ensures added { slice_index_or table.new.items index 0 ≡ slice_index_or table.old.items index 0 + 1 }
-    ensures others { (s : ℕ) → s ≢ index → slice_index_or table.new.items s 0 ≡ slice_index_or table.old.items s 0 }
-{
-    table[index] += 1;
-}
-
-// Counts a signal once more, where it stood at most so often.
-#[tactic(auto, using(ice_check::proofs::TableSteps::tallied_there, ice_check::proofs::TableSteps::tallied_missing))]
-fn tally(table: &mut Vec<usize>, signal: Option<SignalNo>, most: usize)
-    requires below { IsBelow (length table.old.items) signal }
-    requires room { (s : ℕ) → slice_index_or table.old.items s 0 ≤ most }
-    requires most { most < 9223372036854775808 }
-    ensures length { length table.new.items ≡ length table.old.items }
-    ensures tallied { (s : ℕ) → slice_index_or table.new.items s 0 ≡ slice_index_or table.old.items s 0 + once (is_signal s signal) }
-{
-    match signal {
-        Some(signal) => add_one(table, signal.0 as usize),
-        None => {}
-    }
-}
-
-// How often each signal stands in a list.
-#[tactic(auto, using(ice_check::proofs::TableSteps::times_none, ice_check::proofs::TableSteps::times_more, ice_check::proofs::TableSteps::times_all, ice_check::proofs::TableSteps::below_here_too, ice_check::proofs::TableSteps::times_room))]
-fn times_of(alloc: Global, count: usize, list: &[Option<SignalNo>]) -> Result<Vec<usize>, NoMemory>
-    requires { All (IsBelow count) list.now }
-    ensures { IfOk result (λ table. AreTimes count list.now table.items) }
-{
-    let mut table = vec![in alloc; 0; count]?;
-    for (place, signal) in list.iter().enumerate() {
-        tally(&mut table, *signal, place);
-    }
-    Ok(table)
 }
 
 // How many flip-flops have each signal as their clock.

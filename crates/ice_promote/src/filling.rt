@@ -2,7 +2,8 @@
 ghost use Rattle.std.specs.Prelude.{◌≡◌, ◌==◌, ◌++◌, ◌+◌, ◌<◌, ◌≤◌, ◌^◌, [], All, length, map, slice_index_or, bytes_eq, IfOk, OnOk};
 ghost use Rattle.std.specs.List.{IsDistinct};
 ghost use Rattle.ice_net.specs.Formed.{IsFormed, IsSingle, IsFormedCell, IsPortBelow, port_numbers};
-ghost use Rattle.ice_promote.specs.Filling.{AreTargets, buffer_names, with_names, HasRoomForNames, with_cells, HasRoomForCells, CanTakeBuffers};
+ghost use Rattle.ice_added.specs.Adding.{with_names, HasRoomForNames, with_cells, HasRoomForCells};
+ghost use Rattle.ice_promote.specs.Filling.{AreTargets, buffer_names, CanTakeBuffers};
 ghost use Rattle.ice_promote.specs.Promoted.{buffered_name, buffered_cell, buffer, buffers, with_buffers};
 
 use crate::targets::Targets;
@@ -34,7 +35,7 @@ fn buffered_name(alloc: Global, name: &[u8]) -> Result<Vec<u8>, NoMemory>
 }
 
 // Adds the names of the signals of the clocks' buffers.
-#[tactic(auto, using(crate::proofs::Filled::names_none, crate::proofs::Filled::names_all, crate::proofs::Filled::names_more, crate::proofs::Filled::names_room))]
+#[tactic(auto, using(ice_added::proofs::Added::names_none, ice_added::proofs::Added::names_all, ice_added::proofs::Added::names_more, ice_added::proofs::Added::names_room))]
 fn add_buffer_names(
     alloc: Global,
     made: &mut Netlist,
@@ -69,7 +70,7 @@ fn add_ports(made: &mut Netlist, ports: &[Port]) -> Result<(), NoMemory>
 
 // ---- cells
 // Adds these cells, of which the flip-flops' clock inputs read the buffers' signals.
-#[tactic(auto, using(crate::proofs::Filled::cells_none, crate::proofs::Filled::cells_all, crate::proofs::Filled::cells_more, crate::proofs::Filled::cells_room, crate::proofs::Filled::cells_formed, crate::proofs::Filled::cell_made, crate::proofs::Filled::cells_long))]
+#[tactic(auto, using(ice_added::proofs::Added::cells_none, ice_added::proofs::Added::cells_all, ice_added::proofs::Added::cells_more, ice_added::proofs::Added::cells_room, ice_added::proofs::Added::cells_formed, crate::proofs::Filled::cell_made, crate::proofs::Filled::cells_long))]
 fn add_cells(
     alloc: Global,
     made: &mut Netlist,
@@ -102,7 +103,7 @@ fn buffer(alloc: Global, clock: u32, out: u32) -> Result<Cell, NoMemory>
 }
 
 // Adds the buffers of these clocks, the first of which drives the signal of that number.
-#[tactic(auto, using(crate::proofs::Filled::cells_none, crate::proofs::Filled::cells_all, crate::proofs::Filled::cells_more, crate::proofs::Filled::cells_room, crate::proofs::Filled::cells_formed, crate::proofs::Filled::buffer_made, crate::proofs::Filled::buffers_long))]
+#[tactic(auto, using(ice_added::proofs::Added::cells_none, ice_added::proofs::Added::cells_all, ice_added::proofs::Added::cells_more, ice_added::proofs::Added::cells_room, ice_added::proofs::Added::cells_formed, crate::proofs::Filled::buffer_made, crate::proofs::Filled::buffers_long))]
 fn add_buffers(
     alloc: Global,
     made: &mut Netlist,

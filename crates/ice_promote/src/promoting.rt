@@ -9,23 +9,8 @@ use crate::choosing::promoted_clocks;
 use crate::filling::with_buffers;
 use crate::laws::{promoted_are_sound, promoted_show_the_same};
 use ice_base::NoMemory;
-use ice_check::laws::faults_are_not_sound;
-use ice_check::{NetFault, Sound, check};
-use ice_net::Netlist;
+use ice_check::{Sound, check_sound};
 use std::alloc::Global;
-
-// What is known of a netlist that is sound.
-fn checked(alloc: Global, netlist: Netlist) -> Result<Sound, NoMemory>
-    requires { IsSound netlist }
-    ensures { IfOk result (λ sound. sound ≡ netlist) }
-{
-    faults_are_not_sound();
-    match check(alloc, netlist) {
-        Ok(sound) => Ok(sound),
-        Err(NetFault::NoMemory) => Err(NoMemory),
-        Err(_) => unreachable!(),
-    }
-}
 
 // The netlist with promoted clocks, or None where no clock is promoted.
 fn promoted_copy(alloc: Global, sound: &Sound, free: u32) -> Result<Option<Sound>, NoMemory>
@@ -44,7 +29,7 @@ fn promoted_copy(alloc: Global, sound: &Sound, free: u32) -> Result<Option<Sound
         return Ok(None);
     }
     let made = with_buffers(alloc, netlist, clocks)?;
-    let made = checked(alloc, made)?;
+    let made = check_sound(alloc, made)?;
     Ok(Some(made))
 }
 

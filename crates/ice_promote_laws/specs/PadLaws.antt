@@ -6,18 +6,13 @@ use Rattle.ice_chip.specs.Database.{Parts}
 use Rattle.ice_pcf.specs.declared.constraint.Constraint.{Constraint}
 use Rattle.ice_cells.specs.Runs.{design_of}
 use Rattle.ice_pads.specs.Wants.{wants}
-use Rattle.ice_pads.specs.Assign.{PadsData, assign_of}
+use Rattle.ice_pads.specs.Assign.{IsGivenAlike, PadsData, assign_of}
 use Rattle.ice_promote.specs.Promoted.{promoted}
 use Rattle.ice_promote.specs.PromotionLaws.{most_cells_before}
 
 -- by the design of the netlist with promoted clocks each port wants of its pad what it wants by the design of the netlist itself
 abbrev pub PadsAreWantedAlike : Type 0
 PadsAreWantedAlike = (n : NetlistData) (free : ℕ) → IsFormed n → length n.cells < most_cells_before → wants (design_of (promoted n free)) ≡ wants (design_of n)
-
--- the same pads and pull-ups, with some globals
-abbrev pub IsGivenAlike : Parts → List ℕ → List Constraint → NetlistData → PadsData → Type 0
-IsGivenAlike parts name constraints n pads =
-    (globals : List ℕ) × (assign_of parts name constraints n (design_of n) ≡ Ok (record { ports = pads.ports; pullups = pads.pullups; globals = globals }))
 
 -- where the constraints give ports pads by the design of the netlist with promoted clocks, they give the same pads by that of the netlist itself
 abbrev pub PadsAreGivenAlike : Type 0

@@ -1,7 +1,7 @@
 //! Carries are added at look-up tables, first their names and then the cells.
 ghost use Rattle.std.specs.Prelude.{◌≡◌, ◌+◌, ◌<◌, ◌≤◌, ◌^◌, All, length, map, IfOk, OnOk};
 ghost use Rattle.ice_net.specs.Formed.{IsFormed, IsSingle};
-ghost use Rattle.ice_tails.specs.Adding.{HasRoomForCells, HasRoomForNames, with_cells, with_names};
+ghost use Rattle.ice_added.specs.Adding.{HasRoomForCells, HasRoomForNames, with_cells, with_names};
 ghost use Rattle.ice_tails.specs.TailLaws.{CanTakeTails};
 ghost use Rattle.ice_tails.specs.Tailable.{HasRoomForTails};
 ghost use Rattle.ice_tails.specs.Tails.{behind, read_behind, tail, tail_name, tail_names, tails, with_tails};
@@ -21,7 +21,7 @@ fn tail_name(alloc: Global, name: &[u8]) -> Result<Vec<u8>, NoMemory>
 }
 
 // Adds the names of the signals of so many carries.
-#[tactic(auto, using(crate::proofs::Grown::names_none, crate::proofs::Grown::names_all, crate::proofs::Grown::names_room, crate::proofs::Grown::names_long))]
+#[tactic(auto, using(ice_added::proofs::Added::names_none, ice_added::proofs::Added::names_all, ice_added::proofs::Added::names_room, crate::proofs::Grown::names_long))]
 fn add_names(alloc: Global, netlist: &mut Netlist, count: u32) -> Result<(), NoMemory>
     requires few { count ≤ length netlist.old.names }
     requires room { HasRoomForNames netlist.old (tail_names netlist.old.names count) }
@@ -50,7 +50,7 @@ fn tail_of(alloc: Global, cell: &Cell, out: u32) -> Result<Cell, NoMemory>
 }
 
 // Adds a carry at each of these tables, the first of which drives the signal of that number.
-#[tactic(auto, using(crate::proofs::Grown::cells_none, crate::proofs::Grown::cells_all, crate::proofs::Grown::cells_room))]
+#[tactic(auto, using(ice_added::proofs::Added::cells_none, ice_added::proofs::Added::cells_all, ice_added::proofs::Added::cells_room))]
 fn add_tails(
     alloc: Global,
     netlist: &mut Netlist,

@@ -9,23 +9,8 @@ use crate::adding::with_tails;
 use crate::choosing::tables_of;
 use crate::laws::{tailed_are_sound, tailed_show_the_same};
 use ice_base::NoMemory;
-use ice_check::laws::faults_are_not_sound;
-use ice_check::{NetFault, Sound, check};
-use ice_net::Netlist;
+use ice_check::{Sound, check_sound};
 use std::alloc::Global;
-
-// What is known of a netlist that is sound.
-fn checked(alloc: Global, netlist: Netlist) -> Result<Sound, NoMemory>
-    requires { IsSound netlist }
-    ensures { IfOk result (λ sound. sound ≡ netlist) }
-{
-    faults_are_not_sound();
-    match check(alloc, netlist) {
-        Ok(sound) => Ok(sound),
-        Err(NetFault::NoMemory) => Err(NoMemory),
-        Err(_) => unreachable!(),
-    }
-}
 
 // The netlist with its carries, which are at these tables.
 fn grown(alloc: Global, sound: Sound, tables: &[usize]) -> Result<Sound, NoMemory>
@@ -37,7 +22,7 @@ fn grown(alloc: Global, sound: Sound, tables: &[usize]) -> Result<Sound, NoMemor
     let _cells = sound.netlist().cells();
     let _ports = sound.netlist().ports();
     let made = with_tails(alloc, sound.into_netlist(), tables)?;
-    let made = checked(alloc, made)?;
+    let made = check_sound(alloc, made)?;
     Ok(made)
 }
 

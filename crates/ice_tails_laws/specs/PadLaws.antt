@@ -6,17 +6,12 @@ use Rattle.ice_chip.specs.Database.{Parts}
 use Rattle.ice_pcf.specs.declared.constraint.Constraint.{Constraint}
 use Rattle.ice_cells.specs.Runs.{design_of}
 use Rattle.ice_pads.specs.Wants.{wants}
-use Rattle.ice_pads.specs.Assign.{PadsData, assign_of}
+use Rattle.ice_pads.specs.Assign.{IsGivenAlike, PadsData, assign_of}
 use Rattle.ice_tails.specs.Ends.{tailed}
 
 -- by the design of that netlist each port wants of its pad what it wants by the design of the netlist itself
 abbrev pub TailedPadsAreWantedAlike : Type 0
 TailedPadsAreWantedAlike = (n : NetlistData) → IsFormed n → length n.cells < 1073000000 → wants (design_of (tailed n)) ≡ wants (design_of n)
-
--- the same pads and pull-ups, with some globals
-abbrev pub IsGivenAlike : Parts → List ℕ → List Constraint → NetlistData → PadsData → Type 0
-IsGivenAlike parts name constraints n pads =
-    (globals : List ℕ) × (assign_of parts name constraints n (design_of n) ≡ Ok (record { ports = pads.ports; pullups = pads.pullups; globals = globals }))
 
 -- where the constraints give ports pads by the design of that netlist, they give the same pads by that of the netlist itself
 abbrev pub TailedPadsAreGivenAlike : Type 0

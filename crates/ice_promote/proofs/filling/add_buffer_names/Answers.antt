@@ -1,6 +1,7 @@
 use Rattle.std.proofs.Common.{◌≡◌, ◌∙◌, ◌<◌, length, rules}
 use Rattle.ice_promote.specs.Filling.{buffer_names}
-use Rattle.ice_promote.proofs.Filled.{names_more, name_made, names_long}
+use Rattle.ice_added.proofs.Added.{names_more}
+use Rattle.ice_promote.proofs.Filled.{name_made, names_long}
 use Rattle.ice_promote.proofs.filling.add_buffer_names.Goals as goal
 
 pub loop-clock-preserved : goal.loop-clock-preserved

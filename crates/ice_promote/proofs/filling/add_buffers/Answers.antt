@@ -1,7 +1,8 @@
 use Rattle.std.proofs.Common.{◌<◌, ◌≤◌, length, arith, rules}
 use Rattle.ice_promote.specs.Promoted.{buffers}
 use Rattle.ice_promote.proofs.Buffers.{length_buffers}
-use Rattle.ice_promote.proofs.Filled.{cells_all, cells_more, cells_room, cells_formed, buffer_made, buffers_long}
+use Rattle.ice_added.proofs.Added.{cells_all, cells_more, cells_room, cells_formed}
+use Rattle.ice_promote.proofs.Filled.{buffer_made, buffers_long}
 use Rattle.ice_promote.proofs.filling.add_buffers.Goals as goal
 
 pub cell-requires-clause-room : goal.cell-requires-clause-room

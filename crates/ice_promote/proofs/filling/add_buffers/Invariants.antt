@@ -1,6 +1,6 @@
 use Rattle.std.proofs.Common.{◌≡◌, take}
 use Rattle.ice_promote.specs.Promoted.{buffers}
-use Rattle.ice_promote.specs.Filling.{with_cells}
+use Rattle.ice_added.specs.Adding.{with_cells}
 use Rattle.ice_promote.proofs.filling.add_buffers.Given as goal
 
 abbrev pub invariant-loop-place : goal.invariant-loop-place

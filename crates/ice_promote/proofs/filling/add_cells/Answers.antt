@@ -1,6 +1,7 @@
 use Rattle.std.proofs.Common.{◌<◌, length, map, rules}
 use Rattle.ice_promote.specs.Promoted.{buffered_cell}
-use Rattle.ice_promote.proofs.Filled.{cells_more, cells_formed, cell_made, cells_long}
+use Rattle.ice_added.proofs.Added.{cells_more, cells_formed}
+use Rattle.ice_promote.proofs.Filled.{cell_made, cells_long}
 use Rattle.ice_promote.proofs.filling.add_cells.Goals as goal
 
 pub cell-requires-in-loop-cell-clause-formed : goal.cell-requires-in-loop-cell-clause-formed

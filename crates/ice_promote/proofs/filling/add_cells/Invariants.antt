@@ -1,6 +1,6 @@
 use Rattle.std.proofs.Common.{◌≡◌, map, take}
 use Rattle.ice_promote.specs.Promoted.{buffered_cell}
-use Rattle.ice_promote.specs.Filling.{with_cells}
+use Rattle.ice_added.specs.Adding.{with_cells}
 use Rattle.ice_promote.proofs.filling.add_cells.Given as goal
 
 abbrev pub invariant-loop-cell : goal.invariant-loop-cell

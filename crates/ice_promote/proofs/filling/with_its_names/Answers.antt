@@ -1,6 +1,6 @@
 use Rattle.std.proofs.Common.{◌≤◌, ◌<◌, ◌+◌, length, arith, rules}
 use Rattle.ice_net.specs.NetlistData.{empty_netlist}
-use Rattle.ice_promote.proofs.Filled.{names_more}
+use Rattle.ice_added.proofs.Added.{names_more}
 use Rattle.ice_promote.proofs.filling.with_its_names.Goals as goal
 
 pub loop-signal-preserved : goal.loop-signal-preserved

@@ -1,6 +1,6 @@
 use Rattle.std.proofs.Common.{◌≡◌, take}
 use Rattle.ice_net.specs.NetlistData.{empty_netlist}
-use Rattle.ice_promote.specs.Filling.{with_names}
+use Rattle.ice_added.specs.Adding.{with_names}
 use Rattle.ice_promote.proofs.filling.with_its_names.Given as goal
 
 abbrev pub invariant-loop-signal : goal.invariant-loop-signal

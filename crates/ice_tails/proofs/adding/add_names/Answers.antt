@@ -1,6 +1,7 @@
 use Rattle.std.proofs.Common.{◌≡◌, ◌∙◌, ◌<◌, ◌≤◌, take, arith, rules}
 use Rattle.ice_tails.specs.Tails.{tail_names}
-use Rattle.ice_tails.proofs.Grown.{names_more, names_all, names_room, names_long, name_made, name_there}
+use Rattle.ice_added.proofs.Added.{names_more, names_all, names_room}
+use Rattle.ice_tails.proofs.Grown.{names_long, name_made, name_there}
 use Rattle.ice_tails.proofs.adding.add_names.Goals as goal
 
 pub name-requires : goal.name-requires

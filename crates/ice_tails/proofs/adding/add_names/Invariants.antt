@@ -1,5 +1,5 @@
 use Rattle.std.proofs.Common.{◌≡◌, take}
-use Rattle.ice_tails.specs.Adding.{with_names}
+use Rattle.ice_added.specs.Adding.{with_names}
 use Rattle.ice_tails.specs.Tails.{tail_names}
 use Rattle.ice_tails.proofs.adding.add_names.Given as goal
 

@@ -1,7 +1,8 @@
 use Rattle.std.proofs.Common.{◌∙◌, ◌<◌, ◌≤◌, get_or, length, map, take, ap, refl, arith, rules}
 use Rattle.ice_tails.specs.Tails.{read_behind, tails}
 use Rattle.ice_tails.proofs.Added.{length_tails}
-use Rattle.ice_tails.proofs.Grown.{cells_more, cells_all, cells_room, cells_formed, cell_there, tail_made, tails_long}
+use Rattle.ice_added.proofs.Added.{cells_more, cells_all, cells_room, cells_formed}
+use Rattle.ice_tails.proofs.Grown.{cell_there, tail_made, tails_long}
 use Rattle.std.proofs.lemmas.List.{length-map}
 use Rattle.ice_tails.proofs.adding.add_tails.Goals as goal
 

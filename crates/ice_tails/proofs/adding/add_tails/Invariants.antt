@@ -1,5 +1,5 @@
 use Rattle.std.proofs.Common.{◌≡◌, map, take}
-use Rattle.ice_tails.specs.Adding.{with_cells}
+use Rattle.ice_added.specs.Adding.{with_cells}
 use Rattle.ice_tails.specs.Tails.{read_behind, tails}
 use Rattle.ice_tails.proofs.adding.add_tails.Given as goal
 

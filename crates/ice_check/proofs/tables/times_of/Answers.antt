@@ -1,6 +1,6 @@
 use Rattle.std.proofs.Common.{None, arith}
 use Rattle.ice_check.proofs.TableSteps.{times_more, times_all, times_room, below_here_too}
-use Rattle.ice_check.proofs.tables.counts.Goals as goal
+use Rattle.ice_check.proofs.tables.times_of.Goals as goal
 
 pub tally-requires-clause-below : goal.tally-requires-clause-below
 tally-requires-clause-below c = below_here_too c.args.count c.args.list.now c.loop-place.table.items c.loop-place.place None (omega arith) c.requires c.loop-place.invariant
