@@ -14,4 +14,4 @@ mod trial;
 mod units;
 
 pub use improving::improve_nets;
-pub use placing::improve;
+pub use placing::{improve, nets_in};

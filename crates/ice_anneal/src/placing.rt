@@ -22,8 +22,8 @@ use ice_place::Placement;
 use ice_sites::Sites;
 use std::alloc::Global;
 
-// Nets by which placements of the clusters are measured.
-fn nets_in(
+/// Nets by which placements of the clusters are measured. It fails for want of memory alone.
+pub fn nets_in(
     alloc: Global,
     chip: &Chip,
     clusters: &Clusters,

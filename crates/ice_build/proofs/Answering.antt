@@ -5,8 +5,8 @@ use Rattle.ice_net.specs.NetlistData.{NetlistData}
 use Rattle.ice_bits.specs.Configuration.{Bits as BitsAt}
 use Rattle.ice_chip.specs.Database.{Parts}
 use Rattle.ice_cells.specs.Clusters.{clusters_of}
+use Rattle.ice_cells.specs.Ranks.{clusters_by}
 use Rattle.ice_cells.specs.Runs.{design_of}
-use Rattle.ice_cells.specs.declared.cluster.Clusters.{Clusters}
 use Rattle.ice_cells.specs.declared.design.Design.{Design}
 use Rattle.ice_decode.specs.Faults.{HasNoLoop}
 use Rattle.ice_negotiate.specs.declared.fault.RouteFault.{RouteFault}
@@ -31,15 +31,14 @@ use Rattle.ice_build.specs.declared.answer.BuildFault.TheVariants.{Pins, Places,
 
 -- ---- faults of stages
 -- the places have a fault, where the pins have none
-pub lay_stops : (task : Task) (n : NetlistData) (d : Design) (clusters : Clusters) (found : PadsData) (fault : BuildFault) → n ≡ task.circuit → d ≡ design_of task.circuit → clusters ≡ clusters_of d
-    → assign_of task.parts task.name task.constraints n d ≡ Ok found → IsPlaceFault task.parts clusters d fault → IsLayFault task fault
-lay_stops task n d clusters found fault same_net same_design same_clusters said stopped =
+pub lay_stops : (task : Task) (n : NetlistData) (d : Design) (found : PadsData) (fault : BuildFault) → n ≡ task.circuit → d ≡ design_of task.circuit
+    → assign_of task.parts task.name task.constraints n d ≡ Ok found → IsPlaceFault task.parts d fault → IsLayFault task fault
+lay_stops task n d found fault same_net same_design said stopped =
     let pads_said = subst (λ (x : NetlistData). assign_of task.parts task.name task.constraints x d ≡ Ok found) same_net said in
-    let of_clusters = subst (λ (x : Clusters). IsPlaceFault task.parts x d fault) same_clusters stopped in
     by fault (subst (λ (x : Design). assign_of task.parts task.name task.constraints task.circuit x ≡ Ok found) same_design pads_said)
-    (subst (λ (x : Design). IsPlaceFault task.parts (clusters_of x) x fault) same_design of_clusters)
+    (subst (λ (x : Design). IsPlaceFault task.parts x fault) same_design stopped)
   where
-    by : (fault : BuildFault) → pins_said task ≡ Ok found → IsPlaceFault task.parts (clusters_of (design_of task.circuit)) (design_of task.circuit) fault → IsLayFault task fault
+    by : (fault : BuildFault) → pins_said task ≡ Ok found → IsPlaceFault task.parts (design_of task.circuit) fault → IsLayFault task fault
     by (Pins fault) good never = absurd never
     by (Places fault) good e = (found, good, e)
     by (Unreachable layout net sink) good never = absurd never
@@ -73,31 +72,29 @@ bits_stop task rounds made (Bits fault) is stop = (made, is, stop)
 bits_stop task rounds made NoMemory is stop = tt
 
 -- ---- what is built
--- a design with its clusters and pads, on sites
-pub on_sites : (task : Task) (n : NetlistData) (d : Design) (clusters : Clusters) (found : PadsData) (layout : Layout) → n ≡ task.circuit → d ≡ design_of task.circuit → clusters ≡ clusters_of d
-    → assign_of task.parts task.name task.constraints n d ≡ Ok found → layout.design ≡ d → layout.clusters ≡ clusters → layout.pads ≡ found
-    → IsLegal (stretches_of task.parts) (chunks_of clusters.list) layout.placement → IsOnSites task layout
-on_sites task n d clusters found layout same_net same_design same_clusters said design_is clusters_are pads_are legal =
+-- a design with its clusters by ranks and pads, on sites
+pub on_sites : (task : Task) (n : NetlistData) (d : Design) (found : PadsData) (layout : Layout) → n ≡ task.circuit → d ≡ design_of task.circuit → assign_of task.parts task.name task.constraints n d ≡ Ok found
+    → layout.design ≡ d → layout.clusters ≡ clusters_by layout.ranks d → layout.pads ≡ found → IsLegal (stretches_of task.parts) (chunks_of layout.clusters.list) layout.placement → IsOnSites task layout
+on_sites task n d found layout same_net same_design said design_is clusters_are pads_are legal =
     let said_of_net = subst (λ (x : NetlistData). assign_of task.parts task.name task.constraints x d ≡ Ok found) same_net said in
     let said_of_pads = subst (λ (x : PadsData). assign_of task.parts task.name task.constraints task.circuit d ≡ Ok x) (sym pads_are) said_of_net in
     record {
       design = design_is ∙ same_design;
-      clusters = clusters_are ∙ same_clusters ∙ ap clusters_of (sym design_is);
+      clusters = clusters_are ∙ ap (clusters_by layout.ranks) (sym design_is);
       pads = subst (λ (x : Design). assign_of task.parts task.name task.constraints task.circuit x ≡ Ok layout.pads) (sym design_is) said_of_pads;
-      legal = subst (λ (x : Clusters). IsLegal (stretches_of task.parts) (chunks_of x.list) layout.placement) (sym clusters_are) legal;
+      legal = legal;
     }
 
-pub laid_out : (task : Task) (n : NetlistData) (d : Design) (clusters : Clusters) (found : PadsData) (layout : Layout) → n ≡ task.circuit → d ≡ design_of task.circuit → clusters ≡ clusters_of d
-    → assign_of task.parts task.name task.constraints n d ≡ Ok found → layout.design ≡ d → layout.clusters ≡ clusters → layout.pads ≡ found → IsSettled task.parts clusters d found layout.placement → IsLaidOut task layout
-laid_out task n d clusters found layout same_net same_design same_clusters said design_is clusters_are pads_are settled =
-    let stands = on_sites task n d clusters found layout same_net same_design same_clusters said design_is clusters_are pads_are settled.legal in
-    let on_pads = subst (λ (x : PadsData). IsSettled task.parts clusters d x layout.placement) (sym pads_are) settled in
-    let of_clusters = subst (λ (x : Clusters). IsSettled task.parts x d layout.pads layout.placement) (sym clusters_are) on_pads in
+pub laid_out : (task : Task) (n : NetlistData) (d : Design) (found : PadsData) (layout : Layout) → n ≡ task.circuit → d ≡ design_of task.circuit → assign_of task.parts task.name task.constraints n d ≡ Ok found
+    → layout.design ≡ d → layout.clusters ≡ clusters_by layout.ranks d → layout.pads ≡ found → IsSettled task.parts layout.clusters d found layout.placement → IsLaidOut task layout
+laid_out task n d found layout same_net same_design said design_is clusters_are pads_are settled =
+    let stands = on_sites task n d found layout same_net same_design said design_is clusters_are pads_are settled.legal in
+    let on_pads = subst (λ (x : PadsData). IsSettled task.parts layout.clusters d x layout.placement) (sym pads_are) settled in
     record {
       design = stands.design;
       clusters = stands.clusters;
       pads = stands.pads;
-      placed = subst (λ (x : Design). IsSettled task.parts layout.clusters x layout.pads layout.placement) (sym design_is) of_clusters;
+      placed = subst (λ (x : Design). IsSettled task.parts layout.clusters x layout.pads layout.placement) (sym design_is) on_pads;
     }
 
 pub built : (task : Task) (rounds : ℕ) (layout : Layout) (made : Built) → IsLaidOut task layout → StandsOn task.parts task.name layout → IsFinished task.parts rounds layout made → IsBuilt task rounds made
@@ -128,9 +125,7 @@ pub pins_good : (task : Task) (layout : Layout) → IsLaidOut task layout → pi
 pins_good task layout laid = subst (λ (d : Design). assign_of task.parts task.name task.constraints task.circuit d ≡ Ok layout.pads) laid.design laid.pads
 
 pub places_good : (task : Task) (layout : Layout) (laid : IsLaidOut task layout) → places_said task ≡ Ok laid.placed.first
-places_good task layout laid =
-    let of_clusters = subst (λ (c : Clusters). place_of (stretches_of task.parts) c layout.design ≡ Ok laid.placed.first) laid.clusters laid.placed.is_first in
-    subst (λ (d : Design). place_of (stretches_of task.parts) (clusters_of d) d ≡ Ok laid.placed.first) laid.design of_clusters
+places_good task layout laid = subst (λ (d : Design). place_of (stretches_of task.parts) (clusters_of d) d ≡ Ok laid.placed.first) laid.design laid.placed.is_first
 
 -- what building answers is right
 abbrev pub IsAnswer : Task → ℕ → Result Built BuildFault → Type 0

@@ -1,4 +1,4 @@
--- Of one placement: routes without a shared wire, a sink that can't be reached, and permitted rounds that all end with an overused wire
+-- Of one arrangement: routes without a shared wire, a sink that can't be reached, and permitted rounds that all end with an overused wire
 -- leave each other out, whatever graph and nets they are stated of.
 use Rattle.std.proofs.Common.{◌≡◌, ◌∙◌, ℕ, List, [], ◌∷◌, suc, Some, length, map, slice_get, replicate, Result, Ok, inl, inr, refl, sym, ap, subst}
 use Rattle.std.proofs.lemmas.Bool.{cases_order}
@@ -6,7 +6,7 @@ use Rattle.ice_base.specs.declared.number.NetNo.{NetNo}
 use Rattle.ice_base.specs.declared.number.TileAt.{TileAt}
 use Rattle.ice_base.specs.declared.number.WireNo.{WireNo}
 use Rattle.ice_chip.specs.Database.{Parts}
-use Rattle.ice_cells.specs.Clusters.{clusters_of}
+use Rattle.ice_cells.specs.Ranks.{clusters_by}
 use Rattle.ice_cells.specs.declared.cluster.Clusters.{Clusters}
 use Rattle.ice_cells.specs.declared.design.Design.{Design}
 use Rattle.ice_core.specs.Congestion.{price}
@@ -24,11 +24,12 @@ use Rattle.ice_negotiate.proofs.Repeating.{reached_all, routed_free}
 use Rattle.ice_negotiate.specs.declared.fault.Routed.{Routed}
 use Rattle.ice_pads.specs.Assign.{PadsData, assign_of}
 use Rattle.ice_pads.specs.declared.fault.PinFault.{PinFault}
+use Rattle.ice_place.specs.declared.arrangement.Arrangement.{Arrangement}
 use Rattle.ice_plan.specs.Plan.{Plan}
 use Rattle.ice_value.proofs.Members.{At_map, map_At}
 use Rattle.ice_words.specs.Grips.{Shut}
 use Rattle.ice_build.specs.Answers.{IsRouting, IsStuck, IsGivenUp, IsRouted}
-use Rattle.ice_build.specs.Laid.{Task, IsLaidOut, plan_in}
+use Rattle.ice_build.specs.Laid.{Task, IsLaidOut, arrangement_in, plan_in}
 use Rattle.ice_build.specs.Placements.{IsRoutedSo, IsStuckOn, IsGivenUpOn}
 use Rattle.ice_build.specs.declared.answer.Layout.{Layout}
 
@@ -226,45 +227,47 @@ stuck_at_one parts plan net other sink last (graph, nets, one, stuck) (graph', n
     stuck_same graph' nets' net other sink last
     (stuck_as graph graph' nets nets' net sink (same_routing parts plan graph graph' nets nets' one two) (same_routing parts plan graph' graph nets' nets two one) stuck) stuck'
 
--- ---- a task has one placed design with a placement
-abbrev layout_of : Design → Clusters → PadsData → List TileAt → Layout
-layout_of design clusters pads placement = record { design = design; clusters = clusters; pads = pads; placement = placement }
+-- ---- a task has one placed design with an arrangement
+abbrev layout_of : Design → List ℕ → Clusters → PadsData → List TileAt → Layout
+layout_of design ranks clusters pads placement = record { design = design; ranks = ranks; clusters = clusters; pads = pads; placement = placement }
 
 one_pads : (said : Result PadsData PinFault) (a b : PadsData) → said ≡ Ok a → said ≡ Ok b → a ≡ b
 one_pads said a b e f = cc
 
-same_layout : (task : Task) (a b : Layout) → IsLaidOut task a → IsLaidOut task b → a.placement ≡ b.placement → a ≡ b
+same_layout : (task : Task) (a b : Layout) → IsLaidOut task a → IsLaidOut task b → arrangement_in a ≡ arrangement_in b → a ≡ b
 same_layout task a b one two e =
+    let ranks : a.ranks ≡ b.ranks = ap (λ (x : Arrangement). x.ranks) e in
+    let placement : a.placement ≡ b.placement = ap (λ (x : Arrangement). x.placement) e in
     let design : a.design ≡ b.design = one.design ∙ sym two.design in
-    let clusters : a.clusters ≡ b.clusters = one.clusters ∙ ap clusters_of design ∙ sym two.clusters in
+    let clusters : a.clusters ≡ b.clusters = one.clusters ∙ (λ i. clusters_by (ranks i) (design i)) ∙ sym two.clusters in
     let said = subst (λ (d : Design). assign_of task.parts task.name task.constraints task.circuit d ≡ Ok a.pads) design one.pads in
     let pads : a.pads ≡ b.pads = one_pads (assign_of task.parts task.name task.constraints task.circuit b.design) a.pads b.pads said two.pads in
-    whole a.design b.design a.clusters b.clusters a.pads b.pads a.placement b.placement design clusters pads e
+    whole a.design b.design a.ranks b.ranks a.clusters b.clusters a.pads b.pads a.placement b.placement design ranks clusters pads placement
   where
-    whole : (d d' : Design) (c c' : Clusters) (p p' : PadsData) (t t' : List TileAt) → d ≡ d' → c ≡ c' → p ≡ p' → t ≡ t' → layout_of d c p t ≡ layout_of d' c' p' t'
-    whole d d' c c' p p' t t' e f g h = cc
+    whole : (d d' : Design) (r r' : List ℕ) (c c' : Clusters) (p p' : PadsData) (t t' : List TileAt) → d ≡ d' → r ≡ r' → c ≡ c' → p ≡ p' → t ≡ t' → layout_of d r c p t ≡ layout_of d' r' c' p' t'
+    whole d d' r r' c c' p p' t t' e f g h i = cc
 
--- ---- of one placement
-pub routed_not_stuck_on : (task : Task) (rounds : ℕ) (placement : List TileAt) (routed : Routed) (net : NetNo) (sink : WireNo) → IsRoutedSo task rounds placement routed
-    → IsStuckOn task placement net sink → ⊥
-routed_not_stuck_on task rounds placement routed net sink (one, is, on, so) (layout, laid, here, stuck) =
+-- ---- of one arrangement
+pub routed_not_stuck_on : (task : Task) (rounds : ℕ) (arrangement : Arrangement) (routed : Routed) (net : NetNo) (sink : WireNo) → IsRoutedSo task rounds arrangement routed
+    → IsStuckOn task arrangement net sink → ⊥
+routed_not_stuck_on task rounds arrangement routed net sink (one, is, on, so) (layout, laid, here, stuck) =
     let same = same_layout task layout one laid is (here ∙ sym on) in
     routed_not_stuck task.parts (plan_in one) rounds routed net sink so (subst (λ (l : Layout). IsStuck task.parts (plan_in l) net sink) same stuck)
 
-pub routed_not_given_up_on : (task : Task) (rounds : ℕ) (placement : List TileAt) (routed : Routed) (logs : List RoundLog) (tallies : List Shut) → IsRoutedSo task rounds placement routed
-    → IsGivenUpOn task rounds placement logs tallies → ⊥
-routed_not_given_up_on task rounds placement routed logs tallies (one, is, on, so) (layout, laid, here, all) =
+pub routed_not_given_up_on : (task : Task) (rounds : ℕ) (arrangement : Arrangement) (routed : Routed) (logs : List RoundLog) (tallies : List Shut) → IsRoutedSo task rounds arrangement routed
+    → IsGivenUpOn task rounds arrangement logs tallies → ⊥
+routed_not_given_up_on task rounds arrangement routed logs tallies (one, is, on, so) (layout, laid, here, all) =
     let same = same_layout task layout one laid is (here ∙ sym on) in
     routed_not_given_up task.parts (plan_in one) rounds routed logs tallies so (subst (λ (l : Layout). IsGivenUp task.parts (plan_in l) rounds logs tallies) same all)
 
-pub given_up_not_stuck_on : (task : Task) (rounds : ℕ) (placement : List TileAt) (logs : List RoundLog) (tallies : List Shut) (net : NetNo) (sink : WireNo) → IsGivenUpOn task rounds placement logs tallies
-    → IsStuckOn task placement net sink → ⊥
-given_up_not_stuck_on task rounds placement logs tallies net sink (layout, laid, here, all) (other, laid', there, stuck) =
+pub given_up_not_stuck_on : (task : Task) (rounds : ℕ) (arrangement : Arrangement) (logs : List RoundLog) (tallies : List Shut) (net : NetNo) (sink : WireNo) → IsGivenUpOn task rounds arrangement logs tallies
+    → IsStuckOn task arrangement net sink → ⊥
+given_up_not_stuck_on task rounds arrangement logs tallies net sink (layout, laid, here, all) (other, laid', there, stuck) =
     let same = same_layout task other layout laid' laid (there ∙ sym here) in
     given_up_not_stuck task.parts (plan_in layout) rounds logs tallies net sink all (subst (λ (l : Layout). IsStuck task.parts (plan_in l) net sink) same stuck)
 
-pub stuck_on_one : (task : Task) (placement : List TileAt) (net other : NetNo) (sink last : WireNo) → IsStuckOn task placement net sink → IsStuckOn task placement other last
+pub stuck_on_one : (task : Task) (arrangement : Arrangement) (net other : NetNo) (sink last : WireNo) → IsStuckOn task arrangement net sink → IsStuckOn task arrangement other last
     → (net ≡ other) × (sink ≡ last)
-stuck_on_one task placement net other sink last (layout, laid, here, stuck) (layout', laid', there, stuck') =
+stuck_on_one task arrangement net other sink last (layout, laid, here, stuck) (layout', laid', there, stuck') =
     let same = same_layout task layout' layout laid' laid (there ∙ sym here) in
     stuck_at_one task.parts (plan_in layout) net other sink last stuck (subst (λ (l : Layout). IsStuck task.parts (plan_in l) other last) same stuck')

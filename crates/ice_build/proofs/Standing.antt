@@ -1,7 +1,6 @@
 -- Placed designs stand on their chip.
 use Rattle.std.proofs.Common.{◌≡◌, ℕ, Option, Some, None, List, refl, sym, subst}
 use Rattle.std.specs.Prelude.{Ok, bytes_eq}
-use Rattle.std.proofs.lemmas.List.Sorted.{IsPermutation-refl}
 use Rattle.ice_value.proofs.Members.{find_Has}
 use Rattle.ice_net.specs.NetlistData.{NetlistData}
 use Rattle.ice_pcf.specs.declared.constraint.Constraint.{Constraint}
@@ -9,10 +8,10 @@ use Rattle.ice_chip.specs.Database.{Parts, PackageRows}
 use Rattle.ice_chip.specs.IsRead.{IsChip}
 use Rattle.ice_chip.specs.Lookups.{package_of}
 use Rattle.ice_cells.specs.Clusterings.{IsClustering}
-use Rattle.ice_cells.specs.Clusters.{loose_flops, loose_plains, clusters_of}
 use Rattle.ice_cells.specs.Formed.{IsFormed}
 use Rattle.ice_cells.specs.Meaning.{HasValues}
 use Rattle.ice_cells.specs.declared.design.Design.{Design}
+use Rattle.ice_cluster.specs.Orders.{RanksGiveClusterings}
 use Rattle.ice_pack_form.specs.FormLaws.{DesignsAreFormed, DesignsHaveValues}
 use Rattle.ice_pack_laws.specs.PackLaws.{IsSoundInOrder}
 use Rattle.ice_pads.specs.Assign.{PadsData, assigned, assign_of}
@@ -36,26 +35,16 @@ package_there parts name constraints n d pads said = by (package_of parts name) 
 abbrev pub SitesAreLegal : Type 0
 SitesAreLegal = (parts : Parts) → (chunks : List (Option (ℕ × ℕ))) → (at : List TileAt) → IsLegal (stretches_of parts) chunks at → IsLegalOn parts chunks at
 
--- the order of the design is one
-own_order : (d : Design) → IsClustering d (clusters_of d)
-own_order d = record {
-  flops = loose_flops d.cells d.runs;
-  plains = loose_plains d.cells d.runs;
-  flops_are = IsPermutation-refl (loose_flops d.cells d.runs);
-  plains_are = IsPermutation-refl (loose_plains d.cells d.runs);
-  is = refl;
-}
-
-pub stands : (parts : Parts) (n : NetlistData) (order : List ℕ) → IsChip parts → IsSoundInOrder n order → DesignsAreFormed → DesignsHaveValues → AssignedPadsFit → SitesAreLegal
+pub stands : (parts : Parts) (n : NetlistData) (order : List ℕ) → IsChip parts → IsSoundInOrder n order → DesignsAreFormed → DesignsHaveValues → RanksGiveClusterings → AssignedPadsFit → SitesAreLegal
     → (name : List ℕ) (constraints : List Constraint) (layout : Layout) → IsOnSites (task_of parts name constraints n) layout → StandsOn parts name layout
-stands parts n order chip sound formed values fit legal name constraints layout laid =
+stands parts n order chip sound formed values ranked fit legal name constraints layout laid =
     let there = package_there parts name constraints n layout.design layout.pads laid.pads in (
       there.0,
       there.1,
       record {
         formed = subst IsFormed (sym laid.design) (formed n order sound);
         values = subst HasValues (sym laid.design) (values n order sound);
-        clusters = subst (IsClustering layout.design) (sym laid.clusters) (own_order layout.design);
+        clusters = subst (IsClustering layout.design) (sym laid.clusters) (ranked layout.ranks layout.design);
         legal = legal parts (chunks_of layout.clusters.list) layout.placement laid.legal;
         «package» = (find_Has (λ (p : PackageRows). bytes_eq p.name name) parts.packages there.0 there.1).0;
         pads = fit parts name constraints n layout.design there.0 layout.pads chip there.1 laid.pads;

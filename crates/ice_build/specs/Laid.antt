@@ -6,12 +6,14 @@ use Rattle.ice_pcf.specs.declared.constraint.Constraint.{Constraint}
 use Rattle.ice_chip.specs.Database.{Parts, PackageRows}
 use Rattle.ice_chip.specs.Lookups.{package_of}
 use Rattle.ice_cells.specs.Clusters.{clusters_of}
+use Rattle.ice_cells.specs.Ranks.{clusters_by}
 use Rattle.ice_cells.specs.Runs.{design_of}
 use Rattle.ice_cells.specs.declared.cluster.Clusters.{Clusters}
 use Rattle.ice_cells.specs.declared.design.Design.{Design}
 use Rattle.ice_sites.specs.Legal.{IsLegal}
 use Rattle.ice_sites.specs.Stretches.{stretches_of}
 use Rattle.ice_place.specs.Place.{chunks_of, place_of}
+use Rattle.ice_place.specs.declared.arrangement.Arrangement.{Arrangement}
 use Rattle.ice_pads.specs.Assign.{PadsData, assign_of}
 use Rattle.ice_plan.specs.Length.{length_of}
 use Rattle.ice_plan.specs.Plan.{Plan}
@@ -34,29 +36,33 @@ task_of parts name constraints n = record { parts = parts; name = name; constrai
 abbrev pub length_on : Parts → Clusters → Design → PadsData → List TileAt → ℕ
 length_on parts clusters d pads at = length_of parts (plan_of d clusters at pads)
 
--- the placement is legal, no longer than the first one, and no exchange of two clusters and no move of one to a free site makes it
--- shorter
+-- The placement is legal, no longer than the first one of the clusters in the order of the design, and no exchange of two clusters and no
+-- move of one to a free site makes it shorter.
 pub record IsSettled (parts : Parts) (clusters : Clusters) (d : Design) (pads : PadsData) (at : List TileAt) : Type 0 where
   pub first : List TileAt
-  pub is_first : place_of (stretches_of parts) clusters d ≡ Ok first
+  pub is_first : place_of (stretches_of parts) (clusters_of d) d ≡ Ok first
   pub legal : IsLegal (stretches_of parts) (chunks_of clusters.list) at
-  pub shorter : length_on parts clusters d pads at ≤ length_on parts clusters d pads first
+  pub shorter : length_on parts clusters d pads at ≤ length_on parts (clusters_of d) d pads first
   pub least : IsSwapLeast (length_on parts clusters d pads) (chunks_of clusters.list) (stretches_of parts) at
 
--- the packed netlist with its runs made, in its clusters, on the assigned pads, and on sites of the chip
+-- the packed netlist with its runs made, in clusters by ranks, on the assigned pads, and on sites of the chip
 pub record IsOnSites (task : Task) (layout : Layout) : Type 0 where
   pub design : layout.design ≡ design_of task.circuit
-  pub clusters : layout.clusters ≡ clusters_of layout.design
+  pub clusters : layout.clusters ≡ clusters_by layout.ranks layout.design
   pub pads : assign_of task.parts task.name task.constraints task.circuit layout.design ≡ Ok layout.pads
   pub legal : IsLegal (stretches_of task.parts) (chunks_of layout.clusters.list) layout.placement
 
 abbrev pub plan_in : Layout → Plan
 plan_in layout = plan_of layout.design layout.clusters layout.placement layout.pads
 
--- the packed netlist with its runs made, in its clusters, on the assigned pads, and placed
+-- where its cells stand
+abbrev pub arrangement_in : Layout → Arrangement
+arrangement_in layout = record { ranks = layout.ranks; placement = layout.placement }
+
+-- the packed netlist with its runs made, in clusters by ranks, on the assigned pads, and placed
 pub record IsLaidOut (task : Task) (layout : Layout) : Type 0 where
   pub design : layout.design ≡ design_of task.circuit
-  pub clusters : layout.clusters ≡ clusters_of layout.design
+  pub clusters : layout.clusters ≡ clusters_by layout.ranks layout.design
   pub pads : assign_of task.parts task.name task.constraints task.circuit layout.design ≡ Ok layout.pads
   pub placed : IsSettled task.parts layout.clusters layout.design layout.pads layout.placement
 

@@ -2,7 +2,7 @@
 use Rattle.std.specs.Prelude.{◌≡◌, ℕ, ◌≤◌, Ok, Err}
 use Rattle.ice_bits.specs.Configuration.{Configuration}
 use Rattle.ice_chip.specs.Database.{Parts}
-use Rattle.ice_cells.specs.declared.cluster.Clusters.{Clusters}
+use Rattle.ice_cells.specs.Clusters.{clusters_of}
 use Rattle.ice_cells.specs.declared.design.Design.{Design}
 use Rattle.ice_negotiate.specs.declared.fault.RouteFault.{RouteFault}
 use Rattle.ice_negotiate.specs.declared.fault.RouteFault.TheVariants as route
@@ -27,14 +27,14 @@ pub record IsPermitted (effort : Effort) : Type 0 where
   pub worked : 1 ≤ effort.workers
   pub manned : effort.workers ≤ 8
 
--- why clusters get no places
-abbrev pub IsPlaceFault : Parts → Clusters → Design → BuildFault → Type 0
-IsPlaceFault parts clusters d (Pins fault) = ⊥
-IsPlaceFault parts clusters d (Places fault) = place_of (stretches_of parts) clusters d ≡ Err fault
-IsPlaceFault parts clusters d (Unreachable layout net sink) = ⊥
-IsPlaceFault parts clusters d (GaveUp layout nets logs tallies) = ⊥
-IsPlaceFault parts clusters d (Bits fault) = ⊥
-IsPlaceFault parts clusters d NoMemory = Unit {0}
+-- why the clusters of a design get no places
+abbrev pub IsPlaceFault : Parts → Design → BuildFault → Type 0
+IsPlaceFault parts d (Pins fault) = ⊥
+IsPlaceFault parts d (Places fault) = place_of (stretches_of parts) (clusters_of d) d ≡ Err fault
+IsPlaceFault parts d (Unreachable layout net sink) = ⊥
+IsPlaceFault parts d (GaveUp layout nets logs tallies) = ⊥
+IsPlaceFault parts d (Bits fault) = ⊥
+IsPlaceFault parts d NoMemory = Unit {0}
 
 -- why a netlist is not placed
 abbrev pub IsLayFault : Task → BuildFault → Type 0

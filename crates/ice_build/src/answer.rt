@@ -2,16 +2,17 @@
 ghost use Rattle.std.specs.Prelude.{◌≡◌};
 ghost use Rattle.ice_build.specs.declared.answer.BuildFault.TheVariants.{NoMemory as out_of_memory};
 ghost use Rattle.ice_build.specs.Faults.{pin_fault, place_fault, bits_fault};
+ghost use Rattle.ice_build.specs.Laid.{arrangement_in};
 
 use ice_base::{NetNo, NoMemory, WireNo};
 use ice_bits::Bits;
 use ice_carry::CarryFault;
-use ice_cells::{Clusters, Design};
+use ice_cells::{Clusters, Design, Items};
 use ice_core::RoundLog;
 use ice_decode::DecodeFault;
 use ice_negotiate::Routed;
 use ice_pads::{Pads, PinFault};
-use ice_place::{PlaceFault, Placement};
+use ice_place::{Arrangement, PlaceFault, Placement};
 use ice_words::Tally;
 use std::fmt;
 use thiserror::Error;
@@ -27,12 +28,14 @@ pub struct Effort {
     pub workers: u32,
 }
 
-/// A placed design: its logic cells in clusters, the pads of its ports, and the tile of each cluster.
+/// A placed design: its logic cells in clusters by their ranks, the pads of its ports, and the tile of each cluster.
 #[derive(Drop)]
 pub struct Layout {
     /// The logic cells, runs, pads and global buffers.
     pub design: Design,
-    /// The clusters of the logic cells.
+    /// The rank of each cell, by which it stands among those of its kind; no ranks where they stand as the design has them.
+    pub ranks: Items<u32>,
+    /// The clusters of the logic cells, by their ranks.
     pub clusters: Clusters,
     /// The pad of each port, and the global of each global buffer.
     pub pads: Pads,
@@ -40,11 +43,14 @@ pub struct Layout {
     pub placement: Placement,
 }
 
-/// The placement of a placed design, of which the rest is let go.
-pub fn placement_of(layout: Layout) -> Placement
-    ensures { result ≡ layout.placement }
+/// Where the cells of a placed design stand, of which the rest is let go.
+pub fn arrangement_of(layout: Layout) -> Arrangement
+    ensures { result ≡ arrangement_in layout }
 {
-    layout.placement
+    Arrangement {
+        ranks: layout.ranks,
+        placement: layout.placement,
+    }
 }
 
 /// What is told of the rounds of routes, of which the rest is let go.

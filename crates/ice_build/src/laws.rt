@@ -12,11 +12,12 @@ ghost use Rattle.ice_build.specs.declared.answer.Layout.{Layout};
 
 use ice_check::Sound;
 use ice_chip::Chip;
+use ice_cluster::laws::ranks_give_clusterings;
 use ice_pack_form::laws::{designs_are_formed, designs_have_values, designs_show_the_same};
 use ice_pads::assigned_pads_fit;
 use ice_sites::clusters_stand_on_sites;
 
-/// The design of a sound netlist, wherever on sites of the chip its clusters are, keeps to its form and has no loop; its clusters stand
+/// The design of a sound netlist, whatever the ranks of its cells are and wherever on sites of the chip its clusters are, keeps to its form and has no loop; its clusters stand
 /// on those sites, and its ports have pads of the package, with the wires that they need.
 pub fn designs_stand_on_their_chip(chip: &Chip, sound: &Sound)
     ensures { (name : List ℕ) (constraints : List Constraint) (layout : Layout) → IsOnSites (task_of chip.now name constraints sound.now) layout → StandsOn chip.now name layout }
@@ -26,6 +27,7 @@ pub fn designs_stand_on_their_chip(chip: &Chip, sound: &Sound)
     sound.signal_order();
     designs_are_formed();
     designs_have_values();
+    ranks_give_clusterings();
     assigned_pads_fit();
     clusters_stand_on_sites();
 }

@@ -1,6 +1,7 @@
 //! The placed design of a netlist.
 ghost use Rattle.std.specs.Prelude.{◌≡◌, IfOk, IfErr};
-ghost use Rattle.ice_cells.specs.Clusterings.{IsClustering};
+ghost use Rattle.ice_cells.specs.Clusters.{clusters_of};
+ghost use Rattle.ice_cells.specs.Ranks.{clusters_by};
 ghost use Rattle.ice_cells.specs.Runs.{design_of};
 ghost use Rattle.ice_rows.specs.Index.{IsIndexOf};
 ghost use Rattle.ice_build.specs.Laid.{IsLaidOut, IsSettled, task_of};
@@ -8,17 +9,17 @@ ghost use Rattle.ice_build.specs.Stages.{IsPlaceFault, IsLayFault};
 ghost use Rattle.ice_build.specs.declared.answer.BuildFault.TheVariants.{NoMemory as out_of_memory};
 
 use crate::answer::{BuildFault, Layout};
-use ice_anneal::improve;
 use ice_base::NoMemory;
 use ice_carry::runs;
 use ice_cells::{Clusters, Design};
 use ice_check::Sound;
 use ice_chip::Chip;
 use ice_cluster::cluster;
+use ice_orders::{Ordered, Settled, settle};
 use ice_pack::pack;
 use ice_pads::{Pads, indexed_assign};
 use ice_pcf::Pcf;
-use ice_place::{Placement, first_place};
+use ice_place::first_place;
 use ice_rows::{Index, index_of};
 use ice_sites::indexed_sites;
 use std::alloc::Global;
@@ -36,28 +37,29 @@ pub fn design_of(alloc: Global, sound: &Sound) -> Result<Design, BuildFault>
     Ok(design)
 }
 
-// A placement of the clusters that is no longer than the first one, and that no exchange and no move makes shorter.
+// Clusters by ranks, and a placement of them that is no longer than the first one, and that no exchange and no move makes shorter.
 fn place(
     alloc: Global,
     chip: &Chip,
     index: &Index<'_>,
-    clusters: &Clusters,
+    clusters: Clusters,
     design: &Design,
     pads: &Pads,
     seed: u64,
-) -> Result<Placement, BuildFault>
+) -> Result<Settled, BuildFault>
     requires index { IsIndexOf chip.now index.now }
-    requires clusters { IsClustering design.now clusters.now }
-    ensures placed { IfOk result (IsSettled chip.now clusters.now design.now pads.now) }
-    ensures fault { IfErr result (IsPlaceFault chip.now clusters.now design.now) }
+    requires clusters { clusters ≡ clusters_of design.now }
+    ensures clusters { IfOk result (λ made. made.ordered.clusters ≡ clusters_by made.ordered.ranks design.now) }
+    ensures placed { IfOk result (λ made. IsSettled chip.now made.ordered.clusters design.now pads.now made.placement) }
+    ensures fault { IfErr result (IsPlaceFault chip.now design.now) }
 {
     let sites = indexed_sites(alloc, chip, index)?;
-    let first = first_place(alloc, &sites, clusters, design)?;
-    let placement = improve(alloc, chip, first, &sites, clusters, design, pads, seed)?;
-    Ok(placement)
+    let first = first_place(alloc, &sites, &clusters, design)?;
+    let made = settle(alloc, chip, &sites, design, clusters, first, pads, seed)?;
+    Ok(made)
 }
 
-// The placed design, of its clusters and pads.
+// The placed design, of its clusters in the order of the design, and its pads.
 fn lay(
     alloc: Global,
     chip: &Chip,
@@ -68,16 +70,18 @@ fn lay(
     seed: u64,
 ) -> Result<Layout, BuildFault>
     requires index { IsIndexOf chip.now index.now }
-    requires clusters { IsClustering design clusters }
+    requires clusters { clusters ≡ clusters_of design }
     ensures design { IfOk result (λ layout. layout.design ≡ design) }
-    ensures clusters { IfOk result (λ layout. layout.clusters ≡ clusters) }
+    ensures clusters { IfOk result (λ layout. layout.clusters ≡ clusters_by layout.ranks design) }
     ensures pads { IfOk result (λ layout. layout.pads ≡ pads) }
-    ensures placed { IfOk result (λ layout. IsSettled chip.now clusters design pads layout.placement) }
-    ensures fault { IfErr result (IsPlaceFault chip.now clusters design) }
+    ensures placed { IfOk result (λ layout. IsSettled chip.now layout.clusters design pads layout.placement) }
+    ensures fault { IfErr result (IsPlaceFault chip.now design) }
 {
-    let placement = place(alloc, chip, index, &clusters, &design, &pads, seed)?;
+    let Settled { ordered, placement } = place(alloc, chip, index, clusters, &design, &pads, seed)?;
+    let Ordered { ranks, clusters } = ordered;
     Ok(Layout {
         design,
+        ranks,
         clusters,
         pads,
         placement,
@@ -108,7 +112,7 @@ pub fn indexed_lay_out(
     Ok(layout)
 }
 
-/// The placed design of a netlist: packed, its runs made, in clusters, with the assigned pads, and placed on the chip's sites.
+/// The placed design of a netlist: packed, its runs made, in clusters by ranks, with the assigned pads, and placed on the chip's sites.
 ///
 /// # Errors
 /// The fault of the pins, then that of the places; want of memory.

@@ -2,12 +2,14 @@
 //! that are left.
 #![tactic(auto)]
 
+mod arrangement;
 mod fault;
 mod first;
 mod fit;
 mod placement;
 mod refusal;
 
+pub use arrangement::Arrangement;
 pub use fault::PlaceFault;
 pub use first::first_place;
 pub use placement::Placement;
