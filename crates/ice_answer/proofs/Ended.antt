@@ -17,7 +17,7 @@ use Rattle.ice_answer.proofs.Commanding.{refusal_is_true, put_behind, put_is_tru
 
 -- ---- what came of the making
 pub made_of_texts : (k : Command) (old new : Meaning) (texts : List (List ℕ)) (result : Result Made Cause) → AreTexts k.files old texts → new.makes ≡ old.makes
-    → IfOk result (λ made. k.Gives texts made.texts made.placement made.tallies.items) → IfErr result (λ cause. IsRefusal (k.Stands texts) cause) → IsMadeOf k old new result
+    → IfOk result (λ made. k.Gives texts made.texts made.arrangement made.tallies.items) → IfErr result (λ cause. IsRefusal (k.Stands texts) cause) → IsMadeOf k old new result
 made_of_texts k old new texts (Ok made) are same gives refused = (texts, are, gives)
 made_of_texts k old new texts (Err refusal) are same gives refused = refusal_is_true k old new texts refusal are same refused
 
@@ -114,10 +114,10 @@ left_end k files file text old mid written new cause read gave is of left line =
     let silent = silent_left file.name old mid written read left.same in
     let parted = parted_by (with_parting k files (Some file)) file text old mid written new cause read left line.same of in
     record {
-      is_true = of_given_up (λ c. IsTrueOf (with_parting k files (Some file)) old mid c → IsTrueOf (with_parting k files (Some file)) old new c) (λ placement logs tallies. λ x. x) cause gave is;
+      is_true = of_given_up (λ c. IsTrueOf (with_parting k files (Some file)) old mid c → IsTrueOf (with_parting k files (Some file)) old new c) (λ arrangement logs tallies. λ x. x) cause gave is;
       said = λ t. after_silence old written new (line_of cause) silent (line.said (left.same.tells ∙ read.tells ∙ t));
-      kept = λ t name apart. parted.others t name (of_given_up (λ c. IsOther name (changed_by (InFiles files) (Some file) c) → name ≢ file.name) (λ placement logs tallies. λ x. x.0) cause gave apart);
-      made = of_given_up (λ c. MadeRow (InFiles files) (Some file) old new c) (λ placement logs tallies. parted.made) cause gave;
+      kept = λ t name apart. parted.others t name (of_given_up (λ c. IsOther name (changed_by (InFiles files) (Some file) c) → name ≢ file.name) (λ arrangement logs tallies. λ x. x.0) cause gave apart);
+      made = of_given_up (λ c. MadeRow (InFiles files) (Some file) old new c) (λ arrangement logs tallies. parted.made) cause gave;
       silent = silent_behind old written new cause silent line.silent;
       parted = λ other e gave_up. subst (λ (f : File). IsParted (with_parting k files (Some file)) f old new cause) (same_file other e) parted;
     }
@@ -141,8 +141,8 @@ refusal_end k files (Some file) (Some text) old mid written new cause read refus
 pub end_is_aloud : (k : Command) (old mid new : Meaning) (result : Result Made Cause) (cause : Cause) → SameButReading old mid → IsMadeOf (aloud k) old mid result → IsEndAloud result mid new cause
     → IsEndOf (aloud k) old new cause
 end_is_aloud k old mid new (Ok made) cause read of end = record {
-  is_true = put_is_true (aloud k) old new made.texts made.placement made.tallies.items cause of (put_behind Aloud made.texts made.placement made.tallies.items old mid new cause read end.put);
-  said = λ t. put_said made.texts made.placement made.tallies.items old mid new cause end.put;
+  is_true = put_is_true (aloud k) old new made.texts made.arrangement made.tallies.items cause of (put_behind Aloud made.texts made.arrangement made.tallies.items old mid new cause read end.put);
+  said = λ t. put_said made.texts made.arrangement made.tallies.items old mid new cause end.put;
   kept = λ t name apart. files_same old new name (end.same.files ∙ read.files);
   made = end.same.makes ∙ read.makes;
   silent = tt;
@@ -154,19 +154,19 @@ end_is_aloud k old mid new (Ok made) cause read of end = record {
 end_is_aloud k old mid new (Err refusal) cause read of end =
     refused_aloud k old mid new cause read (subst IsRefused (sym end.is_cause) of.0) (subst (λ (x : Cause). IsTrueOf (aloud k) old mid x) (sym end.is_cause) of.1) end.line
 
-given_end : (k : Command) (files : Files) (made : Made) (old mid new : Meaning) (cause : Cause) → SameButReading old mid → OfTexts k.files old (λ texts. k.Gives texts made.texts made.placement made.tallies.items)
-    → AreFilesGiven files made.texts made.placement made.tallies.items mid new cause → IsEndOf (in_files k files) old new cause
+given_end : (k : Command) (files : Files) (made : Made) (old mid new : Meaning) (cause : Cause) → SameButReading old mid → OfTexts k.files old (λ texts. k.Gives texts made.texts made.arrangement made.tallies.items)
+    → AreFilesGiven files made.texts made.arrangement made.tallies.items mid new cause → IsEndOf (in_files k files) old new cause
 given_end k files made old mid new cause read of end =
-    let put = put_stays files made.texts made.placement made.tallies.items old end.written new cause end.line.same
-    (put_behind (InFiles files) made.texts made.placement made.tallies.items old mid end.written cause read end.put) in
+    let put = put_stays files made.texts made.arrangement made.tallies.items old end.written new cause end.line.same
+    (put_behind (InFiles files) made.texts made.arrangement made.tallies.items old mid end.written cause read end.put) in
     let silent = silent_written old mid end.written read end.same in
     record {
-      is_true = put_is_true (in_files k files) old new made.texts made.placement made.tallies.items cause of put;
+      is_true = put_is_true (in_files k files) old new made.texts made.arrangement made.tallies.items cause of put;
       said = λ t. after_silence old end.written new (line_of cause) silent (end.line.said (end.same.tells ∙ read.tells ∙ t));
-      kept = λ t. put_kept files k.parting made.texts made.placement made.tallies.items old new cause t put;
-      made = put_made files k.parting made.texts made.placement made.tallies.items old new cause put;
+      kept = λ t. put_kept files k.parting made.texts made.arrangement made.tallies.items old new cause t put;
+      made = put_made files k.parting made.texts made.arrangement made.tallies.items old new cause put;
       silent = silent_behind old end.written new cause silent end.line.silent;
-      parted = λ file e gave. absurd (put_not_given_up files made.texts made.placement made.tallies.items old new cause put gave);
+      parted = λ file e gave. absurd (put_not_given_up files made.texts made.arrangement made.tallies.items old new cause put gave);
     }
 
 pub end_is_in_files : (k : Command) (files : Files) (old mid new : Meaning) (result : Result Made Refused) (cause : Cause) → SameButReading old mid

@@ -4,7 +4,7 @@ use Rattle.std.specs.Global.{Vec}
 use Rattle.ice_answer.specs.declared.cause.Cause.{Cause}
 use Rattle.ice_answer.specs.declared.cause.Cause.TheVariants.{Good, Usage, BadBlif, BadPcf, BadChip, BadNet, BadPin, Overfull, Unreachable, GaveUp, ReadFault, WriteFault, NoMemory, BadAsc, BadBits, TooLong, BadLevels}
 use Rattle.ice_answer.specs.declared.cause.FileRole.{FileRole}
-use Rattle.ice_base.specs.declared.number.TileAt.{TileAt}
+use Rattle.ice_place.specs.declared.arrangement.Arrangement.{Arrangement}
 use Rattle.ice_answer.specs.Refusals.{IsBlifRefusal, IsPcfRefusal, IsChipRefusal, IsNetRefusal, IsAscRefusal, IsBitsRefusal, IsPinRefusal, IsPlaceRefusal}
 use Rattle.ice_answer.specs.Commands.{IsDone, stands_by, stands_with, IsRefusal}
 use Rattle.ice_blif.specs.declared.fault.BlifFault.{BlifFault}
@@ -60,8 +60,8 @@ pub some_stands : {V : Type 0} (found : Option V) (told : Cause) (then : V → C
 some_stands found told then value cause e is = rw e at is
 
 -- what is true of each answer of done work
-pub of_done : (P : Cause → Type 0) → ((placement : List TileAt) (tallies : Vec Shut) → P (Good placement tallies)) → ((role : FileRole) (put : ℕ) → P (WriteFault role put)) → (cause : Cause) → IsDone cause → P cause
-of_done P good cut (Good placement tallies) done = good placement tallies
+pub of_done : (P : Cause → Type 0) → ((arrangement : Arrangement) (tallies : Vec Shut) → P (Good arrangement tallies)) → ((role : FileRole) (put : ℕ) → P (WriteFault role put)) → (cause : Cause) → IsDone cause → P cause
+of_done P good cut (Good arrangement tallies) done = good arrangement tallies
 of_done P good cut Usage done = absurd done
 of_done P good cut (BadBlif fault) done = absurd done
 of_done P good cut (BadPcf fault) done = absurd done
@@ -69,8 +69,8 @@ of_done P good cut (BadChip fault) done = absurd done
 of_done P good cut (BadNet fault) done = absurd done
 of_done P good cut (BadPin fault) done = absurd done
 of_done P good cut (Overfull fault) done = absurd done
-of_done P good cut (Unreachable placement net sink) done = absurd done
-of_done P good cut (GaveUp placement logs tallies) done = absurd done
+of_done P good cut (Unreachable arrangement net sink) done = absurd done
+of_done P good cut (GaveUp arrangement logs tallies) done = absurd done
 of_done P good cut (ReadFault role) done = absurd done
 of_done P good cut (WriteFault role put) done = cut role put
 of_done P good cut NoMemory done = absurd done

@@ -4,7 +4,7 @@ use Rattle.ice_answer.specs.declared.cause.Cause.{Cause}
 use Rattle.ice_answer.specs.declared.cause.Cause.TheVariants.{Good, Usage, BadBlif, BadPcf, BadChip, BadNet, BadPin, Overfull, Unreachable, GaveUp, ReadFault, WriteFault, NoMemory, BadAsc, BadBits, TooLong, BadLevels}
 use Rattle.ice_answer.specs.declared.cause.FileRole.{FileRole}
 use Rattle.ice_answer.specs.declared.cause.FileRole.TheVariants.{Chip, Pcf, Blif, Asc, Levels, Pins, Report, Standard}
-use Rattle.ice_base.specs.declared.number.TileAt.{TileAt}
+use Rattle.ice_place.specs.declared.arrangement.Arrangement.{Arrangement}
 use Rattle.ice_base.specs.declared.number.WireNo.{WireNo}
 use Rattle.ice_asc.specs.declared.fault.AscFault.{AscFault}
 use Rattle.ice_asc.specs.declared.fault.AscFault.TheVariants as asc_fault
@@ -23,12 +23,12 @@ use Rattle.ice_pcf.specs.declared.fault.PcfFault.TheVariants as pcf_fault
 use Rattle.ice_place.specs.declared.fault.PlaceFault.{PlaceFault}
 use Rattle.ice_place.specs.declared.fault.PlaceFault.TheVariants as place_fault
 
--- the placement of no cluster
-abbrev pub no_places : List TileAt
-no_places = []
+-- the arrangement of no cell
+abbrev pub no_arrangement : Arrangement
+no_arrangement = record { ranks = []; placement = [] }
 
 abbrev pub status_of : Cause → ℕ
-status_of (Good placement tallies) = 0
+status_of (Good arrangement tallies) = 0
 status_of Usage = 2
 status_of (BadBlif fault) = 3
 status_of (BadPcf fault) = 4
@@ -36,8 +36,8 @@ status_of (BadChip fault) = 5
 status_of (BadNet fault) = 6
 status_of (BadPin fault) = 7
 status_of (Overfull fault) = 8
-status_of (Unreachable placement net sink) = 9
-status_of (GaveUp placement logs tallies) = 10
+status_of (Unreachable arrangement net sink) = 9
+status_of (GaveUp arrangement logs tallies) = 10
 status_of (ReadFault role) = 11
 status_of (WriteFault role put) = 12
 status_of NoMemory = 13
@@ -180,7 +180,7 @@ bits_line decode_fault.NoMemory = joined (codes "error 15 bits nomemory\n" ∷ [
 
 -- the line that an answer says: nothing where the work is done
 abbrev pub line_of : Cause → List ℕ
-line_of (Good placement tallies) = []
+line_of (Good arrangement tallies) = []
 line_of Usage = joined (codes "error 2 usage\n" ∷ [])
 line_of (BadBlif fault) = blif_line fault
 line_of (BadPcf fault) = pcf_line fault
@@ -188,8 +188,8 @@ line_of (BadChip fault) = chip_line fault
 line_of (BadNet fault) = net_line fault
 line_of (BadPin fault) = pin_line fault
 line_of (Overfull fault) = place_line fault
-line_of (Unreachable placement net sink) = two_line (codes "error 9 unreachable net ") net.0 (codes " sink ") sink.0
-line_of (GaveUp placement logs tallies) = number_line (codes "error 10 gaveup rounds ") (length logs.items)
+line_of (Unreachable arrangement net sink) = two_line (codes "error 9 unreachable net ") net.0 (codes " sink ") sink.0
+line_of (GaveUp arrangement logs tallies) = number_line (codes "error 10 gaveup rounds ") (length logs.items)
 line_of (ReadFault role) = joined (codes "error 11 read " ∷ role_name role ∷ codes "\n" ∷ [])
 line_of (WriteFault role put) = joined (codes "error 12 write " ∷ role_name role ∷ codes " put " ∷ decimal put ∷ codes "\n" ∷ [])
 line_of NoMemory = joined (codes "error 13 memory\n" ∷ [])

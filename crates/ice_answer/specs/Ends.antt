@@ -1,7 +1,7 @@
 -- How a command ends: what was made is given, or the line of a refusal is said.
 use Rattle.std.specs.Prelude.{◌≡◌, ℕ, Vec, ◌≤◌, true, List, Option, None, Some, Result, Ok, Err}
 use Rattle.std.specs.declared.alloc.Global.{Global}
-use Rattle.ice_base.specs.declared.number.TileAt.{TileAt}
+use Rattle.ice_place.specs.declared.arrangement.Arrangement.{Arrangement}
 use Rattle.ice_desk.specs.Desk.{Meaning, SameButSaying, SameButWriting, after_one}
 use Rattle.ice_desk.specs.Said.{SaidRow}
 use Rattle.ice_words.specs.Grips.{Shut}
@@ -27,10 +27,10 @@ pub record IsRefusalSaid (refusal : Cause) (old new : Meaning) (cause : Cause) :
   pub is_cause : cause ≡ refusal
   pub line : IsLineSaid old new cause
 
--- the first of texts with this placement and these tallies was said
-pub record IsTextGiven (texts : List (List ℕ)) (placement : List TileAt) (tallies : List Shut) (old new : Meaning) (cause : Cause) : Type 0 where
+-- the first of texts with this arrangement and these tallies was said
+pub record IsTextGiven (texts : List (List ℕ)) (arrangement : Arrangement) (tallies : List Shut) (old new : Meaning) (cause : Cause) : Type 0 where
   pub same : SameButSaying old new
-  pub put : IsPut Aloud texts placement tallies old new cause
+  pub put : IsPut Aloud texts arrangement tallies old new cause
 
 -- all but files, what is taken, and the counts of writing is as before
 pub record SameButFiles (old new : Meaning) : Type 0 where
@@ -45,10 +45,10 @@ pub record SameButFiles (old new : Meaning) : Type 0 where
   pub write_faults : old.write_faults ≤ new.write_faults
 
 -- the texts were written to these files, one after another, and then the line of the cause was said
-pub record AreFilesGiven (files : Files) (texts : List (List ℕ)) (placement : List TileAt) (tallies : List Shut) (old new : Meaning) (cause : Cause) : Type 0 where
+pub record AreFilesGiven (files : Files) (texts : List (List ℕ)) (arrangement : Arrangement) (tallies : List Shut) (old new : Meaning) (cause : Cause) : Type 0 where
   pub written : Meaning
   pub same : SameButFiles old written
-  pub put : IsPut (InFiles files) texts placement tallies old written cause
+  pub put : IsPut (InFiles files) texts arrangement tallies old written cause
   pub line : IsLineSaid written new cause
 
 -- this text was written to the file of this name, as far as no call failed
@@ -70,7 +70,7 @@ pub record IsLeftAndSaid (parting : Option File) (report : Option (List ℕ)) (r
   pub said : IsRefusalSaid refusal written new cause
 
 abbrev pub IsEndAloud : Result Made Cause → Meaning → Meaning → Cause → Type 0
-IsEndAloud (Ok made) old new cause = IsTextGiven made.texts made.placement made.tallies.items old new cause
+IsEndAloud (Ok made) old new cause = IsTextGiven made.texts made.arrangement made.tallies.items old new cause
 IsEndAloud (Err refusal) old new cause = IsRefusalSaid refusal old new cause
 
 -- the text that is to be left
@@ -79,14 +79,14 @@ text_of None = None
 text_of (Some text) = Some text.items
 
 abbrev pub IsEndInFiles : Files → Option File → Result Made Refused → Meaning → Meaning → Cause → Type 0
-IsEndInFiles files parting (Ok made) old new cause = AreFilesGiven files made.texts made.placement made.tallies.items old new cause
+IsEndInFiles files parting (Ok made) old new cause = AreFilesGiven files made.texts made.arrangement made.tallies.items old new cause
 IsEndInFiles files parting (Err refused) old new cause = IsLeftAndSaid parting (text_of refused.report) refused.cause old new cause
 
 -- ---- what it is to a command
 -- What came of the making, where the desk was seen as `old` before the files were read, and is seen as `new` after: what the texts give,
 -- or a refusal that is true of the command.
 abbrev pub IsMadeOf : Command → Meaning → Meaning → Result Made Cause → Type 0
-IsMadeOf k old new (Ok made) = OfTexts k.files old (λ texts. k.Gives texts made.texts made.placement made.tallies.items)
+IsMadeOf k old new (Ok made) = OfTexts k.files old (λ texts. k.Gives texts made.texts made.arrangement made.tallies.items)
 IsMadeOf k old new (Err refusal) = IsRefused refusal × IsTrueOf k old new refusal
 
 -- no text was too long, or that is the refusal

@@ -1,7 +1,7 @@
 -- When each answer of a command comes: only where its cause is true, and always there, unless the desk or the memory fails.
 use Rattle.std.specs.Prelude.{◌≡◌, ◌≢◌, ◌⊎◌, ◌↔◌, ℕ, ◌<◌, ◌≤◌, true, Option, Some, List, [], ◌∷◌, ◌++◌, length}
 use Rattle.std.specs.Global.{Vec}
-use Rattle.ice_base.specs.declared.number.TileAt.{TileAt}
+use Rattle.ice_place.specs.declared.arrangement.Arrangement.{Arrangement}
 use Rattle.ice_desk.specs.Desk.{Meaning, Rose, after_one, HoldsAfter}
 use Rattle.ice_desk.specs.Said.{SaidRow}
 use Rattle.ice_words.specs.Grips.{Shut}
@@ -23,26 +23,26 @@ pub record ComesExactly (k : Command) (old : Meaning) (IsSuch : Cause → Type 0
 
 -- status 0, or 12 where a fault of writing comes in between: exactly where the texts give something
 abbrev pub DoneRow : Command → Meaning → Cause → Type 0
-DoneRow k old cause = ComesExactly k old IsDone (λ texts. (made : List (List ℕ)) × (placement : List TileAt) × (tallies : List Shut) × k.Gives texts made placement tallies) cause
+DoneRow k old cause = ComesExactly k old IsDone (λ texts. (made : List (List ℕ)) × (arrangement : Arrangement) × (tallies : List Shut) × k.Gives texts made arrangement tallies) cause
 
 -- what was made stands where it was to be given: the first text was said, or each file holds its text, unless a later one has the same name
 abbrev pub IsThere : Output → List (List ℕ) → Meaning → Meaning → Type 0
 IsThere Aloud texts old new = new.said ≡ old.said ++ text_at texts 1
 IsThere (InFiles files) texts old new = HoldFrom 1 files texts new
 
--- what the texts of the files give with this placement and these tallies stands where it was to be given
-pub record IsHeld (k : Command) (old new : Meaning) (placement : List TileAt) (tallies : List Shut) : Type 0 where
+-- what the texts of the files give with this arrangement and these tallies stands where it was to be given
+pub record IsHeld (k : Command) (old new : Meaning) (arrangement : Arrangement) (tallies : List Shut) : Type 0 where
   pub texts : List (List ℕ)
   pub made : List (List ℕ)
   pub hold : HoldsTexts k.files old texts
-  pub gives : k.Gives texts made placement tallies
+  pub gives : k.Gives texts made arrangement tallies
   pub there : IsThere k.output made old new
 
--- status 0: the work is done; and where the desk tells its contents, what was given is what the texts give with the placement and
+-- status 0: the work is done; and where the desk tells its contents, what was given is what the texts give with the arrangement and
 -- the tallies that are told
 pub record GoodRow (k : Command) (old new : Meaning) (cause : Cause) (status : ℕ) : Type 0 where
-  pub done : status ≡ 0 → (placement : List TileAt) × (tallies : Vec Shut) × (cause ≡ Good placement tallies)
-  pub held : (placement : List TileAt) (tallies : Vec Shut) → cause ≡ Good placement tallies → old.tells ≡ true → IsHeld k old new placement tallies.items
+  pub done : status ≡ 0 → (arrangement : Arrangement) × (tallies : Vec Shut) × (cause ≡ Good arrangement tallies)
+  pub held : (arrangement : Arrangement) (tallies : Vec Shut) → cause ≡ Good arrangement tallies → old.tells ≡ true → IsHeld k old new arrangement tallies.items
 
 -- status 11: only where the count of read faults rose in this call
 abbrev pub ReadFaultRow : Command → Meaning → Meaning → Cause → Type 0
@@ -71,9 +71,9 @@ SaidBy (InFiles files) old new cause = SaidRow old new (line_of cause)
 -- alone, where the rounds gave up
 abbrev pub changed_by : Output → Option File → Cause → Files
 changed_by Aloud parting cause = []
-changed_by (InFiles files) parting (Good placement tallies) = files
+changed_by (InFiles files) parting (Good arrangement tallies) = files
 changed_by (InFiles files) parting (WriteFault role put) = files
-changed_by (InFiles files) (Some file) (GaveUp placement logs tallies) = file ∷ []
+changed_by (InFiles files) (Some file) (GaveUp arrangement logs tallies) = file ∷ []
 changed_by (InFiles files) parting cause = []
 
 -- where the desk tells, no other file changed
@@ -84,9 +84,9 @@ KeptRow output parting old new cause = (name : List ℕ) → IsOther name (chang
 -- parting file, where the rounds gave up; and else none
 abbrev pub MadeRow : Output → Option File → Meaning → Meaning → Cause → Type 0
 MadeRow Aloud parting old new cause = new.makes ≡ old.makes
-MadeRow (InFiles files) parting old new (Good placement tallies) = MadeMore (length files) old new
+MadeRow (InFiles files) parting old new (Good arrangement tallies) = MadeMore (length files) old new
 MadeRow (InFiles files) parting old new (WriteFault role put) = (place : ℕ) × (0 < place) × (place ≤ length files) × MadeMore place old new
-MadeRow (InFiles files) (Some file) old new (GaveUp placement logs tallies) = new.makes ≡ after_one old.makes
+MadeRow (InFiles files) (Some file) old new (GaveUp arrangement logs tallies) = new.makes ≡ after_one old.makes
 MadeRow (InFiles files) parting old new cause = new.makes ≡ old.makes
 
 -- where a command that writes is done, nothing was said, over every desk

@@ -1,18 +1,19 @@
 //! The answers of the program, each with its cause.
 
 ghost use Rattle.std.specs.Prelude.{◌≡◌, []};
-ghost use Rattle.ice_answer.specs.Causes.{no_places};
+ghost use Rattle.ice_answer.specs.Causes.{no_arrangement};
 
 use ice_asc::AscFault;
 use ice_base::{NetNo, WireNo};
 use ice_blif::BlifFault;
+use ice_cells::Items;
 use ice_check::NetFault;
 use ice_chip::ChipFault;
 use ice_core::RoundLog;
 use ice_decode::DecodeFault;
 use ice_pads::PinFault;
 use ice_pcf::PcfFault;
-use ice_place::{PlaceFault, Placement};
+use ice_place::{Arrangement, PlaceFault, Placement};
 use ice_words::Tally;
 use std::alloc::Global;
 
@@ -40,10 +41,10 @@ pub enum FileRole {
 /// The answer of a command with what it is about. The number of each is its status.
 #[derive(Drop)]
 pub enum Cause {
-    /// 0: the work is done and every file is written; with the placement of what was built, which has no cluster where nothing is
+    /// 0: the work is done and every file is written; with the arrangement of what was built, which has no cell where nothing is
     /// placed, and the tally of each of its rounds of routing.
     Good {
-        placement: Placement,
+        arrangement: Arrangement,
         tallies: Vec<Tally>,
     },
     /// 2: the words are no command.
@@ -60,15 +61,15 @@ pub enum Cause {
     BadPin(PinFault),
     /// 8: the clusters have no places.
     Overfull(PlaceFault),
-    /// 9: on this placement no walk leads from the net's root to this sink.
+    /// 9: on this arrangement no walk leads from the net's root to this sink.
     Unreachable {
-        placement: Placement,
+        arrangement: Arrangement,
         net: NetNo,
         sink: WireNo,
     },
-    /// 10: on this placement each permitted round ends with an overused wire; with the log and the tally of each.
+    /// 10: on this arrangement each permitted round ends with an overused wire; with the log and the tally of each.
     GaveUp {
-        placement: Placement,
+        arrangement: Arrangement,
         logs: Vec<RoundLog>,
         tallies: Vec<Tally>,
     },
@@ -107,11 +108,14 @@ pub struct Done {
     pub cause: Cause,
 }
 
-/// The placement of no cluster. It takes no memory.
-pub fn no_placement(alloc: Global) -> Placement
-    ensures { result ≡ no_places }
+/// The arrangement of no cell. It takes no memory.
+pub fn no_arrangement(alloc: Global) -> Arrangement
+    ensures { result ≡ no_arrangement }
 {
-    Placement::from_vec(Vec::new(alloc))
+    Arrangement {
+        ranks: Items::from_vec(Vec::new(alloc)),
+        placement: Placement::from_vec(Vec::new(alloc)),
+    }
 }
 
 /// The tallies of no round. It takes no memory.

@@ -2,18 +2,18 @@
 ghost use Rattle.std.specs.Prelude.{◌≡◌, ◌∷◌, [], IfOk, IfErr};
 ghost use Rattle.ice_desk.specs.Desk.{SameButSaying};
 ghost use Rattle.ice_answer.specs.declared.cause.Cause.TheVariants.{NoMemory as out_of_memory};
-ghost use Rattle.ice_answer.specs.Causes.{no_places, status_of};
+ghost use Rattle.ice_answer.specs.Causes.{no_arrangement, status_of};
 ghost use Rattle.ice_answer.specs.Commands.{Aloud, InFiles, IsPut};
 ghost use Rattle.ice_answer.specs.Ends.{SameButFiles, IsEndAloud, IsEndInFiles};
 ghost use Rattle.ice_answer.specs.Texts.{files_view, parting_view, ArePermitted, IsPermitted};
 
-use crate::cause::{Cause, Done, FileRole, no_placement, no_tallies};
+use crate::cause::{Cause, Done, FileRole, no_arrangement, no_tallies};
 use crate::end::{done, finish};
 use crate::files::{CommandFile, Texts, one_text};
 use crate::writing::{leave_report, write_texts};
 use ice_base::NoMemory;
 use ice_desk::{Desk, say_text};
-use ice_place::Placement;
+use ice_place::Arrangement;
 use ice_words::Tally;
 use std::alloc::Global;
 
@@ -22,26 +22,26 @@ use std::alloc::Global;
 pub struct Made {
     /// The text for each place where the command gives: the one that is said, or one for each file, in the order of writing.
     pub texts: Texts,
-    /// The placement of what was built; it has no cluster where nothing is placed.
-    pub placement: Placement,
+    /// The arrangement of what was built; it has no cell where nothing is placed.
+    pub arrangement: Arrangement,
     /// The tallies of its rounds in order; there are none where nothing is routed.
     pub tallies: Vec<Tally>,
 }
 
-/// One text, with the placement of no cluster and the tallies of no round.
+/// One text, with the arrangement of no cell and the tallies of no round.
 ///
 /// # Errors
 /// Want of memory alone.
 pub fn made_text(alloc: Global, text: Vec<u8>) -> Result<Made, Cause>
     ensures text { IfOk result (λ made. made.texts ≡ text.items ∷ []) }
-    ensures placement { IfOk result (λ made. made.placement ≡ no_places) }
+    ensures arrangement { IfOk result (λ made. made.arrangement ≡ no_arrangement) }
     ensures tallies { IfOk result (λ made. made.tallies.items ≡ []) }
     ensures stop { IfErr result (λ cause. cause ≡ out_of_memory) }
 {
     match one_text(alloc, text) {
         Ok(texts) => Ok(Made {
             texts,
-            placement: no_placement(alloc),
+            arrangement: no_arrangement(alloc),
             tallies: no_tallies(alloc),
         }),
         Err(NoMemory) => Err(Cause::NoMemory),
@@ -60,11 +60,11 @@ pub struct Refused {
 // Says the first text, whole or up to a say that failed. Each memory was taken before.
 fn put_aloud<D: Desk>(desk: &mut D, made: Made) -> Cause
     ensures same { SameButSaying (D.seen desk.old) (D.seen desk.new) }
-    ensures put { IsPut Aloud made.texts made.placement made.tallies.items (D.seen desk.old) (D.seen desk.new) result }
+    ensures put { IsPut Aloud made.texts made.arrangement made.tallies.items (D.seen desk.old) (D.seen desk.new) result }
 {
     match say_text(desk, made.texts.at(1)) {
         Ok(()) => Cause::Good {
-            placement: made.placement,
+            arrangement: made.arrangement,
             tallies: made.tallies,
         },
         Err(put) => Cause::WriteFault {
@@ -90,11 +90,11 @@ pub fn end_aloud<D: Desk>(desk: &mut D, made: Result<Made, Cause>) -> Done
 fn put_in_files<D: Desk>(desk: &mut D, files: &[CommandFile<'_>], made: Made) -> Cause
     requires { ArePermitted (D.may_write desk.old) (files_view files.now) }
     ensures same { SameButFiles (D.seen desk.old) (D.seen desk.new) }
-    ensures put { IsPut (InFiles (files_view files.now)) made.texts made.placement made.tallies.items (D.seen desk.old) (D.seen desk.new) result }
+    ensures put { IsPut (InFiles (files_view files.now)) made.texts made.arrangement made.tallies.items (D.seen desk.old) (D.seen desk.new) result }
 {
     match write_texts(desk, files, &made.texts) {
         Ok(()) => Cause::Good {
-            placement: made.placement,
+            arrangement: made.arrangement,
             tallies: made.tallies,
         },
         Err(stop) => Cause::WriteFault {

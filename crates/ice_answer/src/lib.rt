@@ -13,7 +13,7 @@ mod refusal;
 mod say;
 mod writing;
 
-pub use cause::{Cause, Done, FileRole, no_placement, no_tallies};
+pub use cause::{Cause, Done, FileRole, no_arrangement, no_tallies};
 pub use end::{done, finish};
 pub use files::{CommandFile, Texts, one_text, read_texts};
 pub use giving::{Made, Refused, end_aloud, end_in_files, made_text};

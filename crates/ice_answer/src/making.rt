@@ -1,6 +1,6 @@
 //! Commands: files are read, something is made of their texts, and only then it is said or written.
 ghost use Rattle.std.specs.Prelude.{◌≡◌, ◌<◌, ℕ, List, length, true, None, IfOk, IfErr};
-ghost use Rattle.ice_base.specs.declared.number.TileAt.{TileAt};
+ghost use Rattle.ice_place.specs.declared.arrangement.Arrangement.{Arrangement};
 ghost use Rattle.ice_desk.specs.Desk.{SameButReading, SameTest};
 ghost use Rattle.ice_words.specs.Grips.{Shut};
 ghost use Rattle.ice_answer.specs.declared.cause.Cause.{Cause};
@@ -22,12 +22,12 @@ pub trait Making {
     /// How texts stand, by the answer that they have.
     ghost stands: { Self → List (List ℕ) → Cause → Type 0 };
 
-    /// What is made of texts: texts, with the placement that they are about and the tallies of its routing.
-    ghost gives: { Self → List (List ℕ) → List (List ℕ) → List TileAt → List Shut → Type 0 };
+    /// What is made of texts: texts, with the arrangement that they are about and the tallies of its routing.
+    ghost gives: { Self → List (List ℕ) → List (List ℕ) → Arrangement → List Shut → Type 0 };
 
     /// What is made of the texts, or why nothing is made.
     fn make(&self, alloc: Global, texts: &Texts) -> Result<Made, Cause>
-        ensures given { IfOk result (λ made. gives self.now texts.now made.texts made.placement made.tallies.items) }
+        ensures given { IfOk result (λ made. gives self.now texts.now made.texts made.arrangement made.tallies.items) }
         ensures refused { IfErr result (λ cause. IsRefusal (stands self.now texts.now) cause) };
 }
 

@@ -1,7 +1,7 @@
 //! Saying the line of a refusal, piece by piece. It takes no memory.
 ghost use Rattle.std.specs.Prelude.{◌≡◌, map, decimal, codes, ◌∷◌, []};
 ghost use Rattle.ice_desk.specs.Desk.{SameButSaying, SameTest};
-ghost use Rattle.ice_answer.specs.Causes.{no_places, joined, faulty_line, named_line, names_line, spaced, line_of, role_name, blif_line, pcf_line, chip_line, net_line, pin_line, place_line, asc_line};
+ghost use Rattle.ice_answer.specs.Causes.{no_arrangement, joined, faulty_line, named_line, names_line, spaced, line_of, role_name, blif_line, pcf_line, chip_line, net_line, pin_line, place_line, asc_line};
 ghost use Rattle.ice_desk.specs.Said.{IsSaid};
 ghost use Rattle.ice_answer.specs.Pieces.{piece_text, IsPlain, IsNameless, IsPortless};
 
@@ -313,7 +313,7 @@ fn line_pieces(cause: &Cause) -> [Piece; 5]
 
 // The line of a sink that no walk leads to.
 fn unreachable_pieces(net: NetNo, sink: WireNo) -> [Piece; 5]
-    ensures { joined (map piece_text result) ≡ line_of (Cause.Unreachable no_places net sink) }
+    ensures { joined (map piece_text result) ≡ line_of (Cause.Unreachable no_arrangement net sink) }
 {
     two(b"error 9 unreachable net ", net.0, b" sink ", sink.0)
 }

@@ -42,7 +42,7 @@ on_bits : (b : Back) → IsOnBits (back_files b) Then b.package_name
 on_bits b = record {
   lawful = lawful b;
   stands = λ t cause m. m;
-  later = λ t bonded cause done. of_done IsLater (λ placement tallies. tt) (λ role put. tt) cause done;
+  later = λ t bonded cause done. of_done IsLater (λ arrangement tallies. tt) (λ role put. tt) cause done;
 }
 
 -- ---- the headline

@@ -3,15 +3,15 @@ use Rattle.std.proofs.Common.{◌≡◌, ℕ, List, [], ◌∷◌, Result, Ok, E
 use Rattle.ice_answer.specs.declared.cause.Cause.{Cause}
 use Rattle.ice_answer.specs.declared.cause.Cause.TheVariants.{NoMemory}
 use Rattle.ice_answer.specs.declared.giving.Made.{Made}
-use Rattle.ice_answer.specs.Causes.{no_places}
+use Rattle.ice_answer.specs.Causes.{no_arrangement}
 use Rattle.ice_answer.specs.Commands.{IsRefusal}
 use Rattle.ice_answer.specs.Texts.{text_at}
 
 -- what is true of the text is true of the one that was made
-pub one_is : (IsSo : List ℕ → Type 0) (text : List ℕ) (result : Result Made Cause) → IsSo text → IfOk result (λ made. made.texts ≡ text ∷ []) → IfOk result (λ made. made.placement ≡ no_places)
-    → IfOk result (λ made. made.tallies.items ≡ []) → IfOk result (λ made. IsSo (text_at made.texts 1) × (made.placement ≡ no_places) × (made.tallies.items ≡ []))
-one_is IsSo text (Ok made) so one placement tallies = (subst (λ (texts : List (List ℕ)). IsSo (text_at texts 1)) (sym one) so, placement, tallies)
-one_is IsSo text (Err cause) so one placement tallies = tt
+pub one_is : (IsSo : List ℕ → Type 0) (text : List ℕ) (result : Result Made Cause) → IsSo text → IfOk result (λ made. made.texts ≡ text ∷ []) → IfOk result (λ made. made.arrangement ≡ no_arrangement)
+    → IfOk result (λ made. made.tallies.items ≡ []) → IfOk result (λ made. IsSo (text_at made.texts 1) × (made.arrangement ≡ no_arrangement) × (made.tallies.items ≡ []))
+one_is IsSo text (Ok made) so one arrangement tallies = (subst (λ (texts : List (List ℕ)). IsSo (text_at texts 1)) (sym one) so, arrangement, tallies)
+one_is IsSo text (Err cause) so one arrangement tallies = tt
 
 -- want of memory refuses texts that stand in any way
 pub none_refused : (Stands : Cause → Type 0) (result : Result Made Cause) → IfErr result (λ cause. cause ≡ NoMemory) → IfErr result (λ cause. IsRefusal Stands cause)

@@ -1,6 +1,6 @@
 //! Commands on a chip: files are read, something is made of their texts, and only then it is said or written.
 ghost use Rattle.std.specs.Prelude.{◌≡◌, ◌<◌, ◌∷◌, ℕ, List, length, true, None, IfOk, IfErr};
-ghost use Rattle.ice_base.specs.declared.number.TileAt.{TileAt};
+ghost use Rattle.ice_place.specs.declared.arrangement.Arrangement.{Arrangement};
 ghost use Rattle.ice_desk.specs.Desk.{SameButReading, SameTest};
 ghost use Rattle.ice_words.specs.Grips.{Shut};
 ghost use Rattle.ice_answer.specs.declared.cause.Cause.{Cause};
@@ -24,13 +24,13 @@ pub trait ChipMaking {
     /// How texts stand, the chip's first, by the answer that they have.
     ghost stands: { Self → List (List ℕ) → Cause → Type 0 };
 
-    /// What is made of texts, the chip's first: texts, with the placement that they are about and the tallies of its routing.
-    ghost gives: { Self → List (List ℕ) → List (List ℕ) → List TileAt → List Shut → Type 0 };
+    /// What is made of texts, the chip's first: texts, with the arrangement that they are about and the tallies of its routing.
+    ghost gives: { Self → List (List ℕ) → List (List ℕ) → Arrangement → List Shut → Type 0 };
 
     /// What is made of a chip text, for which the reader stands, and of the texts behind it; or why nothing is made.
     fn make(&self, alloc: Global, reader: ChipReader, texts: &Texts) -> Result<Made, Cause>
         requires { StandsForSome reader }
-        ensures given { (chip_text : List ℕ) → StandsFor reader chip_text → IfOk result (λ made. gives self.now (chip_text ∷ texts.now) made.texts made.placement made.tallies.items) }
+        ensures given { (chip_text : List ℕ) → StandsFor reader chip_text → IfOk result (λ made. gives self.now (chip_text ∷ texts.now) made.texts made.arrangement made.tallies.items) }
         ensures refused { (chip_text : List ℕ) → StandsFor reader chip_text → IfErr result (λ cause. IsRefusal (stands self.now (chip_text ∷ texts.now)) cause) };
 }
 

@@ -20,7 +20,7 @@ use Rattle.ice_play.specs.PlayRows.{BlifRow, IsMalformed, IsNetFault, IsUnsound,
 
 -- what a refusal tells of the texts
 Told : List (List ℕ) → Cause → Type 0
-Told texts (Good placement tallies) = Unit {0}
+Told texts (Good arrangement tallies) = Unit {0}
 Told texts (WriteFault role put) = Unit {0}
 Told texts (BadBlif fault) = IsMalformed fault texts
 Told texts (BadNet fault) = IsFaulty fault texts

@@ -1,7 +1,7 @@
 -- How the two texts of `play-net` stand, and what it makes of them: of the netlist's text, which is the first, and of the text of
 -- levels, which is the second.
 use Rattle.std.specs.Prelude.{◌≡◌, ◌≢◌, Bool, ℕ, List, [], ◌∷◌, length, Ok, Err}
-use Rattle.ice_base.specs.declared.number.TileAt.{TileAt}
+use Rattle.ice_place.specs.declared.arrangement.Arrangement.{Arrangement}
 use Rattle.ice_net.specs.NetlistData.{NetlistData}
 use Rattle.ice_net.specs.Meaning.{shows}
 use Rattle.ice_blif.specs.Grammar.{netlist_of}
@@ -14,7 +14,7 @@ use Rattle.ice_levels.specs.DriveTexts.{drives_text}
 use Rattle.ice_answer.specs.declared.cause.Cause.{Cause}
 use Rattle.ice_answer.specs.declared.cause.Cause.TheVariants.{BadBlif, BadLevels}
 use Rattle.ice_answer.specs.declared.cause.FileRole.TheVariants.{Blif, Levels}
-use Rattle.ice_answer.specs.Causes.{no_places}
+use Rattle.ice_answer.specs.Causes.{no_arrangement}
 use Rattle.ice_answer.specs.Commands.{Command, command_of, Aloud, IsDone, stands_by, stands_if}
 use Rattle.ice_answer.specs.Reading.{Files}
 use Rattle.ice_answer.specs.Refusals.{IsNetCause}
@@ -68,8 +68,8 @@ pub record IsPlayed (texts : List (List ℕ)) (text : List ℕ) : Type 0 where
   pub is_text : text ≡ drives_text (shows circuit levels)
 
 -- what is made of the texts; nothing is placed or routed
-abbrev pub IsMade : List (List ℕ) → List (List ℕ) → List TileAt → List Shut → Type 0
-IsMade texts made placement tallies = IsPlayed texts (text_at made 1) × (placement ≡ no_places) × (tallies ≡ [])
+abbrev pub IsMade : List (List ℕ) → List (List ℕ) → Arrangement → List Shut → Type 0
+IsMade texts made arrangement tallies = IsPlayed texts (text_at made 1) × (arrangement ≡ no_arrangement) × (tallies ≡ [])
 
 abbrev pub play_net : PlayNet → Command
 play_net p = command_of (files_of p) Stands IsMade Aloud

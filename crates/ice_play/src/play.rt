@@ -31,7 +31,7 @@ pub struct NetRequest<'a> {
 impl<'a> Making for NetRequest<'a> {
     ghost stands = { λ request texts cause. Stands texts cause };
 
-    ghost gives = { λ request texts made placement tallies. IsMade texts made placement tallies };
+    ghost gives = { λ request texts made arrangement tallies. IsMade texts made arrangement tallies };
 
     fn make(&self, alloc: Global, texts: &Texts) -> Result<Made, Cause> {
         let netlist = match read_blif(alloc, texts.at(1)) {

@@ -36,7 +36,7 @@ LineTold bonded text cause = IsDone cause
 
 line_told : (bonded : PackageRows) (text : List ℕ) (cause : Cause) → LevelsStand text bonded cause → LineTold bonded text cause
 line_told bonded text cause m =
-    of_levels (LineTold bonded text) bonded text cause (λ line is. is) (λ c done. of_done (LineTold bonded text) (λ placement tallies. tt) (λ role put. tt) c done) m
+    of_levels (LineTold bonded text) bonded text cause (λ line is. is) (λ c done. of_done (LineTold bonded text) (λ arrangement tallies. tt) (λ role put. tt) c done) m
 
 never : (name : List ℕ) (t : List (List ℕ)) → Stands name t Usage → ⊥
 never name t m = elim (told (Then t) name t Usage m) [ inl so ↦ so | inr later ↦ line_told later.bonded (text_at t 3) Usage later.stands ]
@@ -70,7 +70,7 @@ on_bits : (p : PlayBits) → IsOnBits (play_bits p) Then p.package_name
 on_bits p = record {
   lawful = lawful p;
   stands = λ t cause m. m;
-  later = λ t bonded cause m. of_levels IsLater bonded (text_at t 3) cause (λ line is. tt) (λ c done. of_done IsLater (λ placement tallies. tt) (λ role put. tt) c done) m;
+  later = λ t bonded cause m. of_levels IsLater bonded (text_at t 3) cause (λ line is. tt) (λ c done. of_done IsLater (λ arrangement tallies. tt) (λ role put. tt) c done) m;
 }
 
 -- ---- the rows

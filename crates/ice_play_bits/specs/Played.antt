@@ -1,7 +1,7 @@
 -- How the three texts of `play-bits` stand, and what it makes of them: of the chip text, which is the first, of the text of bits, which is
 -- the second, and of the text of levels, which is the third.
 use Rattle.std.specs.Prelude.{◌≡◌, ℕ, Bool, List, [], ◌∷◌, length, Ok, Err}
-use Rattle.ice_base.specs.declared.number.TileAt.{TileAt}
+use Rattle.ice_place.specs.declared.arrangement.Arrangement.{Arrangement}
 use Rattle.ice_chip.specs.Database.{Parts, PackageRows}
 use Rattle.ice_bits.specs.Configuration.{Configuration, bits_of}
 use Rattle.ice_decode.specs.Meaning.{shows}
@@ -10,7 +10,7 @@ use Rattle.ice_levels.specs.DriveTexts.{drives_text}
 use Rattle.ice_answer.specs.declared.cause.Cause.{Cause}
 use Rattle.ice_answer.specs.declared.cause.Cause.TheVariants.{BadLevels}
 use Rattle.ice_answer.specs.declared.cause.FileRole.TheVariants.{Chip, Asc, Levels}
-use Rattle.ice_answer.specs.Causes.{no_places}
+use Rattle.ice_answer.specs.Causes.{no_arrangement}
 use Rattle.ice_answer.specs.Commands.{Command, command_of, Aloud, IsDone, stands_by}
 use Rattle.ice_answer.specs.Reading.{Files}
 use Rattle.ice_answer.specs.Texts.{text_at}
@@ -58,8 +58,8 @@ pub record IsPlayed (name : List ℕ) (texts : List (List ℕ)) (text : List ℕ
   pub is_text : text ≡ drives_text (shows parts (bits_of configuration) bonded.pads bonded.pads levels)
 
 -- what is made of the texts; nothing is placed or routed
-abbrev pub IsMade : List ℕ → List (List ℕ) → List (List ℕ) → List TileAt → List Shut → Type 0
-IsMade name texts made placement tallies = IsPlayed name texts (text_at made 1) × (placement ≡ no_places) × (tallies ≡ [])
+abbrev pub IsMade : List ℕ → List (List ℕ) → List (List ℕ) → Arrangement → List Shut → Type 0
+IsMade name texts made arrangement tallies = IsPlayed name texts (text_at made 1) × (arrangement ≡ no_arrangement) × (tallies ≡ [])
 
 abbrev pub play_bits : PlayBits → Command
 play_bits p = command_of (files_of p) (Stands p.package_name) (IsMade p.package_name) Aloud

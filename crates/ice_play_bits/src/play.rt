@@ -47,7 +47,7 @@ fn play_read(
     chip: &Chip,
     bits: &Bits,
 ) -> Result<Made, Cause>
-    ensures played { (chip_text : List ℕ) → IsRead (chip_text ∷ texts.now) chip.now bits.now → IfOk result (λ made. IsMade package_name.now (chip_text ∷ texts.now) made.texts made.placement made.tallies.items) }
+    ensures played { (chip_text : List ℕ) → IsRead (chip_text ∷ texts.now) chip.now bits.now → IfOk result (λ made. IsMade package_name.now (chip_text ∷ texts.now) made.texts made.arrangement made.tallies.items) }
     ensures refused { (chip_text : List ℕ) → IsRead (chip_text ∷ texts.now) chip.now bits.now → IfErr result (λ cause. IsRefusal (Stands package_name.now (chip_text ∷ texts.now)) cause) }
 {
     let Some(bonded) = chip.package(package_name.as_bytes()) else {
@@ -70,7 +70,7 @@ fn play_read(
 
 // The text of what the bits of the text behind the chip's drive on the chip, for all steps.
 fn play_on(alloc: Global, package_name: &str, texts: &Texts, chip: &Chip) -> Result<Made, Cause>
-    ensures played { (chip_text : List ℕ) → chip_says chip_text ≡ Ok chip.now → IfOk result (λ made. IsMade package_name.now (chip_text ∷ texts.now) made.texts made.placement made.tallies.items) }
+    ensures played { (chip_text : List ℕ) → chip_says chip_text ≡ Ok chip.now → IfOk result (λ made. IsMade package_name.now (chip_text ∷ texts.now) made.texts made.arrangement made.tallies.items) }
     ensures refused { (chip_text : List ℕ) → chip_says chip_text ≡ Ok chip.now → IfErr result (λ cause. IsRefusal (Stands package_name.now (chip_text ∷ texts.now)) cause) }
 {
     match read_asc(alloc, texts.at(1), chip) {
@@ -82,7 +82,7 @@ fn play_on(alloc: Global, package_name: &str, texts: &Texts, chip: &Chip) -> Res
 impl<'a> ChipMaking for BitsRequest<'a> {
     ghost stands = { λ request texts cause. Stands request.package_name.now texts cause };
 
-    ghost gives = { λ request texts made placement tallies. IsMade request.package_name.now texts made placement tallies };
+    ghost gives = { λ request texts made arrangement tallies. IsMade request.package_name.now texts made arrangement tallies };
 
     fn make(&self, alloc: Global, reader: ChipReader, texts: &Texts) -> Result<Made, Cause> {
         match reader.finish() {
