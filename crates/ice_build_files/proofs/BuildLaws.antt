@@ -2,7 +2,7 @@
 use Rattle.std.proofs.Common.{◌≡◌, ◌≢◌, ◌∙◌, ℕ, true, List, Result, Err, inl, inr, refl, sym, ap, subst}
 use Rattle.std.specs.Global.{Vec}
 use Rattle.ice_base.specs.declared.number.NetNo.{NetNo}
-use Rattle.ice_base.specs.declared.number.TileAt.{TileAt}
+use Rattle.ice_place.specs.declared.arrangement.Arrangement.{Arrangement}
 use Rattle.ice_base.specs.declared.number.WireNo.{WireNo}
 use Rattle.ice_asc.specs.Text.{asc_text}
 use Rattle.ice_desk.specs.Desk.{Meaning, SameButReading}
@@ -54,7 +54,7 @@ use Rattle.ice_build_files.proofs.Standing.{pcf_stands, blif_stands, net_stands,
 use Rattle.ice_build_files.proofs.Telling.{of_end, of_tried, of_about, Told, told}
 
 done_end : (task : Task) (rounds : ℕ) (cause : Cause) → IsDone cause → IsEnd task rounds cause
-done_end task rounds cause done = of_done (IsEnd task rounds) (λ placement tallies. tt) (λ role put. tt) cause done
+done_end task rounds cause done = of_done (IsEnd task rounds) (λ arrangement tallies. tt) (λ role put. tt) cause done
 
 pub lawful : (b : Build) → Lawful (build_files b)
 lawful b = record {
@@ -140,21 +140,21 @@ laid_placeable task layout laid = (layout.pads, laid.placed.first, pins_good tas
 asks_weaker : (name : List ℕ) (P Q : Task → Type 0) (t : List (List ℕ)) → ((task : Task) → P task → Q task) → Asks name P t → Asks name Q t
 asks_weaker name P Q t weaker h = record { task = h.task; is_asked = h.is_asked; is_so = weaker h.task h.is_so }
 
-made_placeable : (b : Build) (t made : List (List ℕ)) (on : List TileAt) (counted : List Shut) → IsMade b t made on counted → Asks b.package_name IsPlaceable t
+made_placeable : (b : Build) (t made : List (List ℕ)) (on : Arrangement) (counted : List Shut) → IsMade b t made on counted → Asks b.package_name IsPlaceable t
 made_placeable b t made on counted g = record { task = g.task; is_asked = g.is_asked; is_so = laid_placeable g.task g.built.layout g.is_built.laid }
 
 end_tried : (task : Task) (rounds : ℕ) (cause : Cause) → IsEnd task rounds cause → IsTried cause
-end_tried task rounds cause is = of_end IsTried task rounds (λ placement tallies. tt) (λ role put. tt) (λ placement net sink stuck. tt) (λ placement logs tallies given. tt) (λ fault bits. tt) cause is
+end_tried task rounds cause is = of_end IsTried task rounds (λ arrangement tallies. tt) (λ role put. tt) (λ arrangement net sink stuck. tt) (λ arrangement logs tallies given. tt) (λ fault bits. tt) cause is
 
 tried_only : (b : Build) (old new : Meaning) (cause : Cause) → IsTrueOf (build_files b) old new cause → IsTried cause → OfTexts (files_of b) old (Asks b.package_name IsPlaceable)
 tried_only b old new cause is tried =
     of_tried (λ c. IsTrueOf (build_files b) old new c → OfTexts (files_of b) old (Asks b.package_name IsPlaceable))
-    (λ placement tallies i. of_weaker (files_of b) old (λ t. IsMade b t i.made placement tallies.items) (Asks b.package_name IsPlaceable) (λ t g. made_placeable b t i.made placement tallies.items g) i.texts)
-    (λ role put i. of_weaker (files_of b) old (λ t. IsMade b t i.made i.placement i.tallies) (Asks b.package_name IsPlaceable) (λ t g. made_placeable b t i.made i.placement i.tallies g) i.texts)
-    (λ placement net sink i. told_of b old new (Unreachable placement net sink) (Unreachable placement net sink) (Asks b.package_name IsPlaceable) i refl (λ j. j.0)
-    (λ t h. asks_weaker b.package_name (λ task. IsStuckOn task placement net sink) IsPlaceable t (λ task stuck. laid_placeable task stuck.0 stuck.1) h))
-    (λ placement logs tallies i. told_of b old new (GaveUp placement logs tallies) (GaveUp placement logs tallies) (Asks b.package_name IsPlaceable) i refl (λ j. j.0)
-    (λ t h. asks_weaker b.package_name (λ task. IsGivenUpOn task b.effort.rounds placement logs.items tallies.items) IsPlaceable t (λ task given. laid_placeable task given.0 given.1) h))
+    (λ arrangement tallies i. of_weaker (files_of b) old (λ t. IsMade b t i.made arrangement tallies.items) (Asks b.package_name IsPlaceable) (λ t g. made_placeable b t i.made arrangement tallies.items g) i.texts)
+    (λ role put i. of_weaker (files_of b) old (λ t. IsMade b t i.made i.arrangement i.tallies) (Asks b.package_name IsPlaceable) (λ t g. made_placeable b t i.made i.arrangement i.tallies g) i.texts)
+    (λ arrangement net sink i. told_of b old new (Unreachable arrangement net sink) (Unreachable arrangement net sink) (Asks b.package_name IsPlaceable) i refl (λ j. j.0)
+    (λ t h. asks_weaker b.package_name (λ task. IsStuckOn task arrangement net sink) IsPlaceable t (λ task stuck. laid_placeable task stuck.0 stuck.1) h))
+    (λ arrangement logs tallies i. told_of b old new (GaveUp arrangement logs tallies) (GaveUp arrangement logs tallies) (Asks b.package_name IsPlaceable) i refl (λ j. j.0)
+    (λ t h. asks_weaker b.package_name (λ task. IsGivenUpOn task b.effort.rounds arrangement logs.items tallies.items) IsPlaceable t (λ task given. laid_placeable task given.0 given.1) h))
     (λ fault i. told_of b old new (BadBits fault) (BadBits fault) (Asks b.package_name IsPlaceable) i refl (λ j. j.0)
     (λ t h. asks_weaker b.package_name (λ task. HasBadBits task b.effort.rounds fault) IsPlaceable t (λ task bits. laid_placeable task bits.0.layout bits.1.laid) h))
     cause tried is
@@ -164,114 +164,114 @@ tried_row b old new cause is =
     comes (build_files b) old new cause IsTried (Asks b.package_name IsPlaceable) (lawful b) is (tried_only b old new cause is)
     (λ t h m. end_tried h.task b.effort.rounds cause (end_stands b.package_name b.effort.rounds t h.task h.is_so.0 h.is_so.1 cause h.is_asked h.is_so.2 h.is_so.3 m))
 
--- ---- the placement that is told
+-- ---- the arrangement that is told
 -- what the answer says of the task that the files hold
-held_built : (b : Build) (old new : Meaning) (placement : List TileAt) (tallies : Vec Shut) (t : List (List ℕ)) (task : Task) → HoldsTexts (files_of b) old t
-    → IsAsked b.package_name t task → IsTrueOf (build_files b) old new (Good placement tallies) → IsBuiltOn task b.effort.rounds placement
-held_built b old new placement tallies t task holds asked is =
-    let g = at_files (files_of b) old (λ texts. IsMade b texts is.made placement tallies.items) t holds is.texts in
-    subst (λ (x : Task). IsBuiltOn x b.effort.rounds placement) (one_task b.package_name t g.task task g.is_asked asked) (g.built, g.is_built, sym g.is_placement)
+held_built : (b : Build) (old new : Meaning) (arrangement : Arrangement) (tallies : Vec Shut) (t : List (List ℕ)) (task : Task) → HoldsTexts (files_of b) old t
+    → IsAsked b.package_name t task → IsTrueOf (build_files b) old new (Good arrangement tallies) → IsBuiltOn task b.effort.rounds arrangement
+held_built b old new arrangement tallies t task holds asked is =
+    let g = at_files (files_of b) old (λ texts. IsMade b texts is.made arrangement tallies.items) t holds is.texts in
+    subst (λ (x : Task). IsBuiltOn x b.effort.rounds arrangement) (one_task b.package_name t g.task task g.is_asked asked) (g.built, g.is_built, sym g.is_arrangement)
 
-held_stuck : (b : Build) (old new : Meaning) (placement : List TileAt) (net : NetNo) (sink : WireNo) (t : List (List ℕ)) (task : Task) → HoldsTexts (files_of b) old t
-    → IsAsked b.package_name t task → IsTrueOf (build_files b) old new (Unreachable placement net sink) → IsStuckOn task placement net sink
-held_stuck b old new placement net sink t task holds asked is =
-    let h = told b.package_name b.effort.rounds t (Unreachable placement net sink) (at_files (files_of b) old (λ texts. Stands b.package_name b.effort.rounds texts (Unreachable placement net sink)) t holds is.0) in
-    subst (λ (x : Task). IsStuckOn x placement net sink) (one_task b.package_name t h.task task h.is_asked asked) h.is_so
+held_stuck : (b : Build) (old new : Meaning) (arrangement : Arrangement) (net : NetNo) (sink : WireNo) (t : List (List ℕ)) (task : Task) → HoldsTexts (files_of b) old t
+    → IsAsked b.package_name t task → IsTrueOf (build_files b) old new (Unreachable arrangement net sink) → IsStuckOn task arrangement net sink
+held_stuck b old new arrangement net sink t task holds asked is =
+    let h = told b.package_name b.effort.rounds t (Unreachable arrangement net sink) (at_files (files_of b) old (λ texts. Stands b.package_name b.effort.rounds texts (Unreachable arrangement net sink)) t holds is.0) in
+    subst (λ (x : Task). IsStuckOn x arrangement net sink) (one_task b.package_name t h.task task h.is_asked asked) h.is_so
 
-held_given_up : (b : Build) (old new : Meaning) (placement : List TileAt) (logs : Vec RoundLog) (tallies : Vec Shut) (t : List (List ℕ)) (task : Task) → HoldsTexts (files_of b) old t
-    → IsAsked b.package_name t task → IsTrueOf (build_files b) old new (GaveUp placement logs tallies) → IsGivenUpOn task b.effort.rounds placement logs.items tallies.items
-held_given_up b old new placement logs tallies t task holds asked is =
-    let h = told b.package_name b.effort.rounds t (GaveUp placement logs tallies) (at_files (files_of b) old (λ texts. Stands b.package_name b.effort.rounds texts (GaveUp placement logs tallies)) t holds is.0) in
-    subst (λ (x : Task). IsGivenUpOn x b.effort.rounds placement logs.items tallies.items) (one_task b.package_name t h.task task h.is_asked asked) h.is_so
+held_given_up : (b : Build) (old new : Meaning) (arrangement : Arrangement) (logs : Vec RoundLog) (tallies : Vec Shut) (t : List (List ℕ)) (task : Task) → HoldsTexts (files_of b) old t
+    → IsAsked b.package_name t task → IsTrueOf (build_files b) old new (GaveUp arrangement logs tallies) → IsGivenUpOn task b.effort.rounds arrangement logs.items tallies.items
+held_given_up b old new arrangement logs tallies t task holds asked is =
+    let h = told b.package_name b.effort.rounds t (GaveUp arrangement logs tallies) (at_files (files_of b) old (λ texts. Stands b.package_name b.effort.rounds texts (GaveUp arrangement logs tallies)) t holds is.0) in
+    subst (λ (x : Task). IsGivenUpOn x b.effort.rounds arrangement logs.items tallies.items) (one_task b.package_name t h.task task h.is_asked asked) h.is_so
 
-tallied_at : (b : Build) (old new : Meaning) (cause : Cause) (placement : List TileAt) (tallies : Vec Shut) → IsTrueOf (build_files b) old new cause → cause ≡ Good placement tallies
-    → OfTexts (files_of b) old (Asks b.package_name (λ task. IsTalliedOn task b.effort.rounds placement tallies.items))
-tallied_at b old new cause placement tallies is e =
+tallied_at : (b : Build) (old new : Meaning) (cause : Cause) (arrangement : Arrangement) (tallies : Vec Shut) → IsTrueOf (build_files b) old new cause → cause ≡ Good arrangement tallies
+    → OfTexts (files_of b) old (Asks b.package_name (λ task. IsTalliedOn task b.effort.rounds arrangement tallies.items))
+tallied_at b old new cause arrangement tallies is e =
     let i = subst (λ (x : Cause). IsTrueOf (build_files b) old new x) e is in
-    of_weaker (files_of b) old (λ t. IsMade b t i.made placement tallies.items) (Asks b.package_name (λ task. IsTalliedOn task b.effort.rounds placement tallies.items))
-    (λ t g. record { task = g.task; is_asked = g.is_asked; is_so = (g.built, g.is_built, sym g.is_placement, sym g.are_tallies) }) i.texts
+    of_weaker (files_of b) old (λ t. IsMade b t i.made arrangement tallies.items) (Asks b.package_name (λ task. IsTalliedOn task b.effort.rounds arrangement tallies.items))
+    (λ t g. record { task = g.task; is_asked = g.is_asked; is_so = (g.built, g.is_built, sym g.is_arrangement, sym g.are_tallies) }) i.texts
 
 built_row : (b : Build) (old new : Meaning) (cause : Cause) → IsTrueOf (build_files b) old new cause → BuiltRow b old cause
 built_row b old new cause is = record {
   comes = record {
-    only = λ placement about good. only placement good.0 good.1 good.2 (about_good placement good.0 good.1 good.2 about);
-    always = λ placement t about holds h.
-        of_about (λ c. IsTrueOf (build_files b) old new c → IsGood c) placement (λ tallies i. (placement, tallies, refl))
-        (λ net sink i. absurd (built_not_stuck h.task b.effort.rounds placement net sink h.is_so (held_stuck b old new placement net sink t h.task holds h.is_asked i)))
-        (λ logs tallies i. absurd (built_not_given_up h.task b.effort.rounds placement logs.items tallies.items h.is_so (held_given_up b old new placement logs tallies t h.task holds h.is_asked i)))
+    only = λ arrangement about good. only arrangement good.0 good.1 good.2 (about_good arrangement good.0 good.1 good.2 about);
+    always = λ arrangement t about holds h.
+        of_about (λ c. IsTrueOf (build_files b) old new c → IsGood c) arrangement (λ tallies i. (arrangement, tallies, refl))
+        (λ net sink i. absurd (built_not_stuck h.task b.effort.rounds arrangement net sink h.is_so (held_stuck b old new arrangement net sink t h.task holds h.is_asked i)))
+        (λ logs tallies i. absurd (built_not_given_up h.task b.effort.rounds arrangement logs.items tallies.items h.is_so (held_given_up b old new arrangement logs tallies t h.task holds h.is_asked i)))
         cause about is;
   };
-  tallies_are = λ placement tallies e. tallied_at b old new cause placement tallies is e;
+  tallies_are = λ arrangement tallies e. tallied_at b old new cause arrangement tallies is e;
 }
   where
-    about_good : (placement on : List TileAt) (tallies : Vec Shut) → cause ≡ Good on tallies → IsAbout placement cause → on ≡ placement
-    about_good placement on tallies e about = subst (IsAbout placement) e about
+    about_good : (arrangement on : Arrangement) (tallies : Vec Shut) → cause ≡ Good on tallies → IsAbout arrangement cause → on ≡ arrangement
+    about_good arrangement on tallies e about = subst (IsAbout arrangement) e about
 
-    only : (placement on : List TileAt) (tallies : Vec Shut) → cause ≡ Good on tallies → on ≡ placement
-        → OfTexts (files_of b) old (Asks b.package_name (λ task. IsBuiltOn task b.effort.rounds placement))
-    only placement on tallies e same =
-        of_weaker (files_of b) old (Asks b.package_name (λ task. IsTalliedOn task b.effort.rounds placement tallies.items))
-        (Asks b.package_name (λ task. IsBuiltOn task b.effort.rounds placement))
+    only : (arrangement on : Arrangement) (tallies : Vec Shut) → cause ≡ Good on tallies → on ≡ arrangement
+        → OfTexts (files_of b) old (Asks b.package_name (λ task. IsBuiltOn task b.effort.rounds arrangement))
+    only arrangement on tallies e same =
+        of_weaker (files_of b) old (Asks b.package_name (λ task. IsTalliedOn task b.effort.rounds arrangement tallies.items))
+        (Asks b.package_name (λ task. IsBuiltOn task b.effort.rounds arrangement))
         (λ t h. record { task = h.task; is_asked = h.is_asked; is_so = (h.is_so.0, h.is_so.1, h.is_so.2) })
-        (tallied_at b old new cause placement tallies is (e ∙ ap (λ (x : List TileAt). Good x tallies) same))
+        (tallied_at b old new cause arrangement tallies is (e ∙ ap (λ (x : Arrangement). Good x tallies) same))
 
 unreachable_row : (b : Build) (old new : Meaning) (cause : Cause) → IsTrueOf (build_files b) old new cause → UnreachableRow b old cause
 unreachable_row b old new cause is net sink = record {
-  only = λ placement about stuck. only placement stuck.0 stuck.1 (about_stuck placement stuck.0 stuck.1 about);
-  always = λ placement t about holds h.
-      of_about (λ c. IsTrueOf (build_files b) old new c → IsUnreachable net sink c) placement
-      (λ tallies i. absurd (built_not_stuck h.task b.effort.rounds placement net sink (held_built b old new placement tallies t h.task holds h.is_asked i) h.is_so))
-      (λ other last i. let same = stuck_on_one h.task placement other net last sink (held_stuck b old new placement other last t h.task holds h.is_asked i) h.is_so in (placement, told_same placement other last same.0 same.1))
-      (λ logs tallies i. absurd (given_up_not_stuck_on h.task b.effort.rounds placement logs.items tallies.items net sink (held_given_up b old new placement logs tallies t h.task holds h.is_asked i) h.is_so))
+  only = λ arrangement about stuck. only arrangement stuck.0 stuck.1 (about_stuck arrangement stuck.0 stuck.1 about);
+  always = λ arrangement t about holds h.
+      of_about (λ c. IsTrueOf (build_files b) old new c → IsUnreachable net sink c) arrangement
+      (λ tallies i. absurd (built_not_stuck h.task b.effort.rounds arrangement net sink (held_built b old new arrangement tallies t h.task holds h.is_asked i) h.is_so))
+      (λ other last i. let same = stuck_on_one h.task arrangement other net last sink (held_stuck b old new arrangement other last t h.task holds h.is_asked i) h.is_so in (arrangement, told_same arrangement other last same.0 same.1))
+      (λ logs tallies i. absurd (given_up_not_stuck_on h.task b.effort.rounds arrangement logs.items tallies.items net sink (held_given_up b old new arrangement logs tallies t h.task holds h.is_asked i) h.is_so))
       cause about is;
 }
   where
-    about_stuck : (placement on : List TileAt) → cause ≡ Unreachable on net sink → IsAbout placement cause → on ≡ placement
-    about_stuck placement on e about = subst (IsAbout placement) e about
+    about_stuck : (arrangement on : Arrangement) → cause ≡ Unreachable on net sink → IsAbout arrangement cause → on ≡ arrangement
+    about_stuck arrangement on e about = subst (IsAbout arrangement) e about
 
-    told_same : (placement : List TileAt) (other : NetNo) (last : WireNo) → other ≡ net → last ≡ sink → Unreachable placement other last ≡ Unreachable placement net sink
-    told_same placement other last e f = ap (λ (n : NetNo). Unreachable placement n last) e ∙ ap (λ (w : WireNo). Unreachable placement net w) f
+    told_same : (arrangement : Arrangement) (other : NetNo) (last : WireNo) → other ≡ net → last ≡ sink → Unreachable arrangement other last ≡ Unreachable arrangement net sink
+    told_same arrangement other last e f = ap (λ (n : NetNo). Unreachable arrangement n last) e ∙ ap (λ (w : WireNo). Unreachable arrangement net w) f
 
-    only : (placement on : List TileAt) → cause ≡ Unreachable on net sink → on ≡ placement → OfTexts (files_of b) old (Asks b.package_name (λ task. IsStuckOn task placement net sink))
-    only placement on e same =
-        told_of b old new cause (Unreachable placement net sink) (Asks b.package_name (λ task. IsStuckOn task placement net sink)) is
-        (e ∙ ap (λ (x : List TileAt). Unreachable x net sink) same) (λ i. i.0) (λ t h. h)
+    only : (arrangement on : Arrangement) → cause ≡ Unreachable on net sink → on ≡ arrangement → OfTexts (files_of b) old (Asks b.package_name (λ task. IsStuckOn task arrangement net sink))
+    only arrangement on e same =
+        told_of b old new cause (Unreachable arrangement net sink) (Asks b.package_name (λ task. IsStuckOn task arrangement net sink)) is
+        (e ∙ ap (λ (x : Arrangement). Unreachable x net sink) same) (λ i. i.0) (λ t h. h)
 
-given_up_at : (b : Build) (old new : Meaning) (cause : Cause) (placement : List TileAt) (logs : Vec RoundLog) (tallies : Vec Shut) → IsTrueOf (build_files b) old new cause
-    → cause ≡ GaveUp placement logs tallies → OfTexts (files_of b) old (Asks b.package_name (λ task. IsGivenUpOn task b.effort.rounds placement logs.items tallies.items))
-given_up_at b old new cause placement logs tallies is e =
-    told_of b old new cause (GaveUp placement logs tallies) (Asks b.package_name (λ task. IsGivenUpOn task b.effort.rounds placement logs.items tallies.items)) is e (λ i. i.0) (λ t h. h)
+given_up_at : (b : Build) (old new : Meaning) (cause : Cause) (arrangement : Arrangement) (logs : Vec RoundLog) (tallies : Vec Shut) → IsTrueOf (build_files b) old new cause
+    → cause ≡ GaveUp arrangement logs tallies → OfTexts (files_of b) old (Asks b.package_name (λ task. IsGivenUpOn task b.effort.rounds arrangement logs.items tallies.items))
+given_up_at b old new cause arrangement logs tallies is e =
+    told_of b old new cause (GaveUp arrangement logs tallies) (Asks b.package_name (λ task. IsGivenUpOn task b.effort.rounds arrangement logs.items tallies.items)) is e (λ i. i.0) (λ t h. h)
 
 gave_up_row : (b : Build) (old new : Meaning) (cause : Cause) → IsTrueOf (build_files b) old new cause → GaveUpRow b old cause
 gave_up_row b old new cause is = record {
   comes = record {
-    only = λ placement about gave. only placement gave.0 gave.1 gave.2 gave.3 (about_gave placement gave.0 gave.1 gave.2 gave.3 about);
-    always = λ placement t about holds h.
-        of_about (λ c. IsTrueOf (build_files b) old new c → HasGivenUp c) placement
-        (λ tallies i. absurd (built_not_given_up h.task b.effort.rounds placement h.is_so.0 h.is_so.1 (held_built b old new placement tallies t h.task holds h.is_asked i) h.is_so.2))
-        (λ net sink i. absurd (given_up_not_stuck_on h.task b.effort.rounds placement h.is_so.0 h.is_so.1 net sink h.is_so.2 (held_stuck b old new placement net sink t h.task holds h.is_asked i)))
-        (λ logs tallies i. (placement, logs, tallies, refl)) cause about is;
+    only = λ arrangement about gave. only arrangement gave.0 gave.1 gave.2 gave.3 (about_gave arrangement gave.0 gave.1 gave.2 gave.3 about);
+    always = λ arrangement t about holds h.
+        of_about (λ c. IsTrueOf (build_files b) old new c → HasGivenUp c) arrangement
+        (λ tallies i. absurd (built_not_given_up h.task b.effort.rounds arrangement h.is_so.0 h.is_so.1 (held_built b old new arrangement tallies t h.task holds h.is_asked i) h.is_so.2))
+        (λ net sink i. absurd (given_up_not_stuck_on h.task b.effort.rounds arrangement h.is_so.0 h.is_so.1 net sink h.is_so.2 (held_stuck b old new arrangement net sink t h.task holds h.is_asked i)))
+        (λ logs tallies i. (arrangement, logs, tallies, refl)) cause about is;
   };
-  logs_are = λ placement logs tallies e. given_up_at b old new cause placement logs tallies is e;
+  logs_are = λ arrangement logs tallies e. given_up_at b old new cause arrangement logs tallies is e;
 }
   where
-    about_gave : (placement on : List TileAt) (logs : Vec RoundLog) (tallies : Vec Shut) → cause ≡ GaveUp on logs tallies → IsAbout placement cause → on ≡ placement
-    about_gave placement on logs tallies e about = subst (IsAbout placement) e about
+    about_gave : (arrangement on : Arrangement) (logs : Vec RoundLog) (tallies : Vec Shut) → cause ≡ GaveUp on logs tallies → IsAbout arrangement cause → on ≡ arrangement
+    about_gave arrangement on logs tallies e about = subst (IsAbout arrangement) e about
 
-    only : (placement on : List TileAt) (logs : Vec RoundLog) (tallies : Vec Shut) → cause ≡ GaveUp on logs tallies → on ≡ placement
-        → OfTexts (files_of b) old (Asks b.package_name (λ task. (all : List RoundLog) × (shuts : List Shut) × IsGivenUpOn task b.effort.rounds placement all shuts))
-    only placement on logs tallies e same =
-        of_weaker (files_of b) old (Asks b.package_name (λ task. IsGivenUpOn task b.effort.rounds placement logs.items tallies.items))
-        (Asks b.package_name (λ task. (all : List RoundLog) × (shuts : List Shut) × IsGivenUpOn task b.effort.rounds placement all shuts))
+    only : (arrangement on : Arrangement) (logs : Vec RoundLog) (tallies : Vec Shut) → cause ≡ GaveUp on logs tallies → on ≡ arrangement
+        → OfTexts (files_of b) old (Asks b.package_name (λ task. (all : List RoundLog) × (shuts : List Shut) × IsGivenUpOn task b.effort.rounds arrangement all shuts))
+    only arrangement on logs tallies e same =
+        of_weaker (files_of b) old (Asks b.package_name (λ task. IsGivenUpOn task b.effort.rounds arrangement logs.items tallies.items))
+        (Asks b.package_name (λ task. (all : List RoundLog) × (shuts : List Shut) × IsGivenUpOn task b.effort.rounds arrangement all shuts))
         (λ t h. record { task = h.task; is_asked = h.is_asked; is_so = (logs.items, tallies.items, h.is_so) })
-        (given_up_at b old new cause placement logs tallies is (e ∙ ap (λ (x : List TileAt). GaveUp x logs tallies) same))
+        (given_up_at b old new cause arrangement logs tallies is (e ∙ ap (λ (x : Arrangement). GaveUp x logs tallies) same))
 
 bits_row : (b : Build) (old new : Meaning) (cause : Cause) → IsTrueOf (build_files b) old new cause → BitsRow b old cause
 bits_row b old new cause is fault e =
     told_of b old new cause (BadBits fault) (Asks b.package_name (λ task. HasBadBits task b.effort.rounds fault)) is e (λ i. i.0) (λ t h. h)
 
 -- ---- what is written
-made_shown : (b : Build) (t made : List (List ℕ)) (on : List TileAt) (counted : List Shut) (g : IsMade b t made on counted) → IsShown b.package_name t (asc_text g.task.parts g.built.bits)
+made_shown : (b : Build) (t made : List (List ℕ)) (on : Arrangement) (counted : List Shut) (g : IsMade b t made on counted) → IsShown b.package_name t (asc_text g.task.parts g.built.bits)
 made_shown b t made on counted g = record {
   parts = g.task.parts;
   constraints = g.task.constraints;
@@ -288,7 +288,7 @@ made_shown b t made on counted g = record {
 }
 
 -- what was made is on file
-held_written : (b : Build) (old new : Meaning) (on : List TileAt) (counted : List Shut) → IsHeld (build_files b) old new on counted → IsWritten b old new on counted
+held_written : (b : Build) (old new : Meaning) (on : Arrangement) (counted : List Shut) → IsHeld (build_files b) old new on counted → IsWritten b old new on counted
 held_written b old new on counted held =
     let g = held.gives in
     let bits = asc_text g.task.parts g.built.bits in
@@ -306,7 +306,7 @@ held_written b old new on counted held =
     }
 
 written_row : (b : Build) (old new : Meaning) (cause : Cause) (status : ℕ) → GoodRow (build_files b) old new cause status → WrittenRow b old new cause
-written_row b old new cause status good placement tallies e tells = held_written b old new placement tallies.items (good.held placement tallies e tells)
+written_row b old new cause status good arrangement tallies e tells = held_written b old new arrangement tallies.items (good.held arrangement tallies e tells)
 
 headline_row : (b : Build) (old new : Meaning) (cause : Cause) (status : ℕ) → GoodRow (build_files b) old new cause status → HeadlineRow b old new status
 headline_row b old new cause status good zero_status tells =
@@ -315,9 +315,9 @@ headline_row b old new cause status good zero_status tells =
     (is.texts, asc_text is.of.task.parts is.of.built.bits, is.hold, is.bits, made_shown b is.texts is.made done.0 done.1.items is.of)
 
 -- ---- the report on rounds that gave up
-parted_reported : (b : Build) (old new : Meaning) (placement : List TileAt) (logs : Vec RoundLog) (tallies : Vec Shut) (file : File) → old.tells ≡ true
-    → IsParted (build_files b) file old new (GaveUp placement logs tallies) → HoldsReport b old new file.name placement logs.items tallies.items
-parted_reported b old new placement logs tallies file tells is = record {
+parted_reported : (b : Build) (old new : Meaning) (arrangement : Arrangement) (logs : Vec RoundLog) (tallies : Vec Shut) (file : File) → old.tells ≡ true
+    → IsParted (build_files b) file old new (GaveUp arrangement logs tallies) → HoldsReport b old new file.name arrangement logs.items tallies.items
+parted_reported b old new arrangement logs tallies file tells is = record {
   texts = is.texts.0;
   report = is.text;
   hold = holds_read (files_of b) old is.texts.0 tells is.texts.1;
@@ -326,8 +326,8 @@ parted_reported b old new placement logs tallies file tells is = record {
 }
 
 reported_row : (b : Build) (old new : Meaning) (cause : Cause) → PartingRow (build_files b) old new cause → ReportedRow b old new cause
-reported_row b old new cause row placement logs tallies name e asked tells =
-    parted_reported b old new placement logs tallies (record { role = Report; name = name }) tells
+reported_row b old new cause row arrangement logs tallies name e asked tells =
+    parted_reported b old new arrangement logs tallies (record { role = Report; name = name }) tells
     (subst (λ (c : Cause). PartingRow (build_files b) old new c) e row (record { role = Report; name = name }) (ap (file_asked Report) asked) tt)
 
 -- ---- all of them

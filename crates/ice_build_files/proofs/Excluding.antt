@@ -1,8 +1,8 @@
--- Of one placement: what is built, a sink that can't be reached, and permitted rounds that all end with an overused wire leave each other
+-- Of one arrangement: what is built, a sink that can't be reached, and permitted rounds that all end with an overused wire leave each other
 -- out.
 use Rattle.std.proofs.Common.{ℕ, List}
 use Rattle.ice_base.specs.declared.number.NetNo.{NetNo}
-use Rattle.ice_base.specs.declared.number.TileAt.{TileAt}
+use Rattle.ice_place.specs.declared.arrangement.Arrangement.{Arrangement}
 use Rattle.ice_base.specs.declared.number.WireNo.{WireNo}
 use Rattle.ice_build.proofs.Excluding.{routed_not_stuck_on, routed_not_given_up_on}
 pub use Rattle.ice_build.proofs.Excluding.{given_up_not_stuck_on, stuck_on_one}
@@ -11,11 +11,11 @@ use Rattle.ice_build_files.specs.Made.{IsBuiltOn, IsStuckOn, IsGivenUpOn}
 use Rattle.ice_core.specs.declared.log.RoundLog.{RoundLog}
 use Rattle.ice_words.specs.Grips.{Shut}
 
-pub built_not_stuck : (task : Task) (rounds : ℕ) (placement : List TileAt) (net : NetNo) (sink : WireNo) → IsBuiltOn task rounds placement → IsStuckOn task placement net sink → ⊥
-built_not_stuck task rounds placement net sink (built, is, on) stuck =
-    routed_not_stuck_on task rounds placement built.routed net sink (built.layout, is.laid, on, is.routed) stuck
+pub built_not_stuck : (task : Task) (rounds : ℕ) (arrangement : Arrangement) (net : NetNo) (sink : WireNo) → IsBuiltOn task rounds arrangement → IsStuckOn task arrangement net sink → ⊥
+built_not_stuck task rounds arrangement net sink (built, is, on) stuck =
+    routed_not_stuck_on task rounds arrangement built.routed net sink (built.layout, is.laid, on, is.routed) stuck
 
-pub built_not_given_up : (task : Task) (rounds : ℕ) (placement : List TileAt) (logs : List RoundLog) (tallies : List Shut) → IsBuiltOn task rounds placement
-    → IsGivenUpOn task rounds placement logs tallies → ⊥
-built_not_given_up task rounds placement logs tallies (built, is, on) given =
-    routed_not_given_up_on task rounds placement built.routed logs tallies (built.layout, is.laid, on, is.routed) given
+pub built_not_given_up : (task : Task) (rounds : ℕ) (arrangement : Arrangement) (logs : List RoundLog) (tallies : List Shut) → IsBuiltOn task rounds arrangement
+    → IsGivenUpOn task rounds arrangement logs tallies → ⊥
+built_not_given_up task rounds arrangement logs tallies (built, is, on) given =
+    routed_not_given_up_on task rounds arrangement built.routed logs tallies (built.layout, is.laid, on, is.routed) given

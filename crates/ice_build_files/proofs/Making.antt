@@ -20,7 +20,7 @@ use Rattle.ice_build_files.proofs.Refusing.{not_none}
 
 -- ---- what was made of texts that were read
 pub made_so : (b : Build) (old new : Meaning) (t : List (List ℕ)) (result : Result Made Refused) → AreTexts (files_of b) old t → new.makes ≡ old.makes
-    → IfOk result (λ made. IsMade b t made.texts made.placement made.tallies.items) → IfErr result (IsRefusedWith b t) → IsMadeOf (build_files b) old new (unreported result)
+    → IfOk result (λ made. IsMade b t made.texts made.arrangement made.tallies.items) → IfErr result (IsRefusedWith b t) → IsMadeOf (build_files b) old new (unreported result)
 made_so b old new t (Ok made) are same gives refused = made_of_texts (build_files b) old new t (Ok made) are same gives tt
 made_so b old new t (Err refusal) are same gives refused = made_of_texts (build_files b) old new t (Err refusal.cause) are same tt refused.refusal
 
@@ -51,7 +51,7 @@ reported_so b old t (Err refusal) are refused =
 
 -- ---- texts that were not all read
 unread_gave : (b : Build) (old new : Meaning) (cause : Cause) → IsUnread (files_of b) old new cause → HasGivenUp cause → ⊥
-unread_gave b old new cause is gave = of_given_up (λ c. IsUnread (files_of b) old new c → ⊥) (λ placement logs tallies never. never) cause gave is
+unread_gave b old new cause is gave = of_given_up (λ c. IsUnread (files_of b) old new c → ⊥) (λ arrangement logs tallies never. never) cause gave is
 
 parting_gave : (asked : Option (List ℕ)) (cause : Cause) → IsParting (file_asked Report asked) cause → HasGivenUp cause
 parting_gave None cause never = absurd never

@@ -3,7 +3,7 @@ use Rattle.std.proofs.Common.{◌≡◌, ◌∙◌, ℕ, Bool, true, false, Opti
 use Rattle.std.specs.Prelude.{◌<◌, option_map}
 use Rattle.std.specs.Global.{Vec}
 use Rattle.std.proofs.lemmas.List.{length-map}
-use Rattle.ice_base.specs.declared.number.TileAt.{TileAt}
+use Rattle.ice_place.specs.declared.arrangement.Arrangement.{Arrangement}
 use Rattle.ice_asc.specs.Grammar.{asc_in}
 use Rattle.ice_asc.specs.Text.{asc_text}
 use Rattle.ice_bits.specs.Configuration.{Configuration, IsOf}
@@ -32,7 +32,7 @@ use Rattle.ice_prepare.specs.PreparedLaws.{PreparedAreGivenAlike, PreparedPinsSt
 use Rattle.ice_words.specs.Grips.{Shut}
 use Rattle.ice_written.specs.Realised.{port_levels}
 use Rattle.ice_build.specs.Answers.{IsBuilt, IsFault, IsGivenUp, net_count, pins_said, places_said}
-use Rattle.ice_build.specs.Laid.{Task, IsLaidOut, plan_in}
+use Rattle.ice_build.specs.Laid.{Task, IsLaidOut, arrangement_in, plan_in}
 use Rattle.ice_build.specs.Shown.{IsCircuitOf}
 use Rattle.ice_build.specs.declared.answer.Built.{Built}
 use Rattle.ice_build.specs.declared.answer.BuildFault.{BuildFault}
@@ -110,15 +110,15 @@ refused_for_memory b t refused e none = refused_by b t NoMemory refused tt (λ n
 pub not_none : (o : Option (List ℕ)) (name : List ℕ) → o ≡ Some name → o ≡ None → ⊥
 not_none o name e none = cc
 
-has_report : (b : Build) (t : List (List ℕ)) (placement : List TileAt) (logs : Vec RoundLog) (tallies : Vec Shut) (report : List ℕ) (asked : Option (List ℕ)) → b.report ≡ asked
-    → TellsOf b t (GaveUp placement logs tallies) report → HasReport b t (GaveUp placement logs tallies) (option_map (λ name. report) asked)
-has_report b t placement logs tallies report None e tells = λ gave. e
-has_report b t placement logs tallies report (Some name) e tells = (tt, not_none b.report name e, tells)
+has_report : (b : Build) (t : List (List ℕ)) (arrangement : Arrangement) (logs : Vec RoundLog) (tallies : Vec Shut) (report : List ℕ) (asked : Option (List ℕ)) → b.report ≡ asked
+    → TellsOf b t (GaveUp arrangement logs tallies) report → HasReport b t (GaveUp arrangement logs tallies) (option_map (λ name. report) asked)
+has_report b t arrangement logs tallies report None e tells = λ gave. e
+has_report b t arrangement logs tallies report (Some name) e tells = (tt, not_none b.report name e, tells)
 
 -- the report tells of the rounds that gave up on the placed design
 tells_of : (b : Build) (t : List (List ℕ)) (task : Task) (layout : Layout) (nets : ℕ) (logs : Vec RoundLog) (tallies : Vec Shut) → IsAsked b.package_name t task → IsLaidOut task layout
     → IsGivenUp task.parts (plan_in layout) b.effort.rounds logs.items tallies.items → nets ≡ net_count task.parts (plan_in layout)
-    → TellsOf b t (GaveUp layout.placement logs tallies) (route_text (length layout.design.cells) (length layout.clusters.list) nets logs.items false)
+    → TellsOf b t (GaveUp (arrangement_in layout) logs tallies) (route_text (length layout.design.cells) (length layout.clusters.list) nets logs.items false)
 tells_of b t task layout nets logs tallies asked laid given counted = record {
   task = task;
   is_asked = asked;
@@ -129,7 +129,7 @@ refused_given_up : (b : Build) (t : List (List ℕ)) (task : Task) (layout : Lay
     → IsFault task b.effort.rounds (build.GaveUp layout nets logs tallies) → HasGivenUpWith b layout nets logs tallies refused → IsRefusedWith b t refused
 refused_given_up b t task layout nets logs tallies refused asked fault (inl memory) = refused_for_memory b t refused memory.0 memory.1
 refused_given_up b t task layout nets logs tallies refused asked (laid, given, counted) (inr told) =
-    let on = GaveUp layout.placement logs tallies in
+    let on = GaveUp (arrangement_in layout) logs tallies in
     let stands = end_so b.package_name b.effort.rounds t task layout.pads laid.placed.first on asked (pins_good task layout laid) (places_good task layout laid) (layout, laid, refl, given) in
     let tells = has_report b t layout.placement logs tallies (route_text (length layout.design.cells) (length layout.clusters.list) nets logs.items false) b.report refl
     (tells_of b t task layout nets logs tallies asked laid given counted) in
@@ -152,8 +152,8 @@ refused b t task (build.Places fault) r asked (pads, pins, said) is =
     refused_alone b t r (place_refused (Stands name rounds t) fault r.cause
     (λ known. pins_so name rounds t task pads (Overfull fault) asked pins (at_fault (places_said task) Overfull (λ first. IsEnd task rounds) fault said)) is.0) (place_alone fault r.cause is.0) is.1
 refused b t task (build.Unreachable layout net sink) r asked (laid, stuck) is =
-    refused_by b t (Unreachable layout.placement net sink) r
-    (end_so b.package_name b.effort.rounds t task layout.pads laid.placed.first (Unreachable layout.placement net sink) asked (pins_good task layout laid) (places_good task layout laid) (layout, laid, refl, stuck), tt)
+    refused_by b t (Unreachable (arrangement_in layout) net sink) r
+    (end_so b.package_name b.effort.rounds t task layout.pads laid.placed.first (Unreachable (arrangement_in layout) net sink) asked (pins_good task layout laid) (places_good task layout laid) (layout, laid, refl, stuck), tt)
     (λ never. never) is.0 is.1
 refused b t task (build.GaveUp layout nets logs tallies) r asked fault is = refused_given_up b t task layout nets logs tallies r asked fault is
 refused b t task (build.Bits fault) r asked bits is =
@@ -228,8 +228,8 @@ module _ (b : Build) (t : List (List ℕ)) (task : Task) (built : Built) (asked 
       texts_of b (asc_text task.parts built.bits) pins
       (route_text (length built.layout.design.cells) (length built.layout.clusters.list) nets built.routed.logs.items true)
 
-  made_is : (made : List (List ℕ)) (on : List TileAt) (counted : List Shut) → IsCircuitOf task.circuit built.layout.pads.ports task.parts built.bits
-      → made ≡ texts_here (pins_text (package_of task.parts b.package_name) task.circuit built.layout.pads.ports) (length built.routed.trees.items) → on ≡ built.layout.placement
+  made_is : (made : List (List ℕ)) (on : Arrangement) (counted : List Shut) → IsCircuitOf task.circuit built.layout.pads.ports task.parts built.bits
+      → made ≡ texts_here (pins_text (package_of task.parts b.package_name) task.circuit built.layout.pads.ports) (length built.routed.trees.items) → on ≡ arrangement_in built.layout
       → counted ≡ built.routed.tallies.items → (IsOf task.parts built.bits → asc_in task.parts (asc_text task.parts built.bits) ≡ Ok built.bits) → IsMade b t made on counted
   made_is made on counted shown texts here tallied read_back = record {
     task = task;
@@ -238,7 +238,7 @@ module _ (b : Build) (t : List (List ℕ)) (task : Task) (built : Built) (asked 
     is_asked = asked;
     is_built = is;
     is_package = named;
-    is_placement = here;
+    is_arrangement = here;
     are_tallies = tallied;
     are_texts = texts ∙ ap (λ (pins : List ℕ). texts_here pins (length built.routed.trees.items)) pins_told
         ∙ ap (λ (nets : ℕ). texts_here (pin_text asked.circuit is.stands.0 built.layout.pads.ports) nets) trees_told;
@@ -249,10 +249,10 @@ module _ (b : Build) (t : List (List ℕ)) (task : Task) (built : Built) (asked 
 
   pub made_of_built : (result : Result Made Refused) → IsCircuitOf task.circuit built.layout.pads.ports task.parts built.bits
       → IfOk result (λ made. made.texts ≡ texts_here (pins_text (package_of task.parts b.package_name) task.circuit built.layout.pads.ports) (length built.routed.trees.items))
-      → IfOk result (λ made. made.placement ≡ built.layout.placement) → IfOk result (λ made. made.tallies.items ≡ built.routed.tallies.items)
+      → IfOk result (λ made. made.arrangement ≡ arrangement_in built.layout) → IfOk result (λ made. made.tallies.items ≡ built.routed.tallies.items)
       → IfOk result (λ made. IsOf task.parts built.bits → asc_in task.parts (asc_text task.parts built.bits) ≡ Ok built.bits)
-      → IfOk result (λ made. IsMade b t made.texts made.placement made.tallies.items)
-  made_of_built (Ok made) shown texts here tallied read_back = made_is made.texts made.placement made.tallies.items shown texts here tallied read_back
+      → IfOk result (λ made. IsMade b t made.texts made.arrangement made.tallies.items)
+  made_of_built (Ok made) shown texts here tallied read_back = made_is made.texts made.arrangement made.tallies.items shown texts here tallied read_back
   made_of_built (Err r) shown texts here tallied read_back = tt
 
 -- there was no memory for what is made

@@ -3,6 +3,7 @@ use Rattle.std.proofs.Common.{◌≡◌, ◌≢◌, ℕ, List, Result, Ok, Err, 
 use Rattle.std.specs.Global.{Vec}
 use Rattle.ice_base.specs.declared.number.NetNo.{NetNo}
 use Rattle.ice_base.specs.declared.number.TileAt.{TileAt}
+use Rattle.ice_place.specs.declared.arrangement.Arrangement.{Arrangement}
 use Rattle.ice_base.specs.declared.number.WireNo.{WireNo}
 use Rattle.ice_net.specs.NetlistData.{NetlistData}
 use Rattle.ice_blif.specs.Grammar.{netlist_of}
@@ -36,11 +37,11 @@ use Rattle.ice_build_files.specs.Standing.{IsEnd, PlacesStand, TaskStands, NetSt
 
 -- ---- causes, by what is known of them
 -- what is true of each answer behind pins and places without a fault
-pub of_end : (P : Cause → Type 0) (task : Task) (rounds : ℕ) → ((placement : List TileAt) (tallies : Vec Shut) → P (Good placement tallies)) → ((role : FileRole) (put : ℕ) → P (WriteFault role put))
-    → ((placement : List TileAt) (net : NetNo) (sink : WireNo) → IsStuckOn task placement net sink → P (Unreachable placement net sink))
-    → ((placement : List TileAt) (logs : Vec RoundLog) (tallies : Vec Shut) → IsGivenUpOn task rounds placement logs.items tallies.items → P (GaveUp placement logs tallies))
+pub of_end : (P : Cause → Type 0) (task : Task) (rounds : ℕ) → ((arrangement : Arrangement) (tallies : Vec Shut) → P (Good arrangement tallies)) → ((role : FileRole) (put : ℕ) → P (WriteFault role put))
+    → ((arrangement : Arrangement) (net : NetNo) (sink : WireNo) → IsStuckOn task arrangement net sink → P (Unreachable arrangement net sink))
+    → ((arrangement : Arrangement) (logs : Vec RoundLog) (tallies : Vec Shut) → IsGivenUpOn task rounds arrangement logs.items tallies.items → P (GaveUp arrangement logs tallies))
     → ((fault : DecodeFault) → HasBadBits task rounds fault → P (BadBits fault)) → (cause : Cause) → IsEnd task rounds cause → P cause
-of_end P task rounds good cut stuck gave bits (Good placement tallies) is = good placement tallies
+of_end P task rounds good cut stuck gave bits (Good arrangement tallies) is = good arrangement tallies
 of_end P task rounds good cut stuck gave bits Usage is = absurd is
 of_end P task rounds good cut stuck gave bits (BadBlif fault) is = absurd is
 of_end P task rounds good cut stuck gave bits (BadPcf fault) is = absurd is
@@ -48,8 +49,8 @@ of_end P task rounds good cut stuck gave bits (BadChip fault) is = absurd is
 of_end P task rounds good cut stuck gave bits (BadNet fault) is = absurd is
 of_end P task rounds good cut stuck gave bits (BadPin fault) is = absurd is
 of_end P task rounds good cut stuck gave bits (Overfull fault) is = absurd is
-of_end P task rounds good cut stuck gave bits (Unreachable placement net sink) is = stuck placement net sink is
-of_end P task rounds good cut stuck gave bits (GaveUp placement logs tallies) is = gave placement logs tallies is
+of_end P task rounds good cut stuck gave bits (Unreachable arrangement net sink) is = stuck arrangement net sink is
+of_end P task rounds good cut stuck gave bits (GaveUp arrangement logs tallies) is = gave arrangement logs tallies is
 of_end P task rounds good cut stuck gave bits (ReadFault role) is = absurd is
 of_end P task rounds good cut stuck gave bits (WriteFault role put) is = cut role put
 of_end P task rounds good cut stuck gave bits NoMemory is = absurd is
@@ -59,10 +60,10 @@ of_end P task rounds good cut stuck gave bits (TooLong role limit) is = absurd i
 of_end P task rounds good cut stuck gave bits (BadLevels line) is = absurd is
 
 -- what is true of each answer behind pins and places, too
-pub of_tried : (P : Cause → Type 0) → ((placement : List TileAt) (tallies : Vec Shut) → P (Good placement tallies)) → ((role : FileRole) (put : ℕ) → P (WriteFault role put))
-    → ((placement : List TileAt) (net : NetNo) (sink : WireNo) → P (Unreachable placement net sink)) → ((placement : List TileAt) (logs : Vec RoundLog) (tallies : Vec Shut) → P (GaveUp placement logs tallies))
+pub of_tried : (P : Cause → Type 0) → ((arrangement : Arrangement) (tallies : Vec Shut) → P (Good arrangement tallies)) → ((role : FileRole) (put : ℕ) → P (WriteFault role put))
+    → ((arrangement : Arrangement) (net : NetNo) (sink : WireNo) → P (Unreachable arrangement net sink)) → ((arrangement : Arrangement) (logs : Vec RoundLog) (tallies : Vec Shut) → P (GaveUp arrangement logs tallies))
     → ((fault : DecodeFault) → P (BadBits fault)) → (cause : Cause) → IsTried cause → P cause
-of_tried P good cut stuck gave bits (Good placement tallies) is = good placement tallies
+of_tried P good cut stuck gave bits (Good arrangement tallies) is = good arrangement tallies
 of_tried P good cut stuck gave bits Usage is = absurd is
 of_tried P good cut stuck gave bits (BadBlif fault) is = absurd is
 of_tried P good cut stuck gave bits (BadPcf fault) is = absurd is
@@ -70,8 +71,8 @@ of_tried P good cut stuck gave bits (BadChip fault) is = absurd is
 of_tried P good cut stuck gave bits (BadNet fault) is = absurd is
 of_tried P good cut stuck gave bits (BadPin fault) is = absurd is
 of_tried P good cut stuck gave bits (Overfull fault) is = absurd is
-of_tried P good cut stuck gave bits (Unreachable placement net sink) is = stuck placement net sink
-of_tried P good cut stuck gave bits (GaveUp placement logs tallies) is = gave placement logs tallies
+of_tried P good cut stuck gave bits (Unreachable arrangement net sink) is = stuck arrangement net sink
+of_tried P good cut stuck gave bits (GaveUp arrangement logs tallies) is = gave arrangement logs tallies
 of_tried P good cut stuck gave bits (ReadFault role) is = absurd is
 of_tried P good cut stuck gave bits (WriteFault role put) is = cut role put
 of_tried P good cut stuck gave bits NoMemory is = absurd is
@@ -80,30 +81,30 @@ of_tried P good cut stuck gave bits (BadBits fault) is = bits fault
 of_tried P good cut stuck gave bits (TooLong role limit) is = absurd is
 of_tried P good cut stuck gave bits (BadLevels line) is = absurd is
 
--- what is true of each answer that tells a placement
-pub of_about : (P : Cause → Type 0) (placement : List TileAt) → ((tallies : Vec Shut) → P (Good placement tallies)) → ((net : NetNo) (sink : WireNo) → P (Unreachable placement net sink))
-    → ((logs : Vec RoundLog) (tallies : Vec Shut) → P (GaveUp placement logs tallies)) → (cause : Cause) → IsAbout placement cause → P cause
-of_about P placement good stuck gave (Good told tallies) is = subst (λ (x : List TileAt). P (Good x tallies)) (sym is) (good tallies)
-of_about P placement good stuck gave Usage is = absurd is
-of_about P placement good stuck gave (BadBlif fault) is = absurd is
-of_about P placement good stuck gave (BadPcf fault) is = absurd is
-of_about P placement good stuck gave (BadChip fault) is = absurd is
-of_about P placement good stuck gave (BadNet fault) is = absurd is
-of_about P placement good stuck gave (BadPin fault) is = absurd is
-of_about P placement good stuck gave (Overfull fault) is = absurd is
-of_about P placement good stuck gave (Unreachable told net sink) is = subst (λ (x : List TileAt). P (Unreachable x net sink)) (sym is) (stuck net sink)
-of_about P placement good stuck gave (GaveUp told logs tallies) is = subst (λ (x : List TileAt). P (GaveUp x logs tallies)) (sym is) (gave logs tallies)
-of_about P placement good stuck gave (ReadFault role) is = absurd is
-of_about P placement good stuck gave (WriteFault role put) is = absurd is
-of_about P placement good stuck gave NoMemory is = absurd is
-of_about P placement good stuck gave (BadAsc fault) is = absurd is
-of_about P placement good stuck gave (BadBits fault) is = absurd is
-of_about P placement good stuck gave (TooLong role limit) is = absurd is
-of_about P placement good stuck gave (BadLevels line) is = absurd is
+-- what is true of each answer that tells an arrangement
+pub of_about : (P : Cause → Type 0) (arrangement : Arrangement) → ((tallies : Vec Shut) → P (Good arrangement tallies)) → ((net : NetNo) (sink : WireNo) → P (Unreachable arrangement net sink))
+    → ((logs : Vec RoundLog) (tallies : Vec Shut) → P (GaveUp arrangement logs tallies)) → (cause : Cause) → IsAbout arrangement cause → P cause
+of_about P arrangement good stuck gave (Good told tallies) is = subst (λ (x : Arrangement). P (Good x tallies)) (sym is) (good tallies)
+of_about P arrangement good stuck gave Usage is = absurd is
+of_about P arrangement good stuck gave (BadBlif fault) is = absurd is
+of_about P arrangement good stuck gave (BadPcf fault) is = absurd is
+of_about P arrangement good stuck gave (BadChip fault) is = absurd is
+of_about P arrangement good stuck gave (BadNet fault) is = absurd is
+of_about P arrangement good stuck gave (BadPin fault) is = absurd is
+of_about P arrangement good stuck gave (Overfull fault) is = absurd is
+of_about P arrangement good stuck gave (Unreachable told net sink) is = subst (λ (x : Arrangement). P (Unreachable x net sink)) (sym is) (stuck net sink)
+of_about P arrangement good stuck gave (GaveUp told logs tallies) is = subst (λ (x : Arrangement). P (GaveUp x logs tallies)) (sym is) (gave logs tallies)
+of_about P arrangement good stuck gave (ReadFault role) is = absurd is
+of_about P arrangement good stuck gave (WriteFault role put) is = absurd is
+of_about P arrangement good stuck gave NoMemory is = absurd is
+of_about P arrangement good stuck gave (BadAsc fault) is = absurd is
+of_about P arrangement good stuck gave (BadBits fault) is = absurd is
+of_about P arrangement good stuck gave (TooLong role limit) is = absurd is
+of_about P arrangement good stuck gave (BadLevels line) is = absurd is
 
 -- ---- what is told
 abbrev pub Told : List ℕ → ℕ → List (List ℕ) → Cause → Type 0
-Told name rounds t (Good placement tallies) = Unit {0}
+Told name rounds t (Good arrangement tallies) = Unit {0}
 Told name rounds t (WriteFault role put) = Unit {0}
 Told name rounds t (BadChip fault) = HasChipFault fault t
 Told name rounds t (BadPcf fault) = HasPcfFault fault t
@@ -111,15 +112,15 @@ Told name rounds t (BadBlif fault) = HasBlifFault fault t
 Told name rounds t (BadNet fault) = SaysNetlist (λ circuit. IsFaultOf circuit fault × (fault ≢ net_fault.NoMemory)) t
 Told name rounds t (BadPin fault) = Asks name (λ task. pins_said task ≡ Err fault) t
 Told name rounds t (Overfull fault) = Asks name (HasPlaceFault fault) t
-Told name rounds t (Unreachable placement net sink) = Asks name (λ task. IsStuckOn task placement net sink) t
-Told name rounds t (GaveUp placement logs tallies) = Asks name (λ task. IsGivenUpOn task rounds placement logs.items tallies.items) t
+Told name rounds t (Unreachable arrangement net sink) = Asks name (λ task. IsStuckOn task arrangement net sink) t
+Told name rounds t (GaveUp arrangement logs tallies) = Asks name (λ task. IsGivenUpOn task rounds arrangement logs.items tallies.items) t
 Told name rounds t (BadBits fault) = Asks name (λ task. HasBadBits task rounds fault) t
 Told name rounds t cause = ⊥
 
 told_end : (name : List ℕ) (rounds : ℕ) (t : List (List ℕ)) (task : Task) (cause : Cause) → IsAsked name t task → IsEnd task rounds cause → Told name rounds t cause
 told_end name rounds t task cause asked m =
-    of_end (Told name rounds t) task rounds (λ placement tallies. tt) (λ role put. tt) (λ placement net sink stuck. record { task = task; is_asked = asked; is_so = stuck })
-    (λ placement logs tallies given. record { task = task; is_asked = asked; is_so = given }) (λ fault is. record { task = task; is_asked = asked; is_so = is }) cause m
+    of_end (Told name rounds t) task rounds (λ arrangement tallies. tt) (λ role put. tt) (λ arrangement net sink stuck. record { task = task; is_asked = asked; is_so = stuck })
+    (λ arrangement logs tallies given. record { task = task; is_asked = asked; is_so = given }) (λ fault is. record { task = task; is_asked = asked; is_so = is }) cause m
 
 told_places : (name : List ℕ) (rounds : ℕ) (t : List (List ℕ)) (task : Task) (pads : PadsData) (said : Result (List TileAt) PlaceFault) (cause : Cause) → IsAsked name t task
     → pins_said task ≡ Ok pads → places_said task ≡ said → PlacesStand task rounds cause → Told name rounds t cause

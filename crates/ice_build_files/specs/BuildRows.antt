@@ -4,6 +4,7 @@ use Rattle.std.specs.Prelude.{◌≡◌, ◌≢◌, ℕ, true, Some, List, Ok, E
 use Rattle.std.specs.Global.{Vec}
 use Rattle.ice_base.specs.declared.number.NetNo.{NetNo}
 use Rattle.ice_base.specs.declared.number.TileAt.{TileAt}
+use Rattle.ice_place.specs.declared.arrangement.Arrangement.{Arrangement}
 use Rattle.ice_base.specs.declared.number.WireNo.{WireNo}
 use Rattle.ice_asc.specs.Text.{asc_text}
 use Rattle.ice_desk.specs.Desk.{Meaning}
@@ -108,10 +109,10 @@ IsPlaceable task = (pads : PadsData) × (first : List TileAt) × (pins_said task
 -- the work is done, or a fault of writing came in between; or a sink can't be reached, the permitted rounds all end with an overused
 -- wire, or the bits have no circuit
 abbrev pub IsTried : Cause → Type 0
-IsTried (Good placement tallies) = Unit {0}
+IsTried (Good arrangement tallies) = Unit {0}
 IsTried (WriteFault role put) = Unit {0}
-IsTried (Unreachable placement net sink) = Unit {0}
-IsTried (GaveUp placement logs tallies) = Unit {0}
+IsTried (Unreachable arrangement net sink) = Unit {0}
+IsTried (GaveUp arrangement logs tallies) = Unit {0}
 IsTried (BadBits fault) = Unit {0}
 IsTried cause = ⊥
 
@@ -119,44 +120,44 @@ IsTried cause = ⊥
 abbrev pub TriedRow : Build → Meaning → Cause → Type 0
 TriedRow b old cause = ComesExactly (build_files b) old IsTried (Asks b.package_name IsPlaceable) cause
 
--- the answer tells this placement
-abbrev pub IsAbout : List TileAt → Cause → Type 0
-IsAbout placement (Good told tallies) = told ≡ placement
-IsAbout placement (Unreachable told net sink) = told ≡ placement
-IsAbout placement (GaveUp told logs tallies) = told ≡ placement
-IsAbout placement cause = ⊥
+-- the answer tells this arrangement
+abbrev pub IsAbout : Arrangement → Cause → Type 0
+IsAbout arrangement (Good told tallies) = told ≡ arrangement
+IsAbout arrangement (Unreachable told net sink) = told ≡ arrangement
+IsAbout arrangement (GaveUp told logs tallies) = told ≡ arrangement
+IsAbout arrangement cause = ⊥
 
--- Such an answer that tells a placement comes only where this is true of the placement; and where it is true of the placement that the
+-- Such an answer that tells an arrangement comes only where this is true of the arrangement; and where it is true of the arrangement that the
 -- answer tells, the answer is such a one.
-pub record ComesOn (b : Build) (old : Meaning) (IsSuch : Cause → Type 0) (IsSo : List TileAt → Task → Type 0) (cause : Cause) : Type 0 where
-  pub only : (placement : List TileAt) → IsAbout placement cause → IsSuch cause → OfTexts (files_of b) old (Asks b.package_name (IsSo placement))
-  pub always : (placement : List TileAt) (texts : List (List ℕ)) → IsAbout placement cause → HoldsTexts (files_of b) old texts → Asks b.package_name (IsSo placement) texts → IsSuch cause
+pub record ComesOn (b : Build) (old : Meaning) (IsSuch : Cause → Type 0) (IsSo : Arrangement → Task → Type 0) (cause : Cause) : Type 0 where
+  pub only : (arrangement : Arrangement) → IsAbout arrangement cause → IsSuch cause → OfTexts (files_of b) old (Asks b.package_name (IsSo arrangement))
+  pub always : (arrangement : Arrangement) (texts : List (List ℕ)) → IsAbout arrangement cause → HoldsTexts (files_of b) old texts → Asks b.package_name (IsSo arrangement) texts → IsSuch cause
 
 abbrev pub IsGood : Cause → Type 0
-IsGood cause = (placement : List TileAt) × (tallies : Vec Shut) × (cause ≡ Good placement tallies)
+IsGood cause = (arrangement : Arrangement) × (tallies : Vec Shut) × (cause ≡ Good arrangement tallies)
 
--- status 0: exactly where the nets are routed with the placement that is told; with the tallies of their rounds
+-- status 0: exactly where the nets are routed with the arrangement that is told; with the tallies of their rounds
 pub record BuiltRow (b : Build) (old : Meaning) (cause : Cause) : Type 0 where
-  pub comes : ComesOn b old IsGood (λ placement task. IsBuiltOn task b.effort.rounds placement) cause
-  pub tallies_are : (placement : List TileAt) (tallies : Vec Shut) → cause ≡ Good placement tallies
-      → OfTexts (files_of b) old (Asks b.package_name (λ task. IsTalliedOn task b.effort.rounds placement tallies.items))
+  pub comes : ComesOn b old IsGood (λ arrangement task. IsBuiltOn task b.effort.rounds arrangement) cause
+  pub tallies_are : (arrangement : Arrangement) (tallies : Vec Shut) → cause ≡ Good arrangement tallies
+      → OfTexts (files_of b) old (Asks b.package_name (λ task. IsTalliedOn task b.effort.rounds arrangement tallies.items))
 
 abbrev pub IsUnreachable : NetNo → WireNo → Cause → Type 0
-IsUnreachable net sink cause = (placement : List TileAt) × (cause ≡ Unreachable placement net sink)
+IsUnreachable net sink cause = (arrangement : Arrangement) × (cause ≡ Unreachable arrangement net sink)
 
--- status 9: exactly where a sink can't be reached with the placement that is told, with the first one
+-- status 9: exactly where a sink can't be reached with the arrangement that is told, with the first one
 abbrev pub UnreachableRow : Build → Meaning → Cause → Type 0
-UnreachableRow b old cause = (net : NetNo) (sink : WireNo) → ComesOn b old (IsUnreachable net sink) (λ placement task. IsStuckOn task placement net sink) cause
+UnreachableRow b old cause = (net : NetNo) (sink : WireNo) → ComesOn b old (IsUnreachable net sink) (λ arrangement task. IsStuckOn task arrangement net sink) cause
 
 abbrev pub HasGivenUp : Cause → Type 0
-HasGivenUp cause = (placement : List TileAt) × (logs : Vec RoundLog) × (tallies : Vec Shut) × (cause ≡ GaveUp placement logs tallies)
+HasGivenUp cause = (arrangement : Arrangement) × (logs : Vec RoundLog) × (tallies : Vec Shut) × (cause ≡ GaveUp arrangement logs tallies)
 
--- status 10: exactly where with the placement that is told each permitted round ends with an overused wire; with the logs and
+-- status 10: exactly where with the arrangement that is told each permitted round ends with an overused wire; with the logs and
 -- the tallies of these rounds
 pub record GaveUpRow (b : Build) (old : Meaning) (cause : Cause) : Type 0 where
-  pub comes : ComesOn b old HasGivenUp (λ placement task. (logs : List RoundLog) × (tallies : List Shut) × IsGivenUpOn task b.effort.rounds placement logs tallies) cause
-  pub logs_are : (placement : List TileAt) (logs : Vec RoundLog) (tallies : Vec Shut) → cause ≡ GaveUp placement logs tallies
-      → OfTexts (files_of b) old (Asks b.package_name (λ task. IsGivenUpOn task b.effort.rounds placement logs.items tallies.items))
+  pub comes : ComesOn b old HasGivenUp (λ arrangement task. (logs : List RoundLog) × (tallies : List Shut) × IsGivenUpOn task b.effort.rounds arrangement logs tallies) cause
+  pub logs_are : (arrangement : Arrangement) (logs : Vec RoundLog) (tallies : Vec Shut) → cause ≡ GaveUp arrangement logs tallies
+      → OfTexts (files_of b) old (Asks b.package_name (λ task. IsGivenUpOn task b.effort.rounds arrangement logs.items tallies.items))
 
 -- status 15: only where the bits that would be written have this fault, and never where no global of the chip is fed by a global
 abbrev pub BitsRow : Build → Meaning → Cause → Type 0
@@ -173,36 +174,36 @@ HeadlineRow b old new status =
     status ≡ 0 → old.tells ≡ true
     → (texts : List (List ℕ)) × (text : List ℕ) × HoldsTexts (files_of b) old texts × (IsApart b → new.files b.asc ≡ Some text) × IsShown b.package_name texts text
 
--- Of the texts that the files hold this is built, with this placement and in rounds of these tallies; and what is written tells of it, each
+-- Of the texts that the files hold this is built, with this arrangement and in rounds of these tallies; and what is written tells of it, each
 -- file unless a later one has the same name: the text of its bits, the report on the pins of the netlist read, and the report on the
 -- rounds that led to these bits.
-pub record IsWritten (b : Build) (old new : Meaning) (placement : List TileAt) (tallies : List Shut) : Type 0 where
+pub record IsWritten (b : Build) (old new : Meaning) (arrangement : Arrangement) (tallies : List Shut) : Type 0 where
   pub texts : List (List ℕ)
   pub made : List (List ℕ)
   pub hold : HoldsTexts (files_of b) old texts
-  pub of : IsMade b texts made placement tallies
+  pub of : IsMade b texts made arrangement tallies
   pub bits : IsApart b → new.files b.asc ≡ Some (asc_text of.task.parts of.built.bits)
   pub pins : (name : List ℕ) → b.pins ≡ Some name → b.report ≢ Some name → new.files name ≡ Some (pin_text of.is_asked.circuit of.bonded of.built.layout.pads.ports)
   pub report : (name : List ℕ) → b.report ≡ Some name → new.files name ≡ Some (routes_text of.task.parts of.built.layout of.built.routed.logs.items true)
 
--- status 0: where the desk tells its contents, what the files hold, of the build with the placement and the tallies that are told
+-- status 0: where the desk tells its contents, what the files hold, of the build with the arrangement and the tallies that are told
 abbrev pub WrittenRow : Build → Meaning → Meaning → Cause → Type 0
-WrittenRow b old new cause = (placement : List TileAt) (tallies : Vec Shut) → cause ≡ Good placement tallies → old.tells ≡ true → IsWritten b old new placement tallies.items
+WrittenRow b old new cause = (arrangement : Arrangement) (tallies : Vec Shut) → cause ≡ Good arrangement tallies → old.tells ≡ true → IsWritten b old new arrangement tallies.items
 
--- Of the texts that the files hold this is the report on the rounds that gave up with this placement, these logs and these tallies. The
+-- Of the texts that the files hold this is the report on the rounds that gave up with this arrangement, these logs and these tallies. The
 -- file of this name holds it; or the count of write faults rose, and the file holds a front of it, or is as before or empty.
-pub record HoldsReport (b : Build) (old new : Meaning) (name : List ℕ) (placement : List TileAt) (logs : List RoundLog) (tallies : List Shut) : Type 0 where
+pub record HoldsReport (b : Build) (old new : Meaning) (name : List ℕ) (arrangement : Arrangement) (logs : List RoundLog) (tallies : List Shut) : Type 0 where
   pub texts : List (List ℕ)
   pub report : List ℕ
   pub hold : HoldsTexts (files_of b) old texts
-  pub tells : Asks b.package_name (λ task. IsGivenUpIn task b.effort.rounds placement logs tallies report) texts
+  pub tells : Asks b.package_name (λ task. IsGivenUpIn task b.effort.rounds arrangement logs tallies report) texts
   pub left : IsLeftIn name report old new
 
 -- status 10: where the report on the routes is asked for and the desk tells its contents, what the file of the report holds
 abbrev pub ReportedRow : Build → Meaning → Meaning → Cause → Type 0
 ReportedRow b old new cause =
-    (placement : List TileAt) (logs : Vec RoundLog) (tallies : Vec Shut) (name : List ℕ) → cause ≡ GaveUp placement logs tallies → b.report ≡ Some name → old.tells ≡ true
-    → HoldsReport b old new name placement logs.items tallies.items
+    (arrangement : Arrangement) (logs : Vec RoundLog) (tallies : Vec Shut) (name : List ℕ) → cause ≡ GaveUp arrangement logs tallies → b.report ≡ Some name → old.tells ≡ true
+    → HoldsReport b old new name arrangement logs.items tallies.items
 
 -- ---- all of them
 -- The end of `build`, where the desk was seen as `old` before and is seen as `new` after.

@@ -4,6 +4,7 @@ use Rattle.std.specs.Global.{Vec}
 use Rattle.ice_core.specs.declared.log.RoundLog.{RoundLog}
 use Rattle.ice_report.specs.RouteReport.{route_text}
 use Rattle.ice_words.specs.Grips.{Shut}
+use Rattle.ice_build.specs.Laid.{arrangement_in}
 use Rattle.ice_build.specs.declared.answer.BuildFault.{BuildFault}
 use Rattle.ice_build.specs.declared.answer.BuildFault.TheVariants as build
 use Rattle.ice_build.specs.declared.answer.Layout.{Layout}
@@ -21,13 +22,13 @@ parting_text b layout nets logs = option_map (λ name. route_text (length layout
 abbrev pub HasGivenUpWith : Build → Layout → ℕ → Vec RoundLog → Vec Shut → Refused → Type 0
 HasGivenUpWith b layout nets logs tallies refused =
     ((refused.cause ≡ NoMemory) × (refused.report ≡ None))
-    ⊎ ((refused.cause ≡ GaveUp layout.placement logs tallies) × (text_of refused.report ≡ parting_text b layout nets logs.items))
+    ⊎ ((refused.cause ≡ GaveUp (arrangement_in layout) logs tallies) × (text_of refused.report ≡ parting_text b layout nets logs.items))
 
--- the fault, with the placement of which it is told; want of memory is one cause
+-- the fault, with the arrangement of which it is told; want of memory is one cause
 abbrev pub IsBuildRefusal : Build → BuildFault → Refused → Type 0
 IsBuildRefusal b (build.Pins fault) refused = IsPinRefusal fault refused.cause × (refused.report ≡ None)
 IsBuildRefusal b (build.Places fault) refused = IsPlaceRefusal fault refused.cause × (refused.report ≡ None)
-IsBuildRefusal b (build.Unreachable layout net sink) refused = (refused.cause ≡ Unreachable layout.placement net sink) × (refused.report ≡ None)
+IsBuildRefusal b (build.Unreachable layout net sink) refused = (refused.cause ≡ Unreachable (arrangement_in layout) net sink) × (refused.report ≡ None)
 IsBuildRefusal b (build.GaveUp layout nets logs tallies) refused = HasGivenUpWith b layout nets logs tallies refused
 IsBuildRefusal b (build.Bits fault) refused = IsBitsRefusal fault refused.cause × (refused.report ≡ None)
 IsBuildRefusal b build.NoMemory refused = (refused.cause ≡ NoMemory) × (refused.report ≡ None)

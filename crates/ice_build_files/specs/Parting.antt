@@ -9,9 +9,9 @@ use Rattle.ice_build_files.specs.Asked.{Build, Asks}
 use Rattle.ice_build_files.specs.Made.{IsGivenUpIn}
 use Rattle.ice_build_files.specs.Standing.{Stands}
 
--- the report tells of the rounds of this answer, which gave up: of its logs, on its placement
+-- the report tells of the rounds of this answer, which gave up: of its logs, on its arrangement
 abbrev pub TellsOf : Build → List (List ℕ) → Cause → List ℕ → Type 0
-TellsOf b texts (GaveUp placement logs tallies) report = Asks b.package_name (λ task. IsGivenUpIn task b.effort.rounds placement logs.items tallies.items report) texts
+TellsOf b texts (GaveUp arrangement logs tallies) report = Asks b.package_name (λ task. IsGivenUpIn task b.effort.rounds arrangement logs.items tallies.items report) texts
 TellsOf b texts cause report = ⊥
 
 -- there is a report exactly where the rounds gave up and it is asked for, and it tells of them

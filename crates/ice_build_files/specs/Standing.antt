@@ -17,13 +17,13 @@ use Rattle.ice_answer.specs.Refusals.{IsNetCause}
 use Rattle.ice_answer.specs.Texts.{text_at}
 use Rattle.ice_build_files.specs.Made.{IsStuckOn, IsGivenUpOn, HasBadBits}
 
--- The pins and the places of the task have no fault: the work is done, or with the placement that is told a sink can't be reached, or each
+-- The pins and the places of the task have no fault: the work is done, or with the arrangement that is told a sink can't be reached, or each
 -- permitted round ends with an overused wire, or the bits have no circuit.
 abbrev pub IsEnd : Task → ℕ → Cause → Type 0
-IsEnd task rounds (Good placement tallies) = Unit {0}
+IsEnd task rounds (Good arrangement tallies) = Unit {0}
 IsEnd task rounds (WriteFault role put) = Unit {0}
-IsEnd task rounds (Unreachable placement net sink) = IsStuckOn task placement net sink
-IsEnd task rounds (GaveUp placement logs tallies) = IsGivenUpOn task rounds placement logs.items tallies.items
+IsEnd task rounds (Unreachable arrangement net sink) = IsStuckOn task arrangement net sink
+IsEnd task rounds (GaveUp arrangement logs tallies) = IsGivenUpOn task rounds arrangement logs.items tallies.items
 IsEnd task rounds (BadBits fault) = HasBadBits task rounds fault
 IsEnd task rounds cause = ⊥
 

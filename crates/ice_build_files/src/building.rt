@@ -77,7 +77,7 @@ fn build_prepared<G: Gate + Sync, R: Threads + Sync>(
     requires formed { (n : NetlistData) → netlist_of (text_at texts.now 2) ≡ Ok n → IsFormed n }
     requires room { (n : NetlistData) → netlist_of (text_at texts.now 2) ≡ Ok n → length n.cells < most_cells }
     requires effort { IsPermitted request.now.effort }
-    ensures made { (chip_text : List ℕ) → IsAsked request.now.package_name.now (chip_text ∷ texts.now) (task_of chip.now request.now.package_name.now pcf.now sound.now) → IfOk result (λ made. IsMade (request_view request.now) (chip_text ∷ texts.now) made.texts made.placement made.tallies.items) }
+    ensures made { (chip_text : List ℕ) → IsAsked request.now.package_name.now (chip_text ∷ texts.now) (task_of chip.now request.now.package_name.now pcf.now sound.now) → IfOk result (λ made. IsMade (request_view request.now) (chip_text ∷ texts.now) made.texts made.arrangement made.tallies.items) }
     ensures refused { (chip_text : List ℕ) → IsAsked request.now.package_name.now (chip_text ∷ texts.now) (task_of chip.now request.now.package_name.now pcf.now sound.now) → IfErr result (IsRefusedWith (request_view request.now) (chip_text ∷ texts.now)) }
 {
     prepared_pins_stay();
@@ -105,7 +105,7 @@ fn build_sound<G: Gate + Sync, R: Threads + Sync>(
     requires netlist { netlist_of (text_at texts.now 2) ≡ Ok sound }
     requires limits { IsWithinLimits sound }
     requires effort { IsPermitted request.now.effort }
-    ensures made { (chip_text : List ℕ) → IsRead (chip_text ∷ texts.now) chip.now pcf.now → IfOk result (λ made. IsMade (request_view request.now) (chip_text ∷ texts.now) made.texts made.placement made.tallies.items) }
+    ensures made { (chip_text : List ℕ) → IsRead (chip_text ∷ texts.now) chip.now pcf.now → IfOk result (λ made. IsMade (request_view request.now) (chip_text ∷ texts.now) made.texts made.arrangement made.tallies.items) }
     ensures refused { (chip_text : List ℕ) → IsRead (chip_text ∷ texts.now) chip.now pcf.now → IfErr result (IsRefusedWith (request_view request.now) (chip_text ∷ texts.now)) }
 {
     can_be_prepared(texts, &sound);
@@ -133,7 +133,7 @@ fn build_net<G: Gate + Sync, R: Threads + Sync>(
     requires netlist { netlist_of (text_at texts.now 2) ≡ Ok netlist }
     requires limits { IsWithinLimits netlist }
     requires effort { IsPermitted request.now.effort }
-    ensures made { (chip_text : List ℕ) → IsRead (chip_text ∷ texts.now) chip.now pcf.now → IfOk result (λ made. IsMade (request_view request.now) (chip_text ∷ texts.now) made.texts made.placement made.tallies.items) }
+    ensures made { (chip_text : List ℕ) → IsRead (chip_text ∷ texts.now) chip.now pcf.now → IfOk result (λ made. IsMade (request_view request.now) (chip_text ∷ texts.now) made.texts made.arrangement made.tallies.items) }
     ensures refused { (chip_text : List ℕ) → IsRead (chip_text ∷ texts.now) chip.now pcf.now → IfErr result (IsRefusedWith (request_view request.now) (chip_text ∷ texts.now)) }
 {
     match check(alloc, netlist) {
@@ -153,7 +153,7 @@ fn build_read<G: Gate + Sync, R: Threads + Sync>(
     pcf: &Pcf,
 ) -> Result<Made, Refused>
     requires { IsPermitted request.now.effort }
-    ensures made { (chip_text : List ℕ) → IsRead (chip_text ∷ texts.now) chip.now pcf.now → IfOk result (λ made. IsMade (request_view request.now) (chip_text ∷ texts.now) made.texts made.placement made.tallies.items) }
+    ensures made { (chip_text : List ℕ) → IsRead (chip_text ∷ texts.now) chip.now pcf.now → IfOk result (λ made. IsMade (request_view request.now) (chip_text ∷ texts.now) made.texts made.arrangement made.tallies.items) }
     ensures refused { (chip_text : List ℕ) → IsRead (chip_text ∷ texts.now) chip.now pcf.now → IfErr result (IsRefusedWith (request_view request.now) (chip_text ∷ texts.now)) }
 {
     match read_blif(alloc, texts.at(2)) {
@@ -172,7 +172,7 @@ fn build_on<G: Gate + Sync, R: Threads + Sync>(
     chip: &Chip,
 ) -> Result<Made, Refused>
     requires { IsPermitted request.now.effort }
-    ensures made { (chip_text : List ℕ) → chip_says chip_text ≡ Ok chip.now → IfOk result (λ made. IsMade (request_view request.now) (chip_text ∷ texts.now) made.texts made.placement made.tallies.items) }
+    ensures made { (chip_text : List ℕ) → chip_says chip_text ≡ Ok chip.now → IfOk result (λ made. IsMade (request_view request.now) (chip_text ∷ texts.now) made.texts made.arrangement made.tallies.items) }
     ensures refused { (chip_text : List ℕ) → chip_says chip_text ≡ Ok chip.now → IfErr result (IsRefusedWith (request_view request.now) (chip_text ∷ texts.now)) }
 {
     match read_pcf(alloc, texts.at(1)) {
@@ -191,7 +191,7 @@ fn build_texts<G: Gate + Sync, R: Threads + Sync>(
     texts: &Texts,
 ) -> Result<Made, Refused>
     requires { IsPermitted request.now.effort }
-    ensures made { (chip_text : List ℕ) → StandsFor reader chip_text → IfOk result (λ made. IsMade (request_view request.now) (chip_text ∷ texts.now) made.texts made.placement made.tallies.items) }
+    ensures made { (chip_text : List ℕ) → StandsFor reader chip_text → IfOk result (λ made. IsMade (request_view request.now) (chip_text ∷ texts.now) made.texts made.arrangement made.tallies.items) }
     ensures refused { (chip_text : List ℕ) → StandsFor reader chip_text → IfErr result (IsRefusedWith (request_view request.now) (chip_text ∷ texts.now)) }
 {
     match reader.finish() {

@@ -5,6 +5,7 @@ ghost use Rattle.ice_answer.specs.Ends.{text_of};
 ghost use Rattle.ice_asc.specs.Grammar.{asc_in};
 ghost use Rattle.ice_asc.specs.Text.{asc_text};
 ghost use Rattle.ice_bits.specs.Configuration.{IsOf};
+ghost use Rattle.ice_build.specs.Laid.{arrangement_in};
 ghost use Rattle.ice_chip.specs.Lookups.{package_of};
 ghost use Rattle.ice_report.specs.RouteReport.{route_text};
 ghost use Rattle.ice_build_files.specs.Ending.{IsBuildRefusal, HasGivenUpWith};
@@ -15,14 +16,14 @@ use crate::request::BuildRequest;
 use crate::texts::{parting_text, texts_of};
 use ice_answer::{Cause, Made, Refused, bits_refusal, pin_refusal, place_refusal};
 use ice_base::NoMemory;
-use ice_build::{BuildFault, Built, Layout, placement_of, tallies_of};
+use ice_build::{BuildFault, Built, Layout, arrangement_of, tallies_of};
 use ice_chip::Chip;
 use ice_core::RoundLog;
 use ice_net::Netlist;
 use ice_words::Tally;
 use std::alloc::Global;
 
-/// What is made of what was built of a netlist: the texts that are asked for, with the placement and the tallies. Where the bits are of
+/// What is made of what was built of a netlist: the texts that are asked for, with the arrangement and the tallies. Where the bits are of
 /// the chip, their text says them.
 ///
 /// # Errors
@@ -35,7 +36,7 @@ pub fn made_of(
     built: Built,
 ) -> Result<Made, Refused>
     ensures texts { IfOk result (λ made. made.texts ≡ texts_of (request_view request.now) (asc_text chip.now built.bits) (pins_text (package_of chip.now request.now.package_name.now) netlist.now built.layout.pads.ports) (route_text (length built.layout.design.cells) (length built.layout.clusters.list) (length built.routed.trees.items) built.routed.logs.items true)) }
-    ensures placement { IfOk result (λ made. made.placement ≡ built.layout.placement) }
+    ensures arrangement { IfOk result (λ made. made.arrangement ≡ arrangement_in built.layout) }
     ensures tallies { IfOk result (λ made. made.tallies.items ≡ built.routed.tallies.items) }
     ensures read_back { IfOk result (λ made. IsOf chip.now built.bits → asc_in chip.now (asc_text chip.now built.bits) ≡ Ok built.bits) }
     ensures stop { IfErr result (λ refused. refused.cause ≡ out_of_memory) }
@@ -51,7 +52,7 @@ pub fn made_of(
             drop(bits);
             Ok(Made {
                 texts,
-                placement: placement_of(layout),
+                arrangement: arrangement_of(layout),
                 tallies: tallies_of(routed),
             })
         }
@@ -76,7 +77,7 @@ fn gave_up(
     match parting_text(alloc, request, &layout, nets, &logs) {
         Ok(report) => Refused {
             cause: Cause::GaveUp {
-                placement: placement_of(layout),
+                arrangement: arrangement_of(layout),
                 logs,
                 tallies,
             },
@@ -100,7 +101,7 @@ pub fn without_report(cause: Cause) -> Refused
     }
 }
 
-/// Why nothing was built: the fault, with the placement of which it is told, or want of memory; and the report on the rounds, where they
+/// Why nothing was built: the fault, with the arrangement of which it is told, or want of memory; and the report on the rounds, where they
 /// gave up and it is asked for.
 pub fn build_refusal(alloc: Global, request: &BuildRequest<'_>, fault: BuildFault) -> Refused
     ensures { IsBuildRefusal (request_view request.now) fault result }
@@ -109,7 +110,7 @@ pub fn build_refusal(alloc: Global, request: &BuildRequest<'_>, fault: BuildFaul
         BuildFault::Pins(fault) => pin_refusal(fault),
         BuildFault::Places(fault) => place_refusal(fault),
         BuildFault::Unreachable { layout, net, sink } => Cause::Unreachable {
-            placement: placement_of(layout),
+            arrangement: arrangement_of(layout),
             net,
             sink,
         },

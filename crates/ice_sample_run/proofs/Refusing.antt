@@ -8,7 +8,7 @@ use Rattle.ice_answer.specs.declared.cause.Cause.TheVariants.{Good, Usage, BadBl
 use Rattle.ice_answer.specs.declared.giving.Made.{Made}
 use Rattle.ice_build.proofs.Answering.{pins_good, places_good}
 use Rattle.ice_build.specs.Answers.{IsRouted, pins_said, places_said}
-use Rattle.ice_build.specs.Laid.{Task, IsLaidOut, plan_in}
+use Rattle.ice_build.specs.Laid.{Task, IsLaidOut, arrangement_in, plan_in}
 use Rattle.ice_build.specs.Stages.{IsLayFault, IsRouteFault}
 use Rattle.ice_build.specs.declared.answer.BuildFault.{BuildFault}
 use Rattle.ice_build.specs.declared.answer.BuildFault.TheVariants as build
@@ -25,7 +25,7 @@ use Rattle.ice_sample_run.proofs.Standing.{end_so}
 
 -- ---- a refusal of what was read behind others
 refusal_behind : (Before Behind : Cause → Type 0) (cause : Cause) → ((c : Cause) → Behind c → Before c) → IsRefusal Behind cause → IsRefusal Before cause
-refusal_behind Before Behind (Good placement tallies) so is = absurd is
+refusal_behind Before Behind (Good arrangement tallies) so is = absurd is
 refusal_behind Before Behind Usage so is = (so Usage is.0, is.1)
 refusal_behind Before Behind (BadBlif fault) so is = (so (BadBlif fault) is.0, is.1)
 refusal_behind Before Behind (BadPcf fault) so is = (so (BadPcf fault) is.0, is.1)
@@ -33,8 +33,8 @@ refusal_behind Before Behind (BadChip fault) so is = (so (BadChip fault) is.0, i
 refusal_behind Before Behind (BadNet fault) so is = (so (BadNet fault) is.0, is.1)
 refusal_behind Before Behind (BadPin fault) so is = (so (BadPin fault) is.0, is.1)
 refusal_behind Before Behind (Overfull fault) so is = (so (Overfull fault) is.0, is.1)
-refusal_behind Before Behind (Unreachable placement net sink) so is = (so (Unreachable placement net sink) is.0, is.1)
-refusal_behind Before Behind (GaveUp placement logs tallies) so is = (so (GaveUp placement logs tallies) is.0, is.1)
+refusal_behind Before Behind (Unreachable arrangement net sink) so is = (so (Unreachable arrangement net sink) is.0, is.1)
+refusal_behind Before Behind (GaveUp arrangement logs tallies) so is = (so (GaveUp arrangement logs tallies) is.0, is.1)
 refusal_behind Before Behind (ReadFault role) so is = absurd is
 refusal_behind Before Behind (WriteFault role put) so is = absurd is
 refusal_behind Before Behind NoMemory so is = tt
@@ -67,16 +67,16 @@ lay_refused task build.NoMemory cause free is = subst (IsRefusal (TaskStands tas
 pub route_refused : (task : Task) (layout : Layout) (fault : RouteFault) → IsLaidOut task layout → IsRouteFault task.parts (plan_in layout) most_rounds fault
     → IsRefusal (TaskStands task) (route_cause layout fault)
 route_refused task layout (route.Unreachable net sink) laid stuck =
-    (end_so task layout.pads laid.placed.first (Unreachable layout.placement net sink) (pins_good task layout laid) (places_good task layout laid) (layout, laid, refl, stuck), tt)
+    (end_so task layout.pads laid.placed.first (Unreachable (arrangement_in layout) net sink) (pins_good task layout laid) (places_good task layout laid) (layout, laid, refl, stuck), tt)
 route_refused task layout (route.GaveUp logs tallies) laid given =
-    (end_so task layout.pads laid.placed.first (GaveUp layout.placement logs tallies) (pins_good task layout laid) (places_good task layout laid) (layout, laid, refl, given), tt)
+    (end_so task layout.pads laid.placed.first (GaveUp (arrangement_in layout) logs tallies) (pins_good task layout laid) (places_good task layout laid) (layout, laid, refl, given), tt)
 route_refused task layout route.NoMemory laid free = tt
 
 -- ---- what is made
 pub sampled : (number : ℕ) (task : Task) (layout : Layout) (routed : Routed) (result : Result Made Cause) → IsAsked number task → IsLaidOut task layout
     → IsRouted task.parts (plan_in layout) most_rounds routed → IfOk result (λ made. text_at made.texts 1 ≡ summary_text (summary_of number task.parts layout routed))
-    → IfOk result (λ made. made.placement ≡ layout.placement) → IfOk result (λ made. made.tallies.items ≡ routed.tallies.items)
-    → IfOk result (λ made. IsSampled number (text_at made.texts 1) made.placement made.tallies.items)
+    → IfOk result (λ made. made.arrangement ≡ arrangement_in layout) → IfOk result (λ made. made.tallies.items ≡ routed.tallies.items)
+    → IfOk result (λ made. IsSampled number (text_at made.texts 1) made.arrangement made.tallies.items)
 sampled number task layout routed (Ok made) asked laid is text here tallied = record {
   task = task;
   layout = layout;
@@ -84,7 +84,7 @@ sampled number task layout routed (Ok made) asked laid is text here tallied = re
   is_asked = asked;
   is_laid = laid;
   is_routed = is;
-  is_placement = here;
+  is_arrangement = here;
   are_tallies = tallied;
   is_text = text;
 }

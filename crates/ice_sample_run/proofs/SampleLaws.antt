@@ -16,7 +16,7 @@ use Rattle.ice_answer.specs.declared.cause.Done.{Done}
 use Rattle.ice_answer.specs.declared.cause.FileRole.{FileRole}
 use Rattle.ice_answer.specs.declared.giving.Made.{Made}
 use Rattle.ice_base.specs.declared.number.NetNo.{NetNo}
-use Rattle.ice_base.specs.declared.number.TileAt.{TileAt}
+use Rattle.ice_place.specs.declared.arrangement.Arrangement.{Arrangement}
 use Rattle.ice_base.specs.declared.number.WireNo.{WireNo}
 use Rattle.ice_blif.specs.Grammar.{netlist_of}
 use Rattle.ice_build.proofs.Answering.{pins_good, places_good}
@@ -45,9 +45,9 @@ use Rattle.ice_words.specs.Grips.{Shut}
 
 -- ---- what a cause says of the texts
 done_end : (task : Task) (cause : Cause) → IsDone cause → IsEnd task cause
-done_end task cause done = of_done (IsEnd task) (λ placement tallies. tt) (λ role put. tt) cause done
+done_end task cause done = of_done (IsEnd task) (λ arrangement tallies. tt) (λ role put. tt) cause done
 
-done_so : (number : ℕ) (text : List ℕ) (on : List TileAt) (counted : List Shut) (cause : Cause) → IsSampled number text on counted → IsDone cause → Stands number cause
+done_so : (number : ℕ) (text : List ℕ) (on : Arrangement) (counted : List Shut) (cause : Cause) → IsSampled number text on counted → IsDone cause → Stands number cause
 done_so number text on counted cause g done =
     task_so number g.task cause g.is_asked
     (end_so g.task g.layout.pads g.is_laid.placed.first cause (pins_good g.task g.layout g.is_laid) (places_good g.task g.layout g.is_laid) (done_end g.task cause done))
@@ -63,7 +63,7 @@ none_last : (old new : Meaning) (role : FileRole) → IsLastRead [] old new role
 none_last old new role last = let some : 0 < last.place = last.some in let few : last.place ≤ 0 = last.few in omega (arith, some, few)
 
 says : (s : Sample) (old new : Meaning) (cause : Cause) → IsTrueOf (sample s) old new cause → Stands s.number cause ⊎ (cause ≡ NoMemory)
-says s old new (Good placement tallies) is = inl (done_so s.number (text_at is.made 1) placement tallies.items (Good placement tallies) is.texts.2 tt)
+says s old new (Good arrangement tallies) is = inl (done_so s.number (text_at is.made 1) arrangement tallies.items (Good arrangement tallies) is.texts.2 tt)
 says s old new Usage is = inl is.0.2
 says s old new (BadBlif fault) is = inl is.0.2
 says s old new (BadPcf fault) is = inl is.0.2
@@ -71,10 +71,10 @@ says s old new (BadChip fault) is = inl is.0.2
 says s old new (BadNet fault) is = inl is.0.2
 says s old new (BadPin fault) is = inl is.0.2
 says s old new (Overfull fault) is = inl is.0.2
-says s old new (Unreachable placement net sink) is = inl is.0.2
-says s old new (GaveUp placement logs tallies) is = inl is.0.2
+says s old new (Unreachable arrangement net sink) is = inl is.0.2
+says s old new (GaveUp arrangement logs tallies) is = inl is.0.2
 says s old new (ReadFault role) is = absurd (none_last old new role is.last)
-says s old new (WriteFault role put) is = inl (done_so s.number (text_at is.made 1) is.placement is.tallies (WriteFault role put) is.texts.2 tt)
+says s old new (WriteFault role put) is = inl (done_so s.number (text_at is.made 1) is.arrangement is.tallies (WriteFault role put) is.texts.2 tt)
 says s old new NoMemory is = inr refl
 says s old new (BadAsc fault) is = inl is.0.2
 says s old new (BadBits fault) is = inl is.0.2
@@ -144,111 +144,111 @@ module _ (s : Sample) (old new : Meaning) (cause : Cause) (is : IsTrueOf (sample
   asks_weaker : (P Q : Task → Type 0) → ((task : Task) → P task → Q task) → Asks s.number P → Asks s.number Q
   asks_weaker P Q weaker h = record { task = h.task; is_asked = h.is_asked; is_so = weaker h.task h.is_so }
 
-  sampled_placeable : (text : List ℕ) (on : List TileAt) (counted : List Shut) → IsSampled s.number text on counted → Asks s.number IsPlaceable
+  sampled_placeable : (text : List ℕ) (on : Arrangement) (counted : List Shut) → IsSampled s.number text on counted → Asks s.number IsPlaceable
   sampled_placeable text on counted g = record { task = g.task; is_asked = g.is_asked; is_so = laid_placeable g.task g.layout g.is_laid }
 
   tried_only : IsTried cause → Asks s.number IsPlaceable
   tried_only tried =
       of_tried (λ c. IsTrueOf (sample s) old new c → Asks s.number IsPlaceable)
-      (λ placement tallies i. sampled_placeable (text_at i.made 1) placement tallies.items i.texts.2)
-      (λ role put i. sampled_placeable (text_at i.made 1) i.placement i.tallies i.texts.2)
-      (λ placement net sink i. asks_weaker (λ task. IsStuckOn task placement net sink) IsPlaceable (λ task stuck. laid_placeable task stuck.0 stuck.1) (told s.number (Unreachable placement net sink) i.0.2))
-      (λ placement logs tallies i. asks_weaker (λ task. IsGivenUpOn task most_rounds placement logs.items tallies.items) IsPlaceable (λ task given. laid_placeable task given.0 given.1)
-      (told s.number (GaveUp placement logs tallies) i.0.2))
+      (λ arrangement tallies i. sampled_placeable (text_at i.made 1) arrangement tallies.items i.texts.2)
+      (λ role put i. sampled_placeable (text_at i.made 1) i.arrangement i.tallies i.texts.2)
+      (λ arrangement net sink i. asks_weaker (λ task. IsStuckOn task arrangement net sink) IsPlaceable (λ task stuck. laid_placeable task stuck.0 stuck.1) (told s.number (Unreachable arrangement net sink) i.0.2))
+      (λ arrangement logs tallies i. asks_weaker (λ task. IsGivenUpOn task most_rounds arrangement logs.items tallies.items) IsPlaceable (λ task given. laid_placeable task given.0 given.1)
+      (told s.number (GaveUp arrangement logs tallies) i.0.2))
       cause tried is
 
   end_tried : (task : Task) → IsEnd task cause → IsTried cause
-  end_tried task end = of_end IsTried task (λ placement tallies. tt) (λ role put. tt) (λ placement net sink stuck. tt) (λ placement logs tallies given. tt) cause end
+  end_tried task end = of_end IsTried task (λ arrangement tallies. tt) (λ role put. tt) (λ arrangement net sink stuck. tt) (λ arrangement logs tallies given. tt) cause end
 
   tried_row : TriedRow s.number cause
   tried_row =
       comes IsTried (Asks s.number IsPlaceable) tried_only
       (λ h m. end_tried h.task (end_stands s.number h.task h.is_so.0 h.is_so.1 cause h.is_asked h.is_so.2 h.is_so.3 m))
 
-  -- ---- the placement that is told
-  tallied : (placement : List TileAt) (tallies : Vec Shut) → IsTrueOf (sample s) old new (Good placement tallies) → Asks s.number (λ task. IsTalliedOn task placement tallies.items)
-  tallied placement tallies i =
-      let g : IsSampled s.number (text_at i.made 1) placement tallies.items = i.texts.2 in
-      record { task = g.task; is_asked = g.is_asked; is_so = (g.routed, (g.layout, g.is_laid, sym g.is_placement, g.is_routed), sym g.are_tallies) }
+  -- ---- the arrangement that is told
+  tallied : (arrangement : Arrangement) (tallies : Vec Shut) → IsTrueOf (sample s) old new (Good arrangement tallies) → Asks s.number (λ task. IsTalliedOn task arrangement tallies.items)
+  tallied arrangement tallies i =
+      let g : IsSampled s.number (text_at i.made 1) arrangement tallies.items = i.texts.2 in
+      record { task = g.task; is_asked = g.is_asked; is_so = (g.routed, (g.layout, g.is_laid, sym g.is_arrangement, g.is_routed), sym g.are_tallies) }
 
   -- what the answer says of the task that the texts say
-  routed_here : (placement : List TileAt) (tallies : Vec Shut) (task : Task) → IsAsked s.number task → IsTrueOf (sample s) old new (Good placement tallies) → IsRoutedOn task most_rounds placement
-  routed_here placement tallies task asked i =
-      let h = tallied placement tallies i in
-      subst (λ (x : Task). IsRoutedOn x most_rounds placement) (one_task s.number h.task task h.is_asked asked) (h.is_so.0, h.is_so.1)
+  routed_here : (arrangement : Arrangement) (tallies : Vec Shut) (task : Task) → IsAsked s.number task → IsTrueOf (sample s) old new (Good arrangement tallies) → IsRoutedOn task most_rounds arrangement
+  routed_here arrangement tallies task asked i =
+      let h = tallied arrangement tallies i in
+      subst (λ (x : Task). IsRoutedOn x most_rounds arrangement) (one_task s.number h.task task h.is_asked asked) (h.is_so.0, h.is_so.1)
 
-  stuck_here : (placement : List TileAt) (net : NetNo) (sink : WireNo) (task : Task) → IsAsked s.number task → IsTrueOf (sample s) old new (Unreachable placement net sink)
-      → IsStuckOn task placement net sink
-  stuck_here placement net sink task asked i =
-      let h = told s.number (Unreachable placement net sink) i.0.2 in
-      subst (λ (x : Task). IsStuckOn x placement net sink) (one_task s.number h.task task h.is_asked asked) h.is_so
+  stuck_here : (arrangement : Arrangement) (net : NetNo) (sink : WireNo) (task : Task) → IsAsked s.number task → IsTrueOf (sample s) old new (Unreachable arrangement net sink)
+      → IsStuckOn task arrangement net sink
+  stuck_here arrangement net sink task asked i =
+      let h = told s.number (Unreachable arrangement net sink) i.0.2 in
+      subst (λ (x : Task). IsStuckOn x arrangement net sink) (one_task s.number h.task task h.is_asked asked) h.is_so
 
-  given_up_here : (placement : List TileAt) (logs : Vec RoundLog) (tallies : Vec Shut) (task : Task) → IsAsked s.number task → IsTrueOf (sample s) old new (GaveUp placement logs tallies)
-      → IsGivenUpOn task most_rounds placement logs.items tallies.items
-  given_up_here placement logs tallies task asked i =
-      let h = told s.number (GaveUp placement logs tallies) i.0.2 in
-      subst (λ (x : Task). IsGivenUpOn x most_rounds placement logs.items tallies.items) (one_task s.number h.task task h.is_asked asked) h.is_so
+  given_up_here : (arrangement : Arrangement) (logs : Vec RoundLog) (tallies : Vec Shut) (task : Task) → IsAsked s.number task → IsTrueOf (sample s) old new (GaveUp arrangement logs tallies)
+      → IsGivenUpOn task most_rounds arrangement logs.items tallies.items
+  given_up_here arrangement logs tallies task asked i =
+      let h = told s.number (GaveUp arrangement logs tallies) i.0.2 in
+      subst (λ (x : Task). IsGivenUpOn x most_rounds arrangement logs.items tallies.items) (one_task s.number h.task task h.is_asked asked) h.is_so
 
-  tallied_at : (placement : List TileAt) (tallies : Vec Shut) → cause ≡ Good placement tallies → Asks s.number (λ task. IsTalliedOn task placement tallies.items)
-  tallied_at placement tallies e = tallied placement tallies (subst (λ (x : Cause). IsTrueOf (sample s) old new x) e is)
+  tallied_at : (arrangement : Arrangement) (tallies : Vec Shut) → cause ≡ Good arrangement tallies → Asks s.number (λ task. IsTalliedOn task arrangement tallies.items)
+  tallied_at arrangement tallies e = tallied arrangement tallies (subst (λ (x : Cause). IsTrueOf (sample s) old new x) e is)
 
-  routed_only : (placement on : List TileAt) (tallies : Vec Shut) → cause ≡ Good on tallies → on ≡ placement → Asks s.number (λ task. IsRoutedOn task most_rounds placement)
-  routed_only placement on tallies e same =
-      asks_weaker (λ task. IsTalliedOn task placement tallies.items) (λ task. IsRoutedOn task most_rounds placement) (λ task t. (t.0, t.1))
-      (tallied_at placement tallies (e ∙ ap (λ (x : List TileAt). Good x tallies) same))
+  routed_only : (arrangement on : Arrangement) (tallies : Vec Shut) → cause ≡ Good on tallies → on ≡ arrangement → Asks s.number (λ task. IsRoutedOn task most_rounds arrangement)
+  routed_only arrangement on tallies e same =
+      asks_weaker (λ task. IsTalliedOn task arrangement tallies.items) (λ task. IsRoutedOn task most_rounds arrangement) (λ task t. (t.0, t.1))
+      (tallied_at arrangement tallies (e ∙ ap (λ (x : Arrangement). Good x tallies) same))
 
   routed_row : RoutedRow s.number cause
   routed_row = record {
     comes = record {
-      only = λ placement about good. routed_only placement good.0 good.1 good.2 (subst (IsAbout placement) good.2 about);
-      always = λ placement about h.
-          of_about (λ c. IsTrueOf (sample s) old new c → IsGood c) placement (λ tallies i. (placement, tallies, refl))
-          (λ net sink i. absurd (routed_not_stuck_on h.task most_rounds placement h.is_so.0 net sink h.is_so.1 (stuck_here placement net sink h.task h.is_asked i)))
-          (λ logs tallies i. absurd (routed_not_given_up_on h.task most_rounds placement h.is_so.0 logs.items tallies.items h.is_so.1 (given_up_here placement logs tallies h.task h.is_asked i)))
+      only = λ arrangement about good. routed_only arrangement good.0 good.1 good.2 (subst (IsAbout arrangement) good.2 about);
+      always = λ arrangement about h.
+          of_about (λ c. IsTrueOf (sample s) old new c → IsGood c) arrangement (λ tallies i. (arrangement, tallies, refl))
+          (λ net sink i. absurd (routed_not_stuck_on h.task most_rounds arrangement h.is_so.0 net sink h.is_so.1 (stuck_here arrangement net sink h.task h.is_asked i)))
+          (λ logs tallies i. absurd (routed_not_given_up_on h.task most_rounds arrangement h.is_so.0 logs.items tallies.items h.is_so.1 (given_up_here arrangement logs tallies h.task h.is_asked i)))
           cause about is;
     };
-    tallies_are = λ placement tallies e. tallied_at placement tallies e;
+    tallies_are = λ arrangement tallies e. tallied_at arrangement tallies e;
   }
 
-  told_same : (placement : List TileAt) (net other : NetNo) (sink last : WireNo) → other ≡ net → last ≡ sink → Unreachable placement other last ≡ Unreachable placement net sink
-  told_same placement net other sink last e f = ap (λ (n : NetNo). Unreachable placement n last) e ∙ ap (λ (w : WireNo). Unreachable placement net w) f
+  told_same : (arrangement : Arrangement) (net other : NetNo) (sink last : WireNo) → other ≡ net → last ≡ sink → Unreachable arrangement other last ≡ Unreachable arrangement net sink
+  told_same arrangement net other sink last e f = ap (λ (n : NetNo). Unreachable arrangement n last) e ∙ ap (λ (w : WireNo). Unreachable arrangement net w) f
 
-  stuck_only : (placement on : List TileAt) (net : NetNo) (sink : WireNo) → cause ≡ Unreachable on net sink → on ≡ placement → Asks s.number (λ task. IsStuckOn task placement net sink)
-  stuck_only placement on net sink e same = told_of (Unreachable placement net sink) (e ∙ ap (λ (x : List TileAt). Unreachable x net sink) same) (λ i. i.0.2)
+  stuck_only : (arrangement on : Arrangement) (net : NetNo) (sink : WireNo) → cause ≡ Unreachable on net sink → on ≡ arrangement → Asks s.number (λ task. IsStuckOn task arrangement net sink)
+  stuck_only arrangement on net sink e same = told_of (Unreachable arrangement net sink) (e ∙ ap (λ (x : Arrangement). Unreachable x net sink) same) (λ i. i.0.2)
 
   unreachable_row : UnreachableRow s.number cause
   unreachable_row net sink = record {
-    only = λ placement about stuck. stuck_only placement stuck.0 net sink stuck.1 (subst (IsAbout placement) stuck.1 about);
-    always = λ placement about h.
-        of_about (λ c. IsTrueOf (sample s) old new c → IsUnreachable net sink c) placement
-        (λ tallies i. let r = routed_here placement tallies h.task h.is_asked i in absurd (routed_not_stuck_on h.task most_rounds placement r.0 net sink r.1 h.is_so))
+    only = λ arrangement about stuck. stuck_only arrangement stuck.0 net sink stuck.1 (subst (IsAbout arrangement) stuck.1 about);
+    always = λ arrangement about h.
+        of_about (λ c. IsTrueOf (sample s) old new c → IsUnreachable net sink c) arrangement
+        (λ tallies i. let r = routed_here arrangement tallies h.task h.is_asked i in absurd (routed_not_stuck_on h.task most_rounds arrangement r.0 net sink r.1 h.is_so))
         (λ other last i.
-        let same = stuck_on_one h.task placement other net last sink (stuck_here placement other last h.task h.is_asked i) h.is_so in (placement, told_same placement net other sink last same.0 same.1))
-        (λ logs tallies i. absurd (given_up_not_stuck_on h.task most_rounds placement logs.items tallies.items net sink (given_up_here placement logs tallies h.task h.is_asked i) h.is_so))
+        let same = stuck_on_one h.task arrangement other net last sink (stuck_here arrangement other last h.task h.is_asked i) h.is_so in (arrangement, told_same arrangement net other sink last same.0 same.1))
+        (λ logs tallies i. absurd (given_up_not_stuck_on h.task most_rounds arrangement logs.items tallies.items net sink (given_up_here arrangement logs tallies h.task h.is_asked i) h.is_so))
         cause about is;
   }
 
-  given_up_at : (placement : List TileAt) (logs : Vec RoundLog) (tallies : Vec Shut) → cause ≡ GaveUp placement logs tallies
-      → Asks s.number (λ task. IsGivenUpOn task most_rounds placement logs.items tallies.items)
-  given_up_at placement logs tallies e = told_of (GaveUp placement logs tallies) e (λ i. i.0.2)
+  given_up_at : (arrangement : Arrangement) (logs : Vec RoundLog) (tallies : Vec Shut) → cause ≡ GaveUp arrangement logs tallies
+      → Asks s.number (λ task. IsGivenUpOn task most_rounds arrangement logs.items tallies.items)
+  given_up_at arrangement logs tallies e = told_of (GaveUp arrangement logs tallies) e (λ i. i.0.2)
 
-  given_up_only : (placement on : List TileAt) (logs : Vec RoundLog) (tallies : Vec Shut) → cause ≡ GaveUp on logs tallies → on ≡ placement
-      → Asks s.number (λ task. (all : List RoundLog) × (shuts : List Shut) × IsGivenUpOn task most_rounds placement all shuts)
-  given_up_only placement on logs tallies e same =
-      asks_weaker (λ task. IsGivenUpOn task most_rounds placement logs.items tallies.items) (λ task. (all : List RoundLog) × (shuts : List Shut) × IsGivenUpOn task most_rounds placement all shuts)
-      (λ task given. (logs.items, tallies.items, given)) (given_up_at placement logs tallies (e ∙ ap (λ (x : List TileAt). GaveUp x logs tallies) same))
+  given_up_only : (arrangement on : Arrangement) (logs : Vec RoundLog) (tallies : Vec Shut) → cause ≡ GaveUp on logs tallies → on ≡ arrangement
+      → Asks s.number (λ task. (all : List RoundLog) × (shuts : List Shut) × IsGivenUpOn task most_rounds arrangement all shuts)
+  given_up_only arrangement on logs tallies e same =
+      asks_weaker (λ task. IsGivenUpOn task most_rounds arrangement logs.items tallies.items) (λ task. (all : List RoundLog) × (shuts : List Shut) × IsGivenUpOn task most_rounds arrangement all shuts)
+      (λ task given. (logs.items, tallies.items, given)) (given_up_at arrangement logs tallies (e ∙ ap (λ (x : Arrangement). GaveUp x logs tallies) same))
 
   gave_up_row : GaveUpRow s.number cause
   gave_up_row = record {
     comes = record {
-      only = λ placement about gave. given_up_only placement gave.0 gave.1 gave.2 gave.3 (subst (IsAbout placement) gave.3 about);
-      always = λ placement about h.
-          of_about (λ c. IsTrueOf (sample s) old new c → HasGivenUp c) placement
-          (λ tallies i. let r = routed_here placement tallies h.task h.is_asked i in absurd (routed_not_given_up_on h.task most_rounds placement r.0 h.is_so.0 h.is_so.1 r.1 h.is_so.2))
-          (λ net sink i. absurd (given_up_not_stuck_on h.task most_rounds placement h.is_so.0 h.is_so.1 net sink h.is_so.2 (stuck_here placement net sink h.task h.is_asked i)))
-          (λ logs tallies i. (placement, logs, tallies, refl)) cause about is;
+      only = λ arrangement about gave. given_up_only arrangement gave.0 gave.1 gave.2 gave.3 (subst (IsAbout arrangement) gave.3 about);
+      always = λ arrangement about h.
+          of_about (λ c. IsTrueOf (sample s) old new c → HasGivenUp c) arrangement
+          (λ tallies i. let r = routed_here arrangement tallies h.task h.is_asked i in absurd (routed_not_given_up_on h.task most_rounds arrangement r.0 h.is_so.0 h.is_so.1 r.1 h.is_so.2))
+          (λ net sink i. absurd (given_up_not_stuck_on h.task most_rounds arrangement h.is_so.0 h.is_so.1 net sink h.is_so.2 (stuck_here arrangement net sink h.task h.is_asked i)))
+          (λ logs tallies i. (arrangement, logs, tallies, refl)) cause about is;
     };
-    logs_are = λ placement logs tallies e. given_up_at placement logs tallies e;
+    logs_are = λ arrangement logs tallies e. given_up_at arrangement logs tallies e;
   }
 
   no_others : IsOfSample cause
@@ -299,7 +299,7 @@ read_nothing old = record {
   read_faults = omega arith;
 }
 
-pub ends : (s : Sample) (old new : Meaning) (result : Result Made Cause) (cause : Cause) → IfOk result (λ made. IsSampled s.number (text_at made.texts 1) made.placement made.tallies.items)
+pub ends : (s : Sample) (old new : Meaning) (result : Result Made Cause) (cause : Cause) → IfOk result (λ made. IsSampled s.number (text_at made.texts 1) made.arrangement made.tallies.items)
     → IfErr result (λ refusal. IsRefusal (Stands s.number) refusal) → IsEndAloud result old new cause → IsEndOf (sample s) old new cause
 ends s old new result cause made refused end = end_is_aloud (sample s) old old new result cause (read_nothing old) (made_of_texts (sample s) old old [] result tt refl made refused) end
 

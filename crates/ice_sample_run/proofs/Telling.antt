@@ -7,6 +7,7 @@ use Rattle.ice_answer.specs.declared.cause.Cause.TheVariants.{Good, Usage, BadBl
 use Rattle.ice_answer.specs.declared.cause.FileRole.{FileRole}
 use Rattle.ice_base.specs.declared.number.NetNo.{NetNo}
 use Rattle.ice_base.specs.declared.number.TileAt.{TileAt}
+use Rattle.ice_place.specs.declared.arrangement.Arrangement.{Arrangement}
 use Rattle.ice_base.specs.declared.number.WireNo.{WireNo}
 use Rattle.ice_blif.specs.Grammar.{netlist_of}
 use Rattle.ice_blif.specs.declared.fault.BlifFault.{BlifFault}
@@ -30,11 +31,11 @@ use Rattle.ice_words.specs.Grips.{Shut}
 
 -- ---- causes, by what is known of them
 -- what is true of each answer behind pins and places without a fault
-pub of_end : (P : Cause → Type 0) (task : Task) → ((placement : List TileAt) (tallies : Vec Shut) → P (Good placement tallies)) → ((role : FileRole) (put : ℕ) → P (WriteFault role put))
-    → ((placement : List TileAt) (net : NetNo) (sink : WireNo) → IsStuckOn task placement net sink → P (Unreachable placement net sink))
-    → ((placement : List TileAt) (logs : Vec RoundLog) (tallies : Vec Shut) → IsGivenUpOn task most_rounds placement logs.items tallies.items → P (GaveUp placement logs tallies))
+pub of_end : (P : Cause → Type 0) (task : Task) → ((arrangement : Arrangement) (tallies : Vec Shut) → P (Good arrangement tallies)) → ((role : FileRole) (put : ℕ) → P (WriteFault role put))
+    → ((arrangement : Arrangement) (net : NetNo) (sink : WireNo) → IsStuckOn task arrangement net sink → P (Unreachable arrangement net sink))
+    → ((arrangement : Arrangement) (logs : Vec RoundLog) (tallies : Vec Shut) → IsGivenUpOn task most_rounds arrangement logs.items tallies.items → P (GaveUp arrangement logs tallies))
     → (cause : Cause) → IsEnd task cause → P cause
-of_end P task good cut stuck gave (Good placement tallies) is = good placement tallies
+of_end P task good cut stuck gave (Good arrangement tallies) is = good arrangement tallies
 of_end P task good cut stuck gave Usage is = absurd is
 of_end P task good cut stuck gave (BadBlif fault) is = absurd is
 of_end P task good cut stuck gave (BadPcf fault) is = absurd is
@@ -42,8 +43,8 @@ of_end P task good cut stuck gave (BadChip fault) is = absurd is
 of_end P task good cut stuck gave (BadNet fault) is = absurd is
 of_end P task good cut stuck gave (BadPin fault) is = absurd is
 of_end P task good cut stuck gave (Overfull fault) is = absurd is
-of_end P task good cut stuck gave (Unreachable placement net sink) is = stuck placement net sink is
-of_end P task good cut stuck gave (GaveUp placement logs tallies) is = gave placement logs tallies is
+of_end P task good cut stuck gave (Unreachable arrangement net sink) is = stuck arrangement net sink is
+of_end P task good cut stuck gave (GaveUp arrangement logs tallies) is = gave arrangement logs tallies is
 of_end P task good cut stuck gave (ReadFault role) is = absurd is
 of_end P task good cut stuck gave (WriteFault role put) is = cut role put
 of_end P task good cut stuck gave NoMemory is = absurd is
@@ -53,10 +54,10 @@ of_end P task good cut stuck gave (TooLong role limit) is = absurd is
 of_end P task good cut stuck gave (BadLevels line) is = absurd is
 
 -- what is true of each answer behind pins and places, too
-pub of_tried : (P : Cause → Type 0) → ((placement : List TileAt) (tallies : Vec Shut) → P (Good placement tallies)) → ((role : FileRole) (put : ℕ) → P (WriteFault role put))
-    → ((placement : List TileAt) (net : NetNo) (sink : WireNo) → P (Unreachable placement net sink)) → ((placement : List TileAt) (logs : Vec RoundLog) (tallies : Vec Shut) → P (GaveUp placement logs tallies))
+pub of_tried : (P : Cause → Type 0) → ((arrangement : Arrangement) (tallies : Vec Shut) → P (Good arrangement tallies)) → ((role : FileRole) (put : ℕ) → P (WriteFault role put))
+    → ((arrangement : Arrangement) (net : NetNo) (sink : WireNo) → P (Unreachable arrangement net sink)) → ((arrangement : Arrangement) (logs : Vec RoundLog) (tallies : Vec Shut) → P (GaveUp arrangement logs tallies))
     → (cause : Cause) → IsTried cause → P cause
-of_tried P good cut stuck gave (Good placement tallies) is = good placement tallies
+of_tried P good cut stuck gave (Good arrangement tallies) is = good arrangement tallies
 of_tried P good cut stuck gave Usage is = absurd is
 of_tried P good cut stuck gave (BadBlif fault) is = absurd is
 of_tried P good cut stuck gave (BadPcf fault) is = absurd is
@@ -64,8 +65,8 @@ of_tried P good cut stuck gave (BadChip fault) is = absurd is
 of_tried P good cut stuck gave (BadNet fault) is = absurd is
 of_tried P good cut stuck gave (BadPin fault) is = absurd is
 of_tried P good cut stuck gave (Overfull fault) is = absurd is
-of_tried P good cut stuck gave (Unreachable placement net sink) is = stuck placement net sink
-of_tried P good cut stuck gave (GaveUp placement logs tallies) is = gave placement logs tallies
+of_tried P good cut stuck gave (Unreachable arrangement net sink) is = stuck arrangement net sink
+of_tried P good cut stuck gave (GaveUp arrangement logs tallies) is = gave arrangement logs tallies
 of_tried P good cut stuck gave (ReadFault role) is = absurd is
 of_tried P good cut stuck gave (WriteFault role put) is = cut role put
 of_tried P good cut stuck gave NoMemory is = absurd is
@@ -74,44 +75,44 @@ of_tried P good cut stuck gave (BadBits fault) is = absurd is
 of_tried P good cut stuck gave (TooLong role limit) is = absurd is
 of_tried P good cut stuck gave (BadLevels line) is = absurd is
 
--- what is true of each answer that tells a placement
-pub of_about : (P : Cause → Type 0) (placement : List TileAt) → ((tallies : Vec Shut) → P (Good placement tallies)) → ((net : NetNo) (sink : WireNo) → P (Unreachable placement net sink))
-    → ((logs : Vec RoundLog) (tallies : Vec Shut) → P (GaveUp placement logs tallies)) → (cause : Cause) → IsAbout placement cause → P cause
-of_about P placement good stuck gave (Good told tallies) is = subst (λ (x : List TileAt). P (Good x tallies)) (sym is) (good tallies)
-of_about P placement good stuck gave Usage is = absurd is
-of_about P placement good stuck gave (BadBlif fault) is = absurd is
-of_about P placement good stuck gave (BadPcf fault) is = absurd is
-of_about P placement good stuck gave (BadChip fault) is = absurd is
-of_about P placement good stuck gave (BadNet fault) is = absurd is
-of_about P placement good stuck gave (BadPin fault) is = absurd is
-of_about P placement good stuck gave (Overfull fault) is = absurd is
-of_about P placement good stuck gave (Unreachable told net sink) is = subst (λ (x : List TileAt). P (Unreachable x net sink)) (sym is) (stuck net sink)
-of_about P placement good stuck gave (GaveUp told logs tallies) is = subst (λ (x : List TileAt). P (GaveUp x logs tallies)) (sym is) (gave logs tallies)
-of_about P placement good stuck gave (ReadFault role) is = absurd is
-of_about P placement good stuck gave (WriteFault role put) is = absurd is
-of_about P placement good stuck gave NoMemory is = absurd is
-of_about P placement good stuck gave (BadAsc fault) is = absurd is
-of_about P placement good stuck gave (BadBits fault) is = absurd is
-of_about P placement good stuck gave (TooLong role limit) is = absurd is
-of_about P placement good stuck gave (BadLevels line) is = absurd is
+-- what is true of each answer that tells an arrangement
+pub of_about : (P : Cause → Type 0) (arrangement : Arrangement) → ((tallies : Vec Shut) → P (Good arrangement tallies)) → ((net : NetNo) (sink : WireNo) → P (Unreachable arrangement net sink))
+    → ((logs : Vec RoundLog) (tallies : Vec Shut) → P (GaveUp arrangement logs tallies)) → (cause : Cause) → IsAbout arrangement cause → P cause
+of_about P arrangement good stuck gave (Good told tallies) is = subst (λ (x : Arrangement). P (Good x tallies)) (sym is) (good tallies)
+of_about P arrangement good stuck gave Usage is = absurd is
+of_about P arrangement good stuck gave (BadBlif fault) is = absurd is
+of_about P arrangement good stuck gave (BadPcf fault) is = absurd is
+of_about P arrangement good stuck gave (BadChip fault) is = absurd is
+of_about P arrangement good stuck gave (BadNet fault) is = absurd is
+of_about P arrangement good stuck gave (BadPin fault) is = absurd is
+of_about P arrangement good stuck gave (Overfull fault) is = absurd is
+of_about P arrangement good stuck gave (Unreachable told net sink) is = subst (λ (x : Arrangement). P (Unreachable x net sink)) (sym is) (stuck net sink)
+of_about P arrangement good stuck gave (GaveUp told logs tallies) is = subst (λ (x : Arrangement). P (GaveUp x logs tallies)) (sym is) (gave logs tallies)
+of_about P arrangement good stuck gave (ReadFault role) is = absurd is
+of_about P arrangement good stuck gave (WriteFault role put) is = absurd is
+of_about P arrangement good stuck gave NoMemory is = absurd is
+of_about P arrangement good stuck gave (BadAsc fault) is = absurd is
+of_about P arrangement good stuck gave (BadBits fault) is = absurd is
+of_about P arrangement good stuck gave (TooLong role limit) is = absurd is
+of_about P arrangement good stuck gave (BadLevels line) is = absurd is
 
 -- ---- what is told
 abbrev pub Told : ℕ → Cause → Type 0
-Told number (Good placement tallies) = Unit {0}
+Told number (Good arrangement tallies) = Unit {0}
 Told number (WriteFault role put) = Unit {0}
 Told number (BadChip fault) = chip_says chip_text ≡ Err fault
 Told number (BadBlif fault) = HasBlifFault number fault
 Told number (BadNet fault) = SaysNetlist number (λ circuit. IsFaultOf circuit fault × (fault ≢ net_fault.NoMemory))
 Told number (BadPin fault) = Asks number (λ task. pins_said task ≡ Err fault)
 Told number (Overfull fault) = Asks number (HasPlaceFault fault)
-Told number (Unreachable placement net sink) = Asks number (λ task. IsStuckOn task placement net sink)
-Told number (GaveUp placement logs tallies) = Asks number (λ task. IsGivenUpOn task most_rounds placement logs.items tallies.items)
+Told number (Unreachable arrangement net sink) = Asks number (λ task. IsStuckOn task arrangement net sink)
+Told number (GaveUp arrangement logs tallies) = Asks number (λ task. IsGivenUpOn task most_rounds arrangement logs.items tallies.items)
 Told number cause = ⊥
 
 told_end : (number : ℕ) (task : Task) (cause : Cause) → IsAsked number task → IsEnd task cause → Told number cause
 told_end number task cause asked m =
-    of_end (Told number) task (λ placement tallies. tt) (λ role put. tt) (λ placement net sink stuck. record { task = task; is_asked = asked; is_so = stuck })
-    (λ placement logs tallies given. record { task = task; is_asked = asked; is_so = given }) cause m
+    of_end (Told number) task (λ arrangement tallies. tt) (λ role put. tt) (λ arrangement net sink stuck. record { task = task; is_asked = asked; is_so = stuck })
+    (λ arrangement logs tallies given. record { task = task; is_asked = asked; is_so = given }) cause m
 
 told_places : (number : ℕ) (task : Task) (pads : PadsData) (said : Result (List TileAt) PlaceFault) (cause : Cause) → IsAsked number task → pins_said task ≡ Ok pads → places_said task ≡ said
     → PlacesStand task cause → Told number cause
@@ -147,7 +148,7 @@ told number cause m = told_chip number (chip_says chip_text) cause refl m
 
 -- no other answer tells anything
 pub told_sample : (number : ℕ) (cause : Cause) → Told number cause → IsOfSample cause
-told_sample number (Good placement tallies) is = tt
+told_sample number (Good arrangement tallies) is = tt
 told_sample number Usage is = absurd is
 told_sample number (BadBlif fault) is = tt
 told_sample number (BadPcf fault) is = absurd is
@@ -155,8 +156,8 @@ told_sample number (BadChip fault) is = tt
 told_sample number (BadNet fault) is = tt
 told_sample number (BadPin fault) is = tt
 told_sample number (Overfull fault) is = tt
-told_sample number (Unreachable placement net sink) is = tt
-told_sample number (GaveUp placement logs tallies) is = tt
+told_sample number (Unreachable arrangement net sink) is = tt
+told_sample number (GaveUp arrangement logs tallies) is = tt
 told_sample number (ReadFault role) is = absurd is
 told_sample number (WriteFault role put) is = tt
 told_sample number NoMemory is = absurd is

@@ -3,6 +3,7 @@ use Rattle.std.specs.Prelude.{◌≡◌}
 use Rattle.ice_answer.specs.Refusals.{IsPinRefusal, IsPlaceRefusal}
 use Rattle.ice_answer.specs.declared.cause.Cause.{Cause}
 use Rattle.ice_answer.specs.declared.cause.Cause.TheVariants.{Unreachable, GaveUp, NoMemory}
+use Rattle.ice_build.specs.Laid.{arrangement_in}
 use Rattle.ice_build.specs.declared.answer.BuildFault.{BuildFault}
 use Rattle.ice_build.specs.declared.answer.BuildFault.TheVariants as build
 use Rattle.ice_build.specs.declared.answer.Layout.{Layout}
@@ -15,8 +16,8 @@ IsLayRefusal (build.Pins fault) cause = IsPinRefusal fault cause
 IsLayRefusal (build.Places fault) cause = IsPlaceRefusal fault cause
 IsLayRefusal fault cause = cause ≡ NoMemory
 
--- the fault, with the placement of which it is told
+-- the fault, with the arrangement of which it is told
 abbrev pub route_cause : Layout → RouteFault → Cause
-route_cause layout (route.Unreachable net sink) = Unreachable layout.placement net sink
-route_cause layout (route.GaveUp logs tallies) = GaveUp layout.placement logs tallies
+route_cause layout (route.Unreachable net sink) = Unreachable (arrangement_in layout) net sink
+route_cause layout (route.GaveUp logs tallies) = GaveUp (arrangement_in layout) logs tallies
 route_cause layout route.NoMemory = NoMemory

@@ -1,8 +1,8 @@
 -- What `sample` makes of the sample texts.
 use Rattle.std.specs.Prelude.{◌≡◌, ℕ, List, length}
-use Rattle.ice_base.specs.declared.number.TileAt.{TileAt}
+use Rattle.ice_place.specs.declared.arrangement.Arrangement.{Arrangement}
 use Rattle.ice_build.specs.Answers.{IsRouted, net_count}
-use Rattle.ice_build.specs.Laid.{Task, IsLaidOut, length_on, plan_in}
+use Rattle.ice_build.specs.Laid.{Task, IsLaidOut, arrangement_in, length_on, plan_in}
 use Rattle.ice_build.specs.Placements.{IsRoutedSo}
 use Rattle.ice_build.specs.declared.answer.Layout.{Layout}
 use Rattle.ice_chip.specs.Database.{Parts}
@@ -24,20 +24,20 @@ summary_of number parts layout routed = record {
   length = length_on parts layout.clusters layout.design layout.pads layout.placement;
 }
 
--- The sample texts of the number say a task that is laid out with this placement, which is legal and which no exchange and no move makes
--- shorter. It is routed in rounds of these tallies: there are at most 64, all but the last end with an overused wire, and the last with
+-- The sample texts of the number say a task that is laid out with this arrangement. Its placement is legal, and no exchange and no move makes
+-- it shorter. It is routed in rounds of these tallies: there are at most 64, all but the last end with an overused wire, and the last with
 -- none. This is the summary of it.
-pub record IsSampled (number : ℕ) (text : List ℕ) (placement : List TileAt) (tallies : List Shut) : Type 0 where
+pub record IsSampled (number : ℕ) (text : List ℕ) (arrangement : Arrangement) (tallies : List Shut) : Type 0 where
   pub task : Task
   pub layout : Layout
   pub routed : Routed
   pub is_asked : IsAsked number task
   pub is_laid : IsLaidOut task layout
   pub is_routed : IsRouted task.parts (plan_in layout) most_rounds routed
-  pub is_placement : placement ≡ layout.placement
+  pub is_arrangement : arrangement ≡ arrangement_in layout
   pub are_tallies : tallies ≡ routed.tallies.items
   pub is_text : text ≡ summary_text (summary_of number task.parts layout routed)
 
--- with this placement the task is routed, in rounds of these tallies
-abbrev pub IsTalliedOn : Task → List TileAt → List Shut → Type 0
-IsTalliedOn task placement tallies = (routed : Routed) × IsRoutedSo task most_rounds placement routed × (routed.tallies.items ≡ tallies)
+-- with this arrangement the task is routed, in rounds of these tallies
+abbrev pub IsTalliedOn : Task → Arrangement → List Shut → Type 0
+IsTalliedOn task arrangement tallies = (routed : Routed) × IsRoutedSo task most_rounds arrangement routed × (routed.tallies.items ≡ tallies)

@@ -8,6 +8,7 @@ use Rattle.ice_answer.specs.declared.cause.Cause.TheVariants.{Good, BadBlif, Bad
 use Rattle.ice_answer.specs.declared.cause.Done.{Done}
 use Rattle.ice_base.specs.declared.number.NetNo.{NetNo}
 use Rattle.ice_base.specs.declared.number.TileAt.{TileAt}
+use Rattle.ice_place.specs.declared.arrangement.Arrangement.{Arrangement}
 use Rattle.ice_base.specs.declared.number.WireNo.{WireNo}
 use Rattle.ice_blif.specs.Grammar.{netlist_of}
 use Rattle.ice_blif.specs.declared.fault.BlifFault.{BlifFault}
@@ -86,53 +87,53 @@ IsPlaceable task = (pads : PadsData) × (first : List TileAt) × (pins_said task
 -- the work is done, or a fault of writing came in between; or a sink can't be reached, or the permitted rounds all end with an overused
 -- wire
 abbrev pub IsTried : Cause → Type 0
-IsTried (Good placement tallies) = Unit {0}
+IsTried (Good arrangement tallies) = Unit {0}
 IsTried (WriteFault role put) = Unit {0}
-IsTried (Unreachable placement net sink) = Unit {0}
-IsTried (GaveUp placement logs tallies) = Unit {0}
+IsTried (Unreachable arrangement net sink) = Unit {0}
+IsTried (GaveUp arrangement logs tallies) = Unit {0}
 IsTried cause = ⊥
 
 -- one of the statuses 0, 9, 10 and 12: exactly where neither the pins nor the places have a fault
 abbrev pub TriedRow : ℕ → Cause → Type 0
 TriedRow number cause = Comes IsTried (Asks number IsPlaceable) cause
 
--- the answer tells this placement
-abbrev pub IsAbout : List TileAt → Cause → Type 0
-IsAbout placement (Good told tallies) = told ≡ placement
-IsAbout placement (Unreachable told net sink) = told ≡ placement
-IsAbout placement (GaveUp told logs tallies) = told ≡ placement
-IsAbout placement cause = ⊥
+-- the answer tells this arrangement
+abbrev pub IsAbout : Arrangement → Cause → Type 0
+IsAbout arrangement (Good told tallies) = told ≡ arrangement
+IsAbout arrangement (Unreachable told net sink) = told ≡ arrangement
+IsAbout arrangement (GaveUp told logs tallies) = told ≡ arrangement
+IsAbout arrangement cause = ⊥
 
--- Such an answer that tells a placement comes only where this is true of the placement; and where it is true of the placement that the
+-- Such an answer that tells an arrangement comes only where this is true of the arrangement; and where it is true of the arrangement that the
 -- answer tells, the answer is such a one.
-pub record ComesOn (number : ℕ) (IsSuch : Cause → Type 0) (IsSo : List TileAt → Task → Type 0) (cause : Cause) : Type 0 where
-  pub only : (placement : List TileAt) → IsAbout placement cause → IsSuch cause → Asks number (IsSo placement)
-  pub always : (placement : List TileAt) → IsAbout placement cause → Asks number (IsSo placement) → IsSuch cause
+pub record ComesOn (number : ℕ) (IsSuch : Cause → Type 0) (IsSo : Arrangement → Task → Type 0) (cause : Cause) : Type 0 where
+  pub only : (arrangement : Arrangement) → IsAbout arrangement cause → IsSuch cause → Asks number (IsSo arrangement)
+  pub always : (arrangement : Arrangement) → IsAbout arrangement cause → Asks number (IsSo arrangement) → IsSuch cause
 
 abbrev pub IsGood : Cause → Type 0
-IsGood cause = (placement : List TileAt) × (tallies : Vec Shut) × (cause ≡ Good placement tallies)
+IsGood cause = (arrangement : Arrangement) × (tallies : Vec Shut) × (cause ≡ Good arrangement tallies)
 
--- status 0: exactly where the nets are routed with the placement that is told; with the tallies of their rounds
+-- status 0: exactly where the nets are routed with the arrangement that is told; with the tallies of their rounds
 pub record RoutedRow (number : ℕ) (cause : Cause) : Type 0 where
-  pub comes : ComesOn number IsGood (λ placement task. IsRoutedOn task most_rounds placement) cause
-  pub tallies_are : (placement : List TileAt) (tallies : Vec Shut) → cause ≡ Good placement tallies → Asks number (λ task. IsTalliedOn task placement tallies.items)
+  pub comes : ComesOn number IsGood (λ arrangement task. IsRoutedOn task most_rounds arrangement) cause
+  pub tallies_are : (arrangement : Arrangement) (tallies : Vec Shut) → cause ≡ Good arrangement tallies → Asks number (λ task. IsTalliedOn task arrangement tallies.items)
 
 abbrev pub IsUnreachable : NetNo → WireNo → Cause → Type 0
-IsUnreachable net sink cause = (placement : List TileAt) × (cause ≡ Unreachable placement net sink)
+IsUnreachable net sink cause = (arrangement : Arrangement) × (cause ≡ Unreachable arrangement net sink)
 
--- status 9: exactly where a sink can't be reached with the placement that is told, with the first one
+-- status 9: exactly where a sink can't be reached with the arrangement that is told, with the first one
 abbrev pub UnreachableRow : ℕ → Cause → Type 0
-UnreachableRow number cause = (net : NetNo) (sink : WireNo) → ComesOn number (IsUnreachable net sink) (λ placement task. IsStuckOn task placement net sink) cause
+UnreachableRow number cause = (net : NetNo) (sink : WireNo) → ComesOn number (IsUnreachable net sink) (λ arrangement task. IsStuckOn task arrangement net sink) cause
 
 abbrev pub HasGivenUp : Cause → Type 0
-HasGivenUp cause = (placement : List TileAt) × (logs : Vec RoundLog) × (tallies : Vec Shut) × (cause ≡ GaveUp placement logs tallies)
+HasGivenUp cause = (arrangement : Arrangement) × (logs : Vec RoundLog) × (tallies : Vec Shut) × (cause ≡ GaveUp arrangement logs tallies)
 
--- status 10: exactly where with the placement that is told each permitted round ends with an overused wire; with the logs and
+-- status 10: exactly where with the arrangement that is told each permitted round ends with an overused wire; with the logs and
 -- the tallies of these rounds
 pub record GaveUpRow (number : ℕ) (cause : Cause) : Type 0 where
-  pub comes : ComesOn number HasGivenUp (λ placement task. (logs : List RoundLog) × (tallies : List Shut) × IsGivenUpOn task most_rounds placement logs tallies) cause
-  pub logs_are : (placement : List TileAt) (logs : Vec RoundLog) (tallies : Vec Shut) → cause ≡ GaveUp placement logs tallies
-      → Asks number (λ task. IsGivenUpOn task most_rounds placement logs.items tallies.items)
+  pub comes : ComesOn number HasGivenUp (λ arrangement task. (logs : List RoundLog) × (tallies : List Shut) × IsGivenUpOn task most_rounds arrangement logs tallies) cause
+  pub logs_are : (arrangement : Arrangement) (logs : Vec RoundLog) (tallies : Vec Shut) → cause ≡ GaveUp arrangement logs tallies
+      → Asks number (λ task. IsGivenUpOn task most_rounds arrangement logs.items tallies.items)
 
 -- there are no other answers
 abbrev pub IsOfSample : Cause → Type 0
@@ -149,7 +150,7 @@ IsOfSample cause = IsTried cause
 abbrev pub SummaryRow : ℕ → Meaning → Meaning → Cause → ℕ → Type 0
 SummaryRow number old new cause status =
     status ≡ 0 → old.tells ≡ true
-    → (placement : List TileAt) × (tallies : Vec Shut) × (text : List ℕ) × (cause ≡ Good placement tallies) × (new.said ≡ old.said ++ text) × IsSampled number text placement tallies.items
+    → (arrangement : Arrangement) × (tallies : Vec Shut) × (text : List ℕ) × (cause ≡ Good arrangement tallies) × (new.said ≡ old.said ++ text) × IsSampled number text arrangement tallies.items
 
 -- ---- all of them
 -- The end of `sample`, where the desk was seen as `old` before and is seen as `new` after.

@@ -14,13 +14,13 @@ use Rattle.ice_chip_read.specs.Whole.{chip_says}
 use Rattle.ice_net.specs.NetlistData.{NetlistData}
 use Rattle.ice_sample_run.specs.Samples.{chip_text, net_text, package_name, most_rounds}
 
--- The pins and the places of the task have no fault: the work is done, or with the placement that is told a sink can't be reached, or each
+-- The pins and the places of the task have no fault: the work is done, or with the arrangement that is told a sink can't be reached, or each
 -- permitted round ends with an overused wire.
 abbrev pub IsEnd : Task → Cause → Type 0
-IsEnd task (Good placement tallies) = Unit {0}
+IsEnd task (Good arrangement tallies) = Unit {0}
 IsEnd task (WriteFault role put) = Unit {0}
-IsEnd task (Unreachable placement net sink) = IsStuckOn task placement net sink
-IsEnd task (GaveUp placement logs tallies) = IsGivenUpOn task most_rounds placement logs.items tallies.items
+IsEnd task (Unreachable arrangement net sink) = IsStuckOn task arrangement net sink
+IsEnd task (GaveUp arrangement logs tallies) = IsGivenUpOn task most_rounds arrangement logs.items tallies.items
 IsEnd task cause = ⊥
 
 -- the places, where the pins have no fault

@@ -4,7 +4,7 @@ ghost use Rattle.ice_answer.specs.Commands.{IsRefusal};
 ghost use Rattle.ice_answer.specs.Texts.{text_at};
 ghost use Rattle.ice_answer.specs.declared.cause.Cause.TheVariants.{NoMemory as out_of_memory};
 ghost use Rattle.ice_build.specs.Answers.{net_count};
-ghost use Rattle.ice_build.specs.Laid.{IsLaidOut, plan_in, task_of};
+ghost use Rattle.ice_build.specs.Laid.{IsLaidOut, arrangement_in, plan_in, task_of};
 ghost use Rattle.ice_report.specs.Summary.{summary_text};
 ghost use Rattle.ice_routed_trees.specs.Routing.{AreNetsOf};
 ghost use Rattle.ice_sample_run.specs.Laying.{IsLayRefusal, route_cause};
@@ -17,7 +17,7 @@ use crate::summing::summary_text;
 use ice_answer::{Cause, Made, one_text, pin_refusal, place_refusal};
 use ice_base::NoMemory;
 use ice_build::laws::layouts_stand_on_their_chip;
-use ice_build::{BuildFault, Effort, Layout, lay_out, nets_in, placement_of, route, tallies_of};
+use ice_build::{BuildFault, Effort, Layout, arrangement_of, lay_out, nets_in, route, tallies_of};
 use ice_check::Sound;
 use ice_chip::Chip;
 use ice_core::Net;
@@ -78,15 +78,15 @@ fn lay(alloc: Global, chip: &Chip, sound: &Sound) -> Result<Layout, Cause>
 fn route_refusal(layout: Layout, fault: RouteFault) -> Cause
     ensures { result ≡ route_cause layout fault }
 {
-    let placement = placement_of(layout);
+    let arrangement = arrangement_of(layout);
     match fault {
         RouteFault::Unreachable { net, sink } => Cause::Unreachable {
-            placement,
+            arrangement,
             net,
             sink,
         },
         RouteFault::GaveUp { logs, tallies } => Cause::GaveUp {
-            placement,
+            arrangement,
             logs,
             tallies,
         },
@@ -97,15 +97,15 @@ fn route_refusal(layout: Layout, fault: RouteFault) -> Cause
 // What is made of a placed and routed design: the text of its summary.
 fn made_of(text: Vec<u8>, alloc: Global, layout: Layout, routed: Routed) -> Result<Made, Cause>
     ensures text { IfOk result (λ made. text_at made.texts 1 ≡ text.items) }
-    ensures placement { IfOk result (λ made. made.placement ≡ layout.placement) }
+    ensures arrangement { IfOk result (λ made. made.arrangement ≡ arrangement_in layout) }
     ensures tallies { IfOk result (λ made. made.tallies.items ≡ routed.tallies.items) }
     ensures stop { IfErr result (λ cause. cause ≡ out_of_memory) }
 {
-    let (placement, tallies) = (placement_of(layout), tallies_of(routed));
+    let (arrangement, tallies) = (arrangement_of(layout), tallies_of(routed));
     match one_text(alloc, text) {
         Ok(texts) => Ok(Made {
             texts,
-            placement,
+            arrangement,
             tallies,
         }),
         Err(NoMemory) => Err(Cause::NoMemory),
@@ -123,7 +123,7 @@ fn sum_up(
 ) -> Result<Made, Cause>
     requires { length nets.now ≡ net_count chip.now (plan_in layout) }
     ensures text { IfOk result (λ made. text_at made.texts 1 ≡ summary_text (summary_of number chip.now layout routed)) }
-    ensures placement { IfOk result (λ made. made.placement ≡ layout.placement) }
+    ensures arrangement { IfOk result (λ made. made.arrangement ≡ arrangement_in layout) }
     ensures tallies { IfOk result (λ made. made.tallies.items ≡ routed.tallies.items) }
     ensures stop { IfErr result (λ cause. cause ≡ out_of_memory) }
 {
@@ -153,7 +153,7 @@ fn route_nets<G: Gate + Sync, R: Threads + Sync>(
     requires nets { AreNetsOf chip.now (plan_in layout) nets.now }
     requires count { length nets.now ≡ net_count chip.now (plan_in layout) }
     requires few { length nets.now ≤ 65536 }
-    ensures made { IfOk result (λ made. IsSampled request.now.number (text_at made.texts 1) made.placement made.tallies.items) }
+    ensures made { IfOk result (λ made. IsSampled request.now.number (text_at made.texts 1) made.arrangement made.tallies.items) }
     ensures refused { IfErr result (λ cause. IsRefusal (TaskStands (task_of chip.now package_name [] sound.now)) cause) }
 {
     layouts_stand_on_their_chip(chip, sound);
@@ -181,7 +181,7 @@ fn route_layout<G: Gate + Sync, R: Threads + Sync>(
     requires workers { IsManned request.now.workers }
     requires asked { IsAsked request.now.number (task_of chip.now package_name [] sound.now) }
     requires laid { IsLaidOut (task_of chip.now package_name [] sound.now) layout }
-    ensures made { IfOk result (λ made. IsSampled request.now.number (text_at made.texts 1) made.placement made.tallies.items) }
+    ensures made { IfOk result (λ made. IsSampled request.now.number (text_at made.texts 1) made.arrangement made.tallies.items) }
     ensures refused { IfErr result (λ cause. IsRefusal (TaskStands (task_of chip.now package_name [] sound.now)) cause) }
 {
     match nets_in(alloc, chip, &layout) {
@@ -197,7 +197,7 @@ fn route_layout<G: Gate + Sync, R: Threads + Sync>(
 ///
 /// # Errors
 /// The fault of the pins, then that of the places; the first sink to which no walk leads, or permitted rounds that all end with an
-/// overused wire, each with the placement of which it is true; want of memory.
+/// overused wire, each with the arrangement of which it is true; want of memory.
 pub fn route_sound<G: Gate + Sync, R: Threads + Sync>(
     rt: &R,
     alloc: Global,
@@ -208,7 +208,7 @@ pub fn route_sound<G: Gate + Sync, R: Threads + Sync>(
 ) -> Result<Made, Cause>
     requires workers { IsManned request.now.workers }
     requires asked { IsAsked request.now.number (task_of chip.now package_name [] sound.now) }
-    ensures made { IfOk result (λ made. IsSampled request.now.number (text_at made.texts 1) made.placement made.tallies.items) }
+    ensures made { IfOk result (λ made. IsSampled request.now.number (text_at made.texts 1) made.arrangement made.tallies.items) }
     ensures refused { IfErr result (λ cause. IsRefusal (TaskStands (task_of chip.now package_name [] sound.now)) cause) }
 {
     match lay(alloc, chip, sound) {

@@ -32,7 +32,7 @@ fn make_on<G: Gate + Sync, R: Threads + Sync>(
 ) -> Result<Made, Cause>
     requires workers { IsManned request.now.workers }
     requires chip { chip_says chip_text ≡ Ok chip.now }
-    ensures made { IfOk result (λ made. IsSampled request.now.number (text_at made.texts 1) made.placement made.tallies.items) }
+    ensures made { IfOk result (λ made. IsSampled request.now.number (text_at made.texts 1) made.arrangement made.tallies.items) }
     ensures refused { IfErr result (λ cause. IsRefusal (BlifStands request.now.number chip.now) cause) }
 {
     match read_sample_net(alloc, request.number) {
@@ -53,7 +53,7 @@ fn make<G: Gate + Sync, R: Threads + Sync>(
     request: &SampleRequest,
 ) -> Result<Made, Cause>
     requires { IsManned request.now.workers }
-    ensures made { IfOk result (λ made. IsSampled request.now.number (text_at made.texts 1) made.placement made.tallies.items) }
+    ensures made { IfOk result (λ made. IsSampled request.now.number (text_at made.texts 1) made.arrangement made.tallies.items) }
     ensures refused { IfErr result (λ cause. IsRefusal (Stands request.now.number) cause) }
 {
     match read_sample_chip(alloc) {
@@ -70,7 +70,7 @@ fn make<G: Gate + Sync, R: Threads + Sync>(
 /// in a thread, which pass the gate; and says the summary: how many cells, tiles and nets there are, in how many rounds these were
 /// routed, and the length of the wires. A refusal says its line. No file is read or made.
 ///
-/// The summary is that of the placement and the tallies that are told. The placement is legal, and no exchange of two clusters and no move
+/// The summary is that of the arrangement and the tallies that are told. Its placement is legal, and no exchange of two clusters and no move
 /// of one makes it shorter. The last of its rounds ends without an overused wire, and no earlier one does.
 pub fn sample<D: Desk, G: Gate + Sync, R: Threads + Sync>(
     rt: &R,

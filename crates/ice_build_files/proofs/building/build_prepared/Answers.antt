@@ -20,4 +20,4 @@ returns-in-Ok-clause-made g c = λ chip_text asked.
     let e = c.made_of.ensures in
     made_of_built b (chip_text ∷ c.args.texts.now) task c.in-Ok.built asked (c.requires.formed asked.circuit asked.is_circuit) (c.requires.room asked.circuit asked.is_circuit)
     (record { pins = c.prepared_pins_stay.ensures; reports = c.prepared_reports_stay.ensures; shows = c.prepared_show_the_same.ensures; given = c.prepared_are_given_alike.ensures }) (rw c.as_bytes-name.ensures.value at c.in-Ok.ensures.built)
-    c.made_of.result c.in-Ok.ensures.circuit (rw c.netlist.ensures.netlist at e.texts) e.placement e.tallies e.read_back
+    c.made_of.result c.in-Ok.ensures.circuit (rw c.netlist.ensures.netlist at e.texts) e.arrangement e.tallies e.read_back

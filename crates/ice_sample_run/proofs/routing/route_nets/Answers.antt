@@ -12,7 +12,7 @@ pub returns-in-Ok-clause-made : goal.returns-in-Ok-clause-made
 returns-in-Ok-clause-made g c =
     let task = task_of c.args.chip.now package_name [] c.args.sound.now in
     let e = c.sum_up.ensures in
-    sampled c.args.request.now.number task c.args.layout c.in-Ok.routed c.sum_up.result c.requires.asked c.requires.laid c.in-Ok.ensures.routed e.text e.placement e.tallies
+    sampled c.args.request.now.number task c.args.layout c.in-Ok.routed c.sum_up.result c.requires.asked c.requires.laid c.in-Ok.ensures.routed e.text e.arrangement e.tallies
 
 pub returns-in-Ok-clause-refused : goal.returns-in-Ok-clause-refused
 returns-in-Ok-clause-refused g c = memory_refused (TaskStands (task_of c.args.chip.now package_name [] c.args.sound.now)) c.sum_up.result c.sum_up.ensures.stop
