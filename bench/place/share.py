@@ -11,7 +11,7 @@ import subprocess
 import sys
 import tempfile
 
-PLACING = re.compile(r"ice_(anneal|arrange|board|nodes|length)::|ice_build::laying::")
+PLACING = re.compile(r"ice_(anneal|arrange|board|nodes|length|orders)::|ice_build::laying::")
 SEEDS = ("1", "2", "3")
 RATE = 4000
 

@@ -11,7 +11,7 @@ use Rattle.ice_pads.specs.Assign.{IsGivenAlike}
 use Rattle.ice_report.specs.PinReport.{pin_text}
 use Rattle.ice_words.specs.Grips.{Shut}
 use Rattle.ice_build.specs.Answers.{IsBuilt, IsGivenUp, IsUndecoded}
-use Rattle.ice_build.specs.Laid.{Task, plan_in, arrangement_in}
+use Rattle.ice_build.specs.Laid.{Task, arrangement_in, plan_in}
 pub use Rattle.ice_build.specs.Placements.{IsLaidOn, IsStuckOn, IsGivenUpOn}
 use Rattle.ice_build.specs.Shown.{IsCircuitOf}
 use Rattle.ice_build.specs.declared.answer.Built.{Built}
