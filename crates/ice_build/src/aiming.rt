@@ -30,13 +30,13 @@ fn sinks_of(nets: &[Net]) -> usize {
 fn set_of(tiles: &mut Vec<TileAt>, tile: TileAt) -> Result<u8, NoMemory> {
     for number in 0..tiles.len() {
         if tiles[number].x == tile.x && tiles[number].y == tile.y {
-            return Ok(number as u8);
+            return Ok(number.min(MOST_SETS - 1) as u8);
         }
     }
     if tiles.len() < MOST_SETS {
         tiles.push(tile)?;
     }
-    Ok(tiles.len().saturating_sub(1) as u8)
+    Ok(tiles.len().saturating_sub(1).min(MOST_SETS - 1) as u8)
 }
 
 // Puts the targets of a sink into the set of the tile at which they stand.

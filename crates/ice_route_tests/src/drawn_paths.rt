@@ -1,13 +1,13 @@
 //! Costs and taken paths in generated graphs, against a plain search.
-ghost use Rattle.std.specs.Prelude.{◌≡◌, ◌<◌, ◌≤◌, ℕ, length, slice_index, IfOk};
+ghost use Rattle.std.specs.Prelude.{◌≡◌, ◌<◌, ◌≤◌, ℕ, is_some, length, slice_index, IfOk};
 ghost use Rattle.ice_core.specs.Congestion.{ArePrices};
 ghost use Rattle.ice_path.specs.Room.{AreWires, IsFor};
 
 use crate::claims::expect_that;
-use ice_base::WireNo;
+use ice_base::{NoMemory, WireNo};
 use ice_core::Prices;
 use ice_graph::{Edge, Graph, Tree};
-use ice_path::{Scratch, connect, path};
+use ice_path::{Scratch, connect, connect_ahead, path};
 use ice_small_graphs::{Way, add_wire, draw, drawn_graph, marks_of, plain_price, plain_way};
 use rand_core::SeedableRng;
 use rand_pcg::Pcg32;
@@ -116,7 +116,17 @@ fn expect_cost(rt: &impl Abort, found: Option<u64>, wanted: &Option<Way>) {
     }
 }
 
-// Fails unless both give the same cost and the same path to these targets.
+// Fails unless a found way is the wanted one, by its cost and its edges.
+fn expect_way(rt: &impl Abort, found: Option<u64>, scratch: &Scratch, wanted: &Option<Way>)
+    requires { is_some scratch.now.path ≡ is_some found }
+{
+    expect_cost(rt, found, wanted);
+    if let (Some(_), Some(way)) = (found, wanted) {
+        expect_edges(rt, path(scratch), way);
+    }
+}
+
+// Fails unless a plain search gives the same cost and the same path to these targets as both searches of the product.
 fn compare(
     rt: &impl Abort,
     alloc: Global,
@@ -136,10 +146,9 @@ fn compare(
 {
     let wanted = wanted_way(alloc, graph, prices, tree, targets).expect(rt, "memory");
     let found = connect(graph, prices, tree, targets, scratch);
-    expect_cost(rt, found, &wanted);
-    if let (Some(_), Some(way)) = (found, &wanted) {
-        expect_edges(rt, path(scratch), way);
-    }
+    expect_way(rt, found, scratch, &wanted);
+    let found = connect_ahead(graph, prices, tree, targets, scratch);
+    expect_way(rt, found, scratch, &wanted);
 }
 
 // Compares the ways to a target behind so many drawn ones.
@@ -207,9 +216,38 @@ fn compare_all(
     drop(scratch);
 }
 
-// Draws a graph with this many edges, prices and a tree of two wires, which may be one, and compares.
+// Puts each wire into one of so many sets, or into none.
+fn put_sets(words: &mut Pcg32, sets: &mut [Option<u8>], count: u32)
+    ensures { length sets.new ≡ length sets.old }
+{
+    for wire in 0..sets.len() {
+        let set = draw(words, count.saturating_add(1));
+        if set < count {
+            sets[wire] = Some(set.min(255) as u8);
+        }
+    }
+}
+
+// Has the graph know the hops to as many drawn sets, so that a sink's targets may be of one set, of several or of none.
+fn aim_drawn(
+    alloc: Global,
+    words: &mut Pcg32,
+    graph: &mut Graph,
+    count: u32,
+) -> Result<(), NoMemory>
+    ensures { graph.new ≡ graph.old }
+{
+    let mut sets = vec![in alloc; None; graph.wires() as usize]?;
+    put_sets(words, &mut sets, count);
+    graph.aim(alloc, sets, count as usize)
+}
+
+// Draws a graph with this many edges, which knows the hops to some sets, prices and a tree of two wires, which may be one, and
+// compares.
 fn compare_drawn(rt: &impl Abort, alloc: Global, words: &mut Pcg32, count: u32) {
-    let graph = drawn_graph(alloc, words, count, WIRES, 0).expect(rt, "memory");
+    let mut graph = drawn_graph(alloc, words, count, WIRES, 0).expect(rt, "memory");
+    let sets = draw(words, 4);
+    aim_drawn(alloc, words, &mut graph, sets).expect(rt, "memory");
     let prices = drawn_prices(rt, alloc, words);
     let wires = drawn_wires(alloc, words, 2, WIRES).expect(rt, "memory");
     let tree = Tree {
