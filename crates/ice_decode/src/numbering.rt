@@ -19,7 +19,7 @@ use std::marker::Model;
 
 /// The points of a chip. Contracts see the list of the points, in the order of their numbers.
 #[derive(Drop)]
-pub(crate) struct Numbering {
+pub struct Numbering {
     // How many wires there are.
     wires: u32,
     // The different logic tiles.
@@ -85,7 +85,7 @@ impl Numbering {
     ///
     /// # Errors
     /// Want of memory alone.
-    pub(crate) fn new(alloc: Global, chip: &Chip) -> Result<Numbering, NoMemory>
+    pub fn new(alloc: Global, chip: &Chip) -> Result<Numbering, NoMemory>
         ensures points { IfOk result (AreAllPoints chip.now) }
         ensures chip { IsChip chip.now }
     {
@@ -101,14 +101,14 @@ impl Numbering {
     }
 
     /// The points in the order of their numbers. It takes no memory.
-    pub(crate) fn points(&self) -> &[Point]
+    pub fn points(&self) -> &[Point]
         ensures { result.now ≡ self.now }
     {
         self.points.as_slice()
     }
 
     /// The number of a point, which is one of these. It takes no memory.
-    pub(crate) fn number(&self, point: Point) -> usize
+    pub fn number(&self, point: Point) -> usize
         requires { Has self.now point }
         ensures { At self.now result point }
     {
@@ -134,7 +134,7 @@ impl Numbering {
     }
 
     /// Makes a row the numbers of the points that are there.
-    pub(crate) fn number_all(
+    pub fn number_all(
         &self,
         reads: &[Option<Point>],
         row: &mut Vec<usize>,

@@ -162,7 +162,7 @@ fn driver_at(chip: &Chip, bits: &Bits, drivers: &[Driver], wire: WireNo) -> Driv
 ///
 /// # Errors
 /// Want of memory alone.
-pub(crate) fn add_reads(
+pub fn add_reads(
     chip: &Chip,
     bits: &Bits,
     drivers: &[Driver],
