@@ -1,5 +1,6 @@
 //! The placed design of a netlist.
 ghost use Rattle.std.specs.Prelude.{◌≡◌, IfOk, IfErr};
+ghost use Rattle.ice_cells.specs.Clusterings.{IsClustering};
 ghost use Rattle.ice_cells.specs.Clusters.{clusters_of};
 ghost use Rattle.ice_cells.specs.Ranks.{clusters_by};
 ghost use Rattle.ice_cells.specs.Runs.{design_of};
@@ -49,6 +50,7 @@ fn place(
 ) -> Result<Settled, BuildFault>
     requires index { IsIndexOf chip.now index.now }
     requires clusters { clusters ≡ clusters_of design.now }
+    requires clustering { IsClustering design.now clusters }
     ensures clusters { IfOk result (λ made. made.ordered.clusters ≡ clusters_by made.ordered.ranks design.now) }
     ensures placed { IfOk result (λ made. IsSettled chip.now made.ordered.clusters design.now pads.now made.placement) }
     ensures fault { IfErr result (IsPlaceFault chip.now design.now) }
@@ -71,6 +73,7 @@ fn lay(
 ) -> Result<Layout, BuildFault>
     requires index { IsIndexOf chip.now index.now }
     requires clusters { clusters ≡ clusters_of design }
+    requires clustering { IsClustering design clusters }
     ensures design { IfOk result (λ layout. layout.design ≡ design) }
     ensures clusters { IfOk result (λ layout. layout.clusters ≡ clusters_by layout.ranks design) }
     ensures pads { IfOk result (λ layout. layout.pads ≡ pads) }

@@ -2,6 +2,8 @@
 ghost use Rattle.std.specs.Prelude.{◌≡◌, IfOk};
 ghost use Rattle.ice_build.specs.Laid.{plan_in};
 ghost use Rattle.ice_cells.specs.Clusterings.{IsClustering};
+ghost use Rattle.ice_cells.specs.Clusters.{clusters_of};
+ghost use Rattle.ice_cells.specs.Ranks.{clusters_by};
 ghost use Rattle.ice_emit.specs.Placed.{IsPlacedOn};
 ghost use Rattle.ice_place.specs.Place.{chunks_of};
 ghost use Rattle.ice_sites.specs.Legal.{IsLegal};
@@ -13,6 +15,7 @@ use ice_cells::{Clusters, Design};
 use ice_check::Sound;
 use ice_chip::Chip;
 use ice_cluster::cluster;
+use ice_orders::{Ordered, in_own_order};
 use ice_pads::{Pads, assign};
 use ice_pcf::Pcf;
 use ice_show::first_placement;
@@ -26,15 +29,18 @@ fn lay(
     clusters: Clusters,
     pads: Pads,
 ) -> Result<Layout, BuildFault>
-    requires { IsClustering design clusters }
+    requires clusters { clusters ≡ clusters_of design }
+    requires clustering { IsClustering design clusters }
     ensures design { IfOk result (λ layout. layout.design ≡ design) }
-    ensures clusters { IfOk result (λ layout. layout.clusters ≡ clusters) }
+    ensures clusters { IfOk result (λ layout. layout.clusters ≡ clusters_by layout.ranks design) }
     ensures pads { IfOk result (λ layout. layout.pads ≡ pads) }
-    ensures legal { IfOk result (λ layout. IsLegal (stretches_of chip.now) (chunks_of clusters.list) layout.placement) }
+    ensures legal { IfOk result (λ layout. IsLegal (stretches_of chip.now) (chunks_of layout.clusters.list) layout.placement) }
 {
     let placement = first_placement(alloc, chip, &clusters, &design)?;
+    let Ordered { ranks, clusters } = in_own_order(alloc, &design, clusters);
     Ok(Layout {
         design,
+        ranks,
         clusters,
         pads,
         placement,
