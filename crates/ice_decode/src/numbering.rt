@@ -134,11 +134,7 @@ impl Numbering {
     }
 
     /// Makes a row the numbers of the points that are there.
-    pub fn number_all(
-        &self,
-        reads: &[Option<Point>],
-        row: &mut Vec<usize>,
-    ) -> Result<(), NoMemory>
+    pub fn number_all(&self, reads: &[Option<Point>], row: &mut Vec<usize>) -> Result<(), NoMemory>
         requires { All (IsNumbered self.now) reads.now }
         ensures { OnOk result (map (slice_get self.now) row.new.items ≡ map (λ p. Some p) (present reads.now)) }
     {
