@@ -1,0 +1,127 @@
+//! The nets of a design by cells.
+
+use crate::places::{Grid, NetPlaces};
+use crate::seats::Seats;
+use ice_base::NoMemory;
+use ice_board::{Node, Touched, Wiring, wiring_of};
+use ice_cells::{Cluster, Design, Items, LogicCell, control_at, short};
+use ice_chip::Chip;
+use ice_length::Placed;
+use ice_nodes::measuring_nets;
+use ice_pads::Pads;
+use std::alloc::Global;
+
+/// How many nodes a net has at most that is looked at. A larger one hardly tells one cluster from another.
+const MOST_NODES: usize = 32;
+
+/// Where the nodes of each net stand, and the nets of each cell.
+#[derive(Drop)]
+pub struct CellNets {
+    /// The nets.
+    pub places: Vec<NetPlaces>,
+    /// For each cell its nets that are looked at, each once.
+    pub touching: Vec<Touched>,
+}
+
+// The cluster of a cell alone.
+fn alone(alloc: Global, cells: &[LogicCell], cell: u32) -> Result<Cluster, NoMemory> {
+    Ok(Cluster {
+        cells: Items::from_vec(vec![in alloc; Some(cell); 1]?),
+        control: control_at(cells, cell),
+        run: None,
+    })
+}
+
+// A cluster for each cell.
+fn each_alone(alloc: Global, cells: &[LogicCell]) -> Result<Vec<Cluster>, NoMemory> {
+    let mut clusters = Vec::with_capacity(alloc, cells.len())?;
+    for cell in 0..cells.len() {
+        clusters.push(alone(alloc, cells, short(cell)?)?)?;
+    }
+    Ok(clusters)
+}
+
+// The nets by cells: those by clusters, where each cell is a cluster of its own.
+fn wiring_by_cells(
+    alloc: Global,
+    chip: &Chip,
+    design: &Design,
+    pads: &Pads,
+) -> Result<Wiring, NoMemory> {
+    let clusters = each_alone(alloc, design.cells())?;
+    let nets = measuring_nets(
+        alloc,
+        &Placed {
+            chip,
+            design,
+            clusters: clusters.as_slice(),
+            tiles: &[],
+            ports: pads.ports(),
+            globals: pads.globals(),
+        },
+    )?;
+    let number = short(nets.len())?;
+    wiring_of(alloc, nets, clusters.len())
+}
+
+// Whether the net of a number is looked at.
+fn is_small(wiring: &Wiring, net: usize) -> bool {
+    match wiring.nets.get(net) {
+        Some(net) => net.nodes.len() <= MOST_NODES,
+        None => false,
+    }
+}
+
+// Those of a cell's nets that are looked at.
+fn small_nets(alloc: Global, wiring: &Wiring, nets: &[usize]) -> Result<Touched, NoMemory> {
+    let mut small = Vec::new(alloc);
+    for &net in nets {
+        if is_small(wiring, net) {
+            small.push(net)?;
+        }
+    }
+    Ok(Touched { nets: small })
+}
+
+// Notes where the pads and global buffers of nets stand.
+fn add_fixed(places: &mut Vec<NetPlaces>, wiring: &Wiring, grid: Grid) {
+    for (net, own) in wiring.nets.iter().zip(places.iter_mut()) {
+        for node in &net.nodes {
+            if let Node::Fixed(tile) = node {
+                own.add(grid.place_of(*tile));
+            }
+        }
+    }
+}
+
+// Notes where the cells of nets stand.
+fn add_cells(places: &mut Vec<NetPlaces>, touching: &[Touched], seats: &Seats) {
+    for (cell, touched) in touching.iter().enumerate() {
+        let place = seats.place_of(seats.cluster_of(cell));
+        for &net in &touched.nets {
+            if let Some(own) = places.get_mut(net) {
+                own.add(place);
+            }
+        }
+    }
+}
+
+/// The nets of a design by cells, as they stand.
+pub fn nets_of(
+    alloc: Global,
+    chip: &Chip,
+    design: &Design,
+    pads: &Pads,
+    grid: Grid,
+    seats: &Seats,
+) -> Result<CellNets, NoMemory> {
+    let wiring = wiring_by_cells(alloc, chip, design, pads)?;
+    let mut touching = Vec::with_capacity(alloc, wiring.touching.len())?;
+    for touched in &wiring.touching {
+        touching.push(small_nets(alloc, &wiring, &touched.nets)?)?;
+    }
+    let mut places = vec![in alloc; NetPlaces::empty(); wiring.nets.len()]?;
+    add_fixed(&mut places, &wiring, grid);
+    add_cells(&mut places, &touching, seats);
+    Ok(CellNets { places, touching })
+}

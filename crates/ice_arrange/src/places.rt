@@ -1,0 +1,81 @@
+//! Places of a chip, and how far nets reach over them.
+
+use crate::spread::{PLACES, Spread};
+use ice_base::TileAt;
+use ice_chip::Chip;
+
+/// A column and a row, each below 64.
+#[derive(Clone, Copy)]
+pub struct Place {
+    /// The column.
+    pub column: u8,
+    /// The row.
+    pub row: u8,
+}
+
+/// How tiles are told apart: a place is so many columns wide and as many rows high, one up to 64 columns and rows.
+#[derive(Clone, Copy)]
+pub struct Grid {
+    step: u16,
+}
+
+// The number of a column's or row's place.
+fn place_along(tile: u16, step: u16) -> u8 {
+    let place = tile / step.max(1);
+    place.min(63) as u8
+}
+
+impl Grid {
+    /// The finest grid of 64 places each way that takes the whole chip.
+    pub fn of_chip(chip: &Chip) -> Grid {
+        let mut last = 0;
+        for tile in chip.tiles() {
+            last = tile.at.x.max(tile.at.y).max(last);
+        }
+        Grid {
+            step: last / PLACES + 1,
+        }
+    }
+
+    /// The place of a tile.
+    pub fn place_of(&self, tile: TileAt) -> Place {
+        Place {
+            column: place_along(tile.x, self.step),
+            row: place_along(tile.y, self.step),
+        }
+    }
+}
+
+/// Where the nodes of a net stand.
+#[derive(Clone, Copy)]
+pub struct NetPlaces {
+    columns: Spread,
+    rows: Spread,
+}
+
+impl NetPlaces {
+    /// Nowhere.
+    pub fn empty() -> NetPlaces {
+        NetPlaces {
+            columns: Spread::empty(),
+            rows: Spread::empty(),
+        }
+    }
+
+    /// One more node stands at a place.
+    pub fn add(&mut self, place: Place) {
+        self.columns.add(place.column);
+        self.rows.add(place.row);
+    }
+
+    /// A node goes from one place to another.
+    pub fn shift(&mut self, from: Place, to: Place) {
+        self.columns.shift(from.column, to.column);
+        self.rows.shift(from.row, to.row);
+    }
+
+    /// By how much the net's length grows where a node goes from one place to another.
+    pub fn growth(&self, from: Place, to: Place) -> i64 {
+        self.columns.growth(from.column, to.column) + self.rows.growth(from.row, to.row)
+    }
+}
