@@ -87,6 +87,20 @@ fn add_cluster(
     Ok(())
 }
 
+// Whether cells stand in several clusters.
+fn are_apart(seats: &Seats, cells: &[usize]) -> bool {
+    let Some(first) = cells.first() else {
+        return false;
+    };
+    let home = seats.cluster_of(*first);
+    for cell in cells {
+        if seats.cluster_of(*cell) != home {
+            return true;
+        }
+    }
+    false
+}
+
 // Adds the cells of a class, where they stand in several clusters.
 fn add_class(movers: &mut Vec<Mover>, seats: &Seats, class: &Class) -> Result<(), NoMemory> {
     let first = movers.len();

@@ -1,6 +1,6 @@
 //! The nets of a design by cells.
 
-use crate::places::{Grid, NetPlaces};
+use crate::places::{Grid, NetPlaces, Place};
 use crate::seats::Seats;
 use ice_base::NoMemory;
 use ice_board::{Node, Touched, Wiring, wiring_of};
@@ -83,13 +83,31 @@ fn small_nets(alloc: Global, wiring: &Wiring, nets: &[usize]) -> Result<Touched,
     Ok(Touched { nets: small })
 }
 
-// Notes where the pads and global buffers of nets stand.
-fn add_fixed(places: &mut Vec<NetPlaces>, wiring: &Wiring, grid: Grid) {
-    for (net, own) in wiring.nets.iter().zip(places.iter_mut()) {
-        for node in &net.nodes {
-            if let Node::Fixed(tile) = node {
-                own.add(grid.place_of(*tile));
-            }
+// Notes where the pads and global buffers of a net stand.
+fn add_tiles(own: &mut NetPlaces, nodes: &[Node], grid: Grid) {
+    for node in nodes {
+        if let Node::Fixed(tile) = node {
+            own.add(grid.place_of(*tile));
+        }
+    }
+}
+
+// Where the pads and global buffers of nets stand.
+fn fixed_places(alloc: Global, wiring: &Wiring, grid: Grid) -> Result<Vec<NetPlaces>, NoMemory> {
+    let mut places = Vec::with_capacity(alloc, wiring.nets.len())?;
+    for net in &wiring.nets {
+        let mut own = NetPlaces::empty();
+        add_tiles(&mut own, &net.nodes, grid);
+        places.push(own)?;
+    }
+    Ok(places)
+}
+
+// Notes that a node of each of these nets stands at a place.
+fn add_node(places: &mut Vec<NetPlaces>, nets: &[usize], place: Place) {
+    for net in nets {
+        if let Some(own) = places.get_mut(*net) {
+            own.add(place);
         }
     }
 }
@@ -98,11 +116,7 @@ fn add_fixed(places: &mut Vec<NetPlaces>, wiring: &Wiring, grid: Grid) {
 fn add_cells(places: &mut Vec<NetPlaces>, touching: &[Touched], seats: &Seats) {
     for (cell, touched) in touching.iter().enumerate() {
         let place = seats.place_of(seats.cluster_of(cell));
-        for &net in &touched.nets {
-            if let Some(own) = places.get_mut(net) {
-                own.add(place);
-            }
-        }
+        add_node(places, &touched.nets, place);
     }
 }
 
@@ -120,8 +134,7 @@ pub fn nets_of(
     for touched in &wiring.touching {
         touching.push(small_nets(alloc, &wiring, &touched.nets)?)?;
     }
-    let mut places = vec![in alloc; NetPlaces::empty(); wiring.nets.len()]?;
-    add_fixed(&mut places, &wiring, grid);
+    let mut places = fixed_places(alloc, &wiring, grid)?;
     add_cells(&mut places, &touching, seats);
     Ok(CellNets { places, touching })
 }

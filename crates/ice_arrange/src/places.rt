@@ -76,6 +76,7 @@ impl NetPlaces {
 
     /// By how much the net's length grows where a node goes from one place to another.
     pub fn growth(&self, from: Place, to: Place) -> i64 {
-        self.columns.growth(from.column, to.column) + self.rows.growth(from.row, to.row)
+        let columns = self.columns.growth(from.column, to.column);
+        columns.wrapping_add(self.rows.growth(from.row, to.row))
     }
 }

@@ -46,7 +46,7 @@ fn below(words: &mut Pcg32, m: usize) -> usize {
 
 // By how many tiles a try that is kept may lengthen the wires: a random part of the heat, which is in parts of 256.
 fn spare(heat: u64, word: u32) -> i64 {
-    (heat.wrapping_mul(u64::from(word)) >> 40) as i64
+    (heat.wrapping_mul(u64::from(word)) >> 40).cast_signed()
 }
 
 // By how much nets grow where a node of each goes from one place to another; those of the other cell, too, keep their nodes.

@@ -14,17 +14,24 @@ pub struct Seats {
     cells: Vec<Option<usize>>,
 }
 
+// Adds a slot, with the cell that stands there.
+fn add_slot(seats: &mut Seats, cell: Option<u32>) -> Result<(), NoMemory> {
+    let slot = seats.cells.len();
+    let Some(cell) = cell else {
+        seats.cells.push(None)?;
+        return Ok(());
+    };
+    seats.cells.push(Some(cell as usize))?;
+    if let Some(own) = seats.slots.get_mut(cell as usize) {
+        *own = slot;
+    }
+    Ok(())
+}
+
 // Adds the slots of a cluster, of which there are eight.
 fn add_slots(seats: &mut Seats, cluster: &Cluster) -> Result<(), NoMemory> {
     for slot in cluster.cells.as_slice() {
-        let cell = slot.map(|c| c as usize);
-        seats.cells.push(cell)?;
-        if let Some(number) = cell {
-            let last = seats.cells.len().saturating_sub(1);
-            if let Some(own) = seats.slots.get_mut(number) {
-                *own = last;
-            }
-        }
+        add_slot(seats, *slot)?;
     }
     Ok(())
 }

