@@ -11,8 +11,9 @@ ghost use Rattle.ice_sites.specs.Stretches.{stretches_of};
 
 use crate::ordering::{Ordered, order_cells};
 use ice_anneal::improve;
+use ice_arrange::arrange;
 use ice_base::NoMemory;
-use ice_cells::{Clusters, Design, Items};
+use ice_cells::{Clusters, Design};
 use ice_chip::Chip;
 use ice_pads::Pads;
 use ice_place::Placement;
@@ -26,19 +27,6 @@ pub struct Settled {
     pub ordered: Ordered,
     /// The tile of each cluster.
     pub placement: Placement,
-}
-
-// Ranks by which the wires may be shorter. Nothing is known of them.
-fn arrange(
-    alloc: Global,
-    _chip: &Chip,
-    _design: &Design,
-    _clusters: &Clusters,
-    _placement: &Placement,
-    _pads: &Pads,
-    _seed: u64,
-) -> Result<Items<u32>, NoMemory> {
-    Ok(Items::from_vec(Vec::new(alloc)))
 }
 
 /// From the clusters of a design and their first placement: clusters by ranks, and a legal placement of them that is no longer than the

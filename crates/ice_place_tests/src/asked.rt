@@ -1,6 +1,7 @@
 //! What is asked of a chip and a netlist. One chain of functions, each of which owns one thing, leads from their texts to the packed design.
 use crate::claims::expect_that;
 use crate::places::{Wanted, expect_first, expect_seeds};
+use crate::ranks::expect_ranks;
 use crate::said::said;
 use ice_blif::read_blif;
 use ice_carry::runs;
@@ -9,7 +10,7 @@ use ice_check::{Sound, check};
 use ice_chip::Chip;
 use ice_chip_read::read_chip;
 use ice_pack::pack;
-use ice_pads::assign;
+use ice_pads::{Pads, assign};
 use ice_pcf::read_pcf;
 use std::alloc::Global;
 use std::process::Abort;
@@ -25,6 +26,9 @@ pub enum Asked {
     Seeds(u64, u64),
     /// Placements by this many seeds, in at least so many of which the first cluster stands elsewhere than in the first placement.
     Moves(u64, u64),
+    /// Ranks of the cells in the first placement: the same by the same seed and others by another, and each cell comes to the slot of
+    /// one that is driven alike.
+    Ranks,
 }
 
 // Fails unless this comes of a text of constraints.
@@ -45,6 +49,14 @@ fn expect_pins(
     expect_that(rt, found.as_bytes() == wanted, wanted);
 }
 
+// The pads by no constraint.
+fn free_pads(rt: &impl Abort, alloc: Global, chip: &Chip, sound: &Sound, design: &Design) -> Pads {
+    let pcf = read_pcf(alloc, b"").expect(rt, "constraints");
+    let answer = assign(alloc, chip, b"sample", &pcf, sound.netlist(), design);
+    drop(pcf);
+    answer.expect(rt, "pads")
+}
+
 // Fails unless this comes of placing by seeds, with pads by no constraint.
 fn expect_placed(
     rt: &impl Abort,
@@ -54,11 +66,15 @@ fn expect_placed(
     design: &Design,
     asked: Wanted,
 ) {
-    let pcf = read_pcf(alloc, b"").expect(rt, "constraints");
-    let answer = assign(alloc, chip, b"sample", &pcf, sound.netlist(), design);
-    drop(pcf);
-    let pads = answer.expect(rt, "pads");
+    let pads = free_pads(rt, alloc, chip, sound, design);
     expect_seeds(rt, alloc, chip, design, &pads, asked);
+    drop(pads);
+}
+
+// Fails unless ranks are as they are to be, with pads by no constraint.
+fn expect_ranked(rt: &impl Abort, alloc: Global, chip: &Chip, sound: &Sound, design: &Design) {
+    let pads = free_pads(rt, alloc, chip, sound, design);
+    expect_ranks(rt, alloc, chip, design, &pads);
     drop(pads);
 }
 
@@ -90,6 +106,7 @@ fn expect_design(
             };
             expect_placed(rt, alloc, chip, sound, design, asked);
         }
+        Asked::Ranks => expect_ranked(rt, alloc, chip, sound, design),
     }
 }
 

@@ -10,6 +10,8 @@ mod pins;
 #[cfg(test)]
 mod places;
 #[cfg(test)]
+mod ranks;
+#[cfg(test)]
 mod runs;
 #[cfg(test)]
 mod said;

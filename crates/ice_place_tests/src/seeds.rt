@@ -1,4 +1,4 @@
-//! Placements by seeds.
+//! Placements and ranks by seeds.
 use crate::asked::{Asked, expect};
 use crate::texts::{large_chip, seventh_netlist};
 
@@ -8,4 +8,12 @@ fn seeds_give_different_placements(rt: HostRuntime) {
     let chip = large_chip(&rt, rt.alloc());
     let text = seventh_netlist(&rt, rt.alloc());
     expect(&rt, rt.alloc(), &chip, &text, Asked::Seeds(8, 1));
+}
+
+// The same netlist: 24 of its cells have a flip-flop, all of one control set.
+#[test]
+fn seeds_give_different_ranks(rt: HostRuntime) {
+    let chip = large_chip(&rt, rt.alloc());
+    let text = seventh_netlist(&rt, rt.alloc());
+    expect(&rt, rt.alloc(), &chip, &text, Asked::Ranks);
 }
