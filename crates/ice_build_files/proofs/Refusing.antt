@@ -131,7 +131,7 @@ refused_given_up b t task layout nets logs tallies refused asked fault (inl memo
 refused_given_up b t task layout nets logs tallies refused asked (laid, given, counted) (inr told) =
     let on = GaveUp (arrangement_in layout) logs tallies in
     let stands = end_so b.package_name b.effort.rounds t task layout.pads laid.placed.first on asked (pins_good task layout laid) (places_good task layout laid) (layout, laid, refl, given) in
-    let tells = has_report b t layout.placement logs tallies (route_text (length layout.design.cells) (length layout.clusters.list) nets logs.items false) b.report refl
+    let tells = has_report b t (arrangement_in layout) logs tallies (route_text (length layout.design.cells) (length layout.clusters.list) nets logs.items false) b.report refl
     (tells_of b t task layout nets logs tallies asked laid given counted) in
     record {
       refusal = subst (IsRefusal (Stands b.package_name b.effort.rounds t)) (sym told.0) (stands, tt);
