@@ -3,47 +3,44 @@
 //! bits. It is for tests, and no part of the flow.
 #![tactic(auto)]
 
+mod cases;
+mod design;
+mod faults;
+mod layout;
+mod passes;
+mod placed;
+mod routes;
+mod text;
+
+use crate::cases::show_cases;
 use anyhow::Result;
 use ice_chip::Chip;
-use ice_show::{Case, read_case, read_chip_of_cases, say_passes, words_of};
-use ice_show_bits::say_routes_of;
+use ice_chip_read::read_chip;
+use ice_sample::sample_chip;
 use std::alloc::Global;
-use std::fs::Files;
-use std::io::Print;
-use std::thread::Threads;
+use std::env::{self, Env};
 
-// Says what comes of a case.
-fn say_case<R: Print + Threads + Sync>(
-    rt: &R,
-    alloc: Global,
-    chip: &Chip,
-    case: &Case,
-) -> Result<()> {
-    say_passes(rt, alloc, chip, case)?;
-    match &case.pcf {
-        Some(pcf) => say_routes_of(rt, alloc, chip, &case.sound, pcf),
-        None => Ok(()),
-    }
+// The sample chip of 14 by 18 tiles.
+fn chip_of_cases(alloc: Global) -> Result<Chip> {
+    let mut text = Vec::new(alloc);
+    sample_chip(alloc, 14, 18, &mut text)?;
+    let chip = read_chip(alloc, &text)?;
+    Ok(chip)
 }
 
-// Says what is shown for these names of files, by a chip.
-fn say_cases<R: Files + Print + Alloc<A = Global> + Threads + Sync>(
-    rt: &R,
-    chip: &Chip,
-    words: &[String],
-) -> Result<()> {
-    for names in words.chunks(2) {
-        if let Some(case) = read_case(rt, names)? {
-            say_case(rt, rt.alloc(), chip, &case)?;
-        }
+// The words after the program's name.
+fn words_of<R: Env + Alloc<A = Global>>(rt: &R) -> Result<Vec<String>> {
+    let mut words = Vec::new(rt.alloc());
+    for word in env::args(rt)?.skip(1) {
+        words.push(word)?;
     }
-    Ok(())
+    Ok(words)
 }
 
 fn main(rt: HostRuntime) -> Result<()> {
     let words = words_of(&rt)?;
-    let chip = read_chip_of_cases(rt.alloc())?;
-    let said = say_cases(&rt, &chip, &words);
+    let chip = chip_of_cases(rt.alloc())?;
+    let shown = show_cases(&rt, &chip, &words);
     drop(chip);
-    said
+    shown
 }
