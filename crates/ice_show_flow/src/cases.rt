@@ -3,47 +3,67 @@ use crate::passes::show_passes;
 use crate::text::Text;
 use anyhow::{Result, bail};
 use ice_blif::read_blif;
-use ice_check::{Sound, check};
+use ice_check::check;
 use ice_chip::Chip;
+use ice_net::Netlist;
 use ice_pcf::{Pcf, read_pcf};
 use std::alloc::Global;
 use std::fs::{self, Files};
-use std::io::Print;
+use std::io::{self, Print};
 use std::thread::Threads;
 
-// The netlist of a text, where it is sound, or else the status of its refusal, as it is said.
-fn sound_netlist(text: &mut Text, alloc: Global, blif: &[u8]) -> Option<Sound> {
-    let Ok(netlist) = read_blif(alloc, blif) else {
-        text.say(b"error 3\n");
-        return None;
-    };
+// The netlist in a file, where its text has no fault.
+fn netlist_in<R: Files + Alloc<A = Global>>(rt: &R, name: &str) -> io::Result<Option<Netlist>> {
+    let text = fs::read(rt, name)?;
+    Ok(read_blif(rt.alloc(), &text).ok())
+}
+
+// The constraints in a file, where its text has no fault.
+fn constraints_in<R: Files + Alloc<A = Global>>(rt: &R, name: &str) -> io::Result<Option<Pcf>> {
+    let text = fs::read(rt, name)?;
+    Ok(read_pcf(rt.alloc(), &text).ok())
+}
+
+// Shows a netlist with these constraints, or the status of its refusal where it is not sound.
+fn show_netlist<R: Threads + Sync>(
+    rt: &R,
+    text: &mut Text,
+    alloc: Global,
+    chip: &Chip,
+    netlist: Netlist,
+    pcf: Option<&Pcf>,
+) -> Result<()> {
     match check(alloc, netlist) {
-        Ok(sound) => Some(sound),
+        Ok(sound) => {
+            let shown = show_passes(rt, text, alloc, chip, &sound, pcf);
+            drop(sound);
+            shown
+        }
         Err(_) => {
             text.say(b"error 6\n");
-            None
+            Ok(())
         }
     }
 }
 
-// Shows the netlist in a file, with these constraints.
-fn show_netlist<R: Files + Threads + Sync + Alloc<A = Global>>(
+// Shows the netlist in a file with these constraints, or the status of its refusal.
+fn show_file<R: Files + Threads + Sync + Alloc<A = Global>>(
     rt: &R,
     text: &mut Text,
     chip: &Chip,
     blif: &str,
     pcf: Option<&Pcf>,
 ) -> Result<()> {
-    let blif = fs::read(rt, blif)?;
-    let Some(sound) = sound_netlist(text, rt.alloc(), &blif) else {
-        return Ok(());
-    };
-    let shown = show_passes(rt, text, rt.alloc(), chip, &sound, pcf);
-    drop(sound);
-    shown
+    match netlist_in(rt, blif)? {
+        Some(netlist) => show_netlist(rt, text, rt.alloc(), chip, netlist, pcf),
+        None => {
+            text.say(b"error 3\n");
+            Ok(())
+        }
+    }
 }
 
-// Shows the netlist in a file, with the constraints in another; where the other's name is -, with none.
+// Shows the netlist in a file with the constraints in another, or the status of their refusal.
 fn show_files<R: Files + Threads + Sync + Alloc<A = Global>>(
     rt: &R,
     text: &mut Text,
@@ -51,32 +71,35 @@ fn show_files<R: Files + Threads + Sync + Alloc<A = Global>>(
     blif: &str,
     pcf: &str,
 ) -> Result<()> {
-    if pcf == "-" {
-        return show_netlist(rt, text, chip, blif, None);
+    match constraints_in(rt, pcf)? {
+        Some(pcf) => {
+            let shown = show_file(rt, text, chip, blif, Some(&pcf));
+            drop(pcf);
+            shown
+        }
+        None => {
+            text.say(b"error 4\n");
+            Ok(())
+        }
     }
-    let Ok(pcf) = read_pcf(rt.alloc(), &fs::read(rt, pcf)?) else {
-        text.say(b"error 4\n");
-        return Ok(());
-    };
-    let shown = show_netlist(rt, text, chip, blif, Some(&pcf));
-    drop(pcf);
-    shown
 }
 
-// Shows a case behind a line with the name of its netlist's file.
+// Shows a case behind a line with the name of its netlist's file; where the name of the other file is -, it has no constraints.
 fn show_case<R: Files + Print + Threads + Sync + Alloc<A = Global>>(
     rt: &R,
     chip: &Chip,
-    names: &[String],
+    blif: &str,
+    pcf: &str,
 ) -> Result<()> {
-    let [blif, pcf] = names else {
-        bail!("each case has two files: BLIF PCF");
-    };
     let mut text = Text::new(rt.alloc());
     text.say(b"== ");
     text.say(blif.as_bytes());
     text.say(b"\n");
-    let shown = show_files(rt, &mut text, chip, blif.as_str(), pcf.as_str());
+    let shown = if pcf == "-" {
+        show_file(rt, &mut text, chip, blif, None)
+    } else {
+        show_files(rt, &mut text, chip, blif, pcf)
+    };
     text.print(rt).and(shown)
 }
 
@@ -90,7 +113,10 @@ pub fn show_cases<R: Files + Print + Threads + Sync + Alloc<A = Global>>(
     words: &[String],
 ) -> Result<()> {
     for names in words.chunks(2) {
-        show_case(rt, chip, names)?;
+        let [blif, pcf] = names else {
+            bail!("each case has two files: BLIF PCF");
+        };
+        show_case(rt, chip, blif.as_str(), pcf.as_str())?;
     }
     Ok(())
 }

@@ -19,6 +19,7 @@ use ice_chip_read::read_chip;
 use ice_sample::sample_chip;
 use std::alloc::Global;
 use std::env::{self, Env};
+use std::io;
 
 // The sample chip of 14 by 18 tiles.
 fn chip_of_cases(alloc: Global) -> Result<Chip> {
@@ -29,7 +30,7 @@ fn chip_of_cases(alloc: Global) -> Result<Chip> {
 }
 
 // The words after the program's name.
-fn words_of<R: Env + Alloc<A = Global>>(rt: &R) -> Result<Vec<String>> {
+fn words_of<R: Env + Alloc<A = Global>>(rt: &R) -> io::Result<Vec<String>> {
     let mut words = Vec::new(rt.alloc());
     for word in env::args(rt)?.skip(1) {
         words.push(word)?;
