@@ -22,7 +22,7 @@ use ice_cluster::cluster;
 use ice_orders::{Ordered, in_own_order};
 use ice_pads::{Pads, assign};
 use ice_pcf::Pcf;
-use ice_place::first_place;
+use ice_place::{PlaceFault, Placement, first_place};
 use ice_sites::sites_of;
 use std::alloc::Global;
 
@@ -51,6 +51,21 @@ pub fn pack(text: &mut Text, alloc: Global, sound: &Sound) -> Result<Packed, Bui
     Ok(Packed { design, clusters })
 }
 
+// The first placement of the clusters of a design on the sites of a chip.
+fn first_placement(
+    alloc: Global,
+    chip: &Chip,
+    clusters: &Clusters,
+    design: &Design,
+) -> Result<Placement, PlaceFault>
+    requires { IsClustering design.now clusters.now }
+    ensures { IfOk result (λ placement. IsLegal (stretches_of chip.now) (chunks_of clusters.now.list) placement) }
+{
+    let sites = sites_of(alloc, chip)?;
+    let placement = first_place(alloc, &sites, clusters, design)?;
+    Ok(placement)
+}
+
 // A packed design on its first placement, with its pads.
 fn place(alloc: Global, chip: &Chip, packed: Packed, pads: Pads) -> Result<Layout, BuildFault>
     requires clusters { packed.clusters ≡ clusters_of packed.design }
@@ -61,8 +76,7 @@ fn place(alloc: Global, chip: &Chip, packed: Packed, pads: Pads) -> Result<Layou
     ensures legal { IfOk result (λ layout. IsLegal (stretches_of chip.now) (chunks_of layout.clusters.list) layout.placement) }
 {
     let Packed { design, clusters } = packed;
-    let sites = sites_of(alloc, chip)?;
-    let placement = first_place(alloc, &sites, &clusters, &design)?;
+    let placement = first_placement(alloc, chip, &clusters, &design)?;
     let Ordered { ranks, clusters } = in_own_order(alloc, &design, clusters);
     Ok(Layout {
         design,
