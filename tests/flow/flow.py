@@ -250,13 +250,22 @@ class Maker:
         self.cell("SB_GB", [("USER_SIGNAL_TO_GLOBAL_BUFFER", self.any()), ("GLOBAL_BUFFER_OUTPUT", new)])
         self.add(new)
 
+    def pad(self, port):
+        """A pad of any type that is read, which may be registered and may feed a global."""
+        new, kind = self.new(), self.random.choice(["000000", "000001", "010101", "011001", "101001", "101001"])
+        pins = [("D_OUT_0", self.any()), ("OUTPUT_ENABLE", self.any())] if kind[:4] != "0000" else []
+        pins += [(clock, self.random.choice(["c", "c", "d", ""])) for clock in ("INPUT_CLK", "OUTPUT_CLK")]
+        pins += [("CLOCK_ENABLE", self.random.choice([self.any(), ""])), ("D_IN_0", new)]
+        feeds = [self.new()] if self.random.random() < 0.3 else []
+        pins += [("GLOBAL_BUFFER_OUTPUT", fed) for fed in feeds]
+        self.cell("SB_GB_IO" if feeds else "SB_IO", [("PACKAGE_PIN", port), *pins], f"PIN_TYPE {kind}", f"PULLUP {self.random.choice('01')}")
+        for signal in (new, *feeds):
+            self.add(signal)
+
     def netlist(self):
         both = [f"b{k}" for k in range(self.random.randrange(0, 3))]
         for port in both:
-            new, kind = self.new(), self.random.choice(["000001", "011001", "101001", "101001"])
-            ins = [("D_OUT_0", self.any()), ("OUTPUT_ENABLE", self.any())] if kind != "000001" else []
-            self.cell("SB_IO", [("PACKAGE_PIN", port), *ins, ("D_IN_0", new)], f"PIN_TYPE {kind}", f"PULLUP {self.random.choice('01')}")
-            self.add(new)
+            self.pad(port)
         for _ in range(self.random.randrange(4, 24)):
             self.random.choice([self.cover, self.cover, self.lut, self.lut, self.lut, self.chain, self.buffer])()
         self.lut()

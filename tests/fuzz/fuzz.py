@@ -31,7 +31,7 @@ LINE = {
 ODD_WORDS = [b"0", b"1", b"-1", b"255", b"256", b"65535", b"65536", b"1048576", b"1048577", b"4294967295", b"4294967296", b"99999999999999999999",
              b".device", b".io_tile", b".logic_tile", b".ramb_tile", b".net", b".buffer", b".routing", b".pins", b".ieren", b".colbuf", b".gbufin",
              b".gbufpin", b".extra_bit", b".model", b".inputs", b".outputs", b".names", b".gate", b".subckt", b".param", b".end", b"SB_LUT4",
-             b"SB_CARRY", b"SB_DFF", b"SB_DFFNESS", b"SB_IO", b"SB_GB", b"LUT_INIT", b"PIN_TYPE", b"set_io", b"-pullup", b"yes", b"no", b"#", b"\\",
+             b"SB_CARRY", b"SB_DFF", b"SB_DFFNESS", b"SB_IO", b"SB_GB", b"SB_GB_IO", b"LUT_INIT", b"PIN_TYPE", b"set_io", b"-pullup", b"yes", b"no", b"#", b"\\",
              b"$undef", b"B0[0]", b"B15[53]", b"B16[17]", b"glb_netwk_0", b"lutff_0/out", b"io_0/D_IN_0", b"ram/RDATA_0", b"\xff\xfe", b"\x00", b"="]
 SECONDS_A_RUN = 60
 COMMANDS = {

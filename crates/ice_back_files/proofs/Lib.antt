@@ -2,3 +2,4 @@ mod Written
 mod PortNames
 mod Making
 pub mod BackLaws
+mod PlainPads

@@ -22,7 +22,9 @@ use Rattle.ice_back_laws.specs.Numbers.{back_names}
 use Rattle.ice_back_laws.proofs.Names.{names_are_words, none_begins_comment, none_begins_dollar}
 use Rattle.ice_blif_laws.specs.SameNames.{SaysTheSame}
 use Rattle.ice_blif_write.specs.RoundTrip.{IsName, IsDefined, AreDefined, IsDefinedCell, IsWritable, named_port}
+use Rattle.ice_check.specs.Sound.{IsSound}
 use Rattle.ice_back_files.specs.Headline.{SaysBits}
+use Rattle.ice_back_files.proofs.PlainPads.{sound_is_plain}
 use Rattle.ice_back_files.proofs.PortNames.{ports_named}
 
 -- what is true of each item of a list
@@ -69,14 +71,15 @@ module _ (parts : Parts) (k : Configuration) (rows : PackageRows) (read : IsRead
   name_fits : (z : List ℕ) → Has (back_names parts rows) z → IsName z
   name_fits z there = record { word = names_are_words parts read rows has words z there; no_comment = none_begins_comment parts read rows has z there }
 
-  writable : IsWritable whole
-  writable = record {
+  writable : IsSound whole → IsWritable whole
+  writable sound = record {
     names = All-from_recursion IsName whole.names (each IsName whole.names name_fits);
     outputs = cells_defined whole.names (each HasNoDollar whole.names (none_begins_dollar parts read rows has)) whole.cells;
+    plain = sound_is_plain whole sound;
   }
 
-  pub can_be_written : (n : NetlistData) → n ≡ whole → IsWritable n
-  can_be_written n e = subst (λ (m : NetlistData). IsWritable m) (sym e) writable
+  pub can_be_written : (n : NetlistData) → n ≡ whole → IsSound n → IsWritable n
+  can_be_written n e sound = subst (λ (m : NetlistData). IsWritable m) (sym e) (writable (subst (λ (m : NetlistData). IsSound m) e sound))
 
   -- a text that says the same says the bits
   pub says_bits : (n : NetlistData) (text : List ℕ) → n ≡ whole

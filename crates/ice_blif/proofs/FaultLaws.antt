@@ -7,11 +7,13 @@ use Rattle.ice_blif.specs.declared.fault.BlifFault.{BlifFault}
 use Rattle.ice_blif.specs.declared.fault.BlifFault.TheVariants.{NoModel, SecondModel, NoEnd}
 use Rattle.ice_blif.specs.JoinedLines.{FilledLine, joined, filled, last_number}
 use Rattle.ice_blif.specs.State.{State}
-use Rattle.ice_blif.specs.Cells.{◌>>=◌, finished, IsWithinLimits}
-use Rattle.ice_blif.specs.Grammar.{within_limits, line_says, after_end, ended, model_says, empty_reader, lines_say, netlist_of, HasNetlist}
-use Rattle.ice_blif.specs.FirstFault.{is_model, is_end, LeadsTo, IsSecondModel, IsModelFault, in_line, no_end, behind_end, IsFirstFault, no_line, no_model, in_model, HasFirstFault}
-use Rattle.ice_blif.proofs.Limits.{within_has}
-use Rattle.ice_blif.proofs.Growing.{has_within, read_within}
+use Rattle.ice_blif.specs.Cells.{◌>>=◌, finished}
+use Rattle.ice_blif.specs.Grammar.{within_limits, line_says, after_end, ended, model_says, empty_reader, lines_say, text_says, netlist_of, HasNetlist, IsWithinLimits}
+use Rattle.ice_blif.specs.Registers.{taken_apart_says, without_cells}
+use Rattle.ice_blif.specs.FirstFault.{is_model, is_end, LeadsTo, IsSecondModel, IsModelFault, in_line, no_end, behind_end, IsFirstFault, no_line, no_model, in_model, HasFirstFault, in_lines, hidden}
+use Rattle.ice_blif.proofs.Apart.{apart_told, apart_faulty}
+use Rattle.ice_blif.proofs.Growing.{text_small}
+use Rattle.ice_blif.proofs.WholeTexts.{netlist_has, netlist_within, has_within}
 
 same_fault : {A : Type 0} (e f : BlifFault) → (let said : Result A BlifFault = Err e in said) ≡ Err f → e ≡ f
 same_fault e f h = cc
@@ -116,22 +118,28 @@ lines_faulty last ls f (in_model first others at is h) =
 both_sides : (r : Result NetlistData BlifFault) (n : NetlistData) (f : BlifFault) → r ≡ Ok n → r ≡ Err f → ⊥
 both_sides r n f a b = cc
 
-pub text_netlist : (text : List ℕ) (n : NetlistData) → (netlist_of text ≡ Ok n ↔ (HasNetlist text n × IsWithinLimits n))
-text_netlist text n = (λ e. (within_has text n e, read_within text n e), λ h. has_within text n h.0 h.1)
+pub text_netlist : (text : List ℕ) (n : NetlistData) → (netlist_of text ≡ Ok n ↔ (HasNetlist text n × IsWithinLimits text n))
+text_netlist text n = (λ e. (netlist_has text n e, netlist_within text n e), λ h. has_within text n h.0 h.1)
+
+fault_told : (text : List ℕ) (f : BlifFault) (x : Result NetlistData BlifFault) → text_says within_limits text ≡ x → (x >>= taken_apart_says) ≡ Err f → HasFirstFault text f
+fault_told text f (Ok raw) is e = hidden raw is (apart_told (without_cells raw) raw.cells f (text_small text raw is).signals e)
+fault_told text f (Err g) is e =
+    in_lines (lines_told (last_number 0 (numbered 1 (lines text))) (filled (joined (numbered 1 (lines text)))) f (is ∙ ap (λ h. Err h) (same_fault {A = NetlistData} g f e)))
+
+fault_said : (text : List ℕ) (f : BlifFault) → HasFirstFault text f → netlist_of text ≡ Err f
+fault_said text f (in_lines h) = ap (λ x. x >>= taken_apart_says) (lines_faulty (last_number 0 (numbered 1 (lines text))) (filled (joined (numbered 1 (lines text)))) f h)
+fault_said text f (hidden raw is h) = ap (λ x. x >>= taken_apart_says) is ∙ apart_faulty (without_cells raw) raw.cells f h
 
 pub text_fault : (text : List ℕ) (f : BlifFault) → (netlist_of text ≡ Err f ↔ HasFirstFault text f)
-text_fault text f =
-    let ls = filled (joined (numbered 1 (lines text))) in
-    let last = last_number 0 (numbered 1 (lines text)) in
-    (lines_told last ls f, lines_faulty last ls f)
+text_fault text f = (fault_told text f (text_says within_limits text) refl, fault_said text f)
 
 text_one_by : (text : List ℕ) (r : Result NetlistData BlifFault) → netlist_of text ≡ r
-    → ((n : NetlistData) × HasNetlist text n × IsWithinLimits n) ⊎ ((f : BlifFault) × HasFirstFault text f)
-text_one_by text (Ok n) e = inl (n, within_has text n e, read_within text n e)
+    → ((n : NetlistData) × HasNetlist text n × IsWithinLimits text n) ⊎ ((f : BlifFault) × HasFirstFault text f)
+text_one_by text (Ok n) e = inl (n, netlist_has text n e, netlist_within text n e)
 text_one_by text (Err f) e = inr (f, (text_fault text f).0 e)
 
-pub text_one : (text : List ℕ) → ((n : NetlistData) × HasNetlist text n × IsWithinLimits n) ⊎ ((f : BlifFault) × HasFirstFault text f)
+pub text_one : (text : List ℕ) → ((n : NetlistData) × HasNetlist text n × IsWithinLimits text n) ⊎ ((f : BlifFault) × HasFirstFault text f)
 text_one text = text_one_by text (netlist_of text) refl
 
-pub text_never_both : (text : List ℕ) (n : NetlistData) (f : BlifFault) → HasNetlist text n → IsWithinLimits n → HasFirstFault text f → ⊥
+pub text_never_both : (text : List ℕ) (n : NetlistData) (f : BlifFault) → HasNetlist text n → IsWithinLimits text n → HasFirstFault text f → ⊥
 text_never_both text n f has small first = both_sides (netlist_of text) n f (has_within text n has small) ((text_fault text f).1 first)

@@ -4,18 +4,20 @@ use Rattle.ice_base.specs.Text.{lines, numbered}
 use Rattle.ice_base.specs.Comments.{begins_with}
 use Rattle.ice_base.specs.Names.{number_of_name}
 use Rattle.ice_base.specs.declared.number.SignalNo.{SignalNo}
-use Rattle.ice_net.specs.declared.kind.CellKind.{CellKind}
 use Rattle.ice_net.specs.declared.port.Way.{Way}
 use Rattle.ice_net.specs.declared.port.Way.TheVariants.{Input, Output}
-use Rattle.ice_net.specs.Kinds.{kind_of, port_place, ins_count}
+use Rattle.ice_net.specs.Kinds.{ins_count}
 use Rattle.ice_net.specs.NetlistData.{NetlistData, way_of}
 use Rattle.ice_net.proofs.NetlistLaws.{names_grow}
 use Rattle.ice_blif.specs.declared.fault.BlifFault.{BlifFault}
 use Rattle.ice_blif.specs.declared.fault.BlifFault.TheVariants.{NoModel, SecondModel, UnknownDirective, PortTwice, TooWide, TooMany}
 use Rattle.ice_blif.specs.JoinedLines.{FilledLine, joined, filled, last_number}
 use Rattle.ice_blif.specs.State.{LastCell, State, Connections, Nothing, Gate, Rows}
-use Rattle.ice_blif.specs.Cells.{◌>>=◌, row_says, kind_says, with_kind, param_says, finished, count_of, IsWithin, IsWithinLimits}
-use Rattle.ice_blif.specs.Grammar.{named, signal_of, was_named, with_named_port, port_says, ports_say, no_wiring, is_missing, after_actual, connect_at, connect_by, equals_at, connection_says, connections_say, cell_of, with_last, without_rows, gate_of_kind, gate_says, cover_signals, new_cover, cover_of, names_say, row_line, row_or_fault, port_directive_says, param_directive_says, directive_says, within_limits, no_limits, line_says, after_end, ended, model_says, empty_reader, lines_say, netlist_of, HasNetlist}
+use Rattle.ice_blif.specs.Cells.{◌>>=◌, row_says, kind_says, with_kind, param_says, finished, count_of, IsWithin, IsRawWithin}
+use Rattle.ice_blif.specs.Grammar.{was_named, with_named_port, port_says, ports_say, no_wiring, is_missing, after_actual, connect_at, connect_by, equals_at, connection_says, connections_say, cell_of, with_last, without_rows, gate_of_kind, gate_says, cover_signals, new_cover, cover_of, names_say, row_line, row_or_fault, port_directive_says, param_directive_says, directive_says, within_limits, no_limits, line_says, after_end, ended, model_says, empty_reader, lines_say, text_says}
+use Rattle.ice_blif.specs.declared.kind.GateKind.{GateKind}
+use Rattle.ice_blif.specs.Gates.{gate_kind_of, gate_place}
+use Rattle.ice_blif.specs.Signals.{named, signal_of}
 use Rattle.ice_blif.proofs.Kept.{bind_keeps, either, any_ok, weaker, bound}
 use Rattle.ice_blif.proofs.OpenCells.{finished_names, finished_count, finished_within}
 
@@ -55,19 +57,19 @@ actual_grows n output actual = by (is_missing output actual)
     by true = net_same n
     by false = named_grows n actual
 
-connect_at_grows : (line : ℕ) (kind : CellKind) (n : NetlistData) (wiring : Connections) (actual : List ℕ) (place : Option ℕ) → IfOk (connect_at line kind n wiring actual place) (GrowsBeside {X = Connections} n)
-connect_at_grows line kind n wiring actual None = tt
-connect_at_grows line kind n wiring actual (Some place) = actual_grows n (nat_le (ins_count kind) place) actual
+connect_at_grows : (line : ℕ) (gate : GateKind) (n : NetlistData) (wiring : Connections) (actual : List ℕ) (place : Option ℕ) → IfOk (connect_at line gate n wiring actual place) (GrowsBeside {X = Connections} n)
+connect_at_grows line gate n wiring actual None = tt
+connect_at_grows line gate n wiring actual (Some place) = actual_grows n (nat_le (ins_count gate.kind) place) actual
 
-connect_grows : (line : ℕ) (kind : CellKind) (n : NetlistData) (wiring : Connections) (word : List ℕ) (at : Option ℕ) → IfOk (connect_by line kind n wiring word at) (GrowsBeside {X = Connections} n)
-connect_grows line kind n wiring word None = tt
-connect_grows line kind n wiring word (Some at) = connect_at_grows line kind n wiring (drop (at + 1) word) (port_place kind (take at word))
+connect_grows : (line : ℕ) (gate : GateKind) (n : NetlistData) (wiring : Connections) (word : List ℕ) (at : Option ℕ) → IfOk (connect_by line gate n wiring word at) (GrowsBeside {X = Connections} n)
+connect_grows line gate n wiring word None = tt
+connect_grows line gate n wiring word (Some at) = connect_at_grows line gate n wiring (drop (at + 1) word) (gate_place gate (take at word))
 
-connections_grow : (line : ℕ) (kind : CellKind) (n : NetlistData) (wiring : Connections) (words : List (List ℕ)) → IfOk (connections_say line kind n wiring words) (GrowsBeside {X = Connections} n)
-connections_grow line kind n wiring [] = either (GrowsBeside {X = Connections} n) wiring.twice (Err (PortTwice line)) (Ok (n, wiring)) tt (net_same n)
-connections_grow line kind n wiring (w ∷ ws) =
-    bind_keeps (GrowsBeside {X = Connections} n) (GrowsBeside {X = Connections} n) (connection_says line kind n wiring w) (λ c. connections_say line kind c.0 c.1 ws) (connect_grows line kind n wiring w (equals_at w))
-    (λ c g. weaker (GrowsBeside {X = Connections} c.0) (GrowsBeside {X = Connections} n) (connections_say line kind c.0 c.1 ws) (λ d h. net_then n c.0 g d.0 h) (connections_grow line kind c.0 c.1 ws))
+connections_grow : (line : ℕ) (gate : GateKind) (n : NetlistData) (wiring : Connections) (words : List (List ℕ)) → IfOk (connections_say line gate n wiring words) (GrowsBeside {X = Connections} n)
+connections_grow line gate n wiring [] = either (GrowsBeside {X = Connections} n) wiring.twice (Err (PortTwice line)) (Ok (n, wiring)) tt (net_same n)
+connections_grow line gate n wiring (w ∷ ws) =
+    bind_keeps (GrowsBeside {X = Connections} n) (GrowsBeside {X = Connections} n) (connection_says line gate n wiring w) (λ c. connections_say line gate c.0 c.1 ws) (connect_grows line gate n wiring w (equals_at w))
+    (λ c g. weaker (GrowsBeside {X = Connections} c.0) (GrowsBeside {X = Connections} n) (connections_say line gate c.0 c.1 ws) (λ d h. net_then n c.0 g d.0 h) (connections_grow line gate c.0 c.1 ws))
 
 cover_signals_grow : (line : ℕ) (n : NetlistData) (signals : List (Option SignalNo)) (words : List (List ℕ)) → IfOk (cover_signals line n signals words) (GrowsBeside {X = List (Option SignalNo)} n)
 cover_signals_grow line n signals [] = net_same n
@@ -96,15 +98,15 @@ joined_grows r n now rows g = record {
   cells = let same = ap (λ cells. length cells) g.cells in omega (arith, finished_count n r.last, same);
 }
 
-gate_of_kind_grows : (line : ℕ) (r : State) (words : List (List ℕ)) (kind : Option CellKind) → IfOk (gate_of_kind line r words kind) (Grows r)
+gate_of_kind_grows : (line : ℕ) (r : State) (words : List (List ℕ)) (gate : Option GateKind) → IfOk (gate_of_kind line r words gate) (Grows r)
 gate_of_kind_grows line r words None = tt
-gate_of_kind_grows line r words (Some kind) =
-    bind_keeps (GrowsBeside {X = Connections} r.netlist) (Grows r) (connections_say line kind r.netlist no_wiring words) (λ c. Ok (with_last c.0 r.last (Gate (cell_of line kind c.1)) false))
-    (connections_grow line kind r.netlist no_wiring words) (λ c g. joined_grows r c.0 (Gate (cell_of line kind c.1)) false g)
+gate_of_kind_grows line r words (Some gate) =
+    bind_keeps (GrowsBeside {X = Connections} r.netlist) (Grows r) (connections_say line gate r.netlist no_wiring words) (λ c. Ok (with_last c.0 r.last (Gate (cell_of line gate c.1)) false))
+    (connections_grow line gate r.netlist no_wiring words) (λ c g. joined_grows r c.0 (Gate (cell_of line gate c.1)) false g)
 
 gate_grows : (line : ℕ) (r : State) (words : List (List ℕ)) → IfOk (gate_says line r words) (Grows r)
 gate_grows line r [] = tt
-gate_grows line r (w ∷ ws) = gate_of_kind_grows line r ws (kind_of w)
+gate_grows line r (w ∷ ws) = gate_of_kind_grows line r ws (gate_kind_of w)
 
 cover_grows : (line : ℕ) (r : State) (n : NetlistData) (signals : List (Option SignalNo)) → NetGrows r.netlist n → IfOk (cover_of line r n signals) (Grows r)
 cover_grows line r n [] g = tt
@@ -209,13 +211,13 @@ within_by line r names cells =
     rw (few, few_cells) refl
 
 -- a state of a netlist within the limits is within them
-state_within : (line : ℕ) (r : State) (n : NetlistData) → IsWithinLimits n → Holds r n → within_limits line r ≡ Ok r
+state_within : (line : ℕ) (r : State) (n : NetlistData) → IsRawWithin n → Holds r n → within_limits line r ≡ Ok r
 state_within line r n small h = within_by line r (omega (arith, small.signals, h.names)) (omega (arith, small.cells, h.cells))
 
-line_within : (l : FilledLine) (r s : State) (n : NetlistData) → IsWithinLimits n → Holds s n → line_says no_limits l r ≡ Ok s → line_says within_limits l r ≡ Ok s
+line_within : (l : FilledLine) (r s : State) (n : NetlistData) → IsRawWithin n → Holds s n → line_says no_limits l r ≡ Ok s → line_says within_limits l r ≡ Ok s
 line_within l r s n small h e = ap (λ x. x >>= within_limits l.number) (plain_line l r s e) ∙ state_within l.number s n small h
 
-model_within_by : (last : ℕ) (l : FilledLine) (ls : List FilledLine) (r : State) (n : NetlistData) (b : Bool) → IsWithinLimits n
+model_within_by : (last : ℕ) (l : FilledLine) (ls : List FilledLine) (r : State) (n : NetlistData) (b : Bool) → IsRawWithin n
     → ((s : State) → model_says no_limits last s ls ≡ Ok n → model_says within_limits last s ls ≡ Ok n)
     → (if b then ended r ls else line_says no_limits l r >>= (λ s. model_says no_limits last s ls)) ≡ Ok n
     → (if b then ended r ls else line_says within_limits l r >>= (λ s. model_says within_limits last s ls)) ≡ Ok n
@@ -225,23 +227,23 @@ model_within_by last l ls r n false small rest e =
     ap (λ x. x >>= (λ s. model_says within_limits last s ls)) (line_within l r parts.value n small (model_holds last ls parts.value n parts.goes_on) parts.made)
     ∙ rest parts.value parts.goes_on
 
-model_within : (last : ℕ) (ls : List FilledLine) (r : State) (n : NetlistData) → IsWithinLimits n → model_says no_limits last r ls ≡ Ok n → model_says within_limits last r ls ≡ Ok n
+model_within : (last : ℕ) (ls : List FilledLine) (r : State) (n : NetlistData) → IsRawWithin n → model_says no_limits last r ls ≡ Ok n → model_says within_limits last r ls ≡ Ok n
 model_within last [] r n small e = absurd (cc)
 model_within last (l ∷ ls) r n small e = model_within_by last l ls r n (bytes_eq l.first (codes ".end")) small (λ s. model_within last ls s n small) e
 
-lines_within_by : (last : ℕ) (l : FilledLine) (ls : List FilledLine) (n : NetlistData) (b : Bool) → IsWithinLimits n
+lines_within_by : (last : ℕ) (l : FilledLine) (ls : List FilledLine) (n : NetlistData) (b : Bool) → IsRawWithin n
     → (if b then model_says no_limits last empty_reader ls else Err (NoModel l.number)) ≡ Ok n
     → (if b then model_says within_limits last empty_reader ls else Err (NoModel l.number)) ≡ Ok n
 lines_within_by last l ls n true small e = model_within last ls empty_reader n small e
 lines_within_by last l ls n false small e = absurd (cc)
 
-lines_within : (last : ℕ) (ls : List FilledLine) (n : NetlistData) → IsWithinLimits n → lines_say no_limits last ls ≡ Ok n → lines_say within_limits last ls ≡ Ok n
+lines_within : (last : ℕ) (ls : List FilledLine) (n : NetlistData) → IsRawWithin n → lines_say no_limits last ls ≡ Ok n → lines_say within_limits last ls ≡ Ok n
 lines_within last [] n small e = absurd (cc)
 lines_within last (l ∷ ls) n small e = lines_within_by last l ls n (bytes_eq l.first (codes ".model")) small e
 
--- a text with a netlist that is within the limits is read as that netlist
-pub has_within : (text : List ℕ) (n : NetlistData) → HasNetlist text n → IsWithinLimits n → netlist_of text ≡ Ok n
-has_within text n has small = lines_within (last_number 0 (numbered 1 (lines text))) (filled (joined (numbered 1 (lines text)))) n small has
+-- what a text says without limits it says within them, where it is within them
+pub text_within : (text : List ℕ) (raw : NetlistData) → text_says no_limits text ≡ Ok raw → IsRawWithin raw → text_says within_limits text ≡ Ok raw
+text_within text raw said small = lines_within (last_number 0 (numbered 1 (lines text))) (filled (joined (numbered 1 (lines text)))) raw small said
 
 -- ---- and back: what is read is within the limits
 within_passes_by : (line : ℕ) (r s : State) (b c : Bool) → nat_lt 65534 (length r.netlist.names) ≡ b → nat_lt 1048576 (length r.netlist.cells + count_of r.last) ≡ c
@@ -257,29 +259,28 @@ within_passes : (line : ℕ) (r s : State) → within_limits line r ≡ Ok s →
 within_passes line r s e = within_passes_by line r s (nat_lt 65534 (length r.netlist.names)) (nat_lt 1048576 (length r.netlist.cells + count_of r.last)) refl refl e
 
 model_small_by : (last : ℕ) (l : FilledLine) (ls : List FilledLine) (r : State) (n : NetlistData) (b : Bool) → IsWithin r
-    → ((s : State) → IsWithin s → model_says within_limits last s ls ≡ Ok n → IsWithinLimits n)
-    → (if b then ended r ls else line_says within_limits l r >>= (λ s. model_says within_limits last s ls)) ≡ Ok n → IsWithinLimits n
+    → ((s : State) → IsWithin s → model_says within_limits last s ls ≡ Ok n → IsRawWithin n)
+    → (if b then ended r ls else line_says within_limits l r >>= (λ s. model_says within_limits last s ls)) ≡ Ok n → IsRawWithin n
 model_small_by last l ls r n true w rest e =
     let parts = bound (after_end ls) (λ u. Ok (finished r.netlist r.last)) n e in
-    subst IsWithinLimits (same_netlist (finished r.netlist r.last) n parts.goes_on) (finished_within r w)
+    subst IsRawWithin (same_netlist (finished r.netlist r.last) n parts.goes_on) (finished_within r w)
 model_small_by last l ls r n false w rest e =
     let parts = bound (line_says within_limits l r) (λ s. model_says within_limits last s ls) n e in
     let limits = bound (told l r) (within_limits l.number) parts.value parts.made in
     rest parts.value (within_passes l.number limits.value parts.value limits.goes_on) parts.goes_on
 
-model_small : (last : ℕ) (ls : List FilledLine) (r : State) (n : NetlistData) → IsWithin r → model_says within_limits last r ls ≡ Ok n → IsWithinLimits n
+model_small : (last : ℕ) (ls : List FilledLine) (r : State) (n : NetlistData) → IsWithin r → model_says within_limits last r ls ≡ Ok n → IsRawWithin n
 model_small last [] r n w e = absurd (cc)
 model_small last (l ∷ ls) r n w e = model_small_by last l ls r n (bytes_eq l.first (codes ".end")) w (λ s v. model_small last ls s n v) e
 
 lines_small_by : (last : ℕ) (l : FilledLine) (ls : List FilledLine) (n : NetlistData) (b : Bool)
-    → (if b then model_says within_limits last empty_reader ls else Err (NoModel l.number)) ≡ Ok n → IsWithinLimits n
+    → (if b then model_says within_limits last empty_reader ls else Err (NoModel l.number)) ≡ Ok n → IsRawWithin n
 lines_small_by last l ls n true e = model_small last ls empty_reader n (record { signals = omega arith; cells = omega arith }) e
 lines_small_by last l ls n false e = absurd (cc)
 
-lines_small : (last : ℕ) (ls : List FilledLine) (n : NetlistData) → lines_say within_limits last ls ≡ Ok n → IsWithinLimits n
+lines_small : (last : ℕ) (ls : List FilledLine) (n : NetlistData) → lines_say within_limits last ls ≡ Ok n → IsRawWithin n
 lines_small last [] n e = absurd (cc)
 lines_small last (l ∷ ls) n e = lines_small_by last l ls n (bytes_eq l.first (codes ".model")) e
 
--- a netlist that is read is within the limits
-pub read_within : (text : List ℕ) (n : NetlistData) → netlist_of text ≡ Ok n → IsWithinLimits n
-read_within text n e = lines_small (last_number 0 (numbered 1 (lines text))) (filled (joined (numbered 1 (lines text)))) n e
+pub text_small : (text : List ℕ) (raw : NetlistData) → text_says within_limits text ≡ Ok raw → IsRawWithin raw
+text_small text raw e = lines_small (last_number 0 (numbered 1 (lines text))) (filled (joined (numbered 1 (lines text)))) raw e

@@ -2,9 +2,14 @@ pub mod Backslashes
 pub mod Comments
 pub mod Wirings
 pub mod OpenCells
+pub mod RawCells
+pub mod RegisterCells
 pub mod CoverSignals
 pub mod KindForms
 pub mod Kept
 pub mod Limits
 pub mod Growing
+pub mod Apart
+pub mod Taking
+pub mod WholeTexts
 pub mod FaultLaws

@@ -1,14 +1,13 @@
 -- The limits of a netlist text, apart from the rest of its grammar.
-use Rattle.std.proofs.Common.{◌≡◌, ℕ, ◌+◌, Bool, true, false, List, [], ◌∷◌, length, nat_lt, Result, Ok, Err, IfOk, if◌then◌else◌, codes, bytes_eq, ap, ◌∙◌}
+use Rattle.std.proofs.Common.{◌≡◌, ℕ, ◌+◌, Bool, true, false, List, [], ◌∷◌, length, nat_lt, Result, Ok, Err, if◌then◌else◌, codes, bytes_eq, ap, ◌∙◌}
 use Rattle.ice_net.specs.NetlistData.{NetlistData}
 use Rattle.ice_blif.specs.declared.fault.BlifFault.{BlifFault}
 use Rattle.ice_blif.specs.declared.fault.BlifFault.TheVariants.{TooMany, NoModel}
 use Rattle.ice_blif.specs.State.{State}
 use Rattle.ice_base.specs.Text.{lines, numbered}
 use Rattle.ice_blif.specs.JoinedLines.{FilledLine, joined, filled, last_number}
-use Rattle.ice_blif.specs.Answers.{Gives}
 use Rattle.ice_blif.specs.Cells.{◌>>=◌, count_of}
-use Rattle.ice_blif.specs.Grammar.{within_limits, no_limits, line_says, model_says, lines_say, netlist_of, HasNetlist, ended, empty_reader}
+use Rattle.ice_blif.specs.Grammar.{within_limits, no_limits, line_says, model_says, lines_say, text_says, ended, empty_reader}
 use Rattle.ice_blif.proofs.Kept.{bound}
 
 within_by : (line : ℕ) (r s : State) (b c : Bool)
@@ -49,10 +48,6 @@ lines_has : (last : ℕ) (ls : List FilledLine) (n : NetlistData) → lines_say 
 lines_has last [] n h = absurd (cc)
 lines_has last (l ∷ ls) n h = lines_step last l ls n (bytes_eq l.first (codes ".model")) h
 
--- a text with a netlist within the limits has that netlist
-pub within_has : (text : List ℕ) (n : NetlistData) → netlist_of text ≡ Ok n → HasNetlist text n
-within_has text n h = lines_has (last_number 0 (numbered 1 (lines text))) (filled (joined (numbered 1 (lines text)))) n h
-
-pub result_has : (text : List ℕ) (result : Result NetlistData BlifFault) → Gives (λ n. n) result (netlist_of text) → IfOk result (HasNetlist text)
-result_has text (Ok n) h = within_has text n h
-result_has text (Err e) h = tt
+-- what a text says within the limits it says without them
+pub text_has : (text : List ℕ) (raw : NetlistData) → text_says within_limits text ≡ Ok raw → text_says no_limits text ≡ Ok raw
+text_has text raw h = lines_has (last_number 0 (numbered 1 (lines text))) (filled (joined (numbered 1 (lines text)))) raw h

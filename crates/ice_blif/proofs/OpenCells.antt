@@ -1,5 +1,6 @@
 -- Cells that are made of what was read.
 use Rattle.std.proofs.Common.{◌≡◌, ℕ, ◌+◌, ◌-◌, ◌<◌, ◌≤◌, ◌%◌, ◌^◌, Bool, true, false, [], ◌∷◌, length, length-append, Option, Some, None, refl, sym, arith, zero, suc, lit≤, subst}
+use Rattle.std.proofs.lemmas.List.{take_all}
 use Rattle.std.proofs.lemmas.Nat.{pow_pos}
 use Rattle.std.proofs.Math.Nat.{mod-lt}
 use Rattle.std.proofs.lemmas.List.Elements.{All-weaker}
@@ -8,7 +9,7 @@ use Rattle.ice_net.specs.Formed.{IsBelow, IsPresent, IsFormedCell}
 use Rattle.ice_blif.specs.State.{OpenCover, LastCell, State, Nothing, Gate, Rows}
 use Rattle.ice_blif.specs.Covers.{table_of}
 use Rattle.ice_net.specs.NetlistData.{NetlistData}
-use Rattle.ice_blif.specs.Cells.{cover_cell, finished, IsOpenCover, IsFormedLast, IsReady, IsWithin, IsWithinLimits, count_of}
+use Rattle.ice_blif.specs.Cells.{cover_cell, finished, IsOpenCover, IsReadCell, IsFormedLast, IsReady, IsWithin, IsRawWithin, count_of}
 use Rattle.ice_blif.specs.Grammar.{with_last}
 
 some_tables : (width : ℕ) → 0 < 2 ^ (2 ^ width)
@@ -38,8 +39,7 @@ present_below : (n : ℕ) (s : Option SignalNo) → IsPresent n s → IsBelow n 
 present_below n None h = tt
 present_below n (Some s) h = h
 
--- the cell of a cover is well formed
-pub cover_formed : (signals : ℕ) (c : OpenCover) → IsOpenCover signals c → IsFormedCell signals (cover_cell c)
+cover_formed : (signals : ℕ) (c : OpenCover) → IsOpenCover signals c → IsFormedCell signals (cover_cell c)
 cover_formed signals c h = record {
   ins_long = refl;
   outs_long = h.single;
@@ -51,6 +51,13 @@ cover_formed signals c h = record {
     ins_present = h.ins_present;
     outs_present = h.outs_present;
   };
+}
+
+-- the cell of a cover is well formed
+pub cover_read : (signals : ℕ) (c : OpenCover) → IsOpenCover signals c → IsReadCell signals (cover_cell c)
+cover_read signals c h = record {
+  own = subst (λ outs. IsFormedCell signals (record (cover_cell c) { outs = outs })) (sym (take_all 1 c.outs (omega (arith, h.single)))) (cover_formed signals c h);
+  outs_below = (cover_formed signals c h).outs_below;
 }
 
 pub finished_names : (n : NetlistData) (last : LastCell) → (finished n last).names ≡ n.names
@@ -77,7 +84,7 @@ finished_count n (Gate cell) = length-append n.cells (cell ∷ [])
 finished_count n (Rows cover) = length-append n.cells (cover_cell cover ∷ [])
 
 -- the netlist with the last cell is within the limits
-pub finished_within : (r : State) → IsWithin r → IsWithinLimits (finished r.netlist r.last)
+pub finished_within : (r : State) → IsWithin r → IsRawWithin (finished r.netlist r.last)
 finished_within r h = record {
   signals = rw (finished_names r.netlist r.last) h.signals;
   cells = omega (arith, finished_count r.netlist r.last, h.cells);

@@ -1,11 +1,12 @@
 -- The cell that was made last, and what rows and parameters add to it.
-use Rattle.std.specs.Prelude.{◌≡◌, ℕ, ◌+◌, ◌^◌, ◌≤◌, Bool, ◌==◌, List, [], ◌∷◌, ◌++◌, length, Option, Some, None, Result, Ok, Err, if◌then◌else◌, bit_or, codes, bytes_eq, All}
+use Rattle.std.specs.Prelude.{◌≡◌, ℕ, ◌+◌, ◌^◌, ◌≤◌, Bool, ◌==◌, List, [], ◌∷◌, ◌++◌, length, take, Option, Some, None, Result, Ok, Err, if◌then◌else◌, bit_or, codes, bytes_eq, All}
 use Rattle.ice_net.specs.declared.cell.Cell.{Cell}
 use Rattle.ice_net.specs.declared.kind.CellKind as kinds
 use Rattle.ice_net.specs.declared.kind.CellKind.{CellKind}
 use Rattle.ice_net.specs.declared.kind.CellKind.TheVariants.{Lut, Carry, Flop, PadCell, Global}
 use Rattle.ice_net.specs.NetlistData.{NetlistData}
-use Rattle.ice_net.specs.Formed.{IsFormedCell, IsPresent}
+use Rattle.ice_net.specs.Formed.{IsBelow, IsFormedCell, IsPresent}
+use Rattle.ice_net.specs.Kinds.{outs_count}
 use Rattle.ice_blif.specs.declared.fault.BlifFault.{BlifFault}
 use Rattle.ice_blif.specs.declared.fault.BlifFault.TheVariants.{BadCover}
 use Rattle.ice_blif.specs.State.{OpenCover, LastCell, State, Nothing, Gate, Rows}
@@ -105,19 +106,35 @@ pub record IsOpenCover (signals : ℕ) (c : OpenCover) : Type 0 where
   pub ins_present : All (IsPresent signals) c.ins
   pub outs_present : All (IsPresent signals) c.outs
 
+-- a cell without outputs behind those of its kind
+abbrev pub own_cell : Cell → Cell
+own_cell cell = record { kind = cell.kind; line = cell.line; ins = cell.ins; outs = take (outs_count cell.kind) cell.outs }
+
+-- a cell as its line says it, over so many signals: well formed, but for outputs behind those of its kind
+pub record IsReadCell (signals : ℕ) (cell : Cell) : Type 0 where
+  pub own : IsFormedCell signals (own_cell cell)
+  pub outs_below : All (IsBelow signals) cell.outs
+
+-- the ports of an SB_IO over so many signals
+pub record IsPad (signals : ℕ) (cell : Cell) : Type 0 where
+  pub ins_long : length cell.ins ≡ 8
+  pub outs_long : length cell.outs ≡ 2
+  pub ins_below : All (IsBelow signals) cell.ins
+  pub outs_below : All (IsBelow signals) cell.outs
+
 -- the cell made last is well formed over so many signals
 abbrev pub IsFormedLast : ℕ → LastCell → Type 0
 IsFormedLast signals Nothing = Unit {0}
-IsFormedLast signals (Gate cell) = IsFormedCell signals cell
+IsFormedLast signals (Gate cell) = IsReadCell signals cell
 IsFormedLast signals (Rows cover) = IsOpenCover signals cover
 
--- at most 65,534 signals, and 1,048,576 cells with the last
+-- at most 65,534 signals, and 1,048,576 lines that make a cell with that of the last
 pub record IsWithin (r : State) : Type 0 where
   pub signals : length r.netlist.names ≤ 65534
   pub cells : length r.netlist.cells + count_of r.last ≤ 1048576
 
--- at most 65,534 signals and 1,048,576 cells
-pub record IsWithinLimits (n : NetlistData) : Type 0 where
+-- at most 65,534 signals and 1,048,576 cells, before any is taken apart
+pub record IsRawWithin (n : NetlistData) : Type 0 where
   pub signals : length n.names ≤ 65534
   pub cells : length n.cells ≤ 1048576
 
@@ -125,3 +142,8 @@ pub record IsWithinLimits (n : NetlistData) : Type 0 where
 pub record IsReady (most : ℕ) (r : State) : Type 0 where
   pub few : length r.netlist.cells ≤ most
   pub formed : IsFormedLast (length r.netlist.names) r.last
+
+-- what goes with a netlist whose cells are as their lines say them: its names and ports, and its cells
+pub record IsRaw (n : NetlistData) (cells : List Cell) : Type 0 where
+  pub none : n.cells ≡ []
+  pub read : All (IsReadCell (length n.names)) cells

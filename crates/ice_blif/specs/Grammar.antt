@@ -1,29 +1,23 @@
 -- The netlist of a text, or the first fault in it.
-use Rattle.std.specs.Prelude.{◌≡◌, ℕ, ◌+◌, ◌-◌, Bool, true, false, ◌||◌, ◌==◌, List, [], ◌∷◌, ◌++◌, length, take, drop, position, nat_le, nat_lt, slice_set, slice_index_or, Option, Some, None, Result, Ok, Err, if◌then◌else◌, codes, bytes_eq}
+use Rattle.std.specs.Prelude.{◌≡◌, ◌≤◌, ℕ, ◌+◌, ◌-◌, Bool, true, false, ◌||◌, ◌==◌, List, [], ◌∷◌, ◌++◌, length, take, drop, position, nat_le, nat_lt, slice_set, slice_index_or, Option, Some, None, Result, Ok, Err, if◌then◌else◌, codes, bytes_eq}
 use Rattle.ice_base.specs.Text.{lines, numbered}
 use Rattle.ice_base.specs.Comments.{begins_with}
 use Rattle.ice_base.specs.Names.{with_name, number_of_name}
 use Rattle.ice_base.specs.declared.number.SignalNo.{SignalNo}
 use Rattle.ice_net.specs.declared.cell.Cell.{Cell}
-use Rattle.ice_net.specs.declared.kind.CellKind.{CellKind}
 use Rattle.ice_net.specs.declared.port.Way.{Way}
 use Rattle.ice_net.specs.declared.port.Way.TheVariants.{Input, Output, Both}
-use Rattle.ice_net.specs.Kinds.{kind_of, port_place, ins_count, outs_count}
+use Rattle.ice_net.specs.Kinds.{ins_count}
 use Rattle.ice_net.specs.NetlistData.{NetlistData, empty_netlist, with_port, way_of}
 use Rattle.ice_blif.specs.declared.fault.BlifFault.{BlifFault}
 use Rattle.ice_blif.specs.declared.fault.BlifFault.TheVariants.{NoModel, SecondModel, UnknownDirective, UnknownCell, UnknownPort, PortTwice, BadCover, TooWide, NoEnd, TooMany}
 use Rattle.ice_blif.specs.State.{OpenCover, LastCell, State, Connections, Nothing, Gate, Rows}
 use Rattle.ice_blif.specs.JoinedLines.{FilledLine, joined, filled, last_number}
 use Rattle.ice_blif.specs.Cells.{◌>>=◌, row_says, param_says, finished, count_of}
-
--- ---- signals
--- the netlist after a name appears
-abbrev pub named : NetlistData → List ℕ → NetlistData
-named n name = record { names = with_name n.names name; ports = n.ports; cells = n.cells }
-
--- the signal of a name that appears
-abbrev pub signal_of : NetlistData → List ℕ → SignalNo
-signal_of n name = record { 0 = number_of_name n.names name }
+use Rattle.ice_blif.specs.declared.kind.GateKind.{GateKind}
+use Rattle.ice_blif.specs.Gates.{gate_kind_of, gate_place, gate_outs}
+use Rattle.ice_blif.specs.Signals.{named, signal_of}
+use Rattle.ice_blif.specs.Registers.{taken_apart, taken_apart_says}
 
 -- ---- ports
 -- a signal was named as a port of this way
@@ -54,8 +48,8 @@ ports_say line way n (name ∷ names) = port_says line way n name >>= (λ m. por
 -- no port is connected
 abbrev pub no_wiring : Connections
 no_wiring = record {
-  taken = false ∷ false ∷ false ∷ false ∷ false ∷ false ∷ false ∷ false ∷ false ∷ false ∷ [];
-  signals = None ∷ None ∷ None ∷ None ∷ None ∷ None ∷ None ∷ None ∷ None ∷ None ∷ [];
+  taken = false ∷ false ∷ false ∷ false ∷ false ∷ false ∷ false ∷ false ∷ false ∷ false ∷ false ∷ [];
+  signals = None ∷ None ∷ None ∷ None ∷ None ∷ None ∷ None ∷ None ∷ None ∷ None ∷ None ∷ [];
   twice = false;
 }
 
@@ -81,48 +75,48 @@ actual_signal n output actual = if is_missing output actual then None else Some 
 abbrev pub connect : NetlistData → Connections → ℕ → Bool → List ℕ → NetlistData × Connections
 connect n wiring place output actual = (after_actual n output actual, wired wiring place (actual_signal n output actual))
 
-abbrev pub connect_at : ℕ → CellKind → NetlistData → Connections → List ℕ → Option ℕ → Result (NetlistData × Connections) BlifFault
-connect_at line kind n wiring actual None = Err (UnknownPort line)
-connect_at line kind n wiring actual (Some place) = Ok (connect n wiring place (nat_le (ins_count kind) place) actual)
+abbrev pub connect_at : ℕ → GateKind → NetlistData → Connections → List ℕ → Option ℕ → Result (NetlistData × Connections) BlifFault
+connect_at line gate n wiring actual None = Err (UnknownPort line)
+connect_at line gate n wiring actual (Some place) = Ok (connect n wiring place (nat_le (ins_count gate.kind) place) actual)
 
-abbrev pub connect_by : ℕ → CellKind → NetlistData → Connections → List ℕ → Option ℕ → Result (NetlistData × Connections) BlifFault
-connect_by line kind n wiring word None = Err (UnknownPort line)
-connect_by line kind n wiring word (Some at) = connect_at line kind n wiring (drop (at + 1) word) (port_place kind (take at word))
+abbrev pub connect_by : ℕ → GateKind → NetlistData → Connections → List ℕ → Option ℕ → Result (NetlistData × Connections) BlifFault
+connect_by line gate n wiring word None = Err (UnknownPort line)
+connect_by line gate n wiring word (Some at) = connect_at line gate n wiring (drop (at + 1) word) (gate_place gate (take at word))
 
 -- the place of the first `=` (61) of a word
 unfoldable pub equals_at : List ℕ → Option ℕ
 equals_at word = position (λ b. b == 61) word
 
 -- one connection, FORMAL=ACTUAL; the formal ends at the first `=`
-abbrev pub connection_says : ℕ → CellKind → NetlistData → Connections → List ℕ → Result (NetlistData × Connections) BlifFault
-connection_says line kind n wiring word = connect_by line kind n wiring word (equals_at word)
+abbrev pub connection_says : ℕ → GateKind → NetlistData → Connections → List ℕ → Result (NetlistData × Connections) BlifFault
+connection_says line gate n wiring word = connect_by line gate n wiring word (equals_at word)
 
 -- all connections of a line. That a port is named twice is found after its unknown ports
-abbrev pub connections_say : ℕ → CellKind → NetlistData → Connections → List (List ℕ) → Result (NetlistData × Connections) BlifFault
-connections_say line kind n wiring [] = if wiring.twice then Err (PortTwice line) else Ok (n, wiring)
-connections_say line kind n wiring (w ∷ ws) = connection_says line kind n wiring w >>= (λ c. connections_say line kind c.0 c.1 ws)
+abbrev pub connections_say : ℕ → GateKind → NetlistData → Connections → List (List ℕ) → Result (NetlistData × Connections) BlifFault
+connections_say line gate n wiring [] = if wiring.twice then Err (PortTwice line) else Ok (n, wiring)
+connections_say line gate n wiring (w ∷ ws) = connection_says line gate n wiring w >>= (λ c. connections_say line gate c.0 c.1 ws)
 
--- the cell of a kind with its connections
-abbrev pub cell_of : ℕ → CellKind → Connections → Cell
-cell_of line kind wiring = record {
-  kind = kind;
+-- the cell of a gate with its connections; one that feeds a global has the global's output behind its own
+abbrev pub cell_of : ℕ → GateKind → Connections → Cell
+cell_of line gate wiring = record {
+  kind = gate.kind;
   line = line;
-  ins = take (ins_count kind) wiring.signals;
-  outs = take (outs_count kind) (drop (ins_count kind) wiring.signals);
+  ins = take (ins_count gate.kind) wiring.signals;
+  outs = take (gate_outs gate) (drop (ins_count gate.kind) wiring.signals);
 }
 
 -- a reader with a new last cell
 abbrev pub with_last : NetlistData → LastCell → LastCell → Bool → State
 with_last n before now rows = record { netlist = finished n before; last = now; rows = rows }
 
-abbrev pub gate_of_kind : ℕ → State → List (List ℕ) → Option CellKind → Result State BlifFault
+abbrev pub gate_of_kind : ℕ → State → List (List ℕ) → Option GateKind → Result State BlifFault
 gate_of_kind line r ws None = Err (UnknownCell line)
-gate_of_kind line r ws (Some kind) = connections_say line kind r.netlist no_wiring ws >>= (λ c. Ok (with_last c.0 r.last (Gate (cell_of line kind c.1)) false))
+gate_of_kind line r ws (Some gate) = connections_say line gate r.netlist no_wiring ws >>= (λ c. Ok (with_last c.0 r.last (Gate (cell_of line gate c.1)) false))
 
 -- `.gate KIND F=A ..` and `.subckt KIND F=A ..`
 abbrev pub gate_says : ℕ → State → List (List ℕ) → Result State BlifFault
 gate_says line r [] = Err (UnknownCell line)
-gate_says line r (w ∷ ws) = gate_of_kind line r ws (kind_of w)
+gate_says line r (w ∷ ws) = gate_of_kind line r ws (gate_kind_of w)
 
 -- ---- covers
 -- the signals of a cover: at most four inputs and an output
@@ -216,14 +210,30 @@ abbrev pub lines_say : (ℕ → State → Result State BlifFault) → ℕ → Li
 lines_say limits last [] = Err (NoModel 0)
 lines_say limits last (l ∷ ls) = if bytes_eq l.first (codes ".model") then model_says limits last empty_reader ls else Err (NoModel l.number)
 
+-- the text's netlist whose cells are as their lines say them
 abbrev pub text_says : (ℕ → State → Result State BlifFault) → List ℕ → Result NetlistData BlifFault
 text_says limits text = lines_say limits (last_number 0 (numbered 1 (lines text))) (filled (joined (numbered 1 (lines text))))
 
 -- the text has this netlist, whatever its size
 abbrev pub HasNetlist : List ℕ → NetlistData → Type 0
-HasNetlist text n = text_says no_limits text ≡ Ok n
+HasNetlist text n = (raw : NetlistData) × (text_says no_limits text ≡ Ok raw) × (n ≡ taken_apart raw)
+
+abbrev pub lines_made : Result NetlistData BlifFault → ℕ
+lines_made (Ok raw) = length raw.cells
+lines_made (Err fault) = 0
+
+-- how many lines of a text make a cell, where it has a netlist
+abbrev pub cell_lines : List ℕ → ℕ
+cell_lines text = lines_made (text_says no_limits text)
+
+-- at most 65,534 signals, and 1,048,576 lines that make a cell. So there are at most three times as many cells: those of a pad are
+-- itself, a register and an SB_GB
+pub record IsWithinLimits (text : List ℕ) (n : NetlistData) : Type 0 where
+  pub signals : length n.names ≤ 65534
+  pub lines : cell_lines text ≤ 1048576
+  pub cells : length n.cells ≤ 3145728
 
 -- the netlist of a text, or its first fault: of several lines with one the first, and of a line with several the one that comes
--- first in the order of the faults
+-- first in the order of the faults. That hidden signals are too many is found after all others
 abbrev pub netlist_of : List ℕ → Result NetlistData BlifFault
-netlist_of text = text_says within_limits text
+netlist_of text = text_says within_limits text >>= taken_apart_says

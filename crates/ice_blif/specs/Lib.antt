@@ -3,7 +3,11 @@ pub mod State
 pub mod Covers
 pub mod Parameters
 pub mod Cells
+pub mod Signals
+pub mod Registers
+pub mod Gates
 pub mod Grammar
 pub mod FirstFault
 pub mod Views
 pub mod Answers
+pub mod GateForms

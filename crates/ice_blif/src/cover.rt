@@ -11,10 +11,10 @@ ghost use Rattle.ice_blif.specs.Views.{cover_view, reader_view, words_left, line
 
 use crate::BlifFault;
 use crate::cursor::Cursor;
+use crate::raw::RawNetlist;
 use crate::reader::{Cover, Last, Reader, join};
-use crate::signal::number;
 use ice_base::SignalNo;
-use ice_net::{Netlist, Signals};
+use ice_net::Signals;
 use std::alloc::Global;
 
 // The number of tables of so many inputs.
@@ -193,7 +193,7 @@ pub(crate) fn row<'a>(
 #[tactic(auto, using(crate::proofs::CoverSignals::one_more, crate::proofs::CoverSignals::none_yet))]
 fn cover_signals(
     alloc: Global,
-    netlist: &mut Netlist,
+    netlist: &mut RawNetlist,
     line: u32,
     words: &mut Cursor<'_>,
 ) -> Result<Vec<Option<SignalNo>>, BlifFault>
@@ -209,7 +209,7 @@ fn cover_signals(
         if signals.len() > 4 {
             return Err(BlifFault::TooWide { line });
         }
-        let signal = number(netlist, word)?;
+        let signal = netlist.number(word)?;
         signals.push(Some(signal))?;
     }
     Ok(signals)

@@ -11,13 +11,10 @@ use crate::cursor::{Cursor, FirstWord};
 use crate::gate::gate;
 use crate::parameter::param;
 use crate::reader::{Last, Reader};
-use crate::signal::ports;
+use crate::signal::{MOST_SIGNALS, ports};
 use ice_base::begins_with;
 use ice_net::Way;
 use std::alloc::Global;
-
-/// The signals that a netlist may have.
-const MOST_SIGNALS: u32 = 65_534;
 
 /// The lines that make a cell that a netlist may have.
 const MOST_CELL_LINES: u32 = 1_048_576;
@@ -122,7 +119,7 @@ fn check_limits(reader: &Reader, line: u32) -> Result<(), BlifFault>
             limit: MOST_SIGNALS,
         });
     }
-    let cells = reader.netlist.cells().len();
+    let cells = reader.netlist.cells_count();
     let last = match reader.last {
         Last::Nothing => 0,
         _ => 1,

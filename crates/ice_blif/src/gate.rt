@@ -1,20 +1,21 @@
 //! Cells of `.gate` and `.subckt` lines.
 ghost use Rattle.std.specs.Prelude.{◌≡◌, ℕ, ◌<◌, ◌≤◌, length, OnOk, IfOk, IfErr, IfSome, All};
-ghost use Rattle.ice_net.specs.Formed.{IsBelow, IsFormedCell};
+ghost use Rattle.ice_net.specs.Formed.{IsBelow};
 ghost use Rattle.ice_net.specs.Kinds.{IsGateKind};
 ghost use Rattle.ice_blif.specs.declared.fault.BlifFault.TheVariants.{NoMemory as out_of_memory};
 ghost use Rattle.ice_blif.specs.Answers.{Gives};
-ghost use Rattle.ice_blif.specs.Cells.{IsReady};
+ghost use Rattle.ice_blif.specs.Cells.{IsReadCell, IsReady};
 ghost use Rattle.ice_blif.specs.Grammar.{equals_at, is_missing, actual_signal, after_actual, connection_says, connections_say, no_wiring, cell_of, gate_says};
 ghost use Rattle.ice_blif.specs.Views.{reader_view, wiring_view, words_left, lines_left};
 
 use crate::BlifFault;
 use crate::cursor::Cursor;
+use crate::kind::GateKind;
+use crate::raw::RawNetlist;
 use crate::reader::{Last, Reader, join};
-use crate::signal::number;
 use crate::wiring::Wiring;
 use ice_base::SignalNo;
-use ice_net::{Cell, CellKind, Netlist, Signals, kind_named};
+use ice_net::{Cell, Signals};
 use std::alloc::Global;
 
 // Whether an actual makes no appearance.
@@ -26,7 +27,7 @@ fn is_missing(output: bool, actual: &[u8]) -> bool
 
 // The signal of an actual.
 fn actual_signal(
-    netlist: &mut Netlist,
+    netlist: &mut RawNetlist,
     output: bool,
     actual: &[u8],
 ) -> Result<Option<SignalNo>, BlifFault>
@@ -39,7 +40,7 @@ fn actual_signal(
     if is_missing(output, actual) {
         return Ok(None);
     }
-    let signal = number(netlist, actual)?;
+    let signal = netlist.number(actual)?;
     Ok(Some(signal))
 }
 
@@ -55,14 +56,14 @@ fn equals_at(word: &[u8]) -> Option<usize>
 // Reads one connection.
 #[tactic(auto, using(crate::proofs::Wirings::wired_below))]
 fn connection(
-    netlist: &mut Netlist,
+    netlist: &mut RawNetlist,
     wiring: &mut Wiring,
     line: u32,
-    kind: CellKind,
+    gate: GateKind,
     word: &[u8],
 ) -> Result<(), BlifFault>
     requires { All (IsBelow (length netlist.old.names)) wiring.old.signals }
-    ensures connection { Gives (λ _. (netlist.new, wiring_view wiring.new)) result (connection_says line kind netlist.old (wiring_view wiring.old) word.now) }
+    ensures connection { Gives (λ _. (netlist.new, wiring_view wiring.new)) result (connection_says line gate netlist.old (wiring_view wiring.old) word.now) }
     ensures below { OnOk result (All (IsBelow (length netlist.new.names)) wiring.new.signals) }
     ensures kept { OnOk result (length netlist.old.names ≤ length netlist.new.names) }
     ensures cells { OnOk result (netlist.new.cells ≡ netlist.old.cells) }
@@ -70,10 +71,10 @@ fn connection(
     let Some(at) = equals_at(word) else {
         return Err(BlifFault::UnknownPort { line });
     };
-    let Some(place) = kind.port_place(&word[..at]) else {
+    let Some(place) = gate.place(&word[..at]) else {
         return Err(BlifFault::UnknownPort { line });
     };
-    let output = place >= kind.ins_count();
+    let output = place >= gate.kind.ins_count();
     let signal = actual_signal(netlist, output, &word[at + 1..])?;
     wiring.connect(place, signal);
     Ok(())
@@ -81,12 +82,12 @@ fn connection(
 
 // Reads the connections of a line.
 fn connections(
-    netlist: &mut Netlist,
+    netlist: &mut RawNetlist,
     line: u32,
-    kind: CellKind,
+    gate: GateKind,
     words: &mut Cursor<'_>,
 ) -> Result<Wiring, BlifFault>
-    ensures connections { Gives (λ wiring. (netlist.new, wiring_view wiring)) result (connections_say line kind netlist.old no_wiring (words_left words.old)) }
+    ensures connections { Gives (λ wiring. (netlist.new, wiring_view wiring)) result (connections_say line gate netlist.old no_wiring (words_left words.old)) }
     ensures below { IfOk result (λ wiring. All (IsBelow (length netlist.new.names)) wiring.signals) }
     ensures kept { OnOk result (length netlist.old.names ≤ length netlist.new.names) }
     ensures cells { OnOk result (netlist.new.cells ≡ netlist.old.cells) }
@@ -94,7 +95,7 @@ fn connections(
 {
     let mut wiring = Wiring::new();
     while let Some(word) = words.next_word() {
-        connection(netlist, &mut wiring, line, kind, word)?;
+        connection(netlist, &mut wiring, line, gate, word)?;
     }
     if wiring.twice {
         return Err(BlifFault::PortTwice { line });
@@ -102,20 +103,20 @@ fn connections(
     Ok(wiring)
 }
 
-// The cell of a kind with its connections.
-#[tactic(auto, using(crate::proofs::Wirings::gate_fits, crate::proofs::Wirings::gate_formed))]
-fn cell(alloc: Global, line: u32, kind: CellKind, wiring: &Wiring) -> Result<Cell, BlifFault>
-    requires { IsGateKind kind }
-    ensures cell { IfOk result (λ cell. cell ≡ cell_of line kind (wiring_view wiring.now)) }
-    ensures formed { IfOk result (λ cell. (signals : ℕ) → All (IsBelow signals) wiring.now.signals → IsFormedCell signals cell) }
+// The cell of a gate with its connections.
+#[tactic(auto, using(crate::proofs::Wirings::gate_ports_fit, crate::proofs::Wirings::gate_formed))]
+fn cell(alloc: Global, line: u32, gate: GateKind, wiring: &Wiring) -> Result<Cell, BlifFault>
+    requires { IsGateKind gate.kind }
+    ensures cell { IfOk result (λ cell. cell ≡ cell_of line gate (wiring_view wiring.now)) }
+    ensures formed { IfOk result (λ cell. (signals : ℕ) → All (IsBelow signals) wiring.now.signals → IsReadCell signals cell) }
     ensures memory { IfErr result (λ e. e ≡ out_of_memory) }
 {
-    let (ins, behind) = wiring.signals.split_at(kind.ins_count());
-    let (outs, _) = behind.split_at(kind.outs_count());
+    let (ins, behind) = wiring.signals.split_at(gate.kind.ins_count());
+    let (outs, _) = behind.split_at(gate.outs_count());
     let ins = Vec::from_slice(alloc, ins)?;
     let outs = Vec::from_slice(alloc, outs)?;
     Ok(Cell {
-        kind,
+        kind: gate.kind,
         line,
         ins: Signals::from_vec(ins),
         outs: Signals::from_vec(outs),
@@ -137,10 +138,10 @@ pub(crate) fn gate(
     let Some(word) = words.next_word() else {
         return Err(BlifFault::UnknownCell { line });
     };
-    let Some(kind) = kind_named(word) else {
+    let Some(gate) = GateKind::named(word) else {
         return Err(BlifFault::UnknownCell { line });
     };
-    let wiring = connections(&mut reader.netlist, line, kind, words)?;
-    let cell = cell(alloc, line, kind, &wiring)?;
+    let wiring = connections(&mut reader.netlist, line, gate, words)?;
+    let cell = cell(alloc, line, gate, &wiring)?;
     join(reader, Last::Gate(cell), false)
 }

@@ -6,10 +6,13 @@ mod cursor;
 mod directive;
 mod fault;
 mod gate;
+mod kind;
 mod laws;
 mod model;
 mod parameter;
+mod raw;
 mod reader;
+mod registers;
 mod signal;
 mod wiring;
 

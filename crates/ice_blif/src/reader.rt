@@ -7,7 +7,8 @@ ghost use Rattle.ice_blif.specs.Views.{cover_view, last_view, reader_view};
 
 use crate::BlifFault;
 use crate::cover::table_of;
-use ice_net::{Cell, CellKind, Netlist, Signals};
+use crate::raw::RawNetlist;
+use ice_net::{Cell, CellKind, Signals};
 use std::mem::replace;
 
 /// A cover, whose rows may be read.
@@ -40,7 +41,7 @@ pub(crate) enum Last {
 #[derive(Drop)]
 pub(crate) struct Reader {
     /// All but the last cell.
-    pub(crate) netlist: Netlist,
+    pub(crate) netlist: RawNetlist,
     /// The last cell.
     pub(crate) last: Last,
     /// Whether a row may stand in the next line.
@@ -48,7 +49,6 @@ pub(crate) struct Reader {
 }
 
 // The cell of a cover with all its rows.
-#[tactic(auto, using(crate::proofs::OpenCells::cover_formed))]
 fn cover_cell(cover: Cover) -> Cell
     requires { length cover.ins ≤ 4 }
     ensures { result ≡ cover_cell (cover_view cover) }
@@ -66,17 +66,16 @@ fn cover_cell(cover: Cover) -> Cell
 }
 
 /// Lets the last cell join the others.
-#[tactic(auto, using(crate::proofs::OpenCells::cover_formed))]
-pub(crate) fn finish(netlist: &mut Netlist, last: Last) -> Result<(), BlifFault>
-    requires few { length netlist.old.cells ≤ 1048576 }
-    requires formed { IsFormedLast (length netlist.old.names) (last_view last) }
+#[tactic(auto, using(crate::proofs::OpenCells::cover_read))]
+pub(crate) fn finish(netlist: &mut RawNetlist, last: Last) -> Result<(), BlifFault>
+    requires { IsFormedLast (length netlist.old.names) (last_view last) }
     ensures netlist { OnOk result (netlist.new ≡ finished netlist.old (last_view last)) }
     ensures memory { IfErr result (λ e. e ≡ out_of_memory) }
 {
     match last {
         Last::Nothing => Ok(()),
-        Last::Gate(cell) => Ok(netlist.cell(cell)?),
-        Last::Rows(cover) => Ok(netlist.cell(cover_cell(cover))?),
+        Last::Gate(cell) => netlist.cell(cell),
+        Last::Rows(cover) => netlist.cell(cover_cell(cover)),
     }
 }
 

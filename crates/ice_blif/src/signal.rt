@@ -2,13 +2,18 @@
 ghost use Rattle.std.specs.Prelude.{◌≡◌, ◌<◌, ◌≤◌, length, OnOk, IfOk, IfErr};
 ghost use Rattle.ice_blif.specs.declared.fault.BlifFault.TheVariants.{NoMemory as out_of_memory};
 ghost use Rattle.ice_blif.specs.Answers.{Gives};
-ghost use Rattle.ice_blif.specs.Grammar.{named, signal_of, was_named, port_says, ports_say};
+ghost use Rattle.ice_blif.specs.Grammar.{was_named, port_says, ports_say};
+ghost use Rattle.ice_blif.specs.Signals.{named, signal_of};
 ghost use Rattle.ice_blif.specs.Views.{words_left, lines_left};
 
 use crate::BlifFault;
 use crate::cursor::Cursor;
+use crate::raw::RawNetlist;
 use ice_base::SignalNo;
 use ice_net::{Netlist, Way};
+
+/// The signals that a netlist may have.
+pub(crate) const MOST_SIGNALS: u32 = 65_534;
 
 // The signal of a name that appears.
 pub(crate) fn number(netlist: &mut Netlist, name: &[u8]) -> Result<SignalNo, BlifFault>
@@ -16,6 +21,7 @@ pub(crate) fn number(netlist: &mut Netlist, name: &[u8]) -> Result<SignalNo, Bli
     ensures named { OnOk result (netlist.new ≡ named netlist.old name.now) }
     ensures within { IfOk result (λ signal. signal.0 < length netlist.new.names) }
     ensures kept { length netlist.old.names ≤ length netlist.new.names }
+    ensures cells { netlist.new.cells ≡ netlist.old.cells }
     ensures memory { IfErr result (λ e. e ≡ out_of_memory) }
 {
     if !netlist.has_room_for_name() {
@@ -36,12 +42,12 @@ fn was_named(way: Way, port: Option<Way>) -> bool
 }
 
 // Names a port.
-fn port(netlist: &mut Netlist, line: u32, way: Way, name: &[u8]) -> Result<(), BlifFault>
+fn port(netlist: &mut RawNetlist, line: u32, way: Way, name: &[u8]) -> Result<(), BlifFault>
     ensures port { Gives (λ _. netlist.new) result (port_says line way netlist.old name.now) }
     ensures kept { OnOk result (length netlist.old.names ≤ length netlist.new.names) }
     ensures cells { OnOk result (netlist.new.cells ≡ netlist.old.cells) }
 {
-    let signal = number(netlist, name)?;
+    let signal = netlist.number(name)?;
     if was_named(way, netlist.way_of(signal)) {
         return Err(BlifFault::PortTwice { line });
     }
@@ -51,7 +57,7 @@ fn port(netlist: &mut Netlist, line: u32, way: Way, name: &[u8]) -> Result<(), B
 
 // Names the ports of a line.
 pub(crate) fn ports(
-    netlist: &mut Netlist,
+    netlist: &mut RawNetlist,
     line: u32,
     way: Way,
     words: &mut Cursor<'_>,

@@ -8,9 +8,9 @@ use ice_base::SignalNo;
 #[derive(Clone, Copy)]
 pub(crate) struct Wiring {
     /// Whether the port was named.
-    pub(crate) taken: [bool; 10],
+    pub(crate) taken: [bool; 11],
     /// The signal at the port.
-    pub(crate) signals: [Option<SignalNo>; 10],
+    pub(crate) signals: [Option<SignalNo>; 11],
     /// Whether a port was named twice.
     pub(crate) twice: bool,
 }
@@ -25,15 +25,15 @@ impl Wiring {
         ensures below { All (IsBelow 0) result.signals }
     {
         Wiring {
-            taken: [false; 10],
-            signals: [None; 10],
+            taken: [false; 11],
+            signals: [None; 11],
             twice: false,
         }
     }
 
     /// Connects the port of that place.
     pub(crate) fn connect(&mut self, place: usize, signal: Option<SignalNo>)
-        requires { place < 10 }
+        requires { place < 11 }
         ensures { wiring_view self.new ≡ wired (wiring_view self.old) place signal }
     {
         let taken = self.taken[place];

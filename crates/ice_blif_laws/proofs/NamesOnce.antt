@@ -5,18 +5,22 @@ use Rattle.ice_base.specs.Text.{lines, numbered}
 use Rattle.ice_base.specs.Comments.{begins_with}
 use Rattle.ice_base.specs.Names.{number_of_name}
 use Rattle.ice_base.specs.declared.number.SignalNo.{SignalNo}
-use Rattle.ice_net.specs.declared.kind.CellKind.{CellKind}
 use Rattle.ice_net.specs.declared.port.Way.{Way}
 use Rattle.ice_net.specs.declared.port.Way.TheVariants.{Input, Output}
-use Rattle.ice_net.specs.Kinds.{kind_of, port_place, ins_count}
+use Rattle.ice_net.specs.Kinds.{ins_count}
 use Rattle.ice_net.specs.NetlistData.{NetlistData, way_of}
 use Rattle.ice_net.proofs.Single.{names_once, empty_single}
 use Rattle.ice_blif.specs.declared.fault.BlifFault.{BlifFault}
 use Rattle.ice_blif.specs.declared.fault.BlifFault.TheVariants.{NoModel, SecondModel, UnknownDirective, PortTwice, TooWide}
+use Rattle.ice_blif.specs.GateForms.{GateForm}
+use Rattle.ice_blif.specs.Gates.{gate_kind_of, gate_place}
+use Rattle.ice_blif.specs.Signals.{named, signal_of}
 use Rattle.ice_blif.specs.JoinedLines.{FilledLine, joined, filled, last_number}
 use Rattle.ice_blif.specs.State.{LastCell, State, Connections, Nothing, Gate, Rows}
 use Rattle.ice_blif.specs.Cells.{◌>>=◌, row_says, param_says, finished}
-use Rattle.ice_blif.specs.Grammar.{named, signal_of, was_named, with_named_port, port_says, ports_say, no_wiring, is_missing, after_actual, connect_at, connect_by, equals_at, connection_says, connections_say, cell_of, with_last, without_rows, gate_of_kind, gate_says, cover_signals, cover_of, names_say, row_line, row_or_fault, port_directive_says, param_directive_says, directive_says, no_limits, line_says, after_end, ended, model_says, empty_reader, lines_say}
+use Rattle.ice_blif.specs.Grammar.{was_named, with_named_port, port_says, ports_say, no_wiring, is_missing, after_actual, connect_at, connect_by, equals_at, connection_says, connections_say, cell_of, with_last, without_rows, gate_of_kind, gate_says, cover_signals, cover_of, names_say, row_line, row_or_fault, port_directive_says, param_directive_says, directive_says, no_limits, line_says, after_end, ended, model_says, empty_reader, lines_say}
+use Rattle.ice_blif.specs.Registers.{hidden_name, without_cells}
+use Rattle.ice_blif.proofs.Apart.{HiddenKeep, all_keep}
 use Rattle.ice_blif.proofs.Kept.{bind_keeps, either, any_ok}
 use Rattle.ice_blif.proofs.OpenCells.{finished_names}
 use Rattle.ice_blif_laws.specs.SameNames.{TextsNameOnce}
@@ -52,29 +56,29 @@ actual_once n output actual once = by (is_missing output actual)
     by true = once
     by false = names_once n.names actual once
 
-connect_once : (line : ℕ) (kind : CellKind) (n : NetlistData) (wiring : Connections) (word : List ℕ) (at : Option ℕ) → NamesOnce n → IfOk (connect_by line kind n wiring word at) (Beside {X = Connections})
-connect_once line kind n wiring word None once = tt
-connect_once line kind n wiring word (Some at) once = place (port_place kind (take at word))
+connect_once : (line : ℕ) (gate : GateForm) (n : NetlistData) (wiring : Connections) (word : List ℕ) (at : Option ℕ) → NamesOnce n → IfOk (connect_by line gate n wiring word at) (Beside {X = Connections})
+connect_once line gate n wiring word None once = tt
+connect_once line gate n wiring word (Some at) once = place (gate_place gate (take at word))
   where
-    place : (o : Option ℕ) → IfOk (connect_at line kind n wiring (drop (at + 1) word) o) (Beside {X = Connections})
+    place : (o : Option ℕ) → IfOk (connect_at line gate n wiring (drop (at + 1) word) o) (Beside {X = Connections})
     place None = tt
-    place (Some k) = actual_once n (nat_le (ins_count kind) k) (drop (at + 1) word) once
+    place (Some k) = actual_once n (nat_le (ins_count gate.kind) k) (drop (at + 1) word) once
 
-connections_once : (line : ℕ) (kind : CellKind) (n : NetlistData) (wiring : Connections) (words : List (List ℕ)) → NamesOnce n → IfOk (connections_say line kind n wiring words) (Beside {X = Connections})
-connections_once line kind n wiring [] once = either (Beside {X = Connections}) wiring.twice (Err (PortTwice line)) (Ok (n, wiring)) tt once
-connections_once line kind n wiring (w ∷ ws) once =
-    bind_keeps (Beside {X = Connections}) (Beside {X = Connections}) (connection_says line kind n wiring w) (λ c. connections_say line kind c.0 c.1 ws) (connect_once line kind n wiring w (equals_at w) once)
-    (λ c later. connections_once line kind c.0 c.1 ws later)
+connections_once : (line : ℕ) (gate : GateForm) (n : NetlistData) (wiring : Connections) (words : List (List ℕ)) → NamesOnce n → IfOk (connections_say line gate n wiring words) (Beside {X = Connections})
+connections_once line gate n wiring [] once = either (Beside {X = Connections}) wiring.twice (Err (PortTwice line)) (Ok (n, wiring)) tt once
+connections_once line gate n wiring (w ∷ ws) once =
+    bind_keeps (Beside {X = Connections}) (Beside {X = Connections}) (connection_says line gate n wiring w) (λ c. connections_say line gate c.0 c.1 ws) (connect_once line gate n wiring w (equals_at w) once)
+    (λ c later. connections_once line gate c.0 c.1 ws later)
 
-gate_of_kind_once : (line : ℕ) (r : State) (words : List (List ℕ)) (kind : Option CellKind) → StateOnce r → IfOk (gate_of_kind line r words kind) StateOnce
+gate_of_kind_once : (line : ℕ) (r : State) (words : List (List ℕ)) (gate : Option GateForm) → StateOnce r → IfOk (gate_of_kind line r words gate) StateOnce
 gate_of_kind_once line r words None once = tt
-gate_of_kind_once line r words (Some kind) once =
-    bind_keeps (Beside {X = Connections}) StateOnce (connections_say line kind r.netlist no_wiring words) (λ c. Ok (with_last c.0 r.last (Gate (cell_of line kind c.1)) false))
-    (connections_once line kind r.netlist no_wiring words once) (λ c later. finished_once c.0 r.last later)
+gate_of_kind_once line r words (Some gate) once =
+    bind_keeps (Beside {X = Connections}) StateOnce (connections_say line gate r.netlist no_wiring words) (λ c. Ok (with_last c.0 r.last (Gate (cell_of line gate c.1)) false))
+    (connections_once line gate r.netlist no_wiring words once) (λ c later. finished_once c.0 r.last later)
 
 gate_once : (line : ℕ) (r : State) (words : List (List ℕ)) → StateOnce r → IfOk (gate_says line r words) StateOnce
 gate_once line r [] once = tt
-gate_once line r (w ∷ ws) once = gate_of_kind_once line r ws (kind_of w) once
+gate_once line r (w ∷ ws) once = gate_of_kind_once line r ws (gate_kind_of w) once
 
 -- ---- covers
 signals_once : (line : ℕ) (n : NetlistData) (signals : List (Option SignalNo)) (words : List (List ℕ)) → NamesOnce n → IfOk (cover_signals line n signals words) (Beside {X = List (Option SignalNo)})
@@ -142,6 +146,13 @@ lines_once last [] = tt
 lines_once last (l ∷ ls) =
     either NamesOnce (bytes_eq l.first (codes ".model")) (model_says no_limits last empty_reader ls) (Err (NoModel l.number)) (model_once last ls empty_reader empty_single.names) tt
 
+-- hidden names are new, or those of signals that are there
+hidden_once : HiddenKeep (λ names. IsDistinct bytes_eq names)
+hidden_once names line once = (names_once names (hidden_name line (codes "in")) once, names_once names (hidden_name line (codes "out")) once)
+
 pub texts_name_once : TextsNameOnce
-texts_name_once text n said =
-    subst (λ (x : Result NetlistData BlifFault). IfOk x NamesOnce) said (lines_once (last_number 0 (numbered 1 (lines text))) (filled (joined (numbered 1 (lines text)))))
+texts_name_once text n has =
+    let raw : NetlistData = has.0 in
+    let once : NamesOnce raw =
+    subst (λ (x : Result NetlistData BlifFault). IfOk x NamesOnce) has.1 (lines_once (last_number 0 (numbered 1 (lines text))) (filled (joined (numbered 1 (lines text))))) in
+    subst NamesOnce (sym has.2) (all_keep (λ names. IsDistinct bytes_eq names) hidden_once (without_cells raw) raw.cells once)

@@ -1,24 +1,30 @@
--- The names of a netlist that is read are words of its text, or what stands behind the `=` of one.
-use Rattle.std.proofs.Common.{◌≡◌, ℕ, ◌+◌, Bool, true, false, ◌||◌, List, [], ◌∷◌, ◌++◌, length, drop, take, nat_lt, nat_le, All, Option, Some, None, Result, Ok, Err, IfOk, if◌then◌else◌, codes, bytes_eq, refl, sym, subst, arith}
+-- The names of a netlist that is read are words of its text, or what stands behind the `=` of one, or hidden.
+use Rattle.std.proofs.Common.{◌≡◌, inl, inr, ℕ, ◌+◌, Bool, true, false, ◌||◌, List, [], ◌∷◌, ◌++◌, length, drop, take, nat_lt, nat_le, Option, Some, None, Result, Ok, Err, IfOk, if◌then◌else◌, codes, bytes_eq, refl, sym, subst, arith}
 use Rattle.std.specs.List.{AllByRecursion, list_any}
 use Rattle.std.proofs.lemmas.List.Elements.{All-from_recursion}
 use Rattle.ice_base.specs.Text.{lines, numbered, IsWord}
 use Rattle.ice_base.specs.Comments.{begins_with}
-use Rattle.ice_base.specs.Names.{number_of_name}
+use Rattle.ice_base.specs.Names.{with_name, number_of_name}
 use Rattle.ice_base.specs.declared.number.SignalNo.{SignalNo}
-use Rattle.ice_net.specs.declared.kind.CellKind.{CellKind}
 use Rattle.ice_net.specs.declared.port.Way.{Way}
 use Rattle.ice_net.specs.declared.port.Way.TheVariants.{Input, Output}
-use Rattle.ice_net.specs.Kinds.{kind_of, port_place, ins_count}
+use Rattle.ice_net.specs.Kinds.{ins_count}
 use Rattle.ice_net.specs.NetlistData.{NetlistData, way_of}
 use Rattle.ice_blif.specs.declared.fault.BlifFault.{BlifFault}
 use Rattle.ice_blif.specs.declared.fault.BlifFault.TheVariants.{NoModel, SecondModel, UnknownDirective, PortTwice, TooWide, TooMany}
+use Rattle.ice_blif.specs.GateForms.{GateForm}
+use Rattle.ice_blif.specs.Gates.{gate_kind_of, gate_place}
+use Rattle.ice_blif.specs.Signals.{named, signal_of}
 use Rattle.ice_blif.specs.JoinedLines.{FilledLine, joined, filled, last_number}
 use Rattle.ice_blif.specs.State.{LastCell, State, Connections, Nothing, Gate, Rows}
 use Rattle.ice_blif.specs.Cells.{◌>>=◌, row_says, param_says, finished, count_of}
-use Rattle.ice_blif.specs.Grammar.{named, signal_of, was_named, with_named_port, port_says, ports_say, no_wiring, is_missing, after_actual, connect_at, connect_by, equals_at, connection_says, connections_say, cell_of, with_last, without_rows, gate_of_kind, gate_says, cover_signals, new_cover, cover_of, names_say, row_line, row_or_fault, port_directive_says, param_directive_says, directive_says, within_limits, line_says, after_end, ended, model_says, empty_reader, lines_say, netlist_of}
-use Rattle.ice_blif.proofs.Kept.{bind_keeps, either, any_ok}
+use Rattle.ice_blif.specs.Grammar.{was_named, with_named_port, port_says, ports_say, no_wiring, is_missing, after_actual, connect_at, connect_by, equals_at, connection_says, connections_say, cell_of, with_last, without_rows, gate_of_kind, gate_says, cover_signals, new_cover, cover_of, names_say, row_line, row_or_fault, port_directive_says, param_directive_says, directive_says, within_limits, line_says, after_end, ended, model_says, empty_reader, lines_say, text_says}
+use Rattle.ice_blif.specs.Registers.{hidden_name, taken_apart_says, without_cells}
+use Rattle.ice_blif.proofs.Apart.{HiddenKeep, all_keep, said_apart}
+use Rattle.ice_blif.proofs.Growing.{text_small}
+use Rattle.ice_blif.proofs.Kept.{bind_keeps, either, any_ok, bound}
 use Rattle.ice_blif.proofs.OpenCells.{finished_names}
+use Rattle.ice_blif_laws.specs.ReadNames.{IsHidden, IsReadName, ReadNamesAreKnown}
 use Rattle.ice_blif_laws.proofs.WordLines.{rec_both, rec_drop, IsWhole, AreWords, IsWordLine, text_lines}
 
 -- ---- netlists
@@ -57,22 +63,22 @@ actual_words n output actual whole all = by (is_missing output actual) refl
     by true e = all
     by false e = named_words n actual (whole_word actual output e whole) all
 
-connect_at_words : (line : ℕ) (kind : CellKind) (n : NetlistData) (wiring : Connections) (actual : List ℕ) (place : Option ℕ) → IsWhole actual → NamesWords n
-    → IfOk (connect_at line kind n wiring actual place) (BesideWords {X = Connections})
-connect_at_words line kind n wiring actual None whole all = tt
-connect_at_words line kind n wiring actual (Some place) whole all = actual_words n (nat_le (ins_count kind) place) actual whole all
+connect_at_words : (line : ℕ) (gate : GateForm) (n : NetlistData) (wiring : Connections) (actual : List ℕ) (place : Option ℕ) → IsWhole actual → NamesWords n
+    → IfOk (connect_at line gate n wiring actual place) (BesideWords {X = Connections})
+connect_at_words line gate n wiring actual None whole all = tt
+connect_at_words line gate n wiring actual (Some place) whole all = actual_words n (nat_le (ins_count gate.kind) place) actual whole all
 
-connect_words : (line : ℕ) (kind : CellKind) (n : NetlistData) (wiring : Connections) (word : List ℕ) (at : Option ℕ) → IsWhole word → NamesWords n
-    → IfOk (connect_by line kind n wiring word at) (BesideWords {X = Connections})
-connect_words line kind n wiring word None whole all = tt
-connect_words line kind n wiring word (Some at) whole all = connect_at_words line kind n wiring (drop (at + 1) word) (port_place kind (take at word)) (rec_drop _ (at + 1) word whole) all
+connect_words : (line : ℕ) (gate : GateForm) (n : NetlistData) (wiring : Connections) (word : List ℕ) (at : Option ℕ) → IsWhole word → NamesWords n
+    → IfOk (connect_by line gate n wiring word at) (BesideWords {X = Connections})
+connect_words line gate n wiring word None whole all = tt
+connect_words line gate n wiring word (Some at) whole all = connect_at_words line gate n wiring (drop (at + 1) word) (gate_place gate (take at word)) (rec_drop _ (at + 1) word whole) all
 
-connections_words : (line : ℕ) (kind : CellKind) (n : NetlistData) (wiring : Connections) (words : List (List ℕ)) → AreWords words → NamesWords n
-    → IfOk (connections_say line kind n wiring words) (BesideWords {X = Connections})
-connections_words line kind n wiring [] words all = either (BesideWords {X = Connections}) wiring.twice (Err (PortTwice line)) (Ok (n, wiring)) tt all
-connections_words line kind n wiring (w ∷ ws) words all =
-    bind_keeps (BesideWords {X = Connections}) (BesideWords {X = Connections}) (connection_says line kind n wiring w) (λ c. connections_say line kind c.0 c.1 ws)
-    (connect_words line kind n wiring w (equals_at w) words.0.1 all) (λ c kept. connections_words line kind c.0 c.1 ws words.1 kept)
+connections_words : (line : ℕ) (gate : GateForm) (n : NetlistData) (wiring : Connections) (words : List (List ℕ)) → AreWords words → NamesWords n
+    → IfOk (connections_say line gate n wiring words) (BesideWords {X = Connections})
+connections_words line gate n wiring [] words all = either (BesideWords {X = Connections}) wiring.twice (Err (PortTwice line)) (Ok (n, wiring)) tt all
+connections_words line gate n wiring (w ∷ ws) words all =
+    bind_keeps (BesideWords {X = Connections}) (BesideWords {X = Connections}) (connection_says line gate n wiring w) (λ c. connections_say line gate c.0 c.1 ws)
+    (connect_words line gate n wiring w (equals_at w) words.0.1 all) (λ c kept. connections_words line gate c.0 c.1 ws words.1 kept)
 
 cover_signals_words : (line : ℕ) (n : NetlistData) (signals : List (Option SignalNo)) (words : List (List ℕ)) → AreWords words → NamesWords n
     → IfOk (cover_signals line n signals words) (BesideWords {X = List (Option SignalNo)})
@@ -88,15 +94,15 @@ StateWords r = NamesWords r.netlist
 last_words : (n : NetlistData) (before now : LastCell) (rows : Bool) → NamesWords n → StateWords (with_last n before now rows)
 last_words n before now rows all = subst AreWords (sym (finished_names n before)) all
 
-gate_of_kind_words : (line : ℕ) (r : State) (words : List (List ℕ)) (kind : Option CellKind) → AreWords words → StateWords r → IfOk (gate_of_kind line r words kind) StateWords
+gate_of_kind_words : (line : ℕ) (r : State) (words : List (List ℕ)) (gate : Option GateForm) → AreWords words → StateWords r → IfOk (gate_of_kind line r words gate) StateWords
 gate_of_kind_words line r words None are all = tt
-gate_of_kind_words line r words (Some kind) are all =
-    bind_keeps (BesideWords {X = Connections}) StateWords (connections_say line kind r.netlist no_wiring words) (λ c. Ok (with_last c.0 r.last (Gate (cell_of line kind c.1)) false))
-    (connections_words line kind r.netlist no_wiring words are all) (λ c kept. last_words c.0 r.last (Gate (cell_of line kind c.1)) false kept)
+gate_of_kind_words line r words (Some gate) are all =
+    bind_keeps (BesideWords {X = Connections}) StateWords (connections_say line gate r.netlist no_wiring words) (λ c. Ok (with_last c.0 r.last (Gate (cell_of line gate c.1)) false))
+    (connections_words line gate r.netlist no_wiring words are all) (λ c kept. last_words c.0 r.last (Gate (cell_of line gate c.1)) false kept)
 
 gate_words : (line : ℕ) (r : State) (words : List (List ℕ)) → AreWords words → StateWords r → IfOk (gate_says line r words) StateWords
 gate_words line r [] are all = tt
-gate_words line r (w ∷ ws) are all = gate_of_kind_words line r ws (kind_of w) are.1 all
+gate_words line r (w ∷ ws) are all = gate_of_kind_words line r ws (gate_kind_of w) are.1 all
 
 cover_words : (line : ℕ) (r : State) (n : NetlistData) (signals : List (Option SignalNo)) → NamesWords n → IfOk (cover_of line r n signals) StateWords
 cover_words line r n [] all = tt
@@ -160,7 +166,33 @@ lines_words : (last : ℕ) (ls : List FilledLine) → AllByRecursion IsWordLine 
 lines_words last [] are = tt
 lines_words last (l ∷ ls) are = either NamesWords (bytes_eq l.first (codes ".model")) (model_says within_limits last empty_reader ls) (Err (NoModel l.number)) (model_words last empty_reader ls are.1 tt) tt
 
-pub read_words : (text : List ℕ) (n : NetlistData) → netlist_of text ≡ Ok n → All IsWord n.names
-read_words text n e =
-    All-from_recursion IsWord n.names
-    (subst (λ (x : Result NetlistData BlifFault). IfOk x NamesWords) e (lines_words (last_number 0 (numbered 1 (lines text))) (filled (joined (numbered 1 (lines text)))) (text_lines text)))
+-- ---- the text
+-- the names are words, or hidden
+abbrev AreReadNames : List (List ℕ) → Type 0
+AreReadNames names = AllByRecursion IsReadName names
+
+words_are_read : (names : List (List ℕ)) → AreWords names → AreReadNames names
+words_are_read [] are = tt
+words_are_read (name ∷ names) are = (inl are.0, words_are_read names are.1)
+
+with_read : (names : List (List ℕ)) (name : List ℕ) → IsHidden name → AreReadNames names → AreReadNames (with_name names name)
+with_read names name is are = by (list_any (bytes_eq name) names)
+  where
+    by : (b : Bool) → AreReadNames (if b then names else names ++ name ∷ [])
+    by true = are
+    by false = rec_both IsReadName names (name ∷ []) are (inr is, tt)
+
+hidden_read : HiddenKeep AreReadNames
+hidden_read names line are = (
+  with_read names (hidden_name line (codes "in")) (record { line = line; is = inl refl }) are,
+  with_read names (hidden_name line (codes "out")) (record { line = line; is = inr refl }) are,
+)
+
+pub read_names : ReadNamesAreKnown
+read_names text n e =
+    let parts = bound (text_says within_limits text) taken_apart_says n e in
+    let raw : NetlistData = parts.value in
+    let words : NamesWords raw =
+    subst (λ (x : Result NetlistData BlifFault). IfOk x NamesWords) parts.made (lines_words (last_number 0 (numbered 1 (lines text))) (filled (joined (numbered 1 (lines text)))) (text_lines text)) in
+    All-from_recursion IsReadName n.names
+    (subst (λ (m : NetlistData). AreReadNames m.names) (sym (said_apart (without_cells raw) raw.cells n (text_small text raw parts.made).signals parts.goes_on).apart) (all_keep AreReadNames hidden_read (without_cells raw) raw.cells (words_are_read raw.names words)))

@@ -1,5 +1,5 @@
 //! Laws of the netlists that texts say. The functions do nothing: their contracts are the laws.
-ghost use Rattle.ice_blif_laws.specs.ReadNames.{ReadNamesAreWords};
+ghost use Rattle.ice_blif_laws.specs.ReadNames.{ReadNamesAreKnown};
 ghost use Rattle.ice_blif_laws.specs.SameNames.{TextsNameOnce, WrittenShowsTheSame};
 
 /// A text names no signal of its netlist twice.
@@ -12,7 +12,8 @@ pub fn written_shows_the_same()
     ensures { WrittenShowsTheSame }
 {}
 
-/// Each name of a netlist that a text says is a word: it has a byte, and no blank.
-pub fn read_names_are_words()
-    ensures { ReadNamesAreWords }
+/// Each name of a netlist that a text says is a word, which has a byte and no blank, or that of a hidden signal: the number of a
+/// line, a blank, and `in` or `out`.
+pub fn read_names_are_known()
+    ensures { ReadNamesAreKnown }
 {}

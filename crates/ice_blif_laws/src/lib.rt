@@ -3,4 +3,4 @@
 
 mod laws;
 
-pub use laws::{read_names_are_words, texts_name_once, written_shows_the_same};
+pub use laws::{read_names_are_known, texts_name_once, written_shows_the_same};

@@ -8,10 +8,12 @@ use Rattle.ice_base.specs.declared.number.SignalNo.{SignalNo}
 use Rattle.ice_net.specs.declared.cell.Cell.{Cell}
 use Rattle.ice_net.specs.declared.kind.CellKind.{CellKind}
 use Rattle.ice_net.specs.Formed.{IsBelow}
-use Rattle.ice_net.specs.Kinds.{ins_count, outs_count, kind_of}
+use Rattle.ice_net.specs.Kinds.{ins_count, outs_count}
 use Rattle.ice_net.specs.NetlistData.{NetlistData}
 use Rattle.ice_blif.specs.declared.fault.BlifFault.{BlifFault}
 use Rattle.ice_blif.specs.Cells.{◌>>=◌, kind_says, with_kind}
+use Rattle.ice_blif.specs.GateForms.{GateForm}
+use Rattle.ice_blif.specs.Gates.{plain_gate, gate_kind_of}
 use Rattle.ice_blif.specs.Grammar.{no_wiring, cell_of, with_last, gate_of_kind, line_says, no_limits}
 use Rattle.ice_blif.specs.State.{Connections, LastCell, State, Gate}
 use Rattle.ice_blif_write.specs.RoundTrip.{IsName, named_signal, IsDefined}
@@ -97,22 +99,22 @@ next_known names read front rest ins outs k m e o know later =
     ∙ take-append_seam (map g outs) (map f rest)
 
 pub gate_read : (names : List (List ℕ)) (r : State) (word : List ℕ) (kind : CellKind) (formals : List (List ℕ)) (ins outs : List (Option SignalNo)) (k : ℕ)
-    → kind_of word ≡ Some kind → ArePlaced kind 0 formals → length ins ≡ ins_count kind → length outs ≡ outs_count kind → ins_count kind + outs_count kind ≡ length formals → length formals ≤ 10
+    → gate_kind_of word ≡ Some (plain_gate kind) → ArePlaced kind 0 formals → length ins ≡ ins_count kind → length outs ≡ outs_count kind → ins_count kind + outs_count kind ≡ length formals → length formals ≤ 10
     → AreActuals names kind 0 (ins ++ outs)
     → (m : NetlistData) × (cell : Cell) × (line_says no_limits (numbered_line k (codes ".gate", word ∷ connections names formals (ins ++ outs))) r ≡ Ok (with_last m r.last (Gate cell) false))
     × IsGateRead names r kind ins outs m cell
 gate_read names r word kind formals ins outs k is placed in_long out_long long few are =
     let all_long : length (ins ++ outs) ≡ length formals = length-append ins outs ∙ omega (arith, in_long, out_long, long) in
-    let read = signals_read names k kind r.netlist no_wiring [] (ins ++ outs) 0 10 formals placed all_long refl (omega (arith, all_long, few)) are (none_wired names r.netlist.names) in
+    let read = signals_read names k kind r.netlist no_wiring [] (ins ++ outs) 0 11 formals placed all_long refl (omega (arith, all_long, few)) are (none_wired names r.netlist.names) in
     let c : NetlistData × Connections = read.0 in
     let are_read : AreRead names r.netlist (ins ++ outs) read.1 c = read.3 in
     let wiring : IsWired names c.0.names c.1 (ins ++ outs) read.1 = are_read.wired in
     let ws : List (List ℕ) = connections names formals (ins ++ outs) in
-    let cell : Cell = cell_of k kind c.1 in (
+    let cell : Cell = cell_of k (plain_gate kind) c.1 in (
       c.0,
       cell,
-      ap (λ (o : Option CellKind). gate_of_kind k r ws o >>= no_limits k) is
-          ∙ ap (λ (x : Result (NetlistData × Connections) BlifFault). (x >>= (λ d. Ok (with_last d.0 r.last (Gate (cell_of k kind d.1)) false))) >>= no_limits k) read.2,
+      ap (λ (o : Option GateForm). gate_of_kind k r ws o >>= no_limits k) is
+          ∙ ap (λ (x : Result (NetlistData × Connections) BlifFault). (x >>= (λ d. Ok (with_last d.0 r.last (Gate (cell_of k (plain_gate kind) d.1)) false))) >>= no_limits k) read.2,
       record {
         grew = record { grows = are_read.grows; ports = are_read.ports; cells = are_read.cells };
         kind_is = refl;

@@ -9,7 +9,8 @@ use Rattle.ice_blif.specs.declared.fault.BlifFault.{BlifFault}
 use Rattle.ice_blif.specs.declared.fault.BlifFault.TheVariants.{TooWide, BadCover}
 use Rattle.ice_blif.specs.Cells.{◌>>=◌, level_alone, row_and_level, row_parts, with_row, row_of, row_of_level, row_says}
 use Rattle.ice_blif.specs.Covers.{is_row_digit, is_row, level_of, agrees}
-use Rattle.ice_blif.specs.Grammar.{named, signal_of, new_cover, cover_signals, cover_of, with_last, row_or_fault, directive_says, line_says, no_limits}
+use Rattle.ice_blif.specs.Signals.{named, signal_of}
+use Rattle.ice_blif.specs.Grammar.{new_cover, cover_signals, cover_of, with_last, row_or_fault, directive_says, line_says, no_limits}
 use Rattle.ice_blif.specs.State.{OpenCover, State, Rows}
 use Rattle.ice_blif_write.specs.RoundTrip.{named_signal}
 use Rattle.ice_blif_write.specs.Text.{Words, name_of, signal_words, digit_of, levels_of, row_line, rows_from}

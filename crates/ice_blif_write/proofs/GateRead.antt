@@ -10,10 +10,12 @@ use Rattle.ice_net.specs.declared.kind.CellKind.{CellKind}
 use Rattle.ice_net.specs.declared.kind.CellKind.TheVariants.{Lut, Cover, Carry, Flop, PadCell, Global}
 use Rattle.ice_net.specs.declared.kind.Reset.{Reset}
 use Rattle.ice_net.specs.declared.kind.Reset.TheVariants.{Nothing, SyncReset, AsyncReset, SyncSet, AsyncSet}
-use Rattle.ice_net.specs.Kinds.{port_place, ins_count, kind_of, IsGateKind}
+use Rattle.ice_net.specs.Kinds.{port_place, ins_count, IsGateKind}
 use Rattle.ice_net.specs.NetlistData.{NetlistData}
 use Rattle.ice_blif.specs.Cells.{◌>>=◌}
-use Rattle.ice_blif.specs.Grammar.{named, signal_of, no_wiring, wired, is_missing, connect, connect_at, connect_by, equals_at, connection_says, connections_say}
+use Rattle.ice_blif.specs.Gates.{plain_gate, gate_kind_of}
+use Rattle.ice_blif.specs.Signals.{named, signal_of}
+use Rattle.ice_blif.specs.Grammar.{no_wiring, wired, is_missing, connect, connect_at, connect_by, equals_at, connection_says, connections_say}
 use Rattle.ice_blif.specs.declared.fault.BlifFault.TheVariants.{PortTwice}
 use Rattle.ice_blif.specs.State.{Connections}
 use Rattle.ice_blif_write.specs.RoundTrip.{IsName, named_signal}
@@ -78,13 +80,13 @@ bare (Flop falling enable reset) = Flop falling enable reset
 bare (PadCell pin_type pullup) = PadCell 0 false
 bare Global = Global
 
-pub kind_read : (kind : CellKind) → IsGateKind kind → kind_of (kind_word kind) ≡ Some (bare kind)
+pub kind_read : (kind : CellKind) → IsGateKind kind → gate_kind_of (kind_word kind) ≡ Some (plain_gate (bare kind))
 kind_read (Lut table) h = refl
 kind_read (Cover table width) h = absurd h
 kind_read Carry h = refl
 kind_read (Flop falling enable reset) h = flop falling enable reset
   where
-    flop : (falling enable : Bool) (reset : Reset) → kind_of (kind_word (Flop falling enable reset)) ≡ Some (Flop falling enable reset)
+    flop : (falling enable : Bool) (reset : Reset) → gate_kind_of (kind_word (Flop falling enable reset)) ≡ Some (plain_gate (Flop falling enable reset))
     flop true true Nothing = refl
     flop true true SyncReset = refl
     flop true true AsyncReset = refl
@@ -128,7 +130,7 @@ pub record IsWired (names read : List (List ℕ)) (w : Connections) (done : List
   pub know : Know read front (map (named_signal names) done)
   pub twice : w.twice ≡ false
 
-pub none_wired : (names read : List (List ℕ)) → IsWired names read no_wiring [] 10
+pub none_wired : (names read : List (List ℕ)) → IsWired names read no_wiring [] 11
 none_wired names read = record { front = []; flags = []; signals = refl; taken = refl; long = refl; wide = refl; know = λ later. refl; twice = refl }
 
 push_at : {X : Type 0} (front : List X) (old new : X) (rest : List X) (k : ℕ) → length front ≡ k → slice_set (front ++ old ∷ rest) k new ≡ (front ++ new ∷ []) ++ rest
@@ -210,12 +212,12 @@ AreActuals names kind k [] = Unit {0}
 AreActuals names kind k (signal ∷ signals) = MayBeActual names (nat_le (ins_count kind) k) signal × AreActuals names kind (suc k) signals
 
 connected : (line : ℕ) (kind : CellKind) (n : NetlistData) (w : Connections) (formal actual : List ℕ) (place : ℕ) → list_all (λ b. not (b == 61)) formal ≡ true → port_place kind formal ≡ Some place
-    → connection_says line kind n w (formal ++ 61 ∷ actual) ≡ Ok (connect n w place (nat_le (ins_count kind) place) actual)
+    → connection_says line (plain_gate kind) n w (formal ++ 61 ∷ actual) ≡ Ok (connect n w place (nat_le (ins_count kind) place) actual)
 connected line kind n w formal actual place plain at =
-    ap (connect_by line kind n w (formal ++ 61 ∷ actual)) (formal_ends formal actual plain)
-    ∙ ap (λ a. connect_at line kind n w a (port_place kind (take (length formal) (formal ++ 61 ∷ actual)))) (actual_behind formal actual)
-    ∙ ap (λ f. connect_at line kind n w actual (port_place kind f)) (take-append_seam formal (61 ∷ actual))
-    ∙ ap (connect_at line kind n w actual) at
+    ap (connect_by line (plain_gate kind) n w (formal ++ 61 ∷ actual)) (formal_ends formal actual plain)
+    ∙ ap (λ a. connect_at line (plain_gate kind) n w a (port_place kind (take (length formal) (formal ++ 61 ∷ actual)))) (actual_behind formal actual)
+    ∙ ap (λ f. connect_at line (plain_gate kind) n w actual (port_place kind f)) (take-append_seam formal (61 ∷ actual))
+    ∙ ap (connect_at line (plain_gate kind) n w actual) at
 
 named_connect : (n : NetlistData) (w : Connections) (place : ℕ) (output : Bool) (actual : List ℕ) → is_missing output actual ≡ false
     → connect n w place output actual ≡ (named n actual, wired w place (Some (signal_of n actual)))
@@ -224,7 +226,7 @@ named_connect n w place output actual e = ap (λ (b : Bool). (if b then n else n
 -- all signals of a gate
 pub signals_read : (names : List (List ℕ)) (line : ℕ) (kind : CellKind) (n : NetlistData) (w : Connections) (done signals : List (Option SignalNo)) (place left : ℕ) (formals : List (List ℕ))
     → ArePlaced kind place formals → length signals ≡ length formals → length done ≡ place → length signals ≤ left → AreActuals names kind place signals → IsWired names n.names w done left
-    → (c : NetlistData × Connections) × (rest : ℕ) × (connections_say line kind n w (connections names formals signals) ≡ Ok c) × AreRead names n (done ++ signals) rest c
+    → (c : NetlistData × Connections) × (rest : ℕ) × (connections_say line (plain_gate kind) n w (connections names formals signals) ≡ Ok c) × AreRead names n (done ++ signals) rest c
 signals_read names line kind n w done [] place left [] is same at fits are wiring = (
   (n, w),
   left,
@@ -248,13 +250,13 @@ signals_read names line kind n w done (Some signal ∷ signals) place (suc left)
     let v : Connections = wired w place (Some (signal_of n name)) in
     let later = signals_read names line kind m v (done ++ Some signal ∷ []) signals (suc place) left formals is.2 (omega arith) (length-append done (Some signal ∷ []) ∙ omega arith) (omega arith) are.1
     (join_wired names n.names w done left place signal wiring at) in
-    let first : connection_says line kind n w (formal ++ 61 ∷ name) ≡ Ok (m, v) =
+    let first : connection_says line (plain_gate kind) n w (formal ++ 61 ∷ name) ≡ Ok (m, v) =
     connected line kind n w formal name place is.1 is.0
     ∙ ap Ok (named_connect n w place (nat_le (ins_count kind) place) name (appears (nat_le (ins_count kind) place) name are.0.name are.0.defined)) in
     let read : AreRead names m ((done ++ Some signal ∷ []) ++ signals) later.1 later.0 = later.3 in (
       later.0,
       later.1,
-      ap (λ r. r >>= (λ c. connections_say line kind c.0 c.1 (connections names formals signals))) first ∙ later.2,
+      ap (λ r. r >>= (λ c. connections_say line (plain_gate kind) c.0 c.1 (connections names formals signals))) first ∙ later.2,
       record {
         grows = grows_more n.names (with_name n.names name) later.0.0.names (grows_name n.names name) read.grows;
         ports = read.ports;

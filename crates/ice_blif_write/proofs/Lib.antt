@@ -11,3 +11,4 @@ mod CellsRead
 mod LineWords
 mod TextRead
 mod Joining
+mod Plain

@@ -15,7 +15,8 @@ use Rattle.ice_net.specs.NetlistData.{NetlistData, is_at, port_at, port_by, port
 use Rattle.ice_blif.specs.declared.fault.BlifFault.{BlifFault}
 use Rattle.ice_blif.specs.declared.fault.BlifFault.TheVariants.{PortTwice}
 use Rattle.ice_blif.specs.Cells.{◌>>=◌}
-use Rattle.ice_blif.specs.Grammar.{signal_of, was_named, with_named_port, port_says, without_rows, line_says, no_limits}
+use Rattle.ice_blif.specs.Signals.{signal_of}
+use Rattle.ice_blif.specs.Grammar.{was_named, with_named_port, port_says, without_rows, line_says, no_limits}
 use Rattle.ice_blif.specs.State.{State, Nothing}
 use Rattle.ice_blif_write.specs.RoundTrip.{named_port}
 use Rattle.ice_blif_write.specs.Text.{Words, name_of, port_lines_by, port_lines}

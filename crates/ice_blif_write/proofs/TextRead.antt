@@ -11,11 +11,12 @@ use Rattle.ice_blif.specs.Cells.{finished}
 use Rattle.ice_blif.specs.Grammar.{no_limits, lines_say}
 use Rattle.ice_blif.specs.JoinedLines.{FilledLine, last_number}
 use Rattle.ice_blif.specs.State.{State}
-use Rattle.ice_blif_write.specs.RoundTrip.{IsName, IsDefinedCell, IsSmallCell, named_port, named_cell, WrittenIsRead}
+use Rattle.ice_blif_write.specs.RoundTrip.{IsName, IsDefinedCell, IsPlainCell, IsSmallCell, named_port, named_cell, WrittenIsRead}
 use Rattle.ice_blif_write.specs.Text.{Words, name_of, port_lines, cell_lines, netlist_lines, blif_text}
 use Rattle.ice_blif_write.proofs.CellRead.{MayBeNamed, all_named}
 use Rattle.ice_blif_write.proofs.CellsRead.{cells_read}
 use Rattle.ice_blif_write.proofs.LineWords.{plain_name, port_words, cell_words}
+use Rattle.ice_blif_write.proofs.Plain.{IsWhole, all_whole, taken_plain}
 use Rattle.ice_blif_write.proofs.PortsRead.{at_ports, ports_read}
 use Rattle.ice_blif_write.proofs.Reading.{Ends, HasRead, finished_names, finished_ports}
 use Rattle.ice_blif_write.proofs.WrittenLines.{AreWords, all_append, text_lines}
@@ -69,4 +70,7 @@ text_read n formed small single writable =
     [] n.ports empty_netlist refl (record { are = λ later. refl; cells = refl }) in
     let last : ℕ = last_number 0 (numbered 1 (lines (blif_text n))) in
     let result = read last (next_number 1) in
-    (result.0, ap (λ (ls : List FilledLine). lines_say no_limits last ls) (text_lines (netlist_lines n) are) ∙ result.1, result.2)
+    let raw : NetlistData = result.0 in
+    let whole : AllByRecursion IsWhole raw.cells =
+    all_whole n.names raw.names raw.cells n.cells (length n.names) result.2.cells (recursion_from_All IsPlainCell n.cells writable.plain) cells in
+    (raw, (raw, ap (λ (ls : List FilledLine). lines_say no_limits last ls) (text_lines (netlist_lines n) are) ∙ result.1, taken_plain raw whole), result.2)

@@ -48,10 +48,23 @@ IsSmallKind Global = Unit {0}
 abbrev pub IsSmallCell : Cell → Type 0
 IsSmallCell cell = IsSmallKind cell.kind
 
+-- a pad that is not taken apart where it is read: its PIN_TYPE is neither 000000 nor 010101 (21)
+abbrev pub IsPlainKind : CellKind → Type 0
+IsPlainKind (Lut table) = Unit {0}
+IsPlainKind (Cover table width) = Unit {0}
+IsPlainKind Carry = Unit {0}
+IsPlainKind (Flop falling enable reset) = Unit {0}
+IsPlainKind (PadCell pin_type pullup) = (pin_type ≢ 0) × (pin_type ≢ 21)
+IsPlainKind Global = Unit {0}
+
+abbrev pub IsPlainCell : Cell → Type 0
+IsPlainCell cell = IsPlainKind cell.kind
+
 -- the text that is written for the netlist can be read
 pub record IsWritable (n : NetlistData) : Type 0 where
   pub names : All IsName n.names
   pub outputs : All (IsDefinedCell n.names) n.cells
+  pub plain : All IsPlainCell n.cells
 
 -- ---- what is read
 -- the name of a signal that may be missing

@@ -23,8 +23,8 @@ fn put_text(out: &mut Vec<u8>, netlist: &Netlist) -> Result<(), NoMemory>
 
 /// Appends the text of a netlist: the model `back`, a line for each way of each port, each cell on a line with its
 /// parameters or rows below it, and the end. The text says this netlist up to line numbers and the list of names, where each
-/// name is a word that begins no comment, and no output of a cell other than a cover is `$undef`. It is made apart from what it
-/// is appended to, so that want of memory changes nothing.
+/// name is a word that begins no comment, no output of a cell other than a cover is `$undef`, and no pad has the PIN_TYPE 000000 or
+/// 010101, of which `read_blif` takes a pad apart. It is made apart from what it is appended to, so that want of memory changes nothing.
 ///
 /// # Errors
 /// Want of memory alone.

@@ -5,3 +5,4 @@ pub mod Refusing
 pub mod Making
 pub mod Holding
 pub mod BuildLaws
+pub mod ReadNames

@@ -6,8 +6,7 @@ ghost use Rattle.ice_answer.specs.Ends.{IsEndInFiles, IsMadeOf, IsReported, IsTo
 ghost use Rattle.ice_answer.specs.Reading.{TellsLong};
 ghost use Rattle.ice_answer.specs.Rows.{SaidBy, KeptRow, MadeRow, SilentRow, PartingRow};
 ghost use Rattle.ice_answer.specs.Texts.{text_at, ArePermitted};
-ghost use Rattle.ice_blif.specs.Cells.{IsWithinLimits};
-ghost use Rattle.ice_blif.specs.Grammar.{netlist_of};
+ghost use Rattle.ice_blif.specs.Grammar.{netlist_of, IsWithinLimits};
 ghost use Rattle.ice_build.specs.Laid.{task_of};
 ghost use Rattle.ice_build.specs.Stages.{IsPermitted};
 ghost use Rattle.ice_check.specs.Sound.{IsSound};
@@ -33,7 +32,7 @@ use ice_answer::{
 };
 use ice_base::NoMemory;
 use ice_blif::read_blif;
-use ice_blif_laws::read_names_are_words;
+use ice_blif_laws::read_names_are_known;
 use ice_build::build;
 use ice_check::{Sound, check};
 use ice_chip::Chip;
@@ -52,13 +51,13 @@ use std::thread::Threads;
 // A sound netlist that the second text behind the chip's says can be prepared.
 fn can_be_prepared(texts: &Texts, sound: &Sound)
     requires netlist { netlist_of (text_at texts.now 2) ≡ Ok sound.now }
-    requires limits { IsWithinLimits sound.now }
+    requires limits { IsWithinLimits (text_at texts.now 2) sound.now }
     ensures formed { IsFormed sound.now }
     ensures room { length sound.now.cells < most_cells }
     ensures sound { IsSound sound.now }
     ensures preparable { CanBePrepared sound.now }
 {
-    read_names_are_words();
+    read_names_are_known();
     let netlist = sound.netlist();
     let _cells = netlist.cells();
 }
@@ -103,7 +102,7 @@ fn build_sound<G: Gate + Sync, R: Threads + Sync>(
     sound: Sound,
 ) -> Result<Made, Refused>
     requires netlist { netlist_of (text_at texts.now 2) ≡ Ok sound }
-    requires limits { IsWithinLimits sound }
+    requires limits { IsWithinLimits (text_at texts.now 2) sound }
     requires effort { IsPermitted request.now.effort }
     ensures made { (chip_text : List ℕ) → IsRead (chip_text ∷ texts.now) chip.now pcf.now → IfOk result (λ made. IsMade (request_view request.now) (chip_text ∷ texts.now) made.texts made.arrangement made.tallies.items) }
     ensures refused { (chip_text : List ℕ) → IsRead (chip_text ∷ texts.now) chip.now pcf.now → IfErr result (IsRefusedWith (request_view request.now) (chip_text ∷ texts.now)) }
@@ -131,7 +130,7 @@ fn build_net<G: Gate + Sync, R: Threads + Sync>(
     netlist: Netlist,
 ) -> Result<Made, Refused>
     requires netlist { netlist_of (text_at texts.now 2) ≡ Ok netlist }
-    requires limits { IsWithinLimits netlist }
+    requires limits { IsWithinLimits (text_at texts.now 2) netlist }
     requires effort { IsPermitted request.now.effort }
     ensures made { (chip_text : List ℕ) → IsRead (chip_text ∷ texts.now) chip.now pcf.now → IfOk result (λ made. IsMade (request_view request.now) (chip_text ∷ texts.now) made.texts made.arrangement made.tallies.items) }
     ensures refused { (chip_text : List ℕ) → IsRead (chip_text ∷ texts.now) chip.now pcf.now → IfErr result (IsRefusedWith (request_view request.now) (chip_text ∷ texts.now)) }

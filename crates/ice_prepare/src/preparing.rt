@@ -8,7 +8,7 @@ use ice_base::NoMemory;
 use ice_check::Sound;
 use ice_chip::Chip;
 use ice_clocks::promote_clocks;
-use ice_promote::laws::netlists_of_words_can_be_promoted;
+use ice_promote::laws::netlists_with_such_names_can_be_promoted;
 use ice_tails::add_tails;
 use std::alloc::Global;
 
@@ -17,13 +17,13 @@ fn can_be_promoted(sound: &Sound)
     requires { CanBePrepared sound.now }
     ensures { CanBePromoted sound.now }
 {
-    netlists_of_words_can_be_promoted();
+    netlists_with_such_names_can_be_promoted();
 }
 
 /// The netlist with its clocks on the globals of the chip that are free, and with the ends of its carry chains in their runs. It has the same
 /// ports, and shows for every list of levels what the netlist shows.
 ///
-/// The names of the netlist are words, and it has fewer than 1,072,000,000 cells.
+/// Each name of the netlist is a word or ends otherwise than in `b` and `l`, and it has fewer than 1,072,000,000 cells.
 ///
 /// # Errors
 /// Want of memory alone.

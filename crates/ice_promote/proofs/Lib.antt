@@ -12,4 +12,4 @@ mod Redirected
 mod Filled
 mod NewNames
 mod Unpromoted
-mod PlainNames
+pub mod PlainNames

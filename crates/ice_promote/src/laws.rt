@@ -1,5 +1,5 @@
 //! The laws of promoted clocks, each as the contract of a function that does nothing.
-ghost use Rattle.ice_promote.specs.Promotable.{WordsCanBePromoted};
+ghost use Rattle.ice_promote.specs.Promotable.{NamesCanBePromoted};
 ghost use Rattle.ice_promote.specs.PromotionLaws.{PromotedAreFormed, PromotedAreSound, PromotedKeepPorts, PromotedShowTheSame};
 
 /// Nothing outside is lost or new: the ports are the same.
@@ -22,7 +22,7 @@ pub fn promoted_show_the_same()
     ensures { PromotedShowTheSame }
 {}
 
-/// The clocks of a netlist whose names are words can be promoted.
-pub fn netlists_of_words_can_be_promoted()
-    ensures { WordsCanBePromoted }
+/// The clocks of a netlist can be promoted where each name is a word or ends otherwise than in `b`.
+pub fn netlists_with_such_names_can_be_promoted()
+    ensures { NamesCanBePromoted }
 {}

@@ -1,5 +1,0 @@
-use Rattle.ice_blif_laws.proofs.WordNames.{read_words}
-use Rattle.ice_blif_laws.proofs.laws.read_names_are_words.Goals as goal
-
-pub returns : goal.returns
-returns c text n e = read_words text n e
