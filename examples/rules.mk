@@ -9,6 +9,7 @@
 #   make picture   top.svg, which a browser shows
 #   make wave      top.vcd, which GTKWave shows
 #   make stat      what is used of what the chip has
+#   make time      a longest path by the seven delays of delays/; that none is longer is proved
 #   make sweep     builds with eight seeds, and keeps the best
 #   make prog      loads the board
 
@@ -16,6 +17,7 @@ TOOLS := $(dir $(lastword $(MAKEFILE_LIST)))../tools
 CHIPDB = /usr/share/fpga-icestorm/chipdb/chipdb-1k.txt
 PACKAGE = tq144
 DEVICE = hx1k
+DELAYS := $(dir $(lastword $(MAKEFILE_LIST)))delays/$(DEVICE).delays
 
 all: top.rpt top.bin
 
@@ -63,6 +65,9 @@ top.vcd: levels.table top.pins top.blif
 stat: top.asc
 	$(TOOLS)/stat $(CHIPDB) $(PACKAGE) top.pins top.report top.asc
 
+time: top.asc
+	tefitsundra time $(CHIPDB) $(PACKAGE) $< $(DELAYS)
+
 sweep: $(PIN_DEF) top.blif
 	$(TOOLS)/sweep $(CHIPDB) $(PACKAGE) $^ top.asc --pins top.pins --report top.report
 
@@ -74,4 +79,4 @@ clean:
 
 .DELETE_ON_ERROR:
 .SECONDARY:
-.PHONY: all sim postsim same picture wave stat sweep prog clean
+.PHONY: all sim postsim same picture wave stat time sweep prog clean

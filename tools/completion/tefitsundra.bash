@@ -8,6 +8,7 @@ _tefitsundra_places() {
         back) echo "CHIP PACKAGE ASC BLIF" ;;
         play-net) echo "BLIF LEVELS" ;;
         play-bits) echo "CHIP PACKAGE ASC LEVELS" ;;
+        time) echo "CHIP PACKAGE ASC DELAYS" ;;
         sample) echo "NUMBER" ;;
     esac
 }
@@ -51,6 +52,7 @@ _tefitsundra_place() {
         BLIF) _tefitsundra_files "$word" blif ;;
         ASC) _tefitsundra_files "$word" asc ;;
         LEVELS) compgen -f -- "$word" ;;
+        DELAYS) _tefitsundra_files "$word" delays ;;
         NUMBER) compgen -W "1 2 3 4 5 6 7 8" -- "$word" ;;
     esac
 }
@@ -63,7 +65,7 @@ _tefitsundra() {
     if [ "$word" = "=" ]; then word=""; fi
     if [ "$before" = "=" ]; then before="${COMP_WORDS[COMP_CWORD - 2]}"; fi
     if [ "$COMP_CWORD" -eq 1 ]; then
-        mapfile -t COMPREPLY < <(compgen -W "build back play-net play-bits sample" -- "$word")
+        mapfile -t COMPREPLY < <(compgen -W "build back play-net play-bits time sample" -- "$word")
         return
     fi
     case " $(_tefitsundra_options "$command") " in

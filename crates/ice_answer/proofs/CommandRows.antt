@@ -4,7 +4,7 @@ use Rattle.std.specs.Global.{Vec}
 use Rattle.ice_place.specs.declared.arrangement.Arrangement.{Arrangement}
 use Rattle.ice_desk.specs.Desk.{Meaning}
 use Rattle.ice_answer.specs.declared.cause.Cause.{Cause}
-use Rattle.ice_answer.specs.declared.cause.Cause.TheVariants.{Good, Usage, BadBlif, BadPcf, BadChip, BadNet, BadPin, Overfull, Unreachable, GaveUp, ReadFault, WriteFault, NoMemory, BadAsc, BadBits, TooLong, BadLevels}
+use Rattle.ice_answer.specs.declared.cause.Cause.TheVariants.{Good, Usage, BadBlif, BadPcf, BadChip, BadNet, BadPin, Overfull, Unreachable, GaveUp, ReadFault, WriteFault, NoMemory, BadAsc, BadBits, TooLong, BadLevels, BadDelays}
 use Rattle.ice_answer.specs.declared.cause.FileRole.{FileRole}
 use Rattle.ice_answer.specs.Causes.{status_of}
 use Rattle.ice_answer.specs.Reading.{most_bytes, role_at, IsFirstTooLong, IsInterrupted, TellsLong}
@@ -46,6 +46,7 @@ says k old new held (BadAsc fault) law holds is = inr (at_files k.files old (λ 
 says k old new held (BadBits fault) law holds is = inr (at_files k.files old (λ texts. k.Stands texts (BadBits fault)) held holds is.0)
 says k old new held (TooLong role limit) law holds is = absurd (long_not k.files old new role limit held holds is)
 says k old new held (BadLevels line) law holds is = inr (at_files k.files old (λ texts. k.Stands texts (BadLevels line)) held holds is.0)
+says k old new held (BadDelays line) law holds is = inr (at_files k.files old (λ texts. k.Stands texts (BadDelays line)) held holds is.0)
 
 -- an answer comes exactly where the texts are so
 pub comes : (k : Command) (old new : Meaning) (cause : Cause) (IsSuch : Cause → Type 0) (AreSo : List (List ℕ) → Type 0) → Lawful k → IsTrueOf k old new cause
@@ -77,6 +78,7 @@ done_only k old new (BadAsc fault) AreSo so is done = absurd done
 done_only k old new (BadBits fault) AreSo so is done = absurd done
 done_only k old new (TooLong role limit) AreSo so is done = absurd done
 done_only k old new (BadLevels line) AreSo so is done = absurd done
+done_only k old new (BadDelays line) AreSo so is done = absurd done
 
 -- the work is done exactly where the texts are so
 pub done_where : (k : Command) (old new : Meaning) (cause : Cause) (AreSo : List (List ℕ) → Type 0) → Lawful k → IsTrueOf k old new cause
@@ -112,6 +114,7 @@ good_alone (BadAsc fault) e = absurd (omega (arith, e))
 good_alone (BadBits fault) e = absurd (omega (arith, e))
 good_alone (TooLong role limit) e = absurd (omega (arith, e))
 good_alone (BadLevels line) e = absurd (omega (arith, e))
+good_alone (BadDelays line) e = absurd (omega (arith, e))
 
 pub good_row : (k : Command) (old new : Meaning) (cause : Cause) (status : ℕ) → IsTrueOf k old new cause → status ≡ status_of cause → GoodRow k old new cause status
 good_row k old new cause status is same = record {
@@ -153,6 +156,7 @@ too_long_always k old new (BadBits fault) place is t long = absurd (read_not_lon
 too_long_always k old new (TooLong role limit) place is t long =
     inl (ap (λ (x : FileRole). TooLong x limit) (stops_at_first k.files old new role limit place t is long) ∙ ap (λ n. TooLong (role_at k.files place) n) is.is_limit)
 too_long_always k old new (BadLevels line) place is t long = absurd (read_not_long k.files old place (λ texts. k.Stands texts (BadLevels line)) t long is.0)
+too_long_always k old new (BadDelays line) place is t long = absurd (read_not_long k.files old place (λ texts. k.Stands texts (BadDelays line)) t long is.0)
 
 pub too_long_row : (k : Command) (old new : Meaning) (cause : Cause) → IsTrueOf k old new cause → TellsLong new cause → TooLongRow k old new cause
 too_long_row k old new cause is told = record {
@@ -180,6 +184,7 @@ known k old new (BadAsc fault) is = is.1
 known k old new (BadBits fault) is = is.1
 known k old new (TooLong role limit) is = tt
 known k old new (BadLevels line) is = is.1
+known k old new (BadDelays line) is = is.1
 
 -- no answer of a command is that the words are none
 pub asked : (k : Command) (old new : Meaning) (cause : Cause) → Lawful k → IsTrueOf k old new cause → cause ≡ Usage → ⊥

@@ -7,7 +7,7 @@ use Rattle.ice_desk.specs.Said.{SaidRow, IsSilent}
 use Rattle.ice_core.specs.declared.log.RoundLog.{RoundLog}
 use Rattle.ice_words.specs.Grips.{Shut}
 use Rattle.ice_answer.specs.declared.cause.Cause.{Cause}
-use Rattle.ice_answer.specs.declared.cause.Cause.TheVariants.{Good, Usage, BadBlif, BadPcf, BadChip, BadNet, BadPin, Overfull, Unreachable, GaveUp, ReadFault, WriteFault, NoMemory, BadAsc, BadBits, TooLong, BadLevels}
+use Rattle.ice_answer.specs.declared.cause.Cause.TheVariants.{Good, Usage, BadBlif, BadPcf, BadChip, BadNet, BadPin, Overfull, Unreachable, GaveUp, ReadFault, WriteFault, NoMemory, BadAsc, BadBits, TooLong, BadLevels, BadDelays}
 use Rattle.ice_answer.specs.declared.cause.FileRole.{FileRole}
 use Rattle.ice_answer.specs.Causes.{line_of}
 use Rattle.ice_answer.specs.Reading.{File, Files, name_behind, IsUnread}
@@ -40,6 +40,7 @@ unread_is_true k old new (BadAsc fault) is = absurd is
 unread_is_true k old new (BadBits fault) is = absurd is
 unread_is_true k old new (TooLong role limit) is = (tt, is)
 unread_is_true k old new (BadLevels line) is = absurd is
+unread_is_true k old new (BadDelays line) is = absurd is
 
 -- why texts are refused is true of the command
 pub refusal_is_true : (k : Command) (old new : Meaning) (texts : List (List ℕ)) (cause : Cause) → AreTexts k.files old texts → new.makes ≡ old.makes → IsRefusal (k.Stands texts) cause
@@ -61,6 +62,7 @@ refusal_is_true k old new texts (BadAsc fault) are made is = (tt, ((texts, are, 
 refusal_is_true k old new texts (BadBits fault) are made is = (tt, ((texts, are, is.0), is.1))
 refusal_is_true k old new texts (TooLong role limit) are made is = absurd is
 refusal_is_true k old new texts (BadLevels line) are made is = (tt, ((texts, are, is.0), is.1))
+refusal_is_true k old new texts (BadDelays line) are made is = (tt, ((texts, are, is.0), is.1))
 
 -- what was given behind the reading was given by the whole call
 given_behind : (output : Output) (texts : List (List ℕ)) (old mid new : Meaning) → SameButReading old mid → IsGiven output texts mid new → IsGiven output texts old new
@@ -118,6 +120,7 @@ of_put P output texts on counted old new good cut (BadAsc fault) put = absurd pu
 of_put P output texts on counted old new good cut (BadBits fault) put = absurd put
 of_put P output texts on counted old new good cut (TooLong role limit) put = absurd put
 of_put P output texts on counted old new good cut (BadLevels line) put = absurd put
+of_put P output texts on counted old new good cut (BadDelays line) put = absurd put
 
 pub put_behind : (output : Output) (texts : List (List ℕ)) (on : Arrangement) (counted : List Shut) (old mid new : Meaning) (cause : Cause) → SameButReading old mid
     → IsPut output texts on counted mid new cause → IsPut output texts on counted old new cause
@@ -213,6 +216,7 @@ true_while_said k old mid new (BadAsc fault) same refused is = is
 true_while_said k old mid new (BadBits fault) same refused is = is
 true_while_said k old mid new (TooLong role limit) same refused is = long_said k.files old mid new role limit same is
 true_while_said k old mid new (BadLevels line) same refused is = is
+true_while_said k old mid new (BadDelays line) same refused is = is
 
 -- what a refusal says
 pub refused_said : (output : Output) (old new : Meaning) (cause : Cause) → SaidRow old new (line_of cause) → SaidBy output old new cause
@@ -240,6 +244,7 @@ refused_made files parting old new (BadAsc fault) refused stays made = made
 refused_made files parting old new (BadBits fault) refused stays made = made
 refused_made files parting old new (TooLong role limit) refused stays made = made
 refused_made files parting old new (BadLevels line) refused stays made = made
+refused_made files parting old new (BadDelays line) refused stays made = made
 
 -- what is true of each answer of rounds that gave up
 pub of_given_up : (P : Cause → Type 0) → ((arrangement : Arrangement) (logs : Vec RoundLog) (tallies : Vec Shut) → P (GaveUp arrangement logs tallies)) → (cause : Cause) → HasGivenUp cause → P cause
@@ -260,6 +265,7 @@ of_given_up P gave (BadAsc fault) is = absurd is
 of_given_up P gave (BadBits fault) is = absurd is
 of_given_up P gave (TooLong role limit) is = absurd is
 of_given_up P gave (BadLevels line) is = absurd is
+of_given_up P gave (BadDelays line) is = absurd is
 
 -- where the work is done and nothing was said behind it, nothing was said
 pub silent_behind : (old mid new : Meaning) (cause : Cause) → IsSilent old mid → SilentWhereDone mid new cause → SilentWhereDone old new cause
@@ -280,3 +286,4 @@ silent_behind old mid new (BadAsc fault) before silent = tt
 silent_behind old mid new (BadBits fault) before silent = tt
 silent_behind old mid new (TooLong role limit) before silent = tt
 silent_behind old mid new (BadLevels line) before silent = tt
+silent_behind old mid new (BadDelays line) before silent = tt

@@ -4,7 +4,7 @@ use Rattle.std.proofs.lemmas.Bool.{cases_lt}
 use Rattle.std.proofs.Math.Nat.{eq-or-lt_of_le}
 use Rattle.ice_desk.specs.Desk.{Meaning, SameButReading, SameButSaying, Rose, after_one, after_more}
 use Rattle.ice_answer.specs.declared.cause.Cause.{Cause}
-use Rattle.ice_answer.specs.declared.cause.Cause.TheVariants.{Good, Usage, BadBlif, BadPcf, BadChip, BadNet, BadPin, Overfull, Unreachable, GaveUp, ReadFault, WriteFault, NoMemory, BadAsc, BadBits, TooLong, BadLevels}
+use Rattle.ice_answer.specs.declared.cause.Cause.TheVariants.{Good, Usage, BadBlif, BadPcf, BadChip, BadNet, BadPin, Overfull, Unreachable, GaveUp, ReadFault, WriteFault, NoMemory, BadAsc, BadBits, TooLong, BadLevels, BadDelays}
 use Rattle.ice_answer.specs.declared.cause.FileRole.{FileRole}
 use Rattle.ice_answer.specs.Reading.{most_bytes, Files, role_at, name_at, IsTextOf, FitBefore, IsLastRead, IsReadFault, IsTooLong, IsUnread, IsFirstTooLong, IsReadStop, IsLong, TellsLong}
 
@@ -65,6 +65,7 @@ stopped_at files old mid new place (WriteFault of_role put) p q n some few befor
 stopped_at files old mid new place (BadAsc fault) p q n some few before stop = absurd stop
 stopped_at files old mid new place (BadBits fault) p q n some few before stop = absurd stop
 stopped_at files old mid new place (BadLevels line) p q n some few before stop = absurd stop
+stopped_at files old mid new place (BadDelays line) p q n some few before stop = absurd stop
 
 pub reading_refl : (a : Meaning) → SameButReading a a
 reading_refl a = record { tells = refl; files = refl; taken = refl; said = refl; makes = refl; says = refl; puts = refl; is_open = refl; write_faults = refl; say_faults = refl; read_faults = omega arith }
@@ -138,6 +139,7 @@ long_is (BadAsc fault) is = absurd is
 long_is (BadBits fault) is = absurd is
 long_is (TooLong of_role limit) is = (of_role, limit, refl)
 long_is (BadLevels line) is = absurd is
+long_is (BadDelays line) is = absurd is
 
 -- a text is too long exactly where the file that was begun last gave more than the limit
 pub long_exactly : (files : Files) (old new : Meaning) (cause : Cause) → ((role : FileRole) (limit : ℕ) → cause ≡ TooLong role limit → IsTooLong files old new role limit) → TellsLong new cause

@@ -2,7 +2,7 @@
 use Rattle.std.proofs.Common.{◌≡◌, ◌≢◌, ℕ, refl, Option, None, Some, Result, Ok, Err, inl, inr, sym, subst}
 use Rattle.std.specs.Global.{Vec}
 use Rattle.ice_answer.specs.declared.cause.Cause.{Cause}
-use Rattle.ice_answer.specs.declared.cause.Cause.TheVariants.{Good, Usage, BadBlif, BadPcf, BadChip, BadNet, BadPin, Overfull, Unreachable, GaveUp, ReadFault, WriteFault, NoMemory, BadAsc, BadBits, TooLong, BadLevels}
+use Rattle.ice_answer.specs.declared.cause.Cause.TheVariants.{Good, Usage, BadBlif, BadPcf, BadChip, BadNet, BadPin, Overfull, Unreachable, GaveUp, ReadFault, WriteFault, NoMemory, BadAsc, BadBits, TooLong, BadLevels, BadDelays}
 use Rattle.ice_answer.specs.declared.cause.FileRole.{FileRole}
 use Rattle.ice_place.specs.declared.arrangement.Arrangement.{Arrangement}
 use Rattle.ice_answer.specs.Refusals.{IsBlifRefusal, IsPcfRefusal, IsChipRefusal, IsNetRefusal, IsAscRefusal, IsBitsRefusal, IsPinRefusal, IsPlaceRefusal}
@@ -78,6 +78,7 @@ of_done P good cut (BadAsc fault) done = absurd done
 of_done P good cut (BadBits fault) done = absurd done
 of_done P good cut (TooLong role limit) done = absurd done
 of_done P good cut (BadLevels line) done = absurd done
+of_done P good cut (BadDelays line) done = absurd done
 
 -- ---- refusals
 -- a fault of a chip text that a reader tells, and that isn't want of memory, is the one of the text

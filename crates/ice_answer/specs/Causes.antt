@@ -1,9 +1,9 @@
 -- The statuses of the program's answers, and the line that each refusal says.
 use Rattle.std.specs.Prelude.{ℕ, List, [], ◌∷◌, ◌++◌, map, length, codes, decimal}
 use Rattle.ice_answer.specs.declared.cause.Cause.{Cause}
-use Rattle.ice_answer.specs.declared.cause.Cause.TheVariants.{Good, Usage, BadBlif, BadPcf, BadChip, BadNet, BadPin, Overfull, Unreachable, GaveUp, ReadFault, WriteFault, NoMemory, BadAsc, BadBits, TooLong, BadLevels}
+use Rattle.ice_answer.specs.declared.cause.Cause.TheVariants.{Good, Usage, BadBlif, BadPcf, BadChip, BadNet, BadPin, Overfull, Unreachable, GaveUp, ReadFault, WriteFault, NoMemory, BadAsc, BadBits, TooLong, BadLevels, BadDelays}
 use Rattle.ice_answer.specs.declared.cause.FileRole.{FileRole}
-use Rattle.ice_answer.specs.declared.cause.FileRole.TheVariants.{Chip, Pcf, Blif, Asc, Levels, Pins, Report, Standard}
+use Rattle.ice_answer.specs.declared.cause.FileRole.TheVariants.{Chip, Pcf, Blif, Asc, Levels, Delays, Pins, Report, Standard}
 use Rattle.ice_place.specs.declared.arrangement.Arrangement.{Arrangement}
 use Rattle.ice_base.specs.declared.number.WireNo.{WireNo}
 use Rattle.ice_asc.specs.declared.fault.AscFault.{AscFault}
@@ -45,6 +45,7 @@ status_of (BadAsc fault) = 14
 status_of (BadBits fault) = 15
 status_of (TooLong role limit) = 16
 status_of (BadLevels line) = 17
+status_of (BadDelays line) = 19
 
 abbrev pub role_name : FileRole → List ℕ
 role_name Chip = codes "chip"
@@ -52,6 +53,7 @@ role_name Pcf = codes "pcf"
 role_name Blif = codes "blif"
 role_name Asc = codes "asc"
 role_name Levels = codes "levels"
+role_name Delays = codes "delays"
 role_name Pins = codes "pins"
 role_name Report = codes "report"
 role_name Standard = codes "standard"
@@ -197,3 +199,4 @@ line_of (BadAsc fault) = asc_line fault
 line_of (BadBits fault) = bits_line fault
 line_of (TooLong role limit) = joined (codes "error 16 long " ∷ role_name role ∷ codes " limit " ∷ decimal limit ∷ codes "\n" ∷ [])
 line_of (BadLevels line) = number_line (codes "error 17 levels line ") line
+line_of (BadDelays line) = number_line (codes "error 19 delays line ") line

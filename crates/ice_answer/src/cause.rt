@@ -30,6 +30,8 @@ pub enum FileRole {
     Asc,
     /// The text of levels.
     Levels,
+    /// The text of delays.
+    Delays,
     /// The report on the pins.
     Pins,
     /// The report on the routes.
@@ -95,6 +97,10 @@ pub enum Cause {
     },
     /// 17: a line of the level text is refused.
     BadLevels {
+        line: u32,
+    },
+    /// 19: a line of the text of delays is refused, or a delay is missing, which is line 0.
+    BadDelays {
         line: u32,
     },
 }

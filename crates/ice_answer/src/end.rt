@@ -31,6 +31,7 @@ fn status(cause: &Cause) -> u8
         Cause::BadBits(_) => 15,
         Cause::TooLong { .. } => 16,
         Cause::BadLevels { .. } => 17,
+        Cause::BadDelays { .. } => 19,
     }
 }
 

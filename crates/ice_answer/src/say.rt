@@ -80,6 +80,7 @@ fn role_name(role: FileRole) -> Piece
         FileRole::Blif => Piece::Text(b"blif"),
         FileRole::Asc => Piece::Text(b"asc"),
         FileRole::Levels => Piece::Text(b"levels"),
+        FileRole::Delays => Piece::Text(b"delays"),
         FileRole::Pins => Piece::Text(b"pins"),
         FileRole::Report => Piece::Text(b"report"),
         FileRole::Standard => Piece::Text(b"standard"),
@@ -307,6 +308,9 @@ fn line_pieces(cause: &Cause) -> [Piece; 5]
         }
         Cause::BadLevels { line } => {
             three(b"error 17 levels line ", Piece::Number(*line as u64), b"\n")
+        }
+        Cause::BadDelays { line } => {
+            three(b"error 19 delays line ", Piece::Number(*line as u64), b"\n")
         }
     }
 }

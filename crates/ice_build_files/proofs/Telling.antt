@@ -26,7 +26,7 @@ use Rattle.ice_words.specs.Grips.{Shut}
 use Rattle.ice_build.specs.Answers.{pins_said, places_said}
 use Rattle.ice_build.specs.Laid.{Task, task_of}
 use Rattle.ice_answer.specs.declared.cause.Cause.{Cause}
-use Rattle.ice_answer.specs.declared.cause.Cause.TheVariants.{Good, Usage, BadBlif, BadPcf, BadChip, BadNet, BadPin, Overfull, Unreachable, GaveUp, ReadFault, WriteFault, NoMemory, BadAsc, BadBits, TooLong, BadLevels}
+use Rattle.ice_answer.specs.declared.cause.Cause.TheVariants.{Good, Usage, BadBlif, BadPcf, BadChip, BadNet, BadPin, Overfull, Unreachable, GaveUp, ReadFault, WriteFault, NoMemory, BadAsc, BadBits, TooLong, BadLevels, BadDelays}
 use Rattle.ice_answer.specs.declared.cause.FileRole.{FileRole}
 use Rattle.ice_answer.specs.Texts.{text_at}
 use Rattle.ice_answer.proofs.Standings.{fault_alone, then_stands}
@@ -58,6 +58,7 @@ of_end P task rounds good cut stuck gave bits (BadAsc fault) is = absurd is
 of_end P task rounds good cut stuck gave bits (BadBits fault) is = bits fault is
 of_end P task rounds good cut stuck gave bits (TooLong role limit) is = absurd is
 of_end P task rounds good cut stuck gave bits (BadLevels line) is = absurd is
+of_end P task rounds good cut stuck gave bits (BadDelays line) is = absurd is
 
 -- what is true of each answer behind pins and places, too
 pub of_tried : (P : Cause → Type 0) → ((arrangement : Arrangement) (tallies : Vec Shut) → P (Good arrangement tallies)) → ((role : FileRole) (put : ℕ) → P (WriteFault role put))
@@ -80,6 +81,7 @@ of_tried P good cut stuck gave bits (BadAsc fault) is = absurd is
 of_tried P good cut stuck gave bits (BadBits fault) is = bits fault
 of_tried P good cut stuck gave bits (TooLong role limit) is = absurd is
 of_tried P good cut stuck gave bits (BadLevels line) is = absurd is
+of_tried P good cut stuck gave bits (BadDelays line) is = absurd is
 
 -- what is true of each answer that tells an arrangement
 pub of_about : (P : Cause → Type 0) (arrangement : Arrangement) → ((tallies : Vec Shut) → P (Good arrangement tallies)) → ((net : NetNo) (sink : WireNo) → P (Unreachable arrangement net sink))
@@ -101,6 +103,7 @@ of_about P arrangement good stuck gave (BadAsc fault) is = absurd is
 of_about P arrangement good stuck gave (BadBits fault) is = absurd is
 of_about P arrangement good stuck gave (TooLong role limit) is = absurd is
 of_about P arrangement good stuck gave (BadLevels line) is = absurd is
+of_about P arrangement good stuck gave (BadDelays line) is = absurd is
 
 -- ---- what is told
 abbrev pub Told : List ℕ → ℕ → List (List ℕ) → Cause → Type 0

@@ -3,7 +3,7 @@ use Rattle.std.proofs.Common.{◌≡◌, ◌∙◌, ◌≤◌, ◌<◌, ◌+◌,
 use Rattle.std.proofs.lemmas.Bool.{cases_lt}
 use Rattle.ice_desk.specs.Desk.{Meaning, SameButReading, Rose, after_one, after_more}
 use Rattle.ice_answer.specs.declared.cause.Cause.{Cause}
-use Rattle.ice_answer.specs.declared.cause.Cause.TheVariants.{Good, Usage, BadBlif, BadPcf, BadChip, BadNet, BadPin, Overfull, Unreachable, GaveUp, ReadFault, WriteFault, NoMemory, BadAsc, BadBits, TooLong, BadLevels}
+use Rattle.ice_answer.specs.declared.cause.Cause.TheVariants.{Good, Usage, BadBlif, BadPcf, BadChip, BadNet, BadPin, Overfull, Unreachable, GaveUp, ReadFault, WriteFault, NoMemory, BadAsc, BadBits, TooLong, BadLevels, BadDelays}
 use Rattle.ice_answer.specs.declared.cause.FileRole.{FileRole}
 use Rattle.ice_answer.specs.declared.cause.FileRole.TheVariants.{Chip}
 use Rattle.ice_answer.specs.Reading.{most_bytes, File, Files, role_at, name_at, IsTextOf, FitBefore, IsLastRead, IsReadFault, IsTooLong, IsUnread, IsReadStop}
@@ -89,6 +89,7 @@ unread_further file files text old mid new (WriteFault role put) is stop = absur
 unread_further file files text old mid new (BadAsc fault) is stop = absurd stop
 unread_further file files text old mid new (BadBits fault) is stop = absurd stop
 unread_further file files text old mid new (BadLevels line) is stop = absurd stop
+unread_further file files text old mid new (BadDelays line) is stop = absurd stop
 
 -- where the reading of the first file stopped, that of all files stopped
 pub unread_first : (file : File) (files : Files) (old new : Meaning) (cause : Cause) → SameButReading old new → new.begins ≡ after_one old.begins

@@ -4,7 +4,7 @@ use Rattle.clap.specs.Words.{Text, takes, subcommand_of}
 use Rattle.ice_desk.specs.Desk.{Meaning, SameButSaying}
 use Rattle.ice_desk.specs.Said.{SaidRow}
 use Rattle.ice_request.specs.Command.{command}
-use Rattle.ice_request.specs.Requests.{Asked, Build, Back, PlayNet, PlayBits, Sample, ForBuild, ForBack, ForPlayNet, ForPlayBits, ForSample, is_taken, asked_in, request_of}
+use Rattle.ice_request.specs.Requests.{Asked, Build, Back, PlayNet, PlayBits, Time, Sample, ForBuild, ForBack, ForPlayNet, ForPlayBits, ForTime, ForSample, is_taken, asked_in, request_of}
 use Rattle.ice_answer.specs.declared.cause.Cause.{Cause}
 use Rattle.ice_answer.specs.declared.cause.Cause.TheVariants.{Usage, NoMemory}
 use Rattle.ice_answer.specs.declared.cause.Done.{Done}
@@ -24,11 +24,13 @@ use Rattle.ice_play.proofs.PlayLaws as play
 use Rattle.ice_play.specs.Played.{PlayNet as NetPlay, play_net}
 use Rattle.ice_play_bits.proofs.BitsLaws as bits
 use Rattle.ice_play_bits.specs.Played.{PlayBits as BitsPlay, play_bits}
+use Rattle.ice_flow_time_cmd.proofs.TimeLaws as timing
+use Rattle.ice_flow_time_cmd.specs.Timings.{Time as BitsTime, time}
 use Rattle.ice_sample_run.proofs.SampleLaws as sample
 use Rattle.ice_sample_run.specs.Command.{sample as sample_command}
-use Rattle.ice_flow.specs.Command.{asked_for, build_of, back_of, play_of, bits_of, sample_of}
+use Rattle.ice_flow.specs.Command.{asked_for, build_of, back_of, play_of, bits_of, time_of, sample_of}
 use Rattle.ice_flow.specs.Ends.{IsDoneAs, IsRefusedAs}
-use Rattle.ice_flow.specs.Plays.{IsNetAnswer, IsBitsAnswer}
+use Rattle.ice_flow.specs.Plays.{IsNetAnswer, IsBitsAnswer, IsTimeAnswer}
 use Rattle.ice_flow.specs.Rows.{IsForgotten, Caused, UsageRow, NoMemoryRow, MayUse}
 use Rattle.ice_flow.specs.Run.{IsAnswer, IsAnswerTo}
 
@@ -38,6 +40,7 @@ never_usage (ForBuild w) old new cause is e = asked (build_files (build_of w)) o
 never_usage (ForBack w) old new cause is e = asked (back_files (back_of w)) old new cause (back.lawful (back_of w)) is e
 never_usage (ForPlayNet w) old new cause is e = asked (play_net (play_of w)) old new cause (play.lawful (play_of w)) is e
 never_usage (ForPlayBits w) old new cause is e = asked (play_bits (bits_of w)) old new cause (bits.lawful (bits_of w)) is e
+never_usage (ForTime w) old new cause is e = asked (time (time_of w)) old new cause (timing.lawful (time_of w)) is e
 never_usage (ForSample w) old new cause is e = asked (sample_command (sample_of w)) old new cause (sample.lawful (sample_of w)) is e
 
 net_answer : (p : NetPlay) (old new : Meaning) (end : Done) → IsTrueOf (play_net p) old new end.cause → end.status ≡ status_of end.cause → TellsLong new end.cause → IsNetAnswer p old new end
@@ -66,6 +69,20 @@ bits_answer p old new end is status long = record {
   too_long = answers.too_long_row (play_bits p) old new end.cause is long;
 }
 
+time_answer : (t : BitsTime) (old new : Meaning) (end : Done) → IsTrueOf (time t) old new end.cause → end.status ≡ status_of end.cause → TellsLong new end.cause → IsTimeAnswer t old new end
+time_answer t old new end is status long = record {
+  good = answers.good_row (time t) old new end.cause end.status is status;
+  done = answers.done_row (time t) old new end.cause (timing.lawful t) (timing.alone t) is;
+  bad_chip = timing.chip_row t old new end.cause is;
+  bad_asc = timing.asc_row t old new end.cause is;
+  no_package = timing.package_row t old new end.cause is;
+  bad_bits = timing.bits_row t old new end.cause is;
+  bad_delays = timing.delays_row t old new end.cause is;
+  read_fault = answers.read_fault_row (time t) old new end.cause is;
+  write_fault = answers.write_fault_row (time t) old new end.cause is;
+  too_long = answers.too_long_row (time t) old new end.cause is long;
+}
+
 -- ---- what the words ask for was done
 abbrev DoneIf : Meaning → Meaning → Done → Option Asked → Type 0
 DoneIf old new end None = Unit {0}
@@ -92,6 +109,7 @@ done_answer words w old new end is =
       backed_up = λ b e. (let d = this (ForBack b) e in inr (back.answers (back_of b) old new end d.end_is.is_true d.status d.long));
       played = λ p e. (let d = this (ForPlayNet p) e in inr (net_answer (play_of p) old new end d.end_is.is_true d.status d.long));
       bits_played = λ p e. (let d = this (ForPlayBits p) e in inr (bits_answer (bits_of p) old new end d.end_is.is_true d.status d.long));
+      timed = λ t e. (let d = this (ForTime t) e in inr (time_answer (time_of t) old new end d.end_is.is_true d.status d.long));
       sampled = λ s e. (let d = this (ForSample s) e in inr (sample.answers (sample_of s) old new end d.end_is.is_true d.status));
       caused = is.end_is.is_true;
       said = is.end_is.said;
@@ -125,6 +143,7 @@ refused_none words refusal old new end is which = record {
   backed_up = λ w e. cc e;
   played = λ w e. cc e;
   bits_played = λ w e. cc e;
+  timed = λ w e. cc e;
   sampled = λ w e. cc e;
   caused = (is.same, elim which [ inl u ↦ inl (is.is_cause ∙ u.0) | inr m ↦ inr (is.is_cause ∙ m) ]);
   said = is.said;
@@ -188,6 +207,7 @@ forgotten_answer words (Some w) old new end is =
       backed_up = λ b e. inl forgotten;
       played = λ p e. inl forgotten;
       bits_played = λ p e. inl forgotten;
+      timed = λ t e. inl forgotten;
       sampled = λ s e. inl forgotten;
       caused = ended.is_true;
       said = ended.said;

@@ -8,10 +8,12 @@ use Rattle.ice_play.specs.Played as play
 use Rattle.ice_play.specs.Played.{play_net}
 use Rattle.ice_play_bits.specs.Played as bits
 use Rattle.ice_play_bits.specs.Played.{play_bits}
+use Rattle.ice_flow_time_cmd.specs.Timings as timing
+use Rattle.ice_flow_time_cmd.specs.Timings.{time}
 use Rattle.ice_sample_run.specs.Samples as sample
 use Rattle.ice_sample_run.specs.Command.{sample}
 use Rattle.ice_answer.specs.Commands.{Command}
-use Rattle.ice_request.specs.Requests.{Asked, ForBuild, ForBack, ForPlayNet, ForPlayBits, ForSample}
+use Rattle.ice_request.specs.Requests.{Asked, ForBuild, ForBack, ForPlayNet, ForPlayBits, ForTime, ForSample}
 use Rattle.ice_request.specs.Requests as words
 
 -- how long a build tries, and from where
@@ -39,6 +41,9 @@ play_of w = record { blif = w.blif; levels = w.levels }
 abbrev pub bits_of : words.PlayBits → bits.PlayBits
 bits_of w = record { chip = w.chip; package_name = w.package_name; asc = w.asc; levels = w.levels }
 
+abbrev pub time_of : words.Time → timing.Time
+time_of w = record { chip = w.chip; package_name = w.package_name; asc = w.asc; delays = w.delays }
+
 abbrev pub sample_of : words.Sample → sample.Sample
 sample_of w = record { number = w.number; workers = w.workers }
 
@@ -48,4 +53,5 @@ asked_for (ForBuild w) = build_files (build_of w)
 asked_for (ForBack w) = back_files (back_of w)
 asked_for (ForPlayNet w) = play_net (play_of w)
 asked_for (ForPlayBits w) = play_bits (bits_of w)
+asked_for (ForTime w) = time (time_of w)
 asked_for (ForSample w) = sample (sample_of w)

@@ -1,4 +1,4 @@
--- The end of a command that plays, clause by clause.
+-- The end of a command that plays or times, clause by clause.
 use Rattle.std.specs.Prelude.{ℕ}
 use Rattle.ice_desk.specs.Desk.{Meaning}
 use Rattle.ice_answer.specs.declared.cause.Done.{Done}
@@ -7,6 +7,8 @@ use Rattle.ice_play.specs.Played.{PlayNet, play_net}
 use Rattle.ice_play.specs.PlayRows as play
 use Rattle.ice_play_bits.specs.Played.{PlayBits, play_bits}
 use Rattle.ice_play_bits.specs.BitsRows as bits
+use Rattle.ice_flow_time_cmd.specs.Timings.{Time, time}
+use Rattle.ice_flow_time_cmd.specs.TimeRows as timing
 
 -- a netlist is played: what was said at status 0, and when each answer comes
 pub record IsNetAnswer (p : PlayNet) (old new : Meaning) (end : Done) : Type 0 where
@@ -31,3 +33,16 @@ pub record IsBitsAnswer (p : PlayBits) (old new : Meaning) (end : Done) : Type 0
   pub read_fault : ReadFaultRow (play_bits p) old new end.cause
   pub write_fault : WriteFaultRow (play_bits p) old new end.cause
   pub too_long : TooLongRow (play_bits p) old new end.cause
+
+-- bits are timed: what was said at status 0, and when each answer comes
+pub record IsTimeAnswer (t : Time) (old new : Meaning) (end : Done) : Type 0 where
+  pub good : GoodRow (time t) old new end.cause end.status
+  pub done : DoneRow (time t) old end.cause
+  pub bad_chip : timing.ChipRow t old end.cause
+  pub bad_asc : timing.AscRow t old end.cause
+  pub no_package : timing.PackageRow t old end.cause
+  pub bad_bits : timing.BitsRow t old end.cause
+  pub bad_delays : timing.DelaysRow t old end.cause
+  pub read_fault : ReadFaultRow (time t) old new end.cause
+  pub write_fault : WriteFaultRow (time t) old new end.cause
+  pub too_long : TooLongRow (time t) old new end.cause

@@ -4,7 +4,7 @@ use Rattle.clap.specs.Words.{Text, takes}
 use Rattle.ice_desk.specs.Desk.{Meaning, SameButSaying}
 use Rattle.ice_desk.specs.Said.{SaidRow}
 use Rattle.ice_request.specs.Command.{command}
-use Rattle.ice_request.specs.Requests.{Asked, Build, Back, PlayNet, PlayBits, Sample, ForBuild, ForBack, ForPlayNet, ForPlayBits, ForSample}
+use Rattle.ice_request.specs.Requests.{Asked, Build, Back, PlayNet, PlayBits, Time, Sample, ForBuild, ForBack, ForPlayNet, ForPlayBits, ForTime, ForSample}
 use Rattle.ice_answer.specs.declared.cause.Cause.{Cause}
 use Rattle.ice_answer.specs.declared.cause.Cause.TheVariants.{Usage, NoMemory}
 use Rattle.ice_answer.specs.Causes.{line_of}
@@ -53,6 +53,10 @@ Plays asked old new cause P = (w : PlayNet) → asked ≡ Some (ForPlayNet w) �
 abbrev pub PlaysBits : Option Asked → Meaning → Meaning → Cause → (PlayBits → Type 0) → Type 0
 PlaysBits asked old new cause P = (w : PlayBits) → asked ≡ Some (ForPlayBits w) → IsForgotten old new cause ⊎ P w
 
+-- the same of bits that are timed
+abbrev pub Times : Option Asked → Meaning → Meaning → Cause → (Time → Type 0) → Type 0
+Times asked old new cause P = (w : Time) → asked ≡ Some (ForTime w) → IsForgotten old new cause ⊎ P w
+
 -- the same of a sample
 abbrev pub Samples : Option Asked → Meaning → Meaning → Cause → (Sample → Type 0) → Type 0
 Samples asked old new cause P = (w : Sample) → asked ≡ Some (ForSample w) → IsForgotten old new cause ⊎ P w
@@ -96,4 +100,5 @@ MayUse may_read may_write (Some (ForBuild w)) = may_read w.chip × may_read w.pc
 MayUse may_read may_write (Some (ForBack w)) = may_read w.chip × may_read w.asc × may_write w.blif
 MayUse may_read may_write (Some (ForPlayNet w)) = may_read w.blif × may_read w.levels
 MayUse may_read may_write (Some (ForPlayBits w)) = may_read w.chip × may_read w.asc × may_read w.levels
+MayUse may_read may_write (Some (ForTime w)) = may_read w.chip × may_read w.asc × may_read w.delays
 MayUse may_read may_write (Some (ForSample w)) = Unit {0}

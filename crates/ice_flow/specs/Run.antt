@@ -8,9 +8,9 @@ use Rattle.ice_build_files.specs.BuildRows.{HeadlineRow, IsBuildAnswer}
 use Rattle.ice_back_files.specs.BackRows.{IsBackAnswer}
 use Rattle.ice_sample_run.specs.SampleRows.{IsSampleAnswer}
 use Rattle.ice_request.specs.Requests.{Asked, Build, ForBuild, request_of}
-use Rattle.ice_flow.specs.Command.{build_of, back_of, play_of, bits_of, sample_of}
-use Rattle.ice_flow.specs.Plays.{IsNetAnswer, IsBitsAnswer}
-use Rattle.ice_flow.specs.Rows.{Caused, Builds, BacksUp, Plays, PlaysBits, Samples, UsageRow, NoMemoryRow, SaidByWords, KeptRow, MadeRow, SilentRow, PartedRow}
+use Rattle.ice_flow.specs.Command.{build_of, back_of, play_of, bits_of, time_of, sample_of}
+use Rattle.ice_flow.specs.Plays.{IsNetAnswer, IsBitsAnswer, IsTimeAnswer}
+use Rattle.ice_flow.specs.Rows.{Caused, Builds, BacksUp, Plays, PlaysBits, Times, Samples, UsageRow, NoMemoryRow, SaidByWords, KeptRow, MadeRow, SilentRow, PartedRow}
 
 -- The end of the program for words that ask for this, where the desk was seen as `old` before and is seen as `new` after.
 pub record IsAnswerTo (words : List Text) (asked : Option Asked) (old new : Meaning) (end : Done) : Type 0 where
@@ -26,6 +26,8 @@ pub record IsAnswerTo (words : List Text) (asked : Option Asked) (old new : Mean
   pub played : Plays asked old new end.cause (λ w. IsNetAnswer (play_of w) old new end)
   -- bits that are played
   pub bits_played : PlaysBits asked old new end.cause (λ w. IsBitsAnswer (bits_of w) old new end)
+  -- bits that are timed
+  pub timed : Times asked old new end.cause (λ w. IsTimeAnswer (time_of w) old new end)
   -- a sample
   pub sampled : Samples asked old new end.cause (λ w. IsSampleAnswer (sample_of w) old new end)
   -- whatever the words ask for

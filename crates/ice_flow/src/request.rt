@@ -5,18 +5,20 @@ ghost use Rattle.ice_build_files.specs.Requests as build;
 ghost use Rattle.ice_back_files.specs.Requests as back;
 ghost use Rattle.ice_play.specs.Requests as play;
 ghost use Rattle.ice_play_bits.specs.Requests as bits;
-ghost use Rattle.ice_request.specs.Views.{build_view, back_view, net_view, bits_view, sample_view, IsInLimits};
+ghost use Rattle.ice_flow_time_cmd.specs.Requests as timing;
+ghost use Rattle.ice_request.specs.Views.{build_view, back_view, net_view, bits_view, time_view, sample_view, IsInLimits};
 ghost use Rattle.ice_request.specs.declared.request.Request.TheVariants as asked;
 ghost use Rattle.ice_sample_run.specs.Requests as sample;
 ghost use Rattle.ice_sample_run.specs.Samples.{IsManned};
-ghost use Rattle.ice_flow.specs.Command.{build_of, back_of, play_of, bits_of, sample_of};
+ghost use Rattle.ice_flow.specs.Command.{build_of, back_of, play_of, bits_of, time_of, sample_of};
 
 use ice_back_files::BackRequest;
 use ice_build::Effort;
 use ice_build_files::BuildRequest;
+use ice_flow_time_cmd::TimeRequest;
 use ice_play::NetRequest;
 use ice_play_bits::BitsRequest;
-use ice_request::{BackWords, BitsWords, BuildWords, NetWords};
+use ice_request::{BackWords, BitsWords, BuildWords, NetWords, TimeWords};
 use ice_sample_run::SampleRequest;
 
 /// What the words of a build ask for.
@@ -72,6 +74,18 @@ pub fn bits_request<'a>(words: &BitsWords<'a>) -> BitsRequest<'a>
         package_name: words.package_name,
         asc: words.asc,
         levels: words.levels,
+    }
+}
+
+/// What the words of bits that are timed ask for.
+pub fn time_request<'a>(words: &TimeWords<'a>) -> TimeRequest<'a>
+    ensures { timing.request_view result ≡ time_of (time_view words.now) }
+{
+    TimeRequest {
+        chip: words.chip,
+        package_name: words.package_name,
+        asc: words.asc,
+        delays: words.delays,
     }
 }
 

@@ -1,20 +1,25 @@
 //! The top call: from the words of the program to its status.
 ghost use Rattle.std.specs.Prelude.{Some, map, string_bytes};
-ghost use Rattle.ice_request.specs.Requests.{request_of, ForBuild, ForBack, ForPlayNet, ForPlayBits, ForSample};
-ghost use Rattle.ice_request.specs.Views.{request_view, build_view, back_view, net_view, bits_view, sample_view, IsInLimits};
+ghost use Rattle.ice_request.specs.Requests.{request_of, ForBuild, ForBack, ForPlayNet, ForPlayBits, ForTime, ForSample};
+ghost use Rattle.ice_request.specs.Views.{request_view, build_view, back_view, net_view, bits_view, time_view, sample_view, IsInLimits};
 ghost use Rattle.ice_request.specs.declared.request.Request.TheVariants as asked;
 ghost use Rattle.ice_flow.specs.Ends.{IsDoneAs};
 ghost use Rattle.ice_flow.specs.Rows.{MayUse};
 ghost use Rattle.ice_flow.specs.Run.{IsAnswer};
 
-use crate::request::{back_request, bits_request, build_request, net_request, sample_request};
+use crate::request::{
+    back_request, bits_request, build_request, net_request, sample_request, time_request,
+};
 use ice_answer::{Cause, Done, finish};
 use ice_back_files::back_files;
 use ice_build_files::build_files;
 use ice_desk::{Desk, Gate};
+use ice_flow_time_cmd::time;
 use ice_play::play_net;
 use ice_play_bits::play_bits;
-use ice_request::{BackWords, BitsWords, BuildWords, NetWords, Request, WordsFault, read_request};
+use ice_request::{
+    BackWords, BitsWords, BuildWords, NetWords, Request, TimeWords, WordsFault, read_request,
+};
 use ice_sample_run::sample;
 use std::alloc::Global;
 use std::thread::Threads;
@@ -58,6 +63,14 @@ fn do_play_bits<D: Desk>(alloc: Global, words: &BitsWords<'_>, desk: &mut D) -> 
     play_bits(alloc, desk, &bits_request(words))
 }
 
+// Times bits.
+fn do_time<D: Desk>(alloc: Global, words: &TimeWords<'_>, desk: &mut D) -> Done
+    requires { MayUse (D.may_read desk.old) (D.may_write desk.old) (Some (ForTime (time_view words.now))) }
+    ensures { IsDoneAs (ForTime (time_view words.now)) (D.seen desk.old) (D.seen desk.new) result }
+{
+    time(alloc, desk, &time_request(words))
+}
+
 // Builds a sample.
 fn do_sample<D: Desk, G: Gate + Sync, R: Threads + Sync>(
     rt: &R,
@@ -90,6 +103,7 @@ fn do_request<D: Desk, G: Gate + Sync, R: Threads + Sync>(
         Request::Back(words) => do_back(alloc, words, desk),
         Request::PlayNet(words) => do_play_net(alloc, words, desk),
         Request::PlayBits(words) => do_play_bits(alloc, words, desk),
+        Request::Time(words) => do_time(alloc, words, desk),
         Request::Sample { number, workers } => do_sample(rt, alloc, *number, *workers, desk, gate),
     }
 }
@@ -101,7 +115,8 @@ fn do_request<D: Desk, G: Gate + Sync, R: Threads + Sync>(
 /// (1), `--rounds N` of routing from 1 to 64 (64) by `--workers N` from 1 to 8 (2). `back CHIP PACKAGE ASC BLIF` reads the texts of a chip
 /// database and of bits, and writes a netlist of the circuit in them. `play-net BLIF LEVELS` reads the texts of a netlist and of levels,
 /// and says what the netlist's ports drive, step by step. `play-bits CHIP PACKAGE ASC LEVELS` reads the texts of a chip database, of bits
-/// and of levels, and says what the configured chip drives at the pads of the package, step by step. `sample NUMBER` builds the sample
+/// and of levels, and says what the configured chip drives at the pads of the package, step by step. `time CHIP PACKAGE ASC DELAYS` reads
+/// the texts of a chip database, of bits and of delays, and says a longest path of the configured chip. `sample NUMBER` builds the sample
 /// netlist of this number on the sample chip, and says how that went.
 #[tactic(auto, using(crate::proofs::RowLaws::done_so, crate::proofs::RowLaws::refused_so, crate::proofs::RowLaws::forgotten_so, crate::proofs::RowLaws::may_use_asked))]
 pub fn run<D: Desk, G: Gate + Sync, R: Threads + Sync>(

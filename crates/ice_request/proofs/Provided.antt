@@ -21,8 +21,8 @@ use Rattle.clap.specs.declared.parser.matches.ValueSource.{ValueSource}
 use Rattle.clap.specs.declared.parser.matches.ValueSource.TheVariants.{DefaultValue}
 use Rattle.clap.proofs.WalkLemmas.{both}
 use Rattle.clap.proofs.SimpleLemmas.{is_nil}
-use Rattle.ice_request.specs.Command.{command, most_number, most_rounds, most_workers, build_command, back_command, play_net_command, play_bits_command, sample_command}
-use Rattle.ice_request.specs.Requests.{◌>>=◌, asked_in, asked_of, build_of, back_of, play_net_of, play_bits_of, sample_of, workers_of, number_in, number_of, is_taken, request_of}
+use Rattle.ice_request.specs.Command.{command, most_number, most_rounds, most_workers, build_command, back_command, play_net_command, play_bits_command, time_command, sample_command}
+use Rattle.ice_request.specs.Requests.{◌>>=◌, asked_in, asked_of, build_of, back_of, play_net_of, play_bits_of, time_of, sample_of, workers_of, number_in, number_of, is_taken, request_of}
 use Rattle.ice_request.proofs.Kept.{Each, Good, IsFilled, IsKnown, is_once, Passes, all_good, passes, found_in, no_fault, no_kind}
 
 -- ---- the rows that are there
@@ -251,6 +251,11 @@ module _ (rows : List Row) where
   play_bits_asked chip name asc levels = then_some (play_bits_of rows) _ (then_some (first_of (codes "CHIP") rows) _ chip (λ _. then_some (first_of (codes "PACKAGE") rows) _ name
       (λ _. then_some (first_of (codes "ASC") rows) _ asc (λ _. then_some (first_of (codes "LEVELS") rows) _ levels (λ _. refl))))) (λ _. refl)
 
+  time_asked : IsSome (first_of (codes "CHIP") rows) → IsSome (first_of (codes "PACKAGE") rows) → IsSome (first_of (codes "ASC") rows) → IsSome (first_of (codes "DELAYS") rows)
+      → IsSome (asked_of (codes "time") rows)
+  time_asked chip name asc delays = then_some (time_of rows) _ (then_some (first_of (codes "CHIP") rows) _ chip (λ _. then_some (first_of (codes "PACKAGE") rows) _ name
+      (λ _. then_some (first_of (codes "ASC") rows) _ asc (λ _. then_some (first_of (codes "DELAYS") rows) _ delays (λ _. refl))))) (λ _. refl)
+
   sample_asked : IsSome (number_of (codes "NUMBER") 0 most_number rows) → IsSome (workers_of rows) → IsSome (asked_of (codes "sample") rows)
   sample_asked number workers = then_some (sample_of rows) _ (then_some (number_of (codes "NUMBER") 0 most_number rows) _ number (λ _. then_some (workers_of rows) _ workers (λ _. refl))) (λ _. refl)
 
@@ -278,6 +283,11 @@ play_bits_provided name words other is e =
     let word = word_at (leaf play_bits_command) (k refl refl, (k refl refl, (k refl refl, (k refl refl, (k refl refl, tt))))) refl words (passes (leaf play_bits_command) [] words false [] e) in
     play_bits_asked (rows_after (leaf play_bits_command).rules [] words) (word (codes "CHIP") refl) (word (codes "PACKAGE") refl) (word (codes "ASC") refl) (word (codes "LEVELS") refl)
 
+time_provided : IsProvided (leaf time_command)
+time_provided name words other is e =
+    let word = word_at (leaf time_command) (k refl refl, (k refl refl, (k refl refl, (k refl refl, (k refl refl, tt))))) refl words (passes (leaf time_command) [] words false [] e) in
+    time_asked (rows_after (leaf time_command).rules [] words) (word (codes "CHIP") refl) (word (codes "PACKAGE") refl) (word (codes "ASC") refl) (word (codes "DELAYS") refl)
+
 sample_provided : IsProvided (leaf sample_command)
 sample_provided name words other is e =
     let number = number_at (leaf sample_command) (k refl refl, (k refl refl, (k refl refl, tt))) refl words (passes (leaf sample_command) [] words false [] e) in
@@ -291,7 +301,7 @@ help_provided name words other is e = go (bytes_eq (codes "help") name) (bytes_e
     go false d h = absurd (true≢false (sym h))
 
 all_provided : Each IsProvided (built command).subs
-all_provided = (build_provided, (back_provided, (play_net_provided, (play_bits_provided, (sample_provided, (help_provided, tt))))))
+all_provided = (build_provided, (back_provided, (play_net_provided, (play_bits_provided, (time_provided, (sample_provided, (help_provided, tt)))))))
 
 -- ---- the command
 

@@ -16,6 +16,7 @@ worked = record {
   hyphen = refl;
   play_net = refl;
   play_bits = refl;
+  time = refl;
   back = refl;
   sample = refl;
   many_rounds = refl;

@@ -56,6 +56,9 @@ play_net_command = subcommand (codes "play-net") (place (codes "BLIF") ∷ place
 abbrev pub play_bits_command : Shape
 play_bits_command = subcommand (codes "play-bits") (place (codes "CHIP") ∷ place (codes "PACKAGE") ∷ place (codes "ASC") ∷ place (codes "LEVELS") ∷ [])
 
+abbrev pub time_command : Shape
+time_command = subcommand (codes "time") (place (codes "CHIP") ∷ place (codes "PACKAGE") ∷ place (codes "ASC") ∷ place (codes "DELAYS") ∷ [])
+
 abbrev pub sample_command : Shape
 sample_command = subcommand (codes "sample") (number_place (codes "NUMBER") 0 most_number ∷ workers_option ∷ [])
 
@@ -67,9 +70,9 @@ alone shape = record { top = shape; subs = [] }
 abbrev pub bare_command : Shape
 bare_command = record (new_shape (codes "tefitsundra")) { no_binary_name = true; subcommand_required = true }
 
--- the command, with its five subcommands
+-- the command, with its six subcommands
 abbrev pub command : App
 command = record {
   top = record bare_command { is_leaf = false };
-  subs = build_command ∷ back_command ∷ play_net_command ∷ play_bits_command ∷ sample_command ∷ [];
+  subs = build_command ∷ back_command ∷ play_net_command ∷ play_bits_command ∷ time_command ∷ sample_command ∷ [];
 }

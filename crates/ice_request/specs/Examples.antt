@@ -1,7 +1,7 @@
 -- What some words ask for.
 use Rattle.std.specs.Prelude.{◌≡◌, ◌^◌, ◌-◌, ◌++◌, Some, None, List, [], ◌∷◌, codes}
 use Rattle.clap.specs.Words.{Text}
-use Rattle.ice_request.specs.Requests.{Build, ForBuild, ForBack, ForPlayNet, ForPlayBits, ForSample, request_of}
+use Rattle.ice_request.specs.Requests.{Build, ForBuild, ForBack, ForPlayNet, ForPlayBits, ForTime, ForSample, request_of}
 
 -- five names, and every option as it is where it is not given
 abbrev pub plain_build : Build
@@ -32,6 +32,7 @@ pub record HasWorkedExamples : Type 0 where
   pub hyphen : request_of (codes "play-net" ∷ codes "--" ∷ codes "-x" ∷ codes "y" ∷ []) ≡ Some (ForPlayNet (record { blif = codes "-x"; levels = codes "y" }))
   pub play_net : request_of (codes "play-net" ∷ codes "x" ∷ codes "y" ∷ []) ≡ Some (ForPlayNet (record { blif = codes "x"; levels = codes "y" }))
   pub play_bits : request_of (codes "play-bits" ∷ codes "a" ∷ codes "b" ∷ codes "c" ∷ codes "d" ∷ []) ≡ Some (ForPlayBits (record { chip = codes "a"; package_name = codes "b"; asc = codes "c"; levels = codes "d" }))
+  pub time : request_of (codes "time" ∷ codes "a" ∷ codes "b" ∷ codes "c" ∷ codes "d" ∷ []) ≡ Some (ForTime (record { chip = codes "a"; package_name = codes "b"; asc = codes "c"; delays = codes "d" }))
   pub back : request_of (codes "back" ∷ codes "a" ∷ codes "b" ∷ codes "c" ∷ codes "d" ∷ []) ≡ Some (ForBack (record { chip = codes "a"; package_name = codes "b"; asc = codes "c"; blif = codes "d" }))
   pub sample : request_of (codes "sample" ∷ codes "7" ∷ []) ≡ Some (ForSample (record { number = 7; workers = 2 }))
   pub many_rounds : request_of (codes "build" ∷ codes "--rounds" ∷ codes "65" ∷ five) ≡ None

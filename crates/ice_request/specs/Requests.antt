@@ -39,6 +39,13 @@ pub record PlayBits : Type 0 where
   pub asc : Text
   pub levels : Text
 
+-- to time a text of bits
+pub record Time : Type 0 where
+  pub chip : Text
+  pub package_name : Text
+  pub asc : Text
+  pub delays : Text
+
 -- to route a sample netlist
 pub record Sample : Type 0 where
   pub number : ℕ
@@ -50,6 +57,7 @@ pub data Asked : Type 0 where
   ForBack : Back → Asked
   ForPlayNet : PlayNet → Asked
   ForPlayBits : PlayBits → Asked
+  ForTime : Time → Asked
   ForSample : Sample → Asked
 
 -- what the second makes of what the first gives, where it gives anything
@@ -115,6 +123,14 @@ play_bits_of rows =
     first_of (codes "LEVELS") rows >>= (λ levels.
     Some (record { chip = chip; package_name = name; asc = asc; levels = levels })))))
 
+abbrev pub time_of : List Row → Option Time
+time_of rows =
+    first_of (codes "CHIP") rows >>= (λ chip.
+    first_of (codes "PACKAGE") rows >>= (λ name.
+    first_of (codes "ASC") rows >>= (λ asc.
+    first_of (codes "DELAYS") rows >>= (λ delays.
+    Some (record { chip = chip; package_name = name; asc = asc; delays = delays })))))
+
 abbrev pub sample_of : List Row → Option Sample
 sample_of rows =
     number_of (codes "NUMBER") 0 most_number rows >>= (λ number.
@@ -127,7 +143,8 @@ asked_of name rows = if bytes_eq name (codes "build") then build_of rows >>= (λ
     else (if bytes_eq name (codes "back") then back_of rows >>= (λ b. Some (ForBack b))
     else (if bytes_eq name (codes "play-net") then play_net_of rows >>= (λ p. Some (ForPlayNet p))
     else (if bytes_eq name (codes "play-bits") then play_bits_of rows >>= (λ p. Some (ForPlayBits p))
-    else (if bytes_eq name (codes "sample") then sample_of rows >>= (λ s. Some (ForSample s)) else None))))
+    else (if bytes_eq name (codes "time") then time_of rows >>= (λ t. Some (ForTime t))
+    else (if bytes_eq name (codes "sample") then sample_of rows >>= (λ s. Some (ForSample s)) else None)))))
 
 -- the same of the subcommand that was found
 abbrev pub asked_in : Option (Text × List Row) → Option Asked

@@ -1,12 +1,13 @@
 -- Requests of the program as the definitions see them.
 use Rattle.std.specs.Prelude.{◌≤◌, ℕ, ⊤, option_map}
 use Rattle.ice_request.specs.Command.{most_rounds, most_workers}
-use Rattle.ice_request.specs.Requests.{Asked, ForBuild, ForBack, ForPlayNet, ForPlayBits, ForSample}
+use Rattle.ice_request.specs.Requests.{Asked, ForBuild, ForBack, ForPlayNet, ForPlayBits, ForTime, ForSample}
 use Rattle.ice_request.specs.Requests as asked
 use Rattle.ice_request.specs.declared.request.BuildWords.{BuildWords}
 use Rattle.ice_request.specs.declared.request.BackWords.{BackWords}
 use Rattle.ice_request.specs.declared.request.NetWords.{NetWords}
 use Rattle.ice_request.specs.declared.request.BitsWords.{BitsWords}
+use Rattle.ice_request.specs.declared.request.TimeWords.{TimeWords}
 use Rattle.ice_request.specs.declared.request.Request.{Request}
 use Rattle.ice_request.specs.declared.request.Request.TheVariants as request
 
@@ -33,6 +34,9 @@ net_view w = record { blif = w.blif.now; levels = w.levels.now }
 abbrev pub bits_view : BitsWords → asked.PlayBits
 bits_view w = record { chip = w.chip.now; package_name = w.package_name.now; asc = w.asc.now; levels = w.levels.now }
 
+abbrev pub time_view : TimeWords → asked.Time
+time_view w = record { chip = w.chip.now; package_name = w.package_name.now; asc = w.asc.now; delays = w.delays.now }
+
 abbrev pub sample_view : ℕ → ℕ → asked.Sample
 sample_view number workers = record { number = number; workers = workers }
 
@@ -41,6 +45,7 @@ request_view (request.Build w) = ForBuild (build_view w)
 request_view (request.Back w) = ForBack (back_view w)
 request_view (request.PlayNet w) = ForPlayNet (net_view w)
 request_view (request.PlayBits w) = ForPlayBits (bits_view w)
+request_view (request.Time w) = ForTime (time_view w)
 request_view (request.Sample number workers) = ForSample (sample_view number workers)
 
 -- the numbers of rounds and of workers are in their limits

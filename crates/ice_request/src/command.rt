@@ -3,7 +3,7 @@ ghost use Rattle.std.specs.Prelude.{◌≡◌, IfOk, false, codes};
 ghost use Rattle.clap.specs.Words.{App, Shape, app_of, rule_of, with_subcommand};
 ghost use Rattle.clap.specs.declared.builder.command.Command.TheViews.{out-Command as fields_of};
 ghost use Rattle.ice_request.specs.Arguments.{rule_for, with_arguments};
-ghost use Rattle.ice_request.specs.Command.{place, file_option, alone, bare_command, build_command, back_command, play_net_command, play_bits_command, sample_command, command};
+ghost use Rattle.ice_request.specs.Command.{place, file_option, alone, bare_command, build_command, back_command, play_net_command, play_bits_command, time_command, sample_command, command};
 
 use clap::builder::ValueParser;
 use clap::{Arg, ArgAction, Command};
@@ -136,6 +136,19 @@ fn play_bits_command<'a>(alloc: Global) -> Result<Command<'a>, AllocError>
     with_arguments(alloc, Command::new(alloc, "play-bits"), &arguments)
 }
 
+fn time_command<'a>(alloc: Global) -> Result<Command<'a>, AllocError>
+    ensures app { IfOk result (λ c. app_of c ≡ alone time_command) }
+    ensures local { IfOk result (λ c. (fields_of c).has_globals ≡ false) }
+{
+    let arguments = [
+        Argument::Place("CHIP"),
+        Argument::Place("PACKAGE"),
+        Argument::Place("ASC"),
+        Argument::Place("DELAYS"),
+    ];
+    with_arguments(alloc, Command::new(alloc, "time"), &arguments)
+}
+
 fn sample_command<'a>(alloc: Global) -> Result<Command<'a>, AllocError>
     ensures app { IfOk result (λ c. app_of c ≡ alone sample_command) }
     ensures local { IfOk result (λ c. (fields_of c).has_globals ≡ false) }
@@ -165,5 +178,6 @@ pub fn tool_command<'a>(alloc: Global) -> Result<Command<'a>, AllocError>
     let command = with_subcommand(command, back_command(alloc))?;
     let command = with_subcommand(command, play_net_command(alloc))?;
     let command = with_subcommand(command, play_bits_command(alloc))?;
+    let command = with_subcommand(command, time_command(alloc))?;
     with_subcommand(command, sample_command(alloc))
 }

@@ -1,11 +1,11 @@
 //! What `clap` found for a subcommand, read as its request.
 ghost use Rattle.std.specs.Prelude.{◌≡◌, ◌≤◌, IfSome, option_map};
 ghost use Rattle.clap.specs.Words.{first_of, found_of, rows_of, subcommand_rows_of};
-ghost use Rattle.ice_request.specs.Requests.{number_in, number_of, workers_of, build_of, back_of, play_net_of, play_bits_of, sample_of, asked_of, asked_in};
-ghost use Rattle.ice_request.specs.Views.{build_view, back_view, net_view, bits_view, sample_view, request_view, IsInLimits};
+ghost use Rattle.ice_request.specs.Requests.{number_in, number_of, workers_of, build_of, back_of, play_net_of, play_bits_of, time_of, sample_of, asked_of, asked_in};
+ghost use Rattle.ice_request.specs.Views.{build_view, back_view, net_view, bits_view, time_view, sample_view, request_view, IsInLimits};
 ghost use Rattle.ice_request.specs.Command.{most_workers};
 
-use crate::request::{BackWords, BitsWords, BuildWords, NetWords, Request};
+use crate::request::{BackWords, BitsWords, BuildWords, NetWords, Request, TimeWords};
 use clap::ArgMatches;
 
 // The first value of an argument.
@@ -126,6 +126,21 @@ fn play_bits_of<'a>(found: &ArgMatches<'a>) -> Option<BitsWords<'a>>
     })
 }
 
+fn time_of<'a>(found: &ArgMatches<'a>) -> Option<TimeWords<'a>>
+    ensures { option_map time_view result ≡ time_of (rows_of (found_of found.now)) }
+{
+    let chip = word_of(found, "CHIP")?;
+    let package_name = word_of(found, "PACKAGE")?;
+    let asc = word_of(found, "ASC")?;
+    let delays = word_of(found, "DELAYS")?;
+    Some(TimeWords {
+        chip,
+        package_name,
+        asc,
+        delays,
+    })
+}
+
 fn sample_of(found: &ArgMatches<'_>) -> Option<(u64, u32)>
     ensures value { option_map (λ s. sample_view s.0 s.1) result ≡ sample_of (rows_of (found_of found.now)) }
     ensures range { IfSome result (λ s. IsInLimits (Request.Sample s.0 s.1)) }
@@ -151,6 +166,9 @@ fn asked_of<'a>(name: &str, found: &ArgMatches<'a>) -> Option<Request<'a>>
     }
     if name == "play-bits" {
         return play_bits_of(found).map(Request::PlayBits);
+    }
+    if name == "time" {
+        return time_of(found).map(Request::Time);
     }
     if name == "sample" {
         return match sample_of(found) {

@@ -11,4 +11,4 @@ mod request;
 pub use fault::WordsFault;
 pub use laws::{asks_where_taken, worked_examples};
 pub use matching::read_request;
-pub use request::{BackWords, BitsWords, BuildWords, NetWords, Request};
+pub use request::{BackWords, BitsWords, BuildWords, NetWords, Request, TimeWords};

@@ -60,6 +60,19 @@ pub struct BitsWords<'a> {
     pub levels: &'a str,
 }
 
+/// The words of `time CHIP PACKAGE ASC DELAYS`.
+#[derive(Clone, Copy)]
+pub struct TimeWords<'a> {
+    /// The name of the file of the chip database.
+    pub chip: &'a str,
+    /// The name of the package.
+    pub package_name: &'a str,
+    /// The name of the file of bits.
+    pub asc: &'a str,
+    /// The name of the file of delays.
+    pub delays: &'a str,
+}
+
 /// What words ask for.
 #[derive(Clone, Copy)]
 pub enum Request<'a> {
@@ -71,6 +84,8 @@ pub enum Request<'a> {
     PlayNet(NetWords<'a>),
     /// `play-bits CHIP PACKAGE ASC LEVELS`.
     PlayBits(BitsWords<'a>),
+    /// `time CHIP PACKAGE ASC DELAYS`.
+    Time(TimeWords<'a>),
     /// `sample NUMBER`, with `--workers N`.
     Sample {
         /// The number of the sample.

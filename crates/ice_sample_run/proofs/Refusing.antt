@@ -4,7 +4,7 @@ use Rattle.ice_answer.proofs.Standings.{at_fault, behind, pin_refused, place_ref
 use Rattle.ice_answer.specs.Commands.{IsRefusal}
 use Rattle.ice_answer.specs.Texts.{text_at}
 use Rattle.ice_answer.specs.declared.cause.Cause.{Cause}
-use Rattle.ice_answer.specs.declared.cause.Cause.TheVariants.{Good, Usage, BadBlif, BadPcf, BadChip, BadNet, BadPin, Overfull, Unreachable, GaveUp, ReadFault, WriteFault, NoMemory, BadAsc, BadBits, TooLong, BadLevels}
+use Rattle.ice_answer.specs.declared.cause.Cause.TheVariants.{Good, Usage, BadBlif, BadPcf, BadChip, BadNet, BadPin, Overfull, Unreachable, GaveUp, ReadFault, WriteFault, NoMemory, BadAsc, BadBits, TooLong, BadLevels, BadDelays}
 use Rattle.ice_answer.specs.declared.giving.Made.{Made}
 use Rattle.ice_build.proofs.Answering.{pins_good, places_good}
 use Rattle.ice_build.specs.Answers.{IsRouted, pins_said, places_said}
@@ -42,6 +42,7 @@ refusal_behind Before Behind (BadAsc fault) so is = (so (BadAsc fault) is.0, is.
 refusal_behind Before Behind (BadBits fault) so is = (so (BadBits fault) is.0, is.1)
 refusal_behind Before Behind (TooLong role limit) so is = absurd is
 refusal_behind Before Behind (BadLevels line) so is = (so (BadLevels line) is.0, is.1)
+refusal_behind Before Behind (BadDelays line) so is = (so (BadDelays line) is.0, is.1)
 
 pub refused_behind : {V : Type 0} (Before Behind : Cause → Type 0) (result : Result V Cause) → ((c : Cause) → Behind c → Before c) → IfErr result (λ cause. IsRefusal Behind cause)
     → IfErr result (λ cause. IsRefusal Before cause)

@@ -11,7 +11,7 @@ use Rattle.ice_answer.specs.Reading.{IsLastRead}
 use Rattle.ice_answer.specs.Rows.{IsHeld, GoodRow}
 use Rattle.ice_answer.specs.Texts.{text_at}
 use Rattle.ice_answer.specs.declared.cause.Cause.{Cause}
-use Rattle.ice_answer.specs.declared.cause.Cause.TheVariants.{Good, Usage, BadBlif, BadPcf, BadChip, BadNet, BadPin, Overfull, Unreachable, GaveUp, ReadFault, WriteFault, NoMemory, BadAsc, BadBits, TooLong, BadLevels}
+use Rattle.ice_answer.specs.declared.cause.Cause.TheVariants.{Good, Usage, BadBlif, BadPcf, BadChip, BadNet, BadPin, Overfull, Unreachable, GaveUp, ReadFault, WriteFault, NoMemory, BadAsc, BadBits, TooLong, BadLevels, BadDelays}
 use Rattle.ice_answer.specs.declared.cause.Done.{Done}
 use Rattle.ice_answer.specs.declared.cause.FileRole.{FileRole}
 use Rattle.ice_answer.specs.declared.giving.Made.{Made}
@@ -80,6 +80,7 @@ says s old new (BadAsc fault) is = inl is.0.2
 says s old new (BadBits fault) is = inl is.0.2
 says s old new (TooLong role limit) is = absurd (none_last old new role is.last)
 says s old new (BadLevels line) is = inl is.0.2
+says s old new (BadDelays line) is = inl is.0.2
 
 -- ---- the rows
 module _ (s : Sample) (old new : Meaning) (cause : Cause) (is : IsTrueOf (sample s) old new cause) where

@@ -3,7 +3,7 @@ use Rattle.std.proofs.Common.{◌≡◌, ◌≢◌, ℕ, List, [], Result, Ok, E
 use Rattle.std.specs.Global.{Vec}
 use Rattle.ice_answer.proofs.Standings.{fault_alone, then_stands}
 use Rattle.ice_answer.specs.declared.cause.Cause.{Cause}
-use Rattle.ice_answer.specs.declared.cause.Cause.TheVariants.{Good, Usage, BadBlif, BadPcf, BadChip, BadNet, BadPin, Overfull, Unreachable, GaveUp, ReadFault, WriteFault, NoMemory, BadAsc, BadBits, TooLong, BadLevels}
+use Rattle.ice_answer.specs.declared.cause.Cause.TheVariants.{Good, Usage, BadBlif, BadPcf, BadChip, BadNet, BadPin, Overfull, Unreachable, GaveUp, ReadFault, WriteFault, NoMemory, BadAsc, BadBits, TooLong, BadLevels, BadDelays}
 use Rattle.ice_answer.specs.declared.cause.FileRole.{FileRole}
 use Rattle.ice_base.specs.declared.number.NetNo.{NetNo}
 use Rattle.ice_base.specs.declared.number.TileAt.{TileAt}
@@ -52,6 +52,7 @@ of_end P task good cut stuck gave (BadAsc fault) is = absurd is
 of_end P task good cut stuck gave (BadBits fault) is = absurd is
 of_end P task good cut stuck gave (TooLong role limit) is = absurd is
 of_end P task good cut stuck gave (BadLevels line) is = absurd is
+of_end P task good cut stuck gave (BadDelays line) is = absurd is
 
 -- what is true of each answer behind pins and places, too
 pub of_tried : (P : Cause → Type 0) → ((arrangement : Arrangement) (tallies : Vec Shut) → P (Good arrangement tallies)) → ((role : FileRole) (put : ℕ) → P (WriteFault role put))
@@ -74,6 +75,7 @@ of_tried P good cut stuck gave (BadAsc fault) is = absurd is
 of_tried P good cut stuck gave (BadBits fault) is = absurd is
 of_tried P good cut stuck gave (TooLong role limit) is = absurd is
 of_tried P good cut stuck gave (BadLevels line) is = absurd is
+of_tried P good cut stuck gave (BadDelays line) is = absurd is
 
 -- what is true of each answer that tells an arrangement
 pub of_about : (P : Cause → Type 0) (arrangement : Arrangement) → ((tallies : Vec Shut) → P (Good arrangement tallies)) → ((net : NetNo) (sink : WireNo) → P (Unreachable arrangement net sink))
@@ -95,6 +97,7 @@ of_about P arrangement good stuck gave (BadAsc fault) is = absurd is
 of_about P arrangement good stuck gave (BadBits fault) is = absurd is
 of_about P arrangement good stuck gave (TooLong role limit) is = absurd is
 of_about P arrangement good stuck gave (BadLevels line) is = absurd is
+of_about P arrangement good stuck gave (BadDelays line) is = absurd is
 
 -- ---- what is told
 abbrev pub Told : ℕ → Cause → Type 0
@@ -165,3 +168,4 @@ told_sample number (BadAsc fault) is = absurd is
 told_sample number (BadBits fault) is = absurd is
 told_sample number (TooLong role limit) is = absurd is
 told_sample number (BadLevels line) is = absurd is
+told_sample number (BadDelays line) is = absurd is

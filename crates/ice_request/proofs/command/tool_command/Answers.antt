@@ -1,5 +1,5 @@
 use Rattle.clap.specs.Words.{App, with_subcommand}
-use Rattle.ice_request.specs.Command.{alone, bare_command, build_command, back_command, play_net_command, play_bits_command, sample_command}
+use Rattle.ice_request.specs.Command.{alone, bare_command, build_command, back_command, play_net_command, play_bits_command, time_command, sample_command}
 use Rattle.ice_request.proofs.command.tool_command.Goals as goal
 
 pub returns : goal.returns
@@ -8,7 +8,9 @@ returns c =
     let with_back : App = with_subcommand with_build back_command in
     let with_net : App = with_subcommand with_back play_net_command in
     let with_bits : App = with_subcommand with_net play_bits_command in
-    c.with_subcommand-5.ensures with_bits sample_command
+    let with_time : App = with_subcommand with_bits time_command in
+    c.with_subcommand-6.ensures with_time sample_command
+    (c.in_ok-command-5.ensures with_bits time_command
     (c.in_ok-command-4.ensures with_net play_bits_command
     (c.in_ok-command-3.ensures with_back play_net_command
     (c.in_ok-command-2.ensures with_build back_command
@@ -16,4 +18,5 @@ returns c =
     c.back_command.ensures.app)
     c.play_net_command.ensures.app)
     c.play_bits_command.ensures.app)
+    c.time_command.ensures.app)
     c.sample_command.ensures.app

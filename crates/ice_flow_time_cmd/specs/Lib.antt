@@ -1,0 +1,3 @@
+pub mod Timings
+pub mod Requests
+pub mod TimeRows

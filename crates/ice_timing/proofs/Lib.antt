@@ -1,0 +1,9 @@
+pub mod PathEnds
+pub mod Greatest
+pub mod Numbers
+pub mod LatestEntries
+pub mod Filled
+pub mod EntryLists
+pub mod Reached
+pub mod Walked
+pub mod Ended

@@ -1,0 +1,23 @@
+use Rattle.std.proofs.Common.{◌≡◌, ◌∙◌, map, Some, ap, rules}
+use Rattle.std.proofs.lemmas.List.Elements.{All-same}
+use Rattle.ice_value.specs.Inputs.{present}
+use Rattle.ice_bits.specs.Configuration.{bits_of}
+use Rattle.ice_decode.specs.declared.point.Point.{Point}
+use Rattle.ice_decode.specs.Points.{IsNumbered}
+use Rattle.ice_decode.specs.Reads.{reads}
+use Rattle.ice_timing.proofs.Numbers.{reads_there, wire_there}
+use Rattle.ice_timing.proofs.latest.numbers_read.Goals as goal
+
+pub add_reads-requires-clause-point : goal.add_reads-requires-clause-point
+add_reads-requires-clause-point c = wire_there c.args.chip.now c.args.numbering.now c.requires.points c.args.point c.requires.point
+
+pub number_all-requires : goal.number_all-requires
+number_all-requires c =
+    let said : c.deref.result.now ≡ reads c.args.chip.now (bits_of c.args.circuit.now.configuration) c.args.point = search rules in
+    All-same (IsNumbered c.args.numbering.now) c.deref.result.now (reads c.args.chip.now (bits_of c.args.circuit.now.configuration) c.args.point) said
+    (reads_there c.args.chip.now (bits_of c.args.circuit.now.configuration) c.wires-wires.ensures.chip.read c.args.numbering.now c.requires.points c.args.point c.requires.point)
+
+pub returns : goal.returns
+returns c =
+    let said : c.deref.result.now ≡ reads c.args.chip.now (bits_of c.args.circuit.now.configuration) c.args.point = search rules in
+    c.in_ok-number_all.ensures ∙ ap (λ inputs. map (λ (p : Point). Some p) (present inputs)) said

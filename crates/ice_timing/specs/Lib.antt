@@ -1,0 +1,7 @@
+pub mod Paths
+pub mod PointDelays
+pub mod Entries
+pub mod Latest
+pub mod Arriving
+pub mod Timed
+pub mod PathText
