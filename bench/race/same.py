@@ -4,7 +4,7 @@
 usage: same.py PROGRAM SHOW FOLDER [first | write]; SHOW is the built ice_show_flow, and FOLDER has the netlists that make.py makes
 
 The file digests has, for each of ten netlists, the SHA-256 of
-- the netlist's text with its constraints, since another Yosys makes other netlists, of which nothing can be compared;
+- the netlist's text with its constraints, but for the lines that say where its source lay, since another Yosys makes other netlists, of which nothing can be compared;
 - the report on pins, the report on routes and the text of bits of `build --seed 1 --workers 2` on the database of the 1k device. They are the same as long as packing, clusters and the placer answer as
   they did, so they are for changes that leave those alone;
 - what SHOW says of the netlist, without constraints, on the sample chip of 14 by 18 tiles, in two parts: up to the nets of the *first* placement (design, runs, clusters, pads, sites, nets), and from there
@@ -56,8 +56,14 @@ def first(show, path):
     return [digest(placed), digest(routed) if mark else "none"]
 
 
+def netlist_of(path):
+    """The text of a netlist with its constraints, without the lines that say where its source lay."""
+    lines = (line for line in content(f"{path}.blif").splitlines(keepends=True) if not line.startswith(b".attr src "))
+    return b"".join(lines) + content(f"{path}.pcf")
+
+
 def digests(program, show, path, builds):
-    netlist = digest(content(f"{path}.blif") + content(f"{path}.pcf"))
+    netlist = digest(netlist_of(path))
     return [netlist, *(built(program, path) if builds else ["none"] * 3), *first(show, path)]
 
 
