@@ -2,14 +2,15 @@
 # Project IceStorm's tools. It needs Debian's packages yosys, fpga-icestorm and fpga-icestorm-chipdb, iverilog for `sim` and `postsim`, python3
 # for the tools, and `tefitsundra` on the path (tools/install).
 #
-#   make           top.bin for the board, and top.rpt with the longest path
+#   make           top.bin for the board, top.rpt with icetime's path, and top.path with a longest path by the seven delays of delays/, of
+#                  which the length is said
 #   make sim       runs the test bench over the source
 #   make postsim   runs it over the circuit that is in the bits, as icebox_vlog reads them
 #   make same      plays levels.table over netlist and bits, and says where they differ
 #   make picture   top.svg, which a browser shows
 #   make wave      top.vcd, which GTKWave shows
 #   make stat      what is used of what the chip has
-#   make time      a longest path by the seven delays of delays/; that none is longer is proved
+#   make time      top.path; that no path is longer is proved
 #   make sweep     builds with eight seeds, and keeps the best
 #   make prog      loads the board
 
@@ -19,7 +20,7 @@ PACKAGE = tq144
 DEVICE = hx1k
 DELAYS := $(dir $(lastword $(MAKEFILE_LIST)))delays/$(DEVICE).delays
 
-all: top.rpt top.bin
+all: top.rpt top.path top.bin
 
 # (without splitnets and opt_clean Yosys writes buffers for aliases that nobody reads, some of which nothing drives)
 %.blif: %.v
@@ -35,6 +36,10 @@ all: top.rpt top.bin
 
 %.rpt: %.asc
 	icetime -d $(DEVICE) -mtr $@ $<
+
+%.path: %.asc
+	tefitsundra time $(CHIPDB) $(PACKAGE) $< $(DELAYS) >$@
+	@head -n 1 $@
 
 sim: test.v top.v
 	iverilog -o sim.vvp -s test -D NO_ICE40_DEFAULT_ASSIGNMENTS $^ $(MODELS)
@@ -65,8 +70,8 @@ top.vcd: levels.table top.pins top.blif
 stat: top.asc
 	$(TOOLS)/stat $(CHIPDB) $(PACKAGE) top.pins top.report top.asc
 
-time: top.asc
-	tefitsundra time $(CHIPDB) $(PACKAGE) $< $(DELAYS)
+time: top.path
+	cat $<
 
 sweep: $(PIN_DEF) top.blif
 	$(TOOLS)/sweep $(CHIPDB) $(PACKAGE) $^ top.asc --pins top.pins --report top.report
@@ -75,7 +80,7 @@ prog: top.bin
 	iceprog $<
 
 clean:
-	rm -f top.blif top.asc top.pins top.report top.bin top.rpt top.svg top.vcd top.levels top.pad-levels top.drives chip.v chip.v.whole sim.vvp postsim.vvp
+	rm -f top.blif top.asc top.pins top.report top.bin top.rpt top.path top.svg top.vcd top.levels top.pad-levels top.drives chip.v chip.v.whole sim.vvp postsim.vvp
 
 .DELETE_ON_ERROR:
 .SECONDARY:
