@@ -11,7 +11,8 @@ import sys
 
 SECONDS = 60
 SECONDS_FOR_ALL = 3600
-ADDER_CHIP = (5, 7)
+SMALL_CHIP, LARGE_CHIP = (5, 7), (14, 18)
+STEP = 97  # of the requests for the large chip
 BUFFERS = ".model top\n.inputs a b\n.outputs y z\n.names a y\n1 1\n.names b z\n1 1\n.end\n"
 BUFFER_PINS = "set_io a 1\nset_io b 2\nset_io y 3\nset_io z 4\n"
 
@@ -44,64 +45,81 @@ def adder():
     return "\n".join(lines + [".end"]) + "\n"
 
 
+def sample_chip(top, size):
+    made = [sys.executable, f"{top}/tests/memory/sample_chip.py", *map(str, size)]
+    return subprocess.run(made, capture_output=True, text=True, check=True).stdout
+
+
 def builds(top):
-    """Each build: its name, the texts of its files, and its package."""
+    """Each build: its name, the texts of its files, its package, the files that it writes, and of how many requests one is refused."""
     example = pathlib.Path(top) / "examples/buffer"
-    made = [sys.executable, f"{top}/tests/memory/sample_chip.py", *map(str, ADDER_CHIP)]
-    sample = subprocess.run(made, capture_output=True, text=True, check=True).stdout
     first = {"chip": "chip.txt", "pins": "buffer.pcf", "blif": "buffer.blif"}
+    adders = [
+        (f"an adder of nine bits on the sample chip of {size[0]} by {size[1]}", {"chip": sample_chip(top, size), "pins": "", "blif": adder()}, "sample", files, step)
+        for size, files, step in ((SMALL_CHIP, ["asc"], 1), (LARGE_CHIP, ["asc", "report"], STEP))
+    ]
     return [
-        ("the first example", {it: (example / name).read_text() for it, name in first.items()}, "tiny"),
-        ("two nets over one short wire", {"chip": short_wire_chip(), "pins": BUFFER_PINS, "blif": BUFFERS}, "tiny"),
-        (f"an adder of nine bits on the sample chip of {ADDER_CHIP[0]} by {ADDER_CHIP[1]}", {"chip": sample, "pins": "", "blif": adder()}, "sample"),
+        ("the first example", {it: (example / name).read_text() for it, name in first.items()}, "tiny", ["asc"], 1),
+        ("two nets over one short wire", {"chip": short_wire_chip(), "pins": BUFFER_PINS, "blif": BUFFERS}, "tiny", ["asc"], 1),
+        *adders,
     ]
 
 
 class Build:
-    def __init__(self, program, refuse, folder, name, texts, package):
-        self.program, self.refuse, self.folder, self.name, self.package = program, refuse, folder, name, package
+    def __init__(self, program, refuse, folder, name, texts, package, files):
+        self.program, self.refuse, self.folder, self.name, self.files = program, refuse, folder, name, files
         (folder / "refused").mkdir(parents=True)
         for it, text in texts.items():
             (folder / it).write_text(text)
             (folder / "refused" / it).symlink_to(f"../{it}")
-        self.words = ["build", "chip", package, "pins", "blif", "bits"]
+        self.words = ["build", "chip", package, "pins", "blif", "asc", *(["--report", "report"] if "report" in files else [])]
         self.whole = None
 
     def run(self, which):
-        """The status, what was said and the bits of a run in which requests are refused."""
-        bits = self.folder / "bits"
-        bits.unlink(missing_ok=True)
-        env = {"REFUSE": str(which), "REFUSE_LOG": "log", "REFUSE_FILES": "bits", "LD_PRELOAD": self.refuse}
-        run = subprocess.run([self.program, *self.words], cwd=self.folder, env=env, capture_output=True, timeout=SECONDS_FOR_ALL if which == "each" else SECONDS)
-        held = bits.read_bytes() if bits.exists() else None
+        """The status, what was said and what the files hold after a run in which requests are refused."""
+        paths = [self.folder / it for it in self.files]
+        for path in paths:
+            path.unlink(missing_ok=True)
+        env = {"REFUSE": str(which), "REFUSE_LOG": "log", "REFUSE_FILES": " ".join(self.files), "LD_PRELOAD": self.refuse}
+        seconds = SECONDS_FOR_ALL if str(which).startswith("each") else SECONDS
+        run = subprocess.run([self.program, *self.words], cwd=self.folder, env=env, capture_output=True, timeout=seconds)
+        held = [path.read_bytes() if path.exists() else None for path in paths]
         return run.returncode, run.stdout.decode("latin-1") + run.stderr.decode("latin-1"), held
 
     def requests(self):
         return int(re.search(r"^requests (\d+)$", (self.folder / "log").read_text(), re.M).group(1))
 
-    def state(self, held):
-        if held is None:
-            return "no file"
-        if held == self.whole:
-            return "the whole file"
-        return "a front of the file" if self.whole.startswith(held) else "another file"
+    def states(self, held):
+        return [state_of(it, whole) for it, whole in zip(held, self.whole)]
 
-    def try_each(self):
-        """Each request refused in copies of one process without threads: the answers by number, up to the first that had a file before."""
-        status, said, held = self.run("each")
+    def try_each(self, step):
+        """Each request of so many refused in copies of one process without threads: the answers by number, up to the first with a file before it."""
+        status, said, held = self.run(f"each:{step}")
         if (status, said, held) != (0, "", self.whole):
             sys.exit(f"memory: {self.name}: the process whose copies are refused answers {status} {said!r}")
-        sizes = {"absent": "no file", f"{len(self.whole)}:{checksum(self.whole):016x}": "the whole file"}
+        sums = [{"absent": "no file", f"{len(whole)}:{checksum(whole):016x}": "the whole file"} for whole in self.whole]
         answers = []
-        for number, status, said, file in re.findall(r"^(\d+) (-?\d+) '(.*)' (\S+)$", (self.folder / "log").read_text(encoding="latin-1"), re.M):
-            answers.append((int(number), int(status), said.replace("|", "\n"), sizes.get(file, "another file")))
+        for number, status, said, files in re.findall(r"^(\d+) (-?\d+) '(.*)' (\S+(?: \S+)*)$", (self.folder / "log").read_text(encoding="latin-1"), re.M):
+            if said.startswith("error 12 write report"):
+                break
+            states = [sums[place].get(file, "another file") for place, file in enumerate(files.split())]
+            answers.append((int(number), int(status), said.replace("|", "\n"), states))
         return answers, self.requests()
 
     def try_alone(self, numbers):
         """Each request refused in a process of its own, with its threads."""
         for number in numbers:
             status, said, held = self.run(number)
-            yield number, status, said, self.state(held)
+            yield number, status, said, self.states(held)
+
+
+def state_of(held, whole):
+    """What a file holds, beside what it is to hold."""
+    if held is None:
+        return "no file"
+    if held == whole:
+        return "the whole file"
+    return "a front of the file" if whole.startswith(held) else "another file"
 
 
 def checksum(held):
@@ -111,25 +129,31 @@ def checksum(held):
     return total
 
 
-def is_named(status, said, state):
+def is_named(status, said, files, states):
     """Whether an answer is one of those that may come where memory lacks, with the files that it leaves."""
     if status == 0:
-        return said == "" and state == "the whole file"
+        return said == "" and all(state == "the whole file" for state in states)
     if status == 13:
-        return said == "error 13 memory\n" and state == "no file"
+        return said == "error 13 memory\n" and all(state == "no file" for state in states)
     if status == 11:
-        return re.fullmatch(r"error 11 read (chip|pcf|blif)\n", said) and state == "no file"
-    return status == 12 and re.fullmatch(r"error 12 write asc put \d+\n", said) and state in ("no file", "a front of the file")
+        return bool(re.fullmatch(r"error 11 read (chip|pcf|blif)\n", said)) and all(state == "no file" for state in states)
+    wrote = re.fullmatch(r"error 12 write (\w+) put \d+\n", said)
+    if status != 12 or not wrote or wrote[1] not in files:
+        return False
+    place = files.index(wrote[1])
+    before, here, behind = states[:place], states[place], states[place + 1:]
+    return all(it == "the whole file" for it in before) and here in ("no file", "a front of the file") and all(it == "no file" for it in behind)
 
 
-def tell(name, how, answers):
+def tell(build, how, step, answers):
     """Says the answers, those that follow one another and are alike in one line. Whether all are named."""
-    good, since = True, None
+    name, good = build.name, True
     lines = []
-    for number, status, said, state in answers:
-        good = good and bool(is_named(status, said, state))
-        what = f"status {status}, {said.strip() or 'nothing said'}, {state}" + ("" if is_named(status, said, state) else "  <- NOT NAMED")
-        if lines and lines[-1][2] == what and lines[-1][1] == number - 1:
+    for number, status, said, states in answers:
+        named = is_named(status, said, build.files, states)
+        good = good and named
+        what = f"status {status}, {said.strip() or 'nothing said'}, {', '.join(states)}" + ("" if named else "  <- NOT NAMED")
+        if lines and lines[-1][2] == what and lines[-1][1] == number - step:
             lines[-1][1] = number
         else:
             lines.append([number, number, what])
@@ -145,22 +169,22 @@ def tell(name, how, answers):
 def main():
     program, refuse, top, work, *words = sys.argv[1:]
     good = True
-    for number, (name, texts, package) in enumerate(builds(top)):
+    for number, (name, texts, package, files, step) in enumerate(builds(top)):
         if words and not any(word in name for word in words):
             continue
         folder = pathlib.Path(work) / str(number)
         shutil.rmtree(folder, ignore_errors=True)
-        build = Build(program, refuse, folder, name, texts, package)
+        build = Build(program, refuse, folder, name, texts, package, files)
         status, said, build.whole = build.run(0)
-        if status != 0 or build.whole is None:
+        if status != 0 or None in build.whole:
             sys.exit(f"memory: {name}: with all memory the answer is {status} {said!r}")
         count = build.requests()
-        answers, in_one = build.try_each()
+        answers, in_one = build.try_each(step)
         print(f"memory: {name}: {count} requests, {in_one} without threads")
-        good = tell(name, "without threads", answers) and good
+        good = tell(build, "without threads" if step == 1 else f"each {step}th, without threads", step, answers) and good
         # A process that has made its file already can't be doubled with its files apart; and small builds are tried with threads.
         alone = range(1, count + 3) if count <= 5000 else range(count - 200, count + 3)
-        good = tell(name, "each in a process of its own", build.try_alone(alone)) and good
+        good = tell(build, "each in a process of its own", 1, build.try_alone(alone)) and good
     print(f"memory: {'all answers are named ones, with the files that belong to them' if good else 'there are answers that are not named'}")
     return 0 if good else 1
 

@@ -1,7 +1,7 @@
 /* Refuses requests for memory of a program into which it is loaded (LD_PRELOAD), from the program's `main` on.
 
    REFUSE=N       refuses the Nth request alone.
-   REFUSE=each    refuses each request in turn: at each the process is doubled, and the copy, in which the request is refused, goes on to its
+   REFUSE=each:K  refuses each Kth request in turn: at each the process is doubled, and the copy, in which the request is refused, goes on to its
                   end in the folder `refused`, with its standard output in the file `said` there, before the process itself goes on. The
                   answer of each copy is a line of the log: the number of the request, the status (or - and a signal), what was said, and for
                   each of the files in REFUSE_FILES its size and sum, or `absent`. Threads are not started then, as a copy has one alone.
@@ -25,8 +25,8 @@ extern void *__libc_realloc(void *, size_t);
 extern void *__libc_memalign(size_t, size_t);
 
 static atomic_ulong requests;
-static unsigned long refused;
-static int each, counting, log_file = -1;
+static unsigned long refused, each;
+static int counting, log_file = -1;
 static char files[4096];
 
 static void leave(int status) {
@@ -103,7 +103,7 @@ static int copied(unsigned long number) {
 static int refuses(void) {
     if (!counting) return 0;
     unsigned long number = atomic_fetch_add(&requests, 1) + 1;
-    if (number != refused && !(each && copied(number))) return 0;
+    if (number != refused && !(each && number % each == 0 && copied(number))) return 0;
     errno = ENOMEM;
     return 1;
 }
@@ -134,8 +134,8 @@ __attribute__((constructor)) static void begin(void) {
     log_file = open(log, O_CREAT | O_TRUNC | O_WRONLY, 0644);
     if (log_file < 0 || (names && strlen(names) >= sizeof files)) leave(99);
     if (names) strcpy(files, names);
-    each = strcmp(which, "each") == 0;
-    refused = each ? 0 : strtoul(which, NULL, 10);
+    if (strncmp(which, "each:", 5) == 0) each = strtoul(which + 5, NULL, 10);
+    else refused = strtoul(which, NULL, 10);
     counting = 1;
 }
 

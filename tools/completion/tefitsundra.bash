@@ -16,8 +16,9 @@ _tefitsundra_places() {
 # The options of a command.
 _tefitsundra_options() {
     case "$1" in
-        build) echo "--pins --report --seed --rounds --workers" ;;
-        sample) echo "--workers" ;;
+        build) echo "--pins --report --seed --rounds --workers --help" ;;
+        sample) echo "--workers --help" ;;
+        *) echo "--help" ;;
     esac
 }
 
@@ -65,7 +66,7 @@ _tefitsundra() {
     if [ "$word" = "=" ]; then word=""; fi
     if [ "$before" = "=" ]; then before="${COMP_WORDS[COMP_CWORD - 2]}"; fi
     if [ "$COMP_CWORD" -eq 1 ]; then
-        mapfile -t COMPREPLY < <(compgen -W "build back play-net play-bits time sample" -- "$word")
+        mapfile -t COMPREPLY < <(compgen -W "build back play-net play-bits time sample --help" -- "$word")
         return
     fi
     case " $(_tefitsundra_options "$command") " in

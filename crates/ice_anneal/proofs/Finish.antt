@@ -215,3 +215,7 @@ length_free chunks extra =
     let a = length-append (map (λ own. not (is_rigid chunks own)) chunks) (replicate extra true) in
     let r = length-replicate extra true in
     omega arith
+
+-- as many may be exchanged or not as there are places
+pub free_places : (chunks : List (Option (ℕ × ℕ))) (free : List Bool) (n : ℕ) → length chunks ≤ n → free ≡ free_of chunks (n - length chunks) → length free ≡ n
+free_places chunks free n le e = let f = ap length e in let m = length_free chunks (n - length chunks) in omega arith

@@ -1,7 +1,7 @@
 -- All sites stand once among a legal placement's tiles and the free ones.
-use Rattle.std.proofs.Common.{◌≡◌, ◌⊎◌, inl, inr, ℕ, zero, suc, ◌+◌, ◌-◌, ◌<◌, ◌≤◌, not, Bool, ◌||◌, true, false, cond, Option, Some, None, List, [], ◌∷◌, ◌++◌, length, take, get_or, refl, ap, sym, ◌∙◌, subst, arith}
+use Rattle.std.proofs.Common.{◌≡◌, ◌⊎◌, inl, inr, ℕ, zero, suc, ◌+◌, ◌-◌, ◌<◌, ◌≤◌, not, Bool, ◌||◌, true, false, cond, Option, Some, List, [], ◌∷◌, ◌++◌, length, take, get_or, refl, ap, sym, ◌∙◌, subst, arith}
 use Rattle.std.specs.Prelude.{slice_get}
-use Rattle.std.specs.List.{list_any, filter}
+use Rattle.std.specs.List.{filter}
 use Rattle.std.proofs.lemmas.Bool.{cases_lt}
 use Rattle.std.proofs.lemmas.Option.{slice_get-get_or, slice_get_within, get_or_from_slice_get}
 use Rattle.std.proofs.lemmas.List.{get_or_append_left, get_or-append_right, length-append}
@@ -11,7 +11,7 @@ use Rattle.ice_base.specs.Places.{same_tile}
 use Rattle.ice_base.proofs.Keys.{tile_same, tile_self}
 use Rattle.ice_sites.specs.Legal.{Stands, IsAmong, tile_at, IsLegal}
 use Rattle.ice_place.specs.Place.{AreStretches, joined}
-use Rattle.ice_place.proofs.Weights.{weight, total, weight_filter, total_joined}
+use Rattle.ice_place.proofs.Weights.{weight_filter, total_joined}
 use Rattle.ice_place.proofs.SitesOnce.{mark, once_stretches, some_stretch, stands_once, one_place}
 use Rattle.ice_anneal.specs.Full.{has_tile, is_free, full_of}
 use Rattle.ice_anneal.specs.Least.{IsFull}

@@ -5,3 +5,4 @@ pub mod Measured
 mod Repeats
 mod Orders
 mod Seatings
+mod Tables

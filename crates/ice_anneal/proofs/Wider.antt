@@ -1,5 +1,5 @@
 -- Nets of some clusters are nets of more.
-use Rattle.std.proofs.Common.{ℕ, ◌≤◌, ◌<◌, List, length, get_or, arith}
+use Rattle.std.proofs.Common.{ℕ, ◌≤◌, List, get_or, arith}
 use Rattle.std.specs.List.{All}
 use Rattle.ice_board.specs.declared.net.Node.{Node}
 use Rattle.ice_board.specs.declared.net.Node.TheVariants.{Cluster, Fixed}

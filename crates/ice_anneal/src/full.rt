@@ -1,40 +1,51 @@
 //! All sites.
 ghost use Rattle.std.specs.Prelude.{◌≡◌, ◌++◌, IfOk, OnOk, filter};
-ghost use Rattle.ice_base.specs.Places.{same_tile};
+ghost use Rattle.ice_base.specs.declared.number.TileAt.{TileAt};
 ghost use Rattle.ice_place.specs.Place.{joined};
 ghost use Rattle.ice_anneal.specs.Full.{has_tile, is_free, full_of};
 
 use ice_base::{NoMemory, TileAt};
 use ice_sites::Stretch;
+use indexmap::IndexSet;
 use std::alloc::Global;
 
-// Whether the two are one tile.
-fn same_tile(tile: TileAt, other: TileAt) -> bool
-    ensures { result ≡ same_tile tile other }
+// The tiles of a placement, each once.
+fn taken_by(alloc: Global, at: &[TileAt]) -> Result<IndexSet<TileAt>, NoMemory>
+    ensures { IfOk result (λ taken. (t : TileAt) → has_tile taken.keys t ≡ has_tile at.now t) }
 {
-    tile.x == other.x && tile.y == other.y
-}
-
-// Whether a tile is one of these.
-fn has_tile(at: &[TileAt], tile: TileAt) -> bool
-    ensures { result ≡ has_tile at.now tile }
-{
-    for other in at {
-        if same_tile(tile, *other) {
-            return true;
-        }
+    let mut taken = IndexSet::with_capacity(alloc, at.len())?;
+    for tile in at {
+        taken.insert(*tile)?;
     }
-    false
+    Ok(taken)
 }
 
 // Adds the free ones of these sites.
-fn add_free(all: &mut Vec<TileAt>, at: &[TileAt], sites: &[TileAt]) -> Result<(), NoMemory>
-    ensures { OnOk result (all.new.items ≡ all.old.items ++ filter (is_free at.now) sites.now) }
+fn add_free(
+    all: &mut Vec<TileAt>,
+    taken: &IndexSet<TileAt>,
+    sites: &[TileAt],
+) -> Result<(), NoMemory>
+    ensures { OnOk result (all.new.items ≡ all.old.items ++ filter (is_free taken.now.keys) sites.now) }
 {
     for tile in sites {
-        if !has_tile(at, *tile) {
+        if !taken.contains(tile) {
             all.push(*tile)?;
         }
+    }
+    Ok(())
+}
+
+// Adds the free ones of the sites of these stretches.
+fn add_stretches(
+    all: &mut Vec<TileAt>,
+    taken: &IndexSet<TileAt>,
+    stretches: &[Stretch],
+) -> Result<(), NoMemory>
+    ensures { OnOk result (all.new.items ≡ all.old.items ++ filter (is_free taken.now.keys) (joined stretches.now)) }
+{
+    for stretch in stretches {
+        add_free(all, taken, stretch.tiles())?;
     }
     Ok(())
 }
@@ -43,9 +54,8 @@ fn add_free(all: &mut Vec<TileAt>, at: &[TileAt], sites: &[TileAt]) -> Result<()
 pub fn full_of(alloc: Global, stretches: &[Stretch], at: &[TileAt]) -> Result<Vec<TileAt>, NoMemory>
     ensures { IfOk result (λ all. all.items ≡ full_of stretches.now at.now) }
 {
+    let taken = taken_by(alloc, at)?;
     let mut all = Vec::from_slice(alloc, at)?;
-    for stretch in stretches {
-        add_free(&mut all, at, stretch.tiles())?;
-    }
+    add_stretches(&mut all, &taken, stretches)?;
     Ok(all)
 }

@@ -1,5 +1,5 @@
 //! The placement that is kept.
-ghost use Rattle.std.specs.Prelude.{◌≡◌, ℕ, ◌-◌, ◌<◌, ◌≤◌, ◌^◌, List, length, IfOk, take};
+ghost use Rattle.std.specs.Prelude.{◌≡◌, ◌-◌, ◌<◌, ◌≤◌, ◌^◌, List, length, IfOk, take};
 ghost use Rattle.std.specs.List.{All};
 ghost use Rattle.std.specs.List.Sorted.{IsPermutation};
 ghost use Rattle.ice_base.specs.declared.number.TileAt.{TileAt};
@@ -18,6 +18,7 @@ use crate::once::nets_once;
 use crate::order::{SiteOrder, order_of};
 use crate::seating::{Seating, board_of};
 use crate::shake::anneal;
+use crate::table::{Chunk, places_of};
 use crate::units::units_of;
 use ice_base::{NoMemory, TileAt};
 use ice_board::{Board, Net, Wiring, wiring_of};
@@ -25,6 +26,7 @@ use ice_cells::{Clusters, short};
 use ice_length::{half_perimeter, span_at, with_tile};
 use ice_place::Placement;
 use ice_sites::Sites;
+use indexmap::IndexMap;
 use rand_core::SeedableRng;
 use rand_pcg::Pcg32;
 use std::alloc::Global;
@@ -113,13 +115,35 @@ fn tiles_of(board: Board) -> Vec<TileAt>
     place
 }
 
-// Anneals and descends; where that is longer than what was given, only descends. It would do so, too, where a run stood apart
-// behind the tries. None does, since they take a run as a whole to sites of one stretch; so this need not be proved of them.
-fn best(
+// Only descends, of clusters that may be chunks of runs.
+fn descended(
     alloc: Global,
     wiring: &Wiring,
     free: &[bool],
     chunks: &[Option<(u32, u32)>],
+    place: &[TileAt],
+) -> Result<Vec<TileAt>, NoMemory>
+    requires wiring { IsWiring (length place.now) wiring.now }
+    requires free { free.now ≡ free_of chunks.now (length place.now - length chunks.now) }
+    requires count { length chunks.now ≤ length place.now }
+    ensures moved { IfOk result (λ at. IsPermutation place.now at.items) }
+    ensures legal { IfOk result (λ at. (stretches : List (List TileAt)) → IsFull stretches place.now
+        → IsLegal stretches chunks.now (take (length chunks.now) place.now) → IsLegal stretches chunks.now (take (length chunks.now) at.items)) }
+    ensures falls { IfOk result (λ at. wire_length wiring.now.nets.items at.items ≤ wire_length wiring.now.nets.items place.now) }
+    ensures least { IfOk result (λ at. IsLeast wiring.now.nets.items free.now at.items (length chunks.now)) }
+{
+    let plain = lowered(alloc, wiring, free, chunks.len(), place)?;
+    Ok(tiles_of(plain))
+}
+
+// Anneals and descends; where that is longer than what was given, only descends. It would do so, too, where a run stood apart
+// behind the tries. None does, since they take a run as a whole to sites of one stretch; so this need not be proved of them.
+fn shaken_or_descended(
+    alloc: Global,
+    wiring: &Wiring,
+    free: &[bool],
+    chunks: &[Option<(u32, u32)>],
+    places: &IndexMap<Chunk, usize>,
     order: &SiteOrder,
     place: &[TileAt],
     seed: u64,
@@ -136,11 +160,40 @@ fn best(
     ensures least { IfOk result (λ at. IsLeast wiring.now.nets.items free.now at.items (length chunks.now)) }
 {
     let (shaken, limit) = annealed(alloc, wiring, free, chunks, order, place, seed)?;
-    if shaken.total <= limit && are_linked(chunks, order, &shaken.place) {
+    if shaken.total <= limit && are_linked(places, chunks, order, &shaken.place) {
         return Ok(tiles_of(shaken));
     }
-    let plain = lowered(alloc, wiring, free, chunks.len(), place)?;
-    Ok(tiles_of(plain))
+    descended(alloc, wiring, free, chunks, place)
+}
+
+// With a seed, tries before the descent, where they serve; without one, the descent alone.
+fn best(
+    alloc: Global,
+    wiring: &Wiring,
+    free: &[bool],
+    chunks: &[Option<(u32, u32)>],
+    places: &IndexMap<Chunk, usize>,
+    order: &SiteOrder,
+    place: &[TileAt],
+    seed: Option<u64>,
+) -> Result<Vec<TileAt>, NoMemory>
+    requires wiring { IsWiring (length place.now) wiring.now }
+    requires free { free.now ≡ free_of chunks.now (length place.now - length chunks.now) }
+    requires some { 0 < length chunks.now }
+    requires count { length chunks.now ≤ length place.now }
+    requires few { length place.now < 2 ^ 32 }
+    ensures moved { IfOk result (λ at. IsPermutation place.now at.items) }
+    ensures legal { IfOk result (λ at. (stretches : List (List TileAt)) → IsOrder stretches order.now → IsFull stretches place.now
+        → IsLegal stretches chunks.now (take (length chunks.now) place.now) → IsLegal stretches chunks.now (take (length chunks.now) at.items)) }
+    ensures falls { IfOk result (λ at. wire_length wiring.now.nets.items at.items ≤ wire_length wiring.now.nets.items place.now) }
+    ensures least { IfOk result (λ at. IsLeast wiring.now.nets.items free.now at.items (length chunks.now)) }
+{
+    match seed {
+        Some(seed) => {
+            shaken_or_descended(alloc, wiring, free, chunks, places, order, place, seed)
+        }
+        None => descended(alloc, wiring, free, chunks, place),
+    }
 }
 
 // The same, of the clusters alone: `place` has their tiles, and behind them those of the free sites.
@@ -150,7 +203,7 @@ fn improve_full(
     chunks: &[Option<(u32, u32)>],
     order: &SiteOrder,
     place: &[TileAt],
-    seed: u64,
+    seed: Option<u64>,
 ) -> Result<Vec<TileAt>, NoMemory>
     requires wiring { IsWiring (length place.now) wiring.now }
     requires nets { All (IsNet (length chunks.now)) wiring.now.nets.items }
@@ -164,8 +217,9 @@ fn improve_full(
     ensures least { IfOk result (λ at. (stretches : List (List TileAt)) → IsFull stretches place.now
         → IsSwapLeast (wire_length wiring.now.nets.items) chunks.now stretches at.items) }
 {
-    let free = free_of(alloc, chunks, place.len() - chunks.len())?;
-    let mut found = best(alloc, wiring, &free, chunks, order, place, seed)?;
+    let places = places_of(alloc, chunks)?;
+    let free = free_of(alloc, &places, chunks, place.len() - chunks.len())?;
+    let mut found = best(alloc, wiring, &free, chunks, &places, order, place, seed)?;
     found.truncate(chunks.len());
     Ok(found)
 }
@@ -177,7 +231,7 @@ fn improve_some(
     sites: &Sites,
     chunks: &[Option<(u32, u32)>],
     at: &[TileAt],
-    seed: u64,
+    seed: Option<u64>,
 ) -> Result<Vec<TileAt>, NoMemory>
     requires sites { AreStretches sites.now }
     requires legal { IsLegal sites.now chunks.now at.now }
@@ -195,6 +249,33 @@ fn improve_some(
     let wiring = wiring_of(alloc, nets, place.len())?;
     let found = improve_full(alloc, &wiring, chunks, &order, place.as_slice(), seed)?;
     Ok(found)
+}
+
+/// What `improve_nets` says, by tries from a seed and a descent; without a seed, by a descent alone.
+pub(crate) fn shorten_nets(
+    alloc: Global,
+    nets: Vec<Net>,
+    placement: Placement,
+    sites: &Sites,
+    clusters: &Clusters,
+    seed: Option<u64>,
+) -> Result<Placement, NoMemory>
+    requires sites { AreStretches sites.now }
+    requires legal { IsLegal sites.now (chunks_of clusters.now.list) placement }
+    requires nets { All (IsNet (length (chunks_of clusters.now.list))) nets.items }
+    ensures legal { IfOk result (λ found. IsLegal sites.now (chunks_of clusters.now.list) found) }
+    ensures falls { IfOk result (λ found. wire_length nets.items found ≤ wire_length nets.items placement) }
+    ensures least { IfOk result (λ found. IsSwapLeast (wire_length nets.items) (chunks_of clusters.now.list) sites.now found) }
+{
+    let chunks = chunks_of(alloc, clusters.list())?;
+    if chunks.is_empty() {
+        return Ok(placement);
+    }
+    let number = short(nets.len())?;
+    let tiles = placement.tiles();
+    let once = nets_once(alloc, nets.as_slice())?;
+    let found = improve_some(alloc, once, sites, chunks.as_slice(), tiles, seed)?;
+    Ok(Placement::from_vec(found))
 }
 
 /// A placement that is legal, no longer than the argument, and that no exchange of two clusters and no move of one to a free
@@ -216,13 +297,5 @@ pub fn improve_nets(
     ensures falls { IfOk result (λ found. wire_length nets.items found ≤ wire_length nets.items placement) }
     ensures least { IfOk result (λ found. IsSwapLeast (wire_length nets.items) (chunks_of clusters.now.list) sites.now found) }
 {
-    let chunks = chunks_of(alloc, clusters.list())?;
-    if chunks.is_empty() {
-        return Ok(placement);
-    }
-    let number = short(nets.len())?;
-    let tiles = placement.tiles();
-    let once = nets_once(alloc, nets.as_slice())?;
-    let found = improve_some(alloc, once, sites, chunks.as_slice(), tiles, seed)?;
-    Ok(Placement::from_vec(found))
+    shorten_nets(alloc, nets, placement, sites, clusters, Some(seed))
 }

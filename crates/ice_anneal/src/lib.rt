@@ -10,8 +10,9 @@ mod order;
 mod placing;
 mod seating;
 mod shake;
+mod table;
 mod trial;
 mod units;
 
 pub use improving::improve_nets;
-pub use placing::{improve, nets_in};
+pub use placing::{descend, improve, nets_in};

@@ -1,7 +1,6 @@
 //! All sites in order, and which of them stand one behind the other.
 ghost use Rattle.std.specs.Prelude.{◌≡◌, ◌++◌, ◌≤◌, ◌<◌, List, true, length, slice_index_or, IfOk, OnOk};
 ghost use Rattle.ice_base.specs.declared.number.TileAt.{TileAt};
-ghost use Rattle.ice_base.specs.Places.{same_tile};
 ghost use Rattle.ice_sites.specs.Legal.{Follows, tile_at};
 ghost use Rattle.ice_anneal.specs.Order.{rooms, IsOrder};
 

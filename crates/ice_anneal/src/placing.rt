@@ -10,7 +10,7 @@ ghost use Rattle.ice_place.specs.Place.{chunks_of};
 ghost use Rattle.ice_board.specs.Length.{IsNet, wire_length};
 ghost use Rattle.ice_anneal.specs.Least.{IsSwapLeast};
 
-use crate::improve_nets;
+use crate::improving::shorten_nets;
 use ice_base::NoMemory;
 use ice_board::Net;
 use ice_cells::{Clusters, Design};
@@ -45,6 +45,28 @@ pub fn nets_in(
     Ok(nets)
 }
 
+// By tries from a seed and a descent; without a seed, by a descent alone.
+fn shorten(
+    alloc: Global,
+    chip: &Chip,
+    placement: Placement,
+    sites: &Sites,
+    clusters: &Clusters,
+    design: &Design,
+    pads: &Pads,
+    seed: Option<u64>,
+) -> Result<Placement, NoMemory>
+    requires sites { sites.now ≡ stretches_of chip.now }
+    requires legal { IsLegal sites.now (chunks_of clusters.now.list) placement }
+    ensures legal { IfOk result (λ found. IsLegal sites.now (chunks_of clusters.now.list) found) }
+    ensures shorter { IfOk result (λ found. length_of chip.now (plan_of clusters.now design.now found pads.now) ≤ length_of chip.now (plan_of clusters.now design.now placement pads.now)) }
+    ensures least { IfOk result (λ found. IsSwapLeast (λ at. length_of chip.now (plan_of clusters.now design.now at pads.now)) (chunks_of clusters.now.list) sites.now found) }
+{
+    let nets = nets_in(alloc, chip, clusters, design, pads)?;
+    let found = shorten_nets(alloc, nets, placement, sites, clusters, seed)?;
+    Ok(found)
+}
+
 /// A placement that is legal, no longer than the argument, and that no exchange of two clusters and no move of one to a free
 /// site makes shorter, where these are of no run of several chunks. A number of tries that is fixed before the first goes
 /// before a descent of exchanges and moves that make the placement shorter. It fails for want of memory alone.
@@ -64,7 +86,35 @@ pub fn improve(
     ensures shorter { IfOk result (λ found. length_of chip.now (plan_of clusters.now design.now found pads.now) ≤ length_of chip.now (plan_of clusters.now design.now placement pads.now)) }
     ensures least { IfOk result (λ found. IsSwapLeast (λ at. length_of chip.now (plan_of clusters.now design.now at pads.now)) (chunks_of clusters.now.list) sites.now found) }
 {
-    let nets = nets_in(alloc, chip, clusters, design, pads)?;
-    let found = improve_nets(alloc, nets, placement, sites, clusters, seed)?;
-    Ok(found)
+    shorten(
+        alloc,
+        chip,
+        placement,
+        sites,
+        clusters,
+        design,
+        pads,
+        Some(seed),
+    )
+}
+
+/// A placement that is legal, no longer than the argument, and that no exchange of two clusters and no move of one to a free
+/// site makes shorter, where these are of no run of several chunks. It makes no tries at random and takes no run elsewhere, so what
+/// it finds is near to the argument. It fails for want of memory alone.
+pub fn descend(
+    alloc: Global,
+    chip: &Chip,
+    placement: Placement,
+    sites: &Sites,
+    clusters: &Clusters,
+    design: &Design,
+    pads: &Pads,
+) -> Result<Placement, NoMemory>
+    requires sites { sites.now ≡ stretches_of chip.now }
+    requires legal { IsLegal sites.now (chunks_of clusters.now.list) placement }
+    ensures legal { IfOk result (λ found. IsLegal sites.now (chunks_of clusters.now.list) found) }
+    ensures shorter { IfOk result (λ found. length_of chip.now (plan_of clusters.now design.now found pads.now) ≤ length_of chip.now (plan_of clusters.now design.now placement pads.now)) }
+    ensures least { IfOk result (λ found. IsSwapLeast (λ at. length_of chip.now (plan_of clusters.now design.now at pads.now)) (chunks_of clusters.now.list) sites.now found) }
+{
+    shorten(alloc, chip, placement, sites, clusters, design, pads, None)
 }

@@ -1,5 +1,5 @@
 //! A board, with what stands on each site. Which sites these are serves to choose tries alone, so nothing is claimed of it.
-ghost use Rattle.std.specs.Prelude.{◌≡◌, ◌+◌, ◌<◌, ◌≤◌, length, IfOk, OnOk};
+ghost use Rattle.std.specs.Prelude.{◌≡◌, ◌+◌, ◌<◌, ◌≤◌, length, IfOk};
 ghost use Rattle.std.specs.List.{All, swap};
 ghost use Rattle.std.specs.List.Sorted.{IsPermutation};
 ghost use Rattle.ice_board.specs.Wiring.{IsWiring};

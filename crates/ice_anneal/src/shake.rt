@@ -2,7 +2,6 @@
 ghost use Rattle.std.specs.Prelude.{◌≡◌, ◌+◌, ◌<◌, ◌≤◌, ◌^◌, length, true};
 ghost use Rattle.std.specs.List.{All};
 ghost use Rattle.std.specs.List.Sorted.{IsPermutation};
-ghost use Rattle.ice_board.specs.Wiring.{IsWiring};
 ghost use Rattle.ice_anneal.specs.Seating.{IsSeating, IsUnit};
 
 use crate::order::SiteOrder;

@@ -1,5 +1,5 @@
 //! What moves as a whole: a run with all its chunks, or a cluster of no run of several chunks.
-ghost use Rattle.std.specs.Prelude.{◌≡◌, ◌+◌, ◌<◌, ◌≤◌, length, IfOk};
+ghost use Rattle.std.specs.Prelude.{◌+◌, ◌<◌, ◌≤◌, length, IfOk};
 ghost use Rattle.std.specs.List.{All};
 ghost use Rattle.ice_anneal.specs.Seating.{IsUnit};
 

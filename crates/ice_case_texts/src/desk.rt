@@ -15,16 +15,35 @@ pub fn word_text(word: &[u8]) -> &str {
     str::from_utf8(word).unwrap_or("")
 }
 
-/// The words of a line behind its first.
-pub fn words_behind(alloc: Global, line: &[u8]) -> Result<Vec<String>, AllocError> {
+// What stands between the words of two runs.
+const THEN: &[u8] = b"then";
+
+/// How many runs the words of a line behind its first ask for, one behind the other: none where the line is empty.
+pub fn runs_in(line: &[u8]) -> u32 {
+    let mut runs: u32 = 0;
+    for word in words_of(line) {
+        if runs == 0 || word == THEN {
+            runs = runs.saturating_add(1);
+        }
+    }
+    runs
+}
+
+/// The words of the run of this number, from 0, in a line.
+pub fn words_of_run(alloc: Global, line: &[u8], number: u32) -> Result<Vec<String>, AllocError> {
     let mut words = Vec::new(alloc);
+    let mut run: u32 = 0;
     for word in words_of(line).skip(1) {
-        words.push(String::from_str(alloc, word_text(word))?)?;
+        if word == THEN {
+            run = run.saturating_add(1);
+        } else if run == number {
+            words.push(String::from_str(alloc, word_text(word))?)?;
+        }
     }
     Ok(words)
 }
 
-// Adds the texts that words of a run name, as files.
+// Adds the texts that words of a line name, as files.
 fn add_files(
     alloc: Global,
     files: &mut Vec<(Name, Vec<u8>)>,
@@ -40,7 +59,7 @@ fn add_files(
     Ok(())
 }
 
-// The texts that words of both runs name, as files.
+// The texts that words of all runs name, as files.
 fn files_of(
     alloc: Global,
     case: &Setting<'_>,

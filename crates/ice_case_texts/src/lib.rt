@@ -7,7 +7,7 @@ mod setting;
 mod shown;
 mod texts;
 
-pub use desk::{desk_of, word_text, words_behind};
+pub use desk::{desk_of, runs_in, word_text, words_of_run};
 pub use pieces::{Draft, Piece, number_at, word_at};
 pub use setting::{CaseGate, Part, Setting};
 pub use shown::{add_lines, add_meeting, add_number, add_shown};

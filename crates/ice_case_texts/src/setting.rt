@@ -11,7 +11,7 @@ pub struct Setting<'a> {
     pub number: u32,
     /// The words of the run.
     pub words: &'a [u8],
-    /// The words of a second run over the same desk.
+    /// The words of later runs over the same desk, with the word `then` between two runs.
     pub then: &'a [u8],
     /// How many bytes a call of the desk moves at most.
     pub moves: &'a [u8],
@@ -19,6 +19,8 @@ pub struct Setting<'a> {
     pub fails: &'a [u8],
     /// A line where the workers pass a gate at which two meet, and nothing where the gate is open.
     pub gate: &'a [u8],
+    /// A line where it is told whether the runs place differently.
+    pub places: &'a [u8],
     /// The names of the files that are told.
     pub shows: &'a [u8],
     /// The name of a file, and how those of its lines begin that are told.
@@ -30,7 +32,7 @@ pub struct Setting<'a> {
 pub enum Part {
     /// The words of the run.
     Words,
-    /// The words of a second run.
+    /// The words of the later runs.
     Then,
     /// How many bytes a call of the desk moves.
     Moves,
@@ -38,6 +40,8 @@ pub enum Part {
     Fails,
     /// The gate of the workers.
     Gate,
+    /// Whether the runs place differently.
+    Places,
     /// The files that are told.
     Shows,
     /// The lines of a file that are told.
@@ -55,6 +59,7 @@ impl<'a> Setting<'a> {
             moves: &[],
             fails: &[],
             gate: &[],
+            places: &[],
             shows: &[],
             finds: &[],
         }
@@ -68,6 +73,7 @@ impl<'a> Setting<'a> {
             Part::Moves => self.moves = line,
             Part::Fails => self.fails = line,
             Part::Gate => self.gate = line,
+            Part::Places => self.places = line,
             Part::Shows => self.shows = line,
             Part::Finds => self.finds = line,
         }

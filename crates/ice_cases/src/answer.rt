@@ -1,45 +1,95 @@
-//! The run of a case, and what is said of it.
+//! The runs of a case, and what is said of them.
+use ice_answer::{Cause, Done};
+use ice_base::TileAt;
 use ice_case_texts::{
-    CaseGate, Setting, Text, add_lines, add_meeting, add_number, add_shown, desk_of, words_behind,
+    CaseGate, Setting, Text, add_lines, add_meeting, add_number, add_shown, desk_of, runs_in,
+    words_of_run,
 };
 use ice_desk::MemoryDesk;
 use ice_flow::run;
 use std::alloc::{AllocError, Global};
 use std::thread::Threads;
 
-// Does what words ask for, and adds the status behind this, and what was said.
+// What the runs of a case share, and what they have placed.
+#[derive(Drop)]
+struct Runs {
+    desk: MemoryDesk,
+    gate: CaseGate,
+    // The answer of the first run.
+    first: Option<Done>,
+    // Whether a later run placed otherwise.
+    differ: bool,
+}
+
+// The tiles of the clusters of what was built, or none.
+fn tiles_of(done: &Done) -> &[TileAt] {
+    match &done.cause {
+        Cause::Good { arrangement, .. } => arrangement.placement.tiles(),
+        _ => &[],
+    }
+}
+
+impl Runs {
+    // Notes what a run has placed.
+    fn note(&mut self, done: Done) {
+        let differs = match &self.first {
+            Some(first) => tiles_of(first) != tiles_of(&done),
+            None => false,
+        };
+        self.differ = self.differ || differs;
+        if self.first.is_none() {
+            self.first = Some(done);
+        } else {
+            drop(done);
+        }
+    }
+}
+
+// Does what the words of a run ask for, and adds the status behind this, and what was said.
 fn add_run<R: Threads + Sync>(
     rt: &R,
     out: &mut Vec<u8>,
     before: &[u8],
     line: &[u8],
-    desk: &mut MemoryDesk,
-    gate: &CaseGate,
+    number: u32,
+    runs: &mut Runs,
 ) -> Result<(), AllocError> {
     let alloc = *out.allocator();
-    let words = words_behind(alloc, line)?;
-    let said = desk.said().len();
-    let done = run(rt, alloc, &words, desk, gate);
+    let words = words_of_run(alloc, line, number)?;
+    let said = runs.desk.said().len();
+    let done = run(rt, alloc, &words, &mut runs.desk, &runs.gate);
+    drop(words);
     let status = done.status;
-    drop((done, words));
+    runs.note(done);
     add_number(out, before, u64::from(status))?;
     out.push(b'\n')?;
-    add_lines(out, desk.said().get(said..).unwrap_or(&[]))
+    add_lines(out, runs.desk.said().get(said..).unwrap_or(&[]))
 }
 
-// Adds the runs of a case, whose workers pass this gate.
+// Adds the runs of a line, each behind this.
 fn add_runs<R: Threads + Sync>(
     rt: &R,
     out: &mut Vec<u8>,
-    case: &Setting<'_>,
-    desk: &mut MemoryDesk,
-    gate: &CaseGate,
+    before: &[u8],
+    line: &[u8],
+    runs: &mut Runs,
 ) -> Result<(), AllocError> {
-    add_run(rt, out, b": status ", case.words, desk, gate)?;
-    if case.then.is_empty() {
+    for number in 0..runs_in(line) {
+        add_run(rt, out, before, line, number, runs)?;
+    }
+    Ok(())
+}
+
+// Adds whether the runs have placed differently, where a case asks.
+fn add_places(out: &mut Vec<u8>, case: &Setting<'_>, runs: &Runs) -> Result<(), AllocError> {
+    if case.places.is_empty() {
         return Ok(());
     }
-    add_run(rt, out, b"then status ", case.then, desk, gate)
+    out.extend_from_slice(if runs.differ {
+        b"placements differ\n".as_slice()
+    } else {
+        b"no placements differ\n"
+    })
 }
 
 // Adds the runs of a case, and the files that it shows.
@@ -47,14 +97,15 @@ fn add_answer<R: Threads + Sync>(
     rt: &R,
     out: &mut Vec<u8>,
     case: &Setting<'_>,
-    desk: &mut MemoryDesk,
+    runs: &mut Runs,
 ) -> Result<(), AllocError> {
     out.extend_from_slice(case.group)?;
     add_number(out, b" ", u64::from(case.number))?;
-    let gate = CaseGate::of(case.gate);
-    add_runs(rt, out, case, desk, &gate)?;
-    add_meeting(out, &gate)?;
-    add_shown(out, case, desk)
+    add_runs(rt, out, b": status ", case.words, runs)?;
+    add_runs(rt, out, b"then status ", case.then, runs)?;
+    add_meeting(out, &runs.gate)?;
+    add_places(out, case, runs)?;
+    add_shown(out, case, &runs.desk)
 }
 
 /// The answer to a case, as text.
@@ -64,9 +115,14 @@ pub fn answer<R: Threads + Sync>(
     case: &Setting<'_>,
     texts: &[Text<'_>],
 ) -> Result<Vec<u8>, AllocError> {
-    let mut desk = desk_of(alloc, case, texts)?;
+    let mut runs = Runs {
+        desk: desk_of(alloc, case, texts)?,
+        gate: CaseGate::of(case.gate),
+        first: None,
+        differ: false,
+    };
     let mut out = Vec::new(alloc);
-    let added = add_answer(rt, &mut out, case, &mut desk);
-    drop(desk);
+    let added = add_answer(rt, &mut out, case, &mut runs);
+    drop(runs);
     added.and(Ok(out))
 }

@@ -32,7 +32,7 @@ enum Does {
 }
 
 // What a line does, by its first word.
-const WORDS: [(&[u8], Does); 14] = [
+const WORDS: [(&[u8], Does); 15] = [
     (b"text", Does::Text),
     (b"group", Does::Group),
     (b"case", Does::Case),
@@ -41,6 +41,7 @@ const WORDS: [(&[u8], Does); 14] = [
     (b"moves", Does::Sets(Part::Moves)),
     (b"fails", Does::Sets(Part::Fails)),
     (b"gate", Does::Sets(Part::Gate)),
+    (b"places", Does::Sets(Part::Places)),
     (b"shows", Does::Sets(Part::Shows)),
     (b"finds", Does::Sets(Part::Finds)),
     (b"until", Does::Adds(Piece::Until)),

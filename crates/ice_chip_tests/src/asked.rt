@@ -4,7 +4,7 @@ use crate::circuits::expect_circuit;
 use crate::claims::expect_that;
 use crate::found::{Finding, expect_in};
 use crate::parts::expect_fault;
-use crate::sample_chips::expect_parts;
+use crate::sample_chips::{Counts, expect_parts};
 use ice_chip::{Chip, ChipFault};
 use ice_chip_read::read_chip;
 use ice_small_chips::{Change, Sample, text_with};
@@ -24,8 +24,8 @@ pub enum Asked {
     Settable,
     /// What bits are 1 once each row is on.
     TurnedOn,
-    /// The parts of the sample chip of 14 by 18 tiles.
-    Parts,
+    /// How many parts it has.
+    Parts(Counts),
     /// The words of the fault of the text, which is no chip.
     Fault(&'static [u8]),
 }
@@ -47,7 +47,7 @@ fn expect_bits(rt: &impl Abort, alloc: Global, chip: &Chip, asked: Asked) {
 fn expect_chip(rt: &impl Abort, alloc: Global, chip: &Chip, asked: Asked) {
     match asked {
         Asked::Found(findings) => expect_in(rt, alloc, chip, findings),
-        Asked::Parts => expect_parts(rt, chip),
+        Asked::Parts(counts) => expect_parts(rt, chip, counts),
         Asked::Fault(words) => expect_that(rt, false, words),
         _ => expect_bits(rt, alloc, chip, asked),
     }

@@ -234,7 +234,7 @@ fn sample_chips_have_their_lines(rt: HostRuntime) {
     a_chip_is_appended(&rt, rt.alloc(), text.len());
 }
 
-// ---- the chip of 14 by 18 tiles
+// ---- chips that are read
 
 // How many tiles of a kind the chip has.
 fn tiles_of(chip: &Chip, kind: TileKind) -> u32 {
@@ -247,15 +247,48 @@ fn tiles_of(chip: &Chip, kind: TileKind) -> u32 {
     count
 }
 
-/// Fails unless the chip has as many parts as one of 14 by 18 tiles.
-pub fn expect_parts(rt: &impl Abort, chip: &Chip) {
-    expect_that(rt, chip.wires() == 26_256, b"parts");
-    expect_that(rt, chip.rows() == 225_652, b"parts");
-    expect_that(rt, tiles_of(chip, TileKind::Logic) == 192, b"parts");
-    expect_that(rt, tiles_of(chip, TileKind::Io) == 56, b"parts");
-    expect_that(rt, chip.tiles().len() == 248, b"parts");
+/// How many wires, switch rows and tiles of both kinds a sample chip has. It has two pads for each IO tile.
+#[derive(Clone, Copy)]
+pub struct Counts {
+    wires: u32,
+    rows: u32,
+    logic: u32,
+    io: u32,
+}
+
+const OF_14_BY_18: Counts = Counts {
+    wires: 26_256,
+    rows: 225_652,
+    logic: 192,
+    io: 56,
+};
+
+// The rows were counted in the text of another program.
+const OF_49_BY_49: Counts = Counts {
+    wires: 269_600,
+    rows: 2_437_378,
+    logic: 2_209,
+    io: 188,
+};
+
+/// Fails unless the chip has so many parts.
+pub fn expect_parts(rt: &impl Abort, chip: &Chip, counts: Counts) {
+    expect_that(rt, chip.wires() == counts.wires, b"wires");
+    expect_that(rt, chip.rows() == counts.rows, b"rows");
+    expect_that(
+        rt,
+        tiles_of(chip, TileKind::Logic) == counts.logic,
+        b"logic",
+    );
+    expect_that(rt, tiles_of(chip, TileKind::Io) == counts.io, b"io");
+    let tiles = chip.tiles().len();
+    expect_that(
+        rt,
+        tiles == counts.logic as usize + counts.io as usize,
+        b"tiles",
+    );
     let bonded = chip.package(b"sample").expect(rt, "a package");
-    expect_that(rt, bonded.pads.len() == 112, b"parts");
+    expect_that(rt, bonded.pads.len() == 2 * counts.io as usize, b"pads");
 }
 
 #[test]
@@ -263,5 +296,12 @@ fn counts_are_those_of_the_size(rt: HostRuntime) {
     let mut text = Vec::new(rt.alloc());
     sample_chip(rt.alloc(), 14, 18, &mut text).expect(&rt, "memory");
     expect_counts(&rt, &text);
-    expect_of(&rt, rt.alloc(), &text, Asked::Parts);
+    expect_of(&rt, rt.alloc(), &text, Asked::Parts(OF_14_BY_18));
+}
+
+#[test]
+fn many_wires_are_read(rt: HostRuntime) {
+    let mut text = Vec::new(rt.alloc());
+    sample_chip(rt.alloc(), 49, 49, &mut text).expect(&rt, "memory");
+    expect_of(&rt, rt.alloc(), &text, Asked::Parts(OF_49_BY_49));
 }

@@ -3,10 +3,14 @@
 
 use ice_desk::{HostDesk, OpenGate};
 use ice_flow::run;
+use ice_request::usage_for;
 use std::alloc::Global;
 use std::env::{self, Env};
-use std::io;
+use std::io::{self, Eprint};
 use std::process::ExitCode;
+
+/// The status of an answer to words that are refused.
+const USAGE: u8 = 2;
 
 /// The status of an answer for want of memory.
 const NO_MEMORY: u8 = 13;
@@ -33,6 +37,13 @@ fn words_or_none<R: Env + Alloc<A = Global>>(rt: &R) -> Option<Vec<String>> {
     }
 }
 
+// Says on standard error why words are refused, with the usage, or the help where they call for it. Where that can't be said, nothing is.
+fn say_usage<R: Eprint + Alloc<A = Global>>(rt: &R, words: &[String]) {
+    if let Some(usage) = usage_for(rt.alloc(), words) {
+        let _said = rt.eprint(usage);
+    }
+}
+
 fn main(rt: HostRuntime) -> ExitCode {
     let alloc = rt.alloc();
     let Some(words) = words_or_none(&rt) else {
@@ -43,5 +54,8 @@ fn main(rt: HostRuntime) -> ExitCode {
     let done = run(&rt, alloc, &words, &mut desk, &OpenGate);
     let status = done.status;
     drop(done);
+    if status == USAGE {
+        say_usage(&rt, &words);
+    }
     ExitCode::from(status)
 }

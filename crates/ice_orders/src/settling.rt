@@ -10,7 +10,7 @@ ghost use Rattle.ice_sites.specs.Legal.{IsLegal};
 ghost use Rattle.ice_sites.specs.Stretches.{stretches_of};
 
 use crate::ordering::{Ordered, order_cells};
-use ice_anneal::improve;
+use ice_anneal::{descend, improve};
 use ice_arrange::arrange;
 use ice_base::NoMemory;
 use ice_cells::{Clusters, Design};
@@ -31,7 +31,8 @@ pub struct Settled {
 
 /// From the clusters of a design and their first placement: clusters by ranks, and a legal placement of them that is no longer than the
 /// first one, and that no exchange and no move makes shorter. The placement is improved, then the order of the cells on it, and then
-/// the placement again. It fails for want of memory alone.
+/// the placement again, by a descent without tries: most of what tries can gain, the first have gained. It fails for want of memory
+/// alone.
 pub fn settle(
     alloc: Global,
     chip: &Chip,
@@ -53,15 +54,6 @@ pub fn settle(
     let shaken = improve(alloc, chip, first, sites, &clusters, design, pads, seed)?;
     let ranks = arrange(alloc, chip, design, &clusters, &shaken, pads, seed)?;
     let ordered = order_cells(alloc, chip, design, clusters, ranks, &shaken, pads)?;
-    let placement = improve(
-        alloc,
-        chip,
-        shaken,
-        sites,
-        &ordered.clusters,
-        design,
-        pads,
-        seed,
-    )?;
+    let placement = descend(alloc, chip, shaken, sites, &ordered.clusters, design, pads)?;
     Ok(Settled { ordered, placement })
 }

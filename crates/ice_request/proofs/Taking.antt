@@ -1,6 +1,7 @@
 -- The command as `clap` builds it, and what its promises say of it.
-use Rattle.std.proofs.Common.{Bool, ◌≡◌, ◌≢◌, ◌⊎◌, true, false, refl, sym, ap, subst, inl, inr, List, [], ◌∷◌, ℕ}
-use Rattle.clap.specs.Words.{App, HasMatchesOf, IsAmong, Kinds, fault_of, is_simple, is_simple_and_free, subcommand_of, subcommand_rows_of, takes}
+use Rattle.std.proofs.Common.{Bool, ◌≡◌, ◌≢◌, ◌⊎◌, true, false, refl, sym, ap, subst, inl, inr, List, [], ◌∷◌, ℕ, Result, Ok, Err, IfOk, IfErr}
+use Rattle.clap.specs.Words.{App, FailsBy, HasMatchesOf, IsAmong, Kinds, fault_of, is_simple, is_simple_and_free, kind_of, subcommand_of, subcommand_rows_of, takes}
+use Rattle.clap.specs.declared.error.Error.{Error}
 use Rattle.clap.specs.declared.error.kind.ErrorKind.{ErrorKind}
 use Rattle.clap.specs.declared.error.kind.ErrorKind.TheVariants.{OutOfMemory}
 use Rattle.clap.specs.declared.parser.matches.ArgMatches.{ArgMatches}
@@ -45,3 +46,15 @@ never_taken a words k same passes other = go (takes command words) refl
     go : (b : Bool) → takes command words ≡ b → b ≡ false
     go true e = absurd (other (passes (subst (λ b. takes b words ≡ true) (sym same) e)))
     go false e = refl
+
+-- what a parse of the words answers
+pub found_as : (a : App) (words : List (List ℕ)) (r : Result ArgMatches Error) → a ≡ command → (is_simple_and_free a ≡ true → FailsBy (fault_of a words) r)
+    → IfOk r (HasMatchesOf a words) → IfOk r (λ m. (is_taken words ≡ true) × (subcommand_rows_of m ≡ subcommand_of command words))
+found_as a words (Ok m) same kinds has = taken a words m same kinds has
+found_as a words (Err e) same kinds has = tt
+
+pub refused_as : (a : App) (words : List (List ℕ)) (r : Result ArgMatches Error) → a ≡ command → (is_simple_and_free a ≡ true → FailsBy (fault_of a words) r)
+    → IfErr r (λ e. takes a words ≡ true → kind_of e ≡ OutOfMemory)
+    → IfErr r (λ e. kind_of e ≢ OutOfMemory → (is_taken words ≡ false) × (takes command words ≡ false))
+refused_as a words (Ok m) same kinds passes = tt
+refused_as a words (Err e) same kinds passes = λ other. (refused a words (kind_of e) same kinds other, never_taken a words (kind_of e) same passes other)

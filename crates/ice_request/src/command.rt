@@ -1,6 +1,6 @@
 //! The command, built for `clap` step by step.
 ghost use Rattle.std.specs.Prelude.{◌≡◌, IfOk, false, codes};
-ghost use Rattle.clap.specs.Words.{App, Shape, app_of, rule_of, with_subcommand};
+ghost use Rattle.clap.specs.Words.{App, Shape, app_of, new_app, rule_of, with_subcommand};
 ghost use Rattle.clap.specs.declared.builder.command.Command.TheViews.{out-Command as fields_of};
 ghost use Rattle.ice_request.specs.Arguments.{rule_for, with_arguments};
 ghost use Rattle.ice_request.specs.Command.{place, file_option, alone, bare_command, build_command, back_command, play_net_command, play_bits_command, time_command, sample_command, command};
@@ -22,12 +22,42 @@ enum Argument<'a> {
     Number(&'a str, u64, u64, &'a str),
 }
 
+// What the help says of each argument, by its id.
+const HELP: [(&str, &str); 13] = [
+    ("CHIP", "The chip database"),
+    ("PACKAGE", "The name of one of its packages"),
+    ("PCF", "The constraints of pins"),
+    ("BLIF", "The netlist"),
+    ("ASC", "The text of the bits"),
+    ("LEVELS", "The levels, a line for each step"),
+    ("DELAYS", "The seven delays, in picoseconds"),
+    ("NUMBER", "The number of the sample"),
+    ("pins", "Write a report on the pins to this file"),
+    ("report", "Write a report on the routes to this file"),
+    ("seed", "From what the random choices of placing are made"),
+    ("rounds", "The most rounds of routing, from 1 to 64"),
+    ("workers", "The number of threads that route, from 1 to 8"),
+];
+
+// What the help says of the argument of an id.
+fn help_for(id: &str) -> &'static str {
+    for (name, help) in &HELP {
+        if *name == id {
+            return *help;
+        }
+    }
+    ""
+}
+
 // A word that has to be given.
 fn place<'a>(alloc: Global, id: &'a str) -> Arg<'a>
     ensures rule { rule_of result ≡ place id.entry.now }
     ensures local { result.global ≡ false }
 {
-    Arg::new(alloc, id).required(true).action(ArgAction::Set)
+    Arg::new(alloc, id)
+        .help(help_for(id))
+        .required(true)
+        .action(ArgAction::Set)
 }
 
 // An option for the name of a file.
@@ -35,7 +65,10 @@ fn file<'a>(alloc: Global, id: &'a str) -> Arg<'a>
     ensures rule { rule_of result ≡ file_option id.entry.now }
     ensures local { result.global ≡ false }
 {
-    Arg::new(alloc, id).long(id).action(ArgAction::Set)
+    Arg::new(alloc, id)
+        .help(help_for(id))
+        .long(id)
+        .action(ArgAction::Set)
 }
 
 // An argument as `clap` takes it.
@@ -53,6 +86,14 @@ fn arg_of<'a>(alloc: Global, argument: &Argument<'a>) -> Arg<'a>
             .value_parser(ValueParser::unsigned(least, most))
             .default_value(usual),
     }
+}
+
+// A command of this name, with what the help says of it.
+fn named<'a>(alloc: Global, name: &'a str, about: &'a str) -> Command<'a>
+    ensures app { app_of result ≡ new_app name.entry.now }
+    ensures local { (fields_of result).has_globals ≡ false }
+{
+    Command::new(alloc, name).about(about)
 }
 
 // The command with more arguments, in order.
@@ -99,7 +140,8 @@ fn build_command<'a>(alloc: Global) -> Result<Command<'a>, AllocError>
         Argument::Number("rounds", 1, 64, "64"),
         Argument::Number("workers", 1, 8, "2"),
     ];
-    with_arguments(alloc, Command::new(alloc, "build"), &arguments)
+    let command = named(alloc, "build", "Build the text of the bits of a netlist");
+    with_arguments(alloc, command, &arguments)
 }
 
 fn back_command<'a>(alloc: Global) -> Result<Command<'a>, AllocError>
@@ -112,7 +154,12 @@ fn back_command<'a>(alloc: Global) -> Result<Command<'a>, AllocError>
         Argument::Place("ASC"),
         Argument::Place("BLIF"),
     ];
-    with_arguments(alloc, Command::new(alloc, "back"), &arguments)
+    let command = named(
+        alloc,
+        "back",
+        "Write a netlist of the circuit in a text of bits",
+    );
+    with_arguments(alloc, command, &arguments)
 }
 
 fn play_net_command<'a>(alloc: Global) -> Result<Command<'a>, AllocError>
@@ -120,7 +167,12 @@ fn play_net_command<'a>(alloc: Global) -> Result<Command<'a>, AllocError>
     ensures local { IfOk result (λ c. (fields_of c).has_globals ≡ false) }
 {
     let arguments = [Argument::Place("BLIF"), Argument::Place("LEVELS")];
-    with_arguments(alloc, Command::new(alloc, "play-net"), &arguments)
+    let command = named(
+        alloc,
+        "play-net",
+        "Say what the ports of a netlist drive, step by step",
+    );
+    with_arguments(alloc, command, &arguments)
 }
 
 fn play_bits_command<'a>(alloc: Global) -> Result<Command<'a>, AllocError>
@@ -133,7 +185,12 @@ fn play_bits_command<'a>(alloc: Global) -> Result<Command<'a>, AllocError>
         Argument::Place("ASC"),
         Argument::Place("LEVELS"),
     ];
-    with_arguments(alloc, Command::new(alloc, "play-bits"), &arguments)
+    let command = named(
+        alloc,
+        "play-bits",
+        "Say what the pads of a configured chip drive, step by step",
+    );
+    with_arguments(alloc, command, &arguments)
 }
 
 fn time_command<'a>(alloc: Global) -> Result<Command<'a>, AllocError>
@@ -146,7 +203,8 @@ fn time_command<'a>(alloc: Global) -> Result<Command<'a>, AllocError>
         Argument::Place("ASC"),
         Argument::Place("DELAYS"),
     ];
-    with_arguments(alloc, Command::new(alloc, "time"), &arguments)
+    let command = named(alloc, "time", "Say a longest path of a configured chip");
+    with_arguments(alloc, command, &arguments)
 }
 
 fn sample_command<'a>(alloc: Global) -> Result<Command<'a>, AllocError>
@@ -157,16 +215,25 @@ fn sample_command<'a>(alloc: Global) -> Result<Command<'a>, AllocError>
         Argument::NumberPlace("NUMBER", 0, u64::MAX),
         Argument::Number("workers", 1, 8, "2"),
     ];
-    with_arguments(alloc, Command::new(alloc, "sample"), &arguments)
+    let command = named(
+        alloc,
+        "sample",
+        "Build a sample netlist, and say how that went",
+    );
+    with_arguments(alloc, command, &arguments)
 }
 
 // The command without a subcommand yet.
 fn bare_command<'a>(alloc: Global) -> Command<'a>
     ensures { app_of result ≡ alone bare_command }
 {
-    Command::new(alloc, "tefitsundra")
-        .no_binary_name(true)
-        .subcommand_required(true)
+    named(
+        alloc,
+        "tefitsundra",
+        "Place and route netlists for iCE40 1k devices, with a proof",
+    )
+    .no_binary_name(true)
+    .subcommand_required(true)
 }
 
 /// The command of the program.

@@ -1,4 +1,10 @@
 //! Why words are no request.
+ghost use Rattle.std.specs.Prelude.{◌≡◌, ◌≢◌};
+ghost use Rattle.clap.specs.Words.{kind_of};
+ghost use Rattle.clap.specs.declared.error.kind.ErrorKind.TheVariants.{OutOfMemory};
+ghost use Rattle.ice_request.specs.declared.fault.WordsFault.TheVariants.{Usage as refused};
+
+use clap::error::ErrorKind;
 use thiserror::Error;
 
 /// Why words are no request.
@@ -10,4 +16,16 @@ pub enum WordsFault {
     /// Want of memory.
     #[error("want of memory")]
     NoMemory,
+}
+
+impl From<clap::Error> for WordsFault {
+    ghost from_gives = { λ error fault. fault ≡ refused → kind_of error ≢ OutOfMemory };
+
+    fn from(error: clap::Error) -> WordsFault {
+        if error.kind() == ErrorKind::OutOfMemory {
+            WordsFault::NoMemory
+        } else {
+            WordsFault::Usage
+        }
+    }
 }

@@ -12,12 +12,12 @@ use Rattle.ice_chip.specs.WireNames.{pad_output_name, output_enable_name}
 use Rattle.ice_decode.specs.Cells.{cells, has_flop}
 use Rattle.ice_decode.specs.Reads.{at_pin}
 use Rattle.ice_decode.specs.Pads.{pin_type}
-use Rattle.ice_sim.specs.declared.parts.Gate.{Gate}
-use Rattle.ice_sim.specs.declared.parts.Feed.{Feed}
-use Rattle.ice_sim.specs.declared.parts.Feed.TheVariants.{Nothing, Port as FromPort, Kept, Made}
-use Rattle.ice_sim.specs.Feeds.{port_in, kept_in, linked, gate_in}
-use Rattle.ice_sim.specs.Plans.{IsLinkWithin, IsGateWithin, IsTapWithin, IsKeeperWithin}
-use Rattle.ice_sim.specs.Arrays.{links_from, gates_from, IsGateAt, IsFed, AreFed}
+use Rattle.ice_sim_sweep.specs.declared.parts.Gate.{Gate}
+use Rattle.ice_sim_sweep.specs.declared.parts.Feed.{Feed}
+use Rattle.ice_sim_sweep.specs.declared.parts.Feed.TheVariants.{Nothing, Port as FromPort, Kept, Made}
+use Rattle.ice_sim_sweep.specs.Feeds.{port_in, kept_in, linked, gate_in}
+use Rattle.ice_sim_sweep.specs.Plans.{IsLinkWithin, IsGateWithin, IsTapWithin, IsKeeperWithin}
+use Rattle.ice_sim_sweep.specs.Arrays.{links_from, gates_from, IsGateAt, IsFed, AreFed}
 use Rattle.ice_sim.specs.ChipSlots.{slot_in, pin_slot, number, cell_gate}
 use Rattle.ice_sim.specs.Layouts.{pad_tap, keeper_of, flops_from, tables_from}
 use Rattle.ice_sim.proofs.Laying.{cell_gate_at}

@@ -30,9 +30,9 @@ use Rattle.ice_decode.specs.Pads.{pin_type, pin_level, part_drive, drive_at}
 use Rattle.ice_decode.specs.Faults.{IsOrderOf}
 use Rattle.ice_decode.specs.Meaning.{makes, system_of, point_level, table_level}
 use Rattle.ice_decode.proofs.PointPlaces.{wire_at}
-use Rattle.ice_sim.specs.Slots.{level_at}
-use Rattle.ice_sim.specs.Sweeps.{gate_level, tap_drive}
-use Rattle.ice_sim.specs.Arrays.{Obeys}
+use Rattle.ice_sim_sweep.specs.Slots.{level_at}
+use Rattle.ice_sim_sweep.specs.Sweeps.{gate_level, tap_drive}
+use Rattle.ice_sim_sweep.specs.Arrays.{Obeys}
 use Rattle.ice_sim.specs.ChipSlots.{slot_in, pin_slot, cell_gate}
 use Rattle.ice_sim.specs.Layouts.{Layout, part_tap, pad_tap}
 use Rattle.ice_sim.proofs.PointLevels.{cell_makes}

@@ -9,18 +9,18 @@ use Rattle.ice_decode.specs.declared.point.Point.{Point}
 use Rattle.ice_decode.specs.Cells.{cells}
 use Rattle.ice_decode.specs.Pads.{drive_at}
 use Rattle.ice_decode.specs.Meaning.{point_level, step}
-use Rattle.ice_sim.specs.declared.parts.Memory.{Memory}
-use Rattle.ice_sim.specs.declared.parts.Feed.{Feed}
-use Rattle.ice_sim.specs.declared.parts.Feed.TheVariants.{Nothing}
-use Rattle.ice_sim.specs.declared.plan.Plan.{Plan}
-use Rattle.ice_sim.specs.Slots.{level_at}
-use Rattle.ice_sim.specs.Feeds.{port_in, kept_in}
-use Rattle.ice_sim.specs.Sweeps.{blank, kept_levels, copied, made, tap_drive, remembered}
-use Rattle.ice_sim.specs.Plans.{ArePartsWithin, IsLinkWithin, IsGateWithin, IsTapWithin, IsKeeperWithin, state_of, swept}
-use Rattle.ice_sim.specs.Arrays.{feed_level, feed_at, Obeys, AreFed, links_from, gates_from}
+use Rattle.ice_sim_sweep.specs.declared.parts.Memory.{Memory}
+use Rattle.ice_sim_sweep.specs.declared.parts.Feed.{Feed}
+use Rattle.ice_sim_sweep.specs.declared.parts.Feed.TheVariants.{Nothing}
+use Rattle.ice_sim_sweep.specs.declared.plan.Plan.{Plan}
+use Rattle.ice_sim_sweep.specs.Slots.{level_at}
+use Rattle.ice_sim_sweep.specs.Feeds.{port_in, kept_in}
+use Rattle.ice_sim_sweep.specs.Sweeps.{blank, kept_levels, copied, made, tap_drive, remembered}
+use Rattle.ice_sim_sweep.specs.Plans.{ArePartsWithin, IsLinkWithin, IsGateWithin, IsTapWithin, IsKeeperWithin, state_of, swept}
+use Rattle.ice_sim_sweep.specs.Arrays.{feed_level, feed_at, Obeys, AreFed, links_from, gates_from}
 use Rattle.ice_sim.specs.Layouts.{tables_from, pad_tap}
 use Rattle.ice_sim.specs.ChipRuns.{IsChipPlan, IsChipRun}
-use Rattle.ice_sim.proofs.Arrays.{third_long, swept_obeys}
+use Rattle.ice_sim_sweep.proofs.Arrays.{third_long, swept_obeys}
 use Rattle.ice_sim.proofs.Laying.{IsLaid, all_laid, obeys_left}
 use Rattle.ice_sim.proofs.ChipLevels.{pads_are}
 use Rattle.ice_sim.proofs.ChipStates.{followed, all_follow, state_is, kept_next, kept_blank}

@@ -14,19 +14,19 @@ use Rattle.ice_decode.specs.Cells.{cells, has_flop, reset_of}
 use Rattle.ice_decode.specs.Pads.{pin_level}
 use Rattle.ice_decode.specs.Faults.{IsOrderOf}
 use Rattle.ice_decode.specs.Meaning.{point_level, table_level, clock_level, flop_after, kept_after, clock_after, state_after, start}
-use Rattle.ice_sim.specs.declared.parts.Keeper.{Keeper}
-use Rattle.ice_sim.specs.declared.parts.Memory.{Memory}
-use Rattle.ice_sim.specs.declared.parts.Feed.{Feed}
-use Rattle.ice_sim.specs.declared.parts.Feed.TheVariants.{Made}
-use Rattle.ice_sim.specs.Slots.{level_at}
-use Rattle.ice_sim.specs.Sweeps.{blank, kept_levels, gate_level, next_memory, remembered}
-use Rattle.ice_sim.specs.Plans.{state_of}
-use Rattle.ice_sim.specs.Arrays.{feed_level, feed_at, Obeys}
+use Rattle.ice_sim_sweep.specs.declared.parts.Keeper.{Keeper}
+use Rattle.ice_sim_sweep.specs.declared.parts.Memory.{Memory}
+use Rattle.ice_sim_sweep.specs.declared.parts.Feed.{Feed}
+use Rattle.ice_sim_sweep.specs.declared.parts.Feed.TheVariants.{Made}
+use Rattle.ice_sim_sweep.specs.Slots.{level_at}
+use Rattle.ice_sim_sweep.specs.Sweeps.{blank, kept_levels, gate_level, next_memory, remembered}
+use Rattle.ice_sim_sweep.specs.Plans.{state_of}
+use Rattle.ice_sim_sweep.specs.Arrays.{feed_level, feed_at, Obeys}
 use Rattle.ice_sim.specs.ChipSlots.{pin_slot, cell_gate}
 use Rattle.ice_sim.specs.Layouts.{Layout, keeper_of, flops_from, tables_from}
 use Rattle.ice_sim.specs.ChipRuns.{IsBlankUnless, AreKept}
 use Rattle.ice_sim.proofs.Laying.{IsLaid}
-use Rattle.ice_sim.proofs.Remembering.{state_with, flop_same}
+use Rattle.ice_sim_sweep.proofs.Remembering.{state_with, flop_same}
 use Rattle.ice_sim.proofs.ChipLevels.{pin_zero, pin_one, table_is}
 
 -- what a cell keeps after a step in which points have the levels v, by whether it has a flip-flop

@@ -10,9 +10,9 @@ use Rattle.ice_decode.specs.Cells.{cells}
 use Rattle.ice_decode.specs.Reads.{count_points}
 use Rattle.ice_decode.specs.Faults.{IsOrderOf}
 use Rattle.ice_decode.specs.Points.{HasWire}
-use Rattle.ice_sim.specs.declared.parts.Memory.{Memory}
-use Rattle.ice_sim.specs.declared.plan.Plan.{Plan}
-use Rattle.ice_sim.specs.Sweeps.{blank}
+use Rattle.ice_sim_sweep.specs.declared.parts.Memory.{Memory}
+use Rattle.ice_sim_sweep.specs.declared.plan.Plan.{Plan}
+use Rattle.ice_sim_sweep.specs.Sweeps.{blank}
 use Rattle.ice_sim.specs.Layouts.{IsPointBelow}
 use Rattle.ice_sim.specs.ChipRuns.{IsChipRun, IsCompiled}
 use Rattle.ice_sim.proofs.PointNumbers.{IsIn, is_in, number_within}

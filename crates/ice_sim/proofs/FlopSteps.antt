@@ -5,10 +5,10 @@ use Rattle.ice_base.specs.declared.number.TileAt.{TileAt}
 use Rattle.ice_chip.specs.Database.{Parts}
 use Rattle.ice_bits.specs.Configuration.{Bits}
 use Rattle.ice_decode.specs.Cells.{has_flop}
-use Rattle.ice_sim.specs.declared.parts.Gate.{Gate}
-use Rattle.ice_sim.specs.declared.parts.Keeper.{Keeper}
-use Rattle.ice_sim.specs.declared.parts.Feed.{Feed}
-use Rattle.ice_sim.specs.declared.parts.Feed.TheVariants.{Made}
+use Rattle.ice_sim_sweep.specs.declared.parts.Gate.{Gate}
+use Rattle.ice_sim_sweep.specs.declared.parts.Keeper.{Keeper}
+use Rattle.ice_sim_sweep.specs.declared.parts.Feed.{Feed}
+use Rattle.ice_sim_sweep.specs.declared.parts.Feed.TheVariants.{Made}
 use Rattle.ice_sim.specs.ChipSlots.{cell_gate}
 use Rattle.ice_sim.specs.Layouts.{keeper_of, flops_from, tables_from}
 

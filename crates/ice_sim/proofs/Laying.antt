@@ -31,12 +31,12 @@ use Rattle.ice_decode.specs.Reads.{count_points, at_pin, carry_into, global_feed
 use Rattle.ice_decode.specs.Pads.{is_enabled}
 use Rattle.ice_decode.specs.Faults.{IsOrderOf}
 use Rattle.ice_decode.specs.Meaning.{passes, makes}
-use Rattle.ice_sim.specs.declared.parts.Feed.{Feed}
-use Rattle.ice_sim.specs.declared.parts.Feed.TheVariants.{Nothing, Made}
+use Rattle.ice_sim_sweep.specs.declared.parts.Feed.{Feed}
+use Rattle.ice_sim_sweep.specs.declared.parts.Feed.TheVariants.{Nothing, Made}
 use Rattle.ice_sim.specs.declared.points.PointSlot.{PointSlot}
 use Rattle.ice_sim.specs.declared.points.PointSlot.TheVariants.{Shared, Own}
-use Rattle.ice_sim.specs.Slots.{level_at}
-use Rattle.ice_sim.specs.Arrays.{feed_level, feed_at, Obeys, IsGateAt, IsFed, AreFed}
+use Rattle.ice_sim_sweep.specs.Slots.{level_at}
+use Rattle.ice_sim_sweep.specs.Arrays.{feed_level, feed_at, Obeys, IsGateAt, IsFed, AreFed}
 use Rattle.ice_sim.specs.ChipSlots.{cell_place, number, slot_in, slots_gate, cell_gate, carry_gate, table_of, table_slot, pad_place, level_slot, kept_slot, role_slot, driven_slot, point_slot}
 use Rattle.ice_sim.specs.Layouts.{Layout, placed, laid, ones_table, bare_layout}
 use Rattle.ice_sim.proofs.PointLevels.{slot_level, point_is}

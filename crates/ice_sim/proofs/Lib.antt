@@ -1,11 +1,3 @@
-pub mod Feeding
-pub mod Copying
-pub mod Settling
-pub mod Showing
-pub mod Remembering
-pub mod Within
-pub mod Running
-pub mod Arrays
 pub mod TableBits
 pub mod PointLevels
 pub mod PointNumbers

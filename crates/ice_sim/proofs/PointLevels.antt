@@ -23,14 +23,14 @@ use Rattle.ice_decode.specs.Reads.{at_pin, cell_inputs, carry_into, carry_inputs
 use Rattle.ice_decode.specs.Pads.{is_enabled, level_of}
 use Rattle.ice_chip.specs.WireNames.{input_name}
 use Rattle.ice_decode.specs.Meaning.{passes, tile_place, kept_at, role_makes, driven_makes, makes}
-use Rattle.ice_sim.specs.declared.parts.Feed.TheVariants.{Made}
+use Rattle.ice_sim_sweep.specs.declared.parts.Feed.TheVariants.{Made}
 use Rattle.ice_sim.specs.declared.points.PointSlot.{PointSlot}
 use Rattle.ice_sim.specs.declared.points.PointSlot.TheVariants.{Shared, Own}
-use Rattle.ice_sim.specs.Slots.{level_at}
-use Rattle.ice_sim.specs.Sweeps.{gate_level}
-use Rattle.ice_sim.specs.Arrays.{feed_level}
+use Rattle.ice_sim_sweep.specs.Slots.{level_at}
+use Rattle.ice_sim_sweep.specs.Sweeps.{gate_level}
+use Rattle.ice_sim_sweep.specs.Arrays.{feed_level}
 use Rattle.ice_sim.specs.ChipSlots.{cell_place, slot_in, table_of, cell_gate, carry_gate, table_slot, pad_place, level_slot, kept_slot, role_slot, driven_slot, point_slot}
-use Rattle.ice_sim.proofs.Feeding.{majority_bits}
+use Rattle.ice_sim_sweep.proofs.Feeding.{majority_bits}
 use Rattle.ice_sim.proofs.TableBits.{bits_are, entry_is}
 
 -- ---- pads

@@ -9,13 +9,13 @@ use Rattle.ice_net.specs.Meaning.{State}
 use Rattle.ice_decode.specs.declared.point.Point.{Point}
 use Rattle.ice_decode.specs.Cells.{cells, has_flop}
 use Rattle.ice_decode.specs.Faults.{IsOrderOf}
-use Rattle.ice_sim.specs.declared.parts.Feed.{Feed}
-use Rattle.ice_sim.specs.declared.parts.Feed.TheVariants.{Nothing}
-use Rattle.ice_sim.specs.declared.parts.Memory.{Memory}
-use Rattle.ice_sim.specs.declared.plan.Plan.{Plan}
-use Rattle.ice_sim.specs.Slots.{level_at}
-use Rattle.ice_sim.specs.Sweeps.{blank}
-use Rattle.ice_sim.specs.Arrays.{feed_at, IsWired}
+use Rattle.ice_sim_sweep.specs.declared.parts.Feed.{Feed}
+use Rattle.ice_sim_sweep.specs.declared.parts.Feed.TheVariants.{Nothing}
+use Rattle.ice_sim_sweep.specs.declared.parts.Memory.{Memory}
+use Rattle.ice_sim_sweep.specs.declared.plan.Plan.{Plan}
+use Rattle.ice_sim_sweep.specs.Slots.{level_at}
+use Rattle.ice_sim_sweep.specs.Sweeps.{blank}
+use Rattle.ice_sim_sweep.specs.Arrays.{feed_at, IsWired}
 use Rattle.ice_sim.specs.Layouts.{Layout, laid, bare_layout, flops_from, tables_from, pad_tap}
 
 -- a chip with bits, seen at the pads of a package, between two steps

@@ -22,11 +22,11 @@ use Rattle.ice_decode.specs.Cells.{logic_tiles, has_carry, has_flop, table_entry
 use Rattle.ice_decode.specs.Reads.{at_pin, cell_inputs, carry_inputs, global_feed}
 use Rattle.ice_decode.specs.Pads.{is_enabled}
 use Rattle.ice_decode.specs.Meaning.{passes, tile_place}
-use Rattle.ice_sim.specs.declared.parts.Gate.{Gate}
-use Rattle.ice_sim.specs.declared.parts.Feed.TheVariants.{Port as FromPort, Kept, Made}
+use Rattle.ice_sim_sweep.specs.declared.parts.Gate.{Gate}
+use Rattle.ice_sim_sweep.specs.declared.parts.Feed.TheVariants.{Port as FromPort, Kept, Made}
 use Rattle.ice_sim.specs.declared.points.PointSlot.{PointSlot}
 use Rattle.ice_sim.specs.declared.points.PointSlot.TheVariants.{Shared, Own}
-use Rattle.ice_sim.specs.Feeds.{majority_table}
+use Rattle.ice_sim_sweep.specs.Feeds.{majority_table}
 
 -- ---- numbers of points: wires have theirs, and behind them stand the carries of the logic cells
 -- the place of a cell among the logic cells

@@ -1,9 +1,9 @@
 -- A run of a configured chip, as contracts see it.
 use Rattle.std.specs.Prelude.{List}
 use Rattle.ice_bits.specs.Configuration.{bits_of}
-use Rattle.ice_sim.specs.declared.parts.Feed.{Feed}
+use Rattle.ice_sim_sweep.specs.declared.parts.Feed.{Feed}
 use Rattle.ice_sim.specs.declared.chip_run.ChipRun.TheInside.{Inside}
-use Rattle.ice_sim.specs.Plans.{state_of}
+use Rattle.ice_sim_sweep.specs.Plans.{state_of}
 use Rattle.ice_sim.specs.ChipRuns.{ChipRunData, IsChipRun}
 
 abbrev pub run_view : Inside → ChipRunData

@@ -12,10 +12,10 @@ use Rattle.ice_decode.specs.Cells.{has_flop, reset_of}
 use Rattle.ice_decode.specs.Reads.{count_points}
 use Rattle.ice_decode.specs.Pads.{pin_type}
 use Rattle.ice_decode.specs.Points.{HasWire}
-use Rattle.ice_sim.specs.declared.parts.Tap.{Tap}
-use Rattle.ice_sim.specs.declared.parts.Keeper.{Keeper}
-use Rattle.ice_sim.specs.declared.parts.Feed.{Feed}
-use Rattle.ice_sim.specs.declared.parts.Feed.TheVariants.{Nothing, Made}
+use Rattle.ice_sim_sweep.specs.declared.parts.Tap.{Tap}
+use Rattle.ice_sim_sweep.specs.declared.parts.Keeper.{Keeper}
+use Rattle.ice_sim_sweep.specs.declared.parts.Feed.{Feed}
+use Rattle.ice_sim_sweep.specs.declared.parts.Feed.TheVariants.{Nothing, Made}
 use Rattle.ice_sim.specs.declared.points.PointSlot.{PointSlot}
 use Rattle.ice_sim.specs.declared.points.PointSlot.TheVariants.{Shared, Own}
 use Rattle.ice_sim.specs.ChipSlots.{number, pin_slot, slots_gate, cell_gate, point_slot}

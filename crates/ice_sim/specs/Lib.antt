@@ -1,8 +1,3 @@
-pub mod Slots
-pub mod Feeds
-pub mod Sweeps
-pub mod Plans
-pub mod Arrays
 pub mod ChipSlots
 pub mod Layouts
 pub mod ChipRuns

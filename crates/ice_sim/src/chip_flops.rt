@@ -6,12 +6,12 @@ ghost use Rattle.ice_decode.specs.Cells.{cells, cells_in, reset_by, reset_of};
 ghost use Rattle.ice_sim.specs.Layouts.{keeper_of, flops_from, tables_from};
 
 use crate::gates::{cell_gate, table};
-use crate::parts::{Feed, Keeper};
 use crate::site::{Site, small};
 use ice_base::{NoMemory, TileAt};
 use ice_chip::Chip;
 use ice_decode::{cell_bit, has_flop, logic_tiles, setting};
 use ice_net::Reset;
+use ice_sim_sweep::{Feed, Keeper};
 use std::alloc::Global;
 
 // Adds the cells of a tile.

@@ -5,20 +5,18 @@ ghost use Rattle.ice_bits.specs.Configuration.{bits_of};
 ghost use Rattle.ice_decode.specs.Cells.{cells};
 ghost use Rattle.ice_decode.specs.Faults.{IsOrderOf};
 ghost use Rattle.ice_decode.specs.Refusals.{IsCircuitOf};
-ghost use Rattle.ice_sim.specs.Arrays.{IsWired};
+ghost use Rattle.ice_sim_sweep.specs.Arrays.{IsWired};
 ghost use Rattle.ice_sim.specs.Layouts.{layout_of, laid, bare_layout, flops_from, tables_from, pad_tap};
 ghost use Rattle.ice_sim.specs.ChipRuns.{IsCompiled};
 
 use crate::chip_flops::add_flops;
 use crate::chip_taps::pad_taps;
 use crate::layout::{constant_feeds, lay};
-use crate::parts::{Feed, Keeper};
-use crate::plan::Plan;
 use crate::site::Site;
-use crate::wiring::wired;
 use ice_base::{NoMemory, TileAt};
 use ice_chip::{Chip, Package};
 use ice_decode::{Circuit, Point};
+use ice_sim_sweep::{Feed, Keeper, Plan, wired};
 use std::alloc::Global;
 
 // So many slots, all 0.

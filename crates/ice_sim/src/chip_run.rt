@@ -7,14 +7,11 @@ ghost use Rattle.ice_sim.specs.ChipRuns.{with_state};
 
 use crate::chip_flops::chip_cells;
 use crate::chip_plan::compile_chip;
-use crate::parts::Memory;
-use crate::plan::Plan;
-use crate::run::blanks;
-use crate::sweep::sweep;
 use ice_base::NoMemory;
 use ice_chip::{Chip, Package};
 use ice_decode::Circuit;
 use ice_net::Drive;
+use ice_sim_sweep::{Memory, Plan, blanks, sweep};
 use std::alloc::Global;
 use std::marker::Model;
 

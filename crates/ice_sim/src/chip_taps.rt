@@ -3,11 +3,11 @@ ghost use Rattle.std.specs.Prelude.{◌≡◌, ◌++◌, map, IfOk};
 ghost use Rattle.ice_bits.specs.Configuration.{bits_of};
 ghost use Rattle.ice_sim.specs.Layouts.{part_tap, pad_tap};
 
-use crate::parts::Tap;
 use crate::site::Site;
 use ice_base::NoMemory;
 use ice_chip::{Pad, output_enable_name, pad_output_name};
 use ice_decode::pin_type;
+use ice_sim_sweep::Tap;
 use std::alloc::Global;
 
 // What drives a pad, by its output part.

@@ -8,11 +8,11 @@ ghost use Rattle.ice_chip.specs.WireNames.{input_name};
 ghost use Rattle.ice_decode.specs.Reads.{carry_into};
 ghost use Rattle.ice_sim.specs.ChipSlots.{slot_in, pin_slot, table_of, cell_gate, carry_gate};
 
-use crate::parts::Gate;
 use crate::site::Site;
 use ice_base::TileAt;
 use ice_chip::input_name;
 use ice_decode::{Point, cell_bit};
+use ice_sim_sweep::Gate;
 
 // The table of the majority of the first three inputs.
 const MAJORITY: u16 = 0xe8;

@@ -5,12 +5,12 @@ ghost use Rattle.ice_decode.specs.Points.{HasWire};
 ghost use Rattle.ice_sim.specs.ChipSlots.{number, point_slot};
 ghost use Rattle.ice_sim.specs.Layouts.{layout_of, placed, laid, constant_feeds, IsPointBelow};
 
-use crate::parts::{Feed, Gate};
 use crate::point_slots::point_slot;
 use crate::points::PointSlot;
 use crate::site::{Site, small};
 use ice_base::NoMemory;
 use ice_decode::Point;
+use ice_sim_sweep::{Feed, Gate};
 use std::alloc::Global;
 
 // The table of four inputs that is always 1.

@@ -13,7 +13,6 @@ ghost use Rattle.ice_decode.specs.declared.role.Role.TheVariants.{Output};
 ghost use Rattle.ice_sim.specs.ChipSlots.{slot_in, kept_slot, table_slot, level_slot, pad_slot, role_slot, driven_slot, point_slot};
 
 use crate::gates::{carry_gate, cell_gate, table};
-use crate::parts::Feed;
 use crate::points::PointSlot;
 use crate::site::Site;
 use ice_base::{TileAt, WireNo};
@@ -21,6 +20,7 @@ use ice_chip::Pad;
 use ice_decode::{
     Driver, Point, Role, Switch, has_carry, has_flop, is_enabled, passes, role_of, setting,
 };
+use ice_sim_sweep::Feed;
 
 // The slot of a table, which has none of its own where it is always 0.
 fn table_slot(site: &Site<'_>, slots: &[u32], next: u32, tile: TileAt, cell: u8) -> PointSlot

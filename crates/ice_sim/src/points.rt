@@ -1,6 +1,6 @@
 //! Slots of the points of a configured chip.
 
-use crate::parts::Feed;
+use ice_sim_sweep::Feed;
 
 /// The slot of a point.
 #[derive(Clone, Copy)]

@@ -1,7 +1,5 @@
-use Rattle.std.proofs.Common.{List, ap, ◌∙◌, subst, arith}
-use Rattle.ice_base.specs.declared.number.TileAt.{TileAt}
+use Rattle.std.proofs.Common.{ap, ◌∙◌, arith}
 use Rattle.ice_board.specs.Length.{wire_length}
-use Rattle.ice_board.specs.Board.{Keeps}
 use Rattle.ice_board.proofs.Boards.{total_is}
 use Rattle.ice_anneal.proofs.improving.lowered.Goals as goal
 

@@ -1,4 +1,4 @@
-use Rattle.std.proofs.Common.{◌≡◌, ℕ, List, length, sym, ap, ◌∙◌, subst}
+use Rattle.std.proofs.Common.{ℕ, List, length, sym, ap, ◌∙◌, subst}
 use Rattle.std.specs.List.{All}
 use Rattle.ice_chip.specs.declared.rows.Pad.{Pad}
 use Rattle.ice_cells.specs.declared.cluster.Cluster.{Cluster}

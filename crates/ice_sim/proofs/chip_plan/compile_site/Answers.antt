@@ -1,8 +1,8 @@
 use Rattle.std.proofs.Common.{ℕ, false, List, length, map, replicate, ◌++◌, ap, ◌∙◌, subst}
 use Rattle.ice_base.specs.declared.number.TileAt.{TileAt}
 use Rattle.ice_bits.specs.Configuration.{bits_of}
-use Rattle.ice_sim.specs.declared.parts.Feed.{Feed}
-use Rattle.ice_sim.specs.Arrays.{IsWired}
+use Rattle.ice_sim_sweep.specs.declared.parts.Feed.{Feed}
+use Rattle.ice_sim_sweep.specs.Arrays.{IsWired}
 use Rattle.ice_sim.specs.Layouts.{layout_of, flops_from, tables_from, pad_tap}
 use Rattle.ice_sim.proofs.chip_plan.compile_site.Goals as goal
 

@@ -4,8 +4,8 @@ use Rattle.ice_decode.specs.Meaning.{shows}
 use Rattle.ice_levels.specs.LevelTexts.{HasWidth}
 use Rattle.ice_levels.specs.DriveTexts.{drives_text}
 use Rattle.ice_sim.specs.ChipRuns.{ChipRunData}
-use Rattle.ice_sim.proofs.Showing.{tail_all}
-use Rattle.ice_sim.proofs.Running.{written}
+use Rattle.ice_sim_sweep.proofs.Showing.{tail_all}
+use Rattle.ice_sim_sweep.proofs.Running.{written}
 use Rattle.ice_sim.proofs.ChipPlaying.{told_next, told_end}
 use Rattle.ice_sim.proofs.chip_playing.play_chip.Goals as goal
 

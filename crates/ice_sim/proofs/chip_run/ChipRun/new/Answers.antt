@@ -2,8 +2,8 @@ use Rattle.std.proofs.Common.{◌≡◌, ℕ, length, replicate, ap, ◌∙◌}
 use Rattle.ice_bits.specs.Configuration.{bits_of}
 use Rattle.ice_net.specs.Meaning.{State}
 use Rattle.ice_decode.specs.Cells.{cells}
-use Rattle.ice_sim.specs.Sweeps.{blank}
-use Rattle.ice_sim.specs.Plans.{state_of}
+use Rattle.ice_sim_sweep.specs.Sweeps.{blank}
+use Rattle.ice_sim_sweep.specs.Plans.{state_of}
 use Rattle.ice_sim.proofs.ChipStates.{state_blank}
 use Rattle.ice_sim.proofs.Compiling.{run_begins}
 use Rattle.ice_sim.proofs.chip_run.ChipRun.new.Goals as goal

@@ -3,10 +3,10 @@ use Rattle.ice_bits.specs.Configuration.{bits_of}
 use Rattle.ice_net.specs.Meaning.{State}
 use Rattle.ice_decode.specs.Cells.{cells}
 use Rattle.ice_decode.specs.Meaning.{step}
-use Rattle.ice_sim.specs.Sweeps.{remembered}
-use Rattle.ice_sim.specs.Plans.{swept, state_of}
+use Rattle.ice_sim_sweep.specs.Sweeps.{remembered}
+use Rattle.ice_sim_sweep.specs.Plans.{swept, state_of}
 use Rattle.ice_sim.specs.ChipRuns.{ChipRunData, with_state}
-use Rattle.ice_sim.proofs.Running.{written}
+use Rattle.ice_sim_sweep.proofs.Running.{written}
 use Rattle.ice_sim.proofs.ChipStates.{kept_long}
 use Rattle.ice_sim.proofs.ChipRunning.{parts_within, run_after, state_after_is, out_after}
 use Rattle.ice_sim.proofs.chip_run.ChipRun.step.Goals as goal

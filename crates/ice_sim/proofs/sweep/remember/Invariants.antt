@@ -1,6 +1,0 @@
-use Rattle.std.proofs.Common.{◌≡◌, drop}
-use Rattle.ice_sim.specs.Sweeps.{remembered}
-use Rattle.ice_sim.proofs.sweep.remember.Given as goal
-
-abbrev pub invariant-loop-keeper : goal.invariant-loop-keeper
-invariant-loop-keeper l = remembered l.keepers l.values l.fn.memories ≡ remembered (drop l.keeper-index l.keepers) l.values l.memories

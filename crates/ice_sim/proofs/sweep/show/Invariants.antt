@@ -1,6 +1,0 @@
-use Rattle.std.proofs.Common.{◌≡◌, take, map}
-use Rattle.ice_sim.specs.Sweeps.{tap_drive}
-use Rattle.ice_sim.proofs.sweep.show.Given as goal
-
-abbrev pub invariant-loop-k : goal.invariant-loop-k
-invariant-loop-k l = take l.k l.out ≡ map (tap_drive l.values) (take l.k l.taps)

@@ -1,0 +1,9 @@
+pub mod Feeding
+pub mod Copying
+pub mod Settling
+pub mod Showing
+pub mod Remembering
+pub mod Within
+pub mod Running
+pub mod Arrays
+pub mod Turns
