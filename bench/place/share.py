@@ -3,7 +3,7 @@
 
 usage: share.py PROGRAM CHIP PACKAGE FOLDER NAME..; each NAME has its NAME.blif and NAME.pcf in FOLDER, as bench/quality leaves them. It needs `perf`, of Debian's package linux-perf.
 
-A function counts by its crate, and `ice_build::laying`, into which the compiler puts what it calls once, counts whole: first fit and the sites are a small part of it.
+A function counts by its crate, and `ice_flow_build::laying`, into which the compiler puts what it calls once, counts whole: first fit and the sites are a small part of it.
 """
 import os
 import re
@@ -11,7 +11,7 @@ import subprocess
 import sys
 import tempfile
 
-PLACING = re.compile(r"ice_(anneal|arrange|board|nodes|length|orders)::|ice_build::laying::")
+PLACING = re.compile(r"ice_(anneal|anneal_ranks|anneal_board|anneal_nets|place_length|anneal_arrangement)::|ice_flow_build::laying::")
 SEEDS = ("1", "2", "3")
 RATE = 4000
 

@@ -1,7 +1,7 @@
 #!/usr/bin/env python3
 """Compares what is built today with what was built when the digests were written: byte for byte, for the same placement.
 
-usage: same.py PROGRAM SHOW FOLDER [first | write]; SHOW is the built ice_show_flow, and FOLDER has the netlists that make.py makes
+usage: same.py PROGRAM SHOW FOLDER [first | write]; SHOW is the built ice_tests_passes, and FOLDER has the netlists that make.py makes
 
 The file digests has, for each of ten netlists, the SHA-256 of
 - the netlist's text with its constraints, but for the lines that say where its source lay, since another Yosys makes other netlists, of which nothing can be compared;

@@ -10,12 +10,12 @@ use Rattle.std.proofs.lemmas.List.Folds.{list_any_at}
 use Rattle.std.proofs.lemmas.List.Sorted.{IsPermutation-keeps, length_permutation}
 use Rattle.std.proofs.Math.Seq.{get_or-append_right}
 use Rattle.ice_base.specs.declared.number.TileAt.{TileAt}
-use Rattle.ice_board.specs.declared.net.Node.{Node}
-use Rattle.ice_board.specs.declared.net.Node.TheVariants.{Cluster, Fixed}
-use Rattle.ice_board.specs.declared.net.Net.{Net}
-use Rattle.ice_board.specs.Length.{IsNode, IsNet, tile_of, box_of, net_length, wire_length, origin}
-use Rattle.ice_board.specs.Board.{IsFree, Keeps, IsLeast}
-use Rattle.ice_plan.specs.Length.{half_perimeter}
+use Rattle.ice_anneal_board.specs.declared.net.Node.{Node}
+use Rattle.ice_anneal_board.specs.declared.net.Node.TheVariants.{Cluster, Fixed}
+use Rattle.ice_anneal_board.specs.declared.net.NetNodes.{NetNodes}
+use Rattle.ice_anneal_board.specs.Length.{IsNode, IsNet, tile_of, box_of, net_length, wire_length, origin}
+use Rattle.ice_anneal_board.specs.Board.{IsFree, Keeps, IsLeast}
+use Rattle.ice_place_defs.specs.Length.{half_perimeter}
 use Rattle.ice_sites.specs.Legal.{IsAmong, Follows, is_next, chunk_of, IsLegal}
 use Rattle.ice_anneal.specs.Least.{is_rigid, free_of, IsFull, IsSwapLeast}
 use Rattle.ice_anneal.specs.Order.{IsLinked}
@@ -28,14 +28,14 @@ agree_nodes n a b same (Fixed t ∷ ns) h = ap (λ xs. t ∷ xs) (agree_nodes n 
 agree_nodes n a b same (Cluster e ∷ ns) h = ap₂ (λ x xs. x ∷ xs) (same e (h zero (Cluster e) (omega arith))) (agree_nodes n a b same ns (λ k d lt. h (suc k) d (omega arith)))
 
 agree_nets : (n : ℕ) (a b : List TileAt) → ((e : ℕ) → e < n → get_or a e origin ≡ get_or b e origin)
-    → (nets : List Net) → All (IsNet n) nets → map (λ (net : Net). net_length a net.nodes.items) nets ≡ map (λ (net : Net). net_length b net.nodes.items) nets
+    → (nets : List NetNodes) → All (IsNet n) nets → map (λ (net : NetNodes). net_length a net.nodes.items) nets ≡ map (λ (net : NetNodes). net_length b net.nodes.items) nets
 agree_nets n a b same [] h = refl
 agree_nets n a b same (m ∷ ms) h =
     let here : All (IsNode n) m.nodes.items = h zero m (omega arith) in
     ap₂ (λ x xs. x ∷ xs) (ap (λ tiles. half_perimeter (box_of tiles)) (agree_nodes n a b same m.nodes.items here)) (agree_nets n a b same ms (λ k d lt. h (suc k) d (omega arith)))
 
 pub agree : (n : ℕ) (a b : List TileAt) → ((e : ℕ) → e < n → get_or a e origin ≡ get_or b e origin)
-    → (nets : List Net) → All (IsNet n) nets → wire_length nets a ≡ wire_length nets b
+    → (nets : List NetNodes) → All (IsNet n) nets → wire_length nets a ≡ wire_length nets b
 agree n a b same nets h = ap sum (agree_nets n a b same nets h)
 
 -- where the element at a place comes from
@@ -168,7 +168,7 @@ pub legal_kept : (stretches : List (List TileAt)) (chunks : List (Option (ℕ ×
 legal_kept stretches chunks extra p q n keeps full legal =
     legal_linked stretches chunks p q (omega arith) keeps.moved full (linked_kept stretches chunks extra p q n keeps legal)
 
-least_any : (nets : List Net) (free : List Bool) (p : List TileAt) (count c d : ℕ) → length free ≡ length p → IsLeast nets free p count → c < count → c < length p → d < length p → IsFree free c → IsFree free d
+least_any : (nets : List NetNodes) (free : List Bool) (p : List TileAt) (count c d : ℕ) → length free ≡ length p → IsLeast nets free p count → c < count → c < length p → d < length p → IsFree free c → IsFree free d
     → wire_length nets p ≤ wire_length nets (swap p c d)
 least_any nets free p count c d n least lc kc kd fc fd =
     elim (cases_order c d) [
@@ -179,7 +179,7 @@ least_any nets free p count c d n least lc kc kd fc fd =
       ]
     ]
 
-pub swap_least : (nets : List Net) (stretches : List (List TileAt)) (chunks : List (Option (ℕ × ℕ))) (extra : ℕ) (p : List TileAt)
+pub swap_least : (nets : List NetNodes) (stretches : List (List TileAt)) (chunks : List (Option (ℕ × ℕ))) (extra : ℕ) (p : List TileAt)
     → length p ≡ length chunks + extra → length (free_of chunks extra) ≡ length p → All (IsNet (length chunks)) nets → IsFull stretches p
     → IsLeast nets (free_of chunks extra) p (length chunks) → IsSwapLeast (wire_length nets) chunks stretches (take (length chunks) p)
 swap_least nets stretches chunks extra p n m within full least =

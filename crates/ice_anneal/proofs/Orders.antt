@@ -5,7 +5,7 @@ use Rattle.std.proofs.lemmas.Bool.{cases_lt}
 use Rattle.std.proofs.lemmas.Option.{slice_get-get_or}
 use Rattle.std.proofs.lemmas.List.{get_or_append_left, get_or-append_right, take_more, flat_map_more}
 use Rattle.ice_base.specs.declared.number.TileAt.{TileAt}
-use Rattle.ice_board.specs.Length.{origin}
+use Rattle.ice_anneal_board.specs.Length.{origin}
 use Rattle.ice_sites.specs.Legal.{Follows, tile_at}
 use Rattle.ice_place.specs.Place.{joined}
 use Rattle.ice_anneal.specs.declared.order.SiteOrder.{SiteOrder}

@@ -5,10 +5,10 @@ use Rattle.std.proofs.lemmas.List.{map-append, length-map, length_push}
 use Rattle.std.proofs.lemmas.Grind.{common_steps}
 use Rattle.std.proofs.lemmas.List.Sums.{fold-append}
 use Rattle.ice_base.specs.declared.number.TileAt.{TileAt}
-use Rattle.ice_plan.specs.Length.{Box, box_at, with_tile, half_perimeter}
-use Rattle.ice_board.specs.declared.net.Node.{Node}
-use Rattle.ice_board.specs.declared.net.Net.{Net}
-use Rattle.ice_board.specs.Length.{tile_of, box_of, net_length, wire_length, origin}
+use Rattle.ice_place_defs.specs.Length.{Box, box_at, with_tile, half_perimeter}
+use Rattle.ice_anneal_board.specs.declared.net.Node.{Node}
+use Rattle.ice_anneal_board.specs.declared.net.NetNodes.{NetNodes}
+use Rattle.ice_anneal_board.specs.Length.{tile_of, box_of, net_length, wire_length, origin}
 
 -- the box has the tile
 record Has (b : Box) (t : TileAt) : Type 0 where
@@ -112,12 +112,12 @@ same_length kept done h at = ap half_perimeter (h.boxes at)
 sum_push : (xs : List ℕ) (n : ℕ) → sum (xs ++ n ∷ []) ≡ sum xs + n
 sum_push xs n = grind (arith, common_steps)
 
-wire_push : (at : List TileAt) (nets : List Net) (net : Net) → wire_length (nets ++ net ∷ []) at ≡ wire_length nets at + net_length at net.nodes.items
+wire_push : (at : List TileAt) (nets : List NetNodes) (net : NetNodes) → wire_length (nets ++ net ∷ []) at ≡ wire_length nets at + net_length at net.nodes.items
 wire_push at nets net =
-    let measure : Net → ℕ = λ n. net_length at n.nodes.items in
+    let measure : NetNodes → ℕ = λ n. net_length at n.nodes.items in
     ap sum (map-append measure nets (net ∷ [])) ∙ sum_push (map measure nets) (measure net)
 
 -- one more net that is as long
-pub same_wires : (at : List TileAt) (found done : List Net) (one other : Net) → wire_length found at ≡ wire_length done at → net_length at one.nodes.items ≡ net_length at other.nodes.items
+pub same_wires : (at : List TileAt) (found done : List NetNodes) (one other : NetNodes) → wire_length found at ≡ wire_length done at → net_length at one.nodes.items ≡ net_length at other.nodes.items
     → wire_length (found ++ one ∷ []) at ≡ wire_length (done ++ other ∷ []) at
 same_wires at found done one other e h = wire_push at found one ∙ (ap₂ (λ a b. a + b) e h ∙ sym (wire_push at done other))

@@ -1,9 +1,9 @@
 -- A board that is shaken.
 use Rattle.std.specs.Prelude.{◌≡◌, ℕ, ◌+◌, ◌<◌, ◌≤◌, length}
 use Rattle.std.specs.List.{All}
-use Rattle.ice_board.specs.declared.wiring.Wiring.{Wiring}
-use Rattle.ice_board.specs.Wiring.{IsWiring}
-use Rattle.ice_board.specs.Board.{IsBoard}
+use Rattle.ice_anneal_board.specs.declared.wiring.Wiring.{Wiring}
+use Rattle.ice_anneal_board.specs.Wiring.{IsWiring}
+use Rattle.ice_anneal_board.specs.Board.{IsBoard}
 use Rattle.ice_anneal.specs.declared.seating.Seating.{Seating}
 use Rattle.ice_anneal.specs.declared.units.MoveUnit.{MoveUnit}
 

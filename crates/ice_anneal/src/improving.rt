@@ -5,9 +5,9 @@ ghost use Rattle.std.specs.List.Sorted.{IsPermutation};
 ghost use Rattle.ice_base.specs.declared.number.TileAt.{TileAt};
 ghost use Rattle.ice_sites.specs.Legal.{IsLegal};
 ghost use Rattle.ice_place.specs.Place.{AreStretches, chunks_of};
-ghost use Rattle.ice_board.specs.Length.{wire_length, IsNet};
-ghost use Rattle.ice_board.specs.Wiring.{IsWiring};
-ghost use Rattle.ice_board.specs.Board.{IsBoard, Keeps, IsLeast};
+ghost use Rattle.ice_anneal_board.specs.Length.{wire_length, IsNet};
+ghost use Rattle.ice_anneal_board.specs.Wiring.{IsWiring};
+ghost use Rattle.ice_anneal_board.specs.Board.{IsBoard, Keeps, IsLeast};
 ghost use Rattle.ice_anneal.specs.Least.{free_of, IsFull, IsSwapLeast};
 ghost use Rattle.ice_anneal.specs.Order.{IsOrder};
 
@@ -20,10 +20,10 @@ use crate::seating::{Seating, board_of};
 use crate::shake::anneal;
 use crate::table::{Chunk, places_of};
 use crate::units::units_of;
-use ice_base::{NoMemory, TileAt};
-use ice_board::{Board, Net, Wiring, wiring_of};
-use ice_cells::{Clusters, short};
-use ice_length::{half_perimeter, span_at, with_tile};
+use ice_base::{NoMemory, TileAt, to_u32};
+use ice_anneal_board::{Board, NetNodes, Wiring, wiring_of};
+use ice_cells::Clusters;
+use ice_place_length::{half_perimeter, span_at, with_tile};
 use ice_place::Placement;
 use ice_sites::Sites;
 use indexmap::IndexMap;
@@ -227,7 +227,7 @@ fn improve_full(
 // The same, on sites.
 fn improve_some(
     alloc: Global,
-    nets: Vec<Net>,
+    nets: Vec<NetNodes>,
     sites: &Sites,
     chunks: &[Option<(u32, u32)>],
     at: &[TileAt],
@@ -245,7 +245,7 @@ fn improve_some(
     let stretches = sites.stretches();
     let place = full_of(alloc, stretches, at)?;
     let order = order_of(alloc, stretches)?;
-    let number = short(place.len())?;
+    let number = to_u32(place.len())?;
     let wiring = wiring_of(alloc, nets, place.len())?;
     let found = improve_full(alloc, &wiring, chunks, &order, place.as_slice(), seed)?;
     Ok(found)
@@ -254,7 +254,7 @@ fn improve_some(
 /// What `improve_nets` says, by tries from a seed and a descent; without a seed, by a descent alone.
 pub(crate) fn shorten_nets(
     alloc: Global,
-    nets: Vec<Net>,
+    nets: Vec<NetNodes>,
     placement: Placement,
     sites: &Sites,
     clusters: &Clusters,
@@ -271,7 +271,7 @@ pub(crate) fn shorten_nets(
     if chunks.is_empty() {
         return Ok(placement);
     }
-    let number = short(nets.len())?;
+    let number = to_u32(nets.len())?;
     let tiles = placement.tiles();
     let once = nets_once(alloc, nets.as_slice())?;
     let found = improve_some(alloc, once, sites, chunks.as_slice(), tiles, seed)?;
@@ -284,7 +284,7 @@ pub(crate) fn shorten_nets(
 /// memory alone.
 pub fn improve_nets(
     alloc: Global,
-    nets: Vec<Net>,
+    nets: Vec<NetNodes>,
     placement: Placement,
     sites: &Sites,
     clusters: &Clusters,

@@ -2,10 +2,10 @@
 ghost use Rattle.std.specs.Prelude.{◌≡◌, ℕ, List, true, length, IfOk};
 ghost use Rattle.std.specs.List.{All, Contains};
 ghost use Rattle.ice_base.specs.declared.number.TileAt.{TileAt};
-ghost use Rattle.ice_board.specs.Length.{IsNode, IsNet, net_length, wire_length};
+ghost use Rattle.ice_anneal_board.specs.Length.{IsNode, IsNet, net_length, wire_length};
 
 use ice_base::NoMemory;
-use ice_board::{Net, Node};
+use ice_anneal_board::{NetNodes, Node};
 use std::alloc::Global;
 
 // Whether the two are one node.
@@ -47,14 +47,14 @@ fn once(alloc: Global, nodes: &[Node]) -> Result<Vec<Node>, NoMemory>
 }
 
 /// Nets that are as long by fewer nodes, in time near the number of nodes. It fails for want of memory alone.
-pub fn nets_once(alloc: Global, nets: &[Net]) -> Result<Vec<Net>, NoMemory>
+pub fn nets_once(alloc: Global, nets: &[NetNodes]) -> Result<Vec<NetNodes>, NoMemory>
     ensures count { IfOk result (λ found. length found.items ≡ length nets.now) }
     ensures nets { IfOk result (λ found. (count : ℕ) → All (IsNet count) nets.now → All (IsNet count) found.items) }
     ensures lengths { IfOk result (λ found. (at : List TileAt) → wire_length found.items at ≡ wire_length nets.now at) }
 {
     let mut found = Vec::with_capacity(alloc, nets.len())?;
     for net in nets {
-        found.push(Net {
+        found.push(NetNodes {
             nodes: once(alloc, &net.nodes)?,
         })?;
     }

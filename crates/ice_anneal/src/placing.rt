@@ -4,19 +4,19 @@ ghost use Rattle.std.specs.List.{All};
 ghost use Rattle.ice_base.specs.declared.number.TileAt.{TileAt};
 ghost use Rattle.ice_sites.specs.Legal.{IsLegal};
 ghost use Rattle.ice_sites.specs.Stretches.{stretches_of};
-ghost use Rattle.ice_plan.specs.Length.{length_of};
-ghost use Rattle.ice_length.specs.Plans.{plan_of};
+ghost use Rattle.ice_place_defs.specs.Length.{length_of};
+ghost use Rattle.ice_place_length.specs.Plans.{plan_of};
 ghost use Rattle.ice_place.specs.Place.{chunks_of};
-ghost use Rattle.ice_board.specs.Length.{IsNet, wire_length};
+ghost use Rattle.ice_anneal_board.specs.Length.{IsNet, wire_length};
 ghost use Rattle.ice_anneal.specs.Least.{IsSwapLeast};
 
 use crate::improving::shorten_nets;
 use ice_base::NoMemory;
-use ice_board::Net;
+use ice_anneal_board::NetNodes;
 use ice_cells::{Clusters, Design};
 use ice_chip::Chip;
-use ice_length::Placed;
-use ice_nodes::measuring_nets;
+use ice_place_length::Placed;
+use ice_anneal_nets::measuring_nets;
 use ice_pads::Pads;
 use ice_place::Placement;
 use ice_sites::Sites;
@@ -29,7 +29,7 @@ pub fn nets_in(
     clusters: &Clusters,
     design: &Design,
     pads: &Pads,
-) -> Result<Vec<Net>, NoMemory>
+) -> Result<Vec<NetNodes>, NoMemory>
     ensures nets { IfOk result (λ nets. All (IsNet (length clusters.now.list)) nets.items) }
     ensures lengths { IfOk result (λ nets. (at : List TileAt) → length at ≡ length clusters.now.list → wire_length nets.items at ≡ length_of chip.now (plan_of clusters.now design.now at pads.now)) }
 {

@@ -2,13 +2,13 @@
 ghost use Rattle.std.specs.Prelude.{◌≡◌, ◌+◌, ◌<◌, ◌≤◌, length, IfOk};
 ghost use Rattle.std.specs.List.{All, swap};
 ghost use Rattle.std.specs.List.Sorted.{IsPermutation};
-ghost use Rattle.ice_board.specs.Wiring.{IsWiring};
+ghost use Rattle.ice_anneal_board.specs.Wiring.{IsWiring};
 ghost use Rattle.ice_anneal.specs.Seating.{IsSeating, IsUnit};
 
 use crate::order::SiteOrder;
 use crate::units::MoveUnit;
 use ice_base::{NoMemory, TileAt};
-use ice_board::{Board, Wiring};
+use ice_anneal_board::{Board, Wiring};
 use std::alloc::Global;
 
 /// The tiles of the clusters and of the free sites, the number of each one's site, and which of them stands on each site.

@@ -8,7 +8,7 @@ use crate::order::SiteOrder;
 use crate::seating::Seating;
 use crate::trial::{is_within, length_now};
 use crate::units::MoveUnit;
-use ice_board::Wiring;
+use ice_anneal_board::Wiring;
 use rand_core::utils::NextWord;
 use rand_pcg::Pcg32;
 

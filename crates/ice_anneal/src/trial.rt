@@ -2,11 +2,11 @@
 //! not negative, so once their sum is beyond what is kept, the nets that are left don't matter.
 ghost use Rattle.std.specs.Prelude.{◌<◌, length};
 ghost use Rattle.std.specs.List.{All};
-ghost use Rattle.ice_board.specs.Board.{IsBoard};
-ghost use Rattle.ice_board.specs.Wiring.{IsWiring};
+ghost use Rattle.ice_anneal_board.specs.Board.{IsBoard};
+ghost use Rattle.ice_anneal_board.specs.Wiring.{IsWiring};
 
 use ice_base::TileAt;
-use ice_board::{Board, Wiring, length_of_net};
+use ice_anneal_board::{Board, Wiring, length_of_net};
 
 // Adds the lengths of some nets as they are.
 fn with_lengths(sum: u64, lengths: &[u64], nets: &[usize]) -> u64

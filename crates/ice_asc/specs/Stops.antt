@@ -1,9 +1,9 @@
 -- The fault that a stop is told as.
 use Rattle.ice_asc.specs.declared.fault.AscFault.{AscFault}
 use Rattle.ice_asc.specs.declared.fault.AscFault.TheVariants as fault
-use Rattle.ice_asc.specs.declared.fault.ReadStop.{ReadStop}
-use Rattle.ice_asc.specs.declared.fault.ReadStop.TheVariants.{NoMemory, Fault}
+use Rattle.ice_asc.specs.declared.fault.AscStop.{AscStop}
+use Rattle.ice_asc.specs.declared.fault.AscStop.TheVariants.{NoMemory, Fault}
 
-abbrev pub fault_of : ReadStop → AscFault
+abbrev pub fault_of : AscStop → AscFault
 fault_of NoMemory = fault.NoMemory
 fault_of (Fault known) = known

@@ -2,8 +2,8 @@
 use Rattle.std.specs.Prelude.{◌≡◌, Result, Ok, Err}
 use Rattle.ice_asc.specs.Grammar as spec
 use Rattle.ice_asc.specs.declared.fault.AscFault.{AscFault}
-use Rattle.ice_asc.specs.declared.fault.ReadStop.{ReadStop}
-use Rattle.ice_asc.specs.declared.fault.ReadStop.TheVariants.{NoMemory, Fault}
+use Rattle.ice_asc.specs.declared.fault.AscStop.{AscStop}
+use Rattle.ice_asc.specs.declared.fault.AscStop.TheVariants.{NoMemory, Fault}
 use Rattle.ice_asc.specs.declared.reading.Reading.{Reading}
 
 abbrev pub reading_view : Reading → spec.Reading
@@ -21,11 +21,11 @@ abbrev pub Says : {X Y : Type 0} → (X → Y) → Result X AscFault → Result 
 Says view (Ok x) said = said ≡ Ok (view x)
 Says view (Err fault) said = said ≡ Err fault
 
-abbrev pub Stops : {Y : Type 0} → ReadStop → Result Y AscFault → Type 0
+abbrev pub Stops : {Y : Type 0} → AscStop → Result Y AscFault → Type 0
 Stops NoMemory said = Unit {0}
 Stops (Fault fault) said = said ≡ Err fault
 
 -- what a function returned, seen by view, is what the definition says, unless memory ran out
-abbrev pub Gives : {X Y : Type 0} → (X → Y) → Result X ReadStop → Result Y AscFault → Type 0
+abbrev pub Gives : {X Y : Type 0} → (X → Y) → Result X AscStop → Result Y AscFault → Type 0
 Gives view (Ok x) said = said ≡ Ok (view x)
 Gives view (Err stop) said = Stops stop said

@@ -1,7 +1,7 @@
 //! Why a text says no configuration bits.
 ghost use Rattle.std.specs.Prelude.{◌≡◌};
 ghost use Rattle.ice_asc.specs.Stops.{fault_of};
-ghost use Rattle.ice_asc.specs.declared.fault.ReadStop.TheVariants.{NoMemory, Fault};
+ghost use Rattle.ice_asc.specs.declared.fault.AscStop.TheVariants.{NoMemory, Fault};
 
 use std::alloc::{AllocError, AllocFailed};
 use thiserror::Error;
@@ -58,7 +58,7 @@ pub enum AscFault {
 
 /// Why reading stops.
 #[derive(Clone, Copy, Debug, Error)]
-pub enum ReadStop {
+pub enum AscStop {
     /// Want of memory.
     #[error("want of memory")]
     NoMemory,
@@ -67,45 +67,45 @@ pub enum ReadStop {
     Fault(AscFault),
 }
 
-impl From<AllocError> for ReadStop {
+impl From<AllocError> for AscStop {
     ghost from_gives = { λ _ e. e ≡ NoMemory };
 
     fn from(_: AllocError) -> Self {
-        ReadStop::NoMemory
+        AscStop::NoMemory
     }
 }
 
-impl<T: Drop> From<AllocFailed<T>> for ReadStop {
+impl<T: Drop> From<AllocFailed<T>> for AscStop {
     ghost from_gives = { λ _ e. e ≡ NoMemory };
 
     fn from(_: AllocFailed<T>) -> Self {
-        ReadStop::NoMemory
+        AscStop::NoMemory
     }
 }
 
-impl From<ice_base::NoMemory> for ReadStop {
+impl From<ice_base::NoMemory> for AscStop {
     ghost from_gives = { λ _ e. e ≡ NoMemory };
 
     fn from(_: ice_base::NoMemory) -> Self {
-        ReadStop::NoMemory
+        AscStop::NoMemory
     }
 }
 
-impl From<AscFault> for ReadStop {
+impl From<AscFault> for AscStop {
     ghost from_gives = { λ fault e. e ≡ Fault fault };
 
     fn from(fault: AscFault) -> Self {
-        ReadStop::Fault(fault)
+        AscStop::Fault(fault)
     }
 }
 
-impl From<ReadStop> for AscFault {
+impl From<AscStop> for AscFault {
     ghost from_gives = { λ stop fault. fault ≡ fault_of stop };
 
-    fn from(stop: ReadStop) -> Self {
+    fn from(stop: AscStop) -> Self {
         match stop {
-            ReadStop::NoMemory => AscFault::NoMemory,
-            ReadStop::Fault(fault) => fault,
+            AscStop::NoMemory => AscFault::NoMemory,
+            AscStop::Fault(fault) => fault,
         }
     }
 }

@@ -4,7 +4,7 @@ ghost use Rattle.ice_asc.specs.Grammar.{device_says, opened, tile_says, extra_sa
 ghost use Rattle.ice_asc.specs.Words.{extra_of_words};
 ghost use Rattle.ice_asc.specs.Views.{Says, Gives, reading_view};
 
-use crate::fault::{AscFault, ReadStop};
+use crate::fault::{AscFault, AscStop};
 use crate::reading::Reading;
 use crate::section::{Heading, Section};
 use crate::words::{extra_of, tile_of};
@@ -30,12 +30,12 @@ fn device_line(reading: &mut Reading, mut words: WordIter<'_>) -> Result<(), Asc
 }
 
 // Opens a tile, which must be its first heading.
-fn open(alloc: Global, reading: &mut Reading, kind: TileKind, at: TileAt) -> Result<(), ReadStop>
+fn open(alloc: Global, reading: &mut Reading, kind: TileKind, at: TileAt) -> Result<(), AscStop>
     ensures { Gives (λ _. reading_view reading.new) result (opened (reading_view reading.old) kind at) }
 {
     let heading = reading.line;
     if !reading.seen.insert(at)? {
-        return Err(ReadStop::Fault(AscFault::TileTwice { line: heading }));
+        return Err(AscStop::Fault(AscFault::TileTwice { line: heading }));
     }
     reading.rows = TileBits::new(alloc);
     reading.section = Section::Rows { heading, at, kind };
@@ -49,25 +49,25 @@ fn tile_line(
     reading: &mut Reading,
     kind: TileKind,
     tile: Option<TileAt>,
-) -> Result<(), ReadStop>
+) -> Result<(), AscStop>
     ensures { Gives (λ _. reading_view reading.new) result (tile_says chip.now (reading_view reading.old) kind tile) }
 {
     let line = reading.line;
     let Some(at) = tile else {
-        return Err(ReadStop::Fault(AscFault::UnknownTile { line }));
+        return Err(AscStop::Fault(AscFault::UnknownTile { line }));
     };
     if !is_of_kind(kind, chip.kind_at(at)) {
-        return Err(ReadStop::Fault(AscFault::UnknownTile { line }));
+        return Err(AscStop::Fault(AscFault::UnknownTile { line }));
     }
     open(alloc, reading, kind, at)
 }
 
 // `.extra_bit B X Y`
-fn extra_line(reading: &mut Reading, words: WordIter<'_>) -> Result<(), ReadStop>
+fn extra_line(reading: &mut Reading, words: WordIter<'_>) -> Result<(), AscStop>
     ensures { Gives (λ _. reading_view reading.new) result (extra_says (reading_view reading.old) (extra_of_words words.entry)) }
 {
     let Some(extra) = extra_of(words) else {
-        return Err(ReadStop::Fault(AscFault::BadRow { line: reading.line }));
+        return Err(AscStop::Fault(AscFault::BadRow { line: reading.line }));
     };
     reading.bits.add_extra(extra)?;
     reading.section = Section::Nowhere;
@@ -81,14 +81,14 @@ pub fn heading_line(
     reading: &mut Reading,
     heading: Heading,
     words: WordIter<'_>,
-) -> Result<(), ReadStop>
+) -> Result<(), AscStop>
     ensures { Gives (λ _. reading_view reading.new) result (heading_says chip.now (reading_view reading.old) heading words.entry) }
 {
     match heading {
         Heading::Device => Ok(device_line(reading, words)?),
         Heading::Tile(kind) => {
             if !reading.has_device {
-                return Err(ReadStop::Fault(AscFault::NoDevice { line: reading.line }));
+                return Err(AscStop::Fault(AscFault::NoDevice { line: reading.line }));
             }
             tile_line(alloc, chip, reading, kind, tile_of(words))
         }

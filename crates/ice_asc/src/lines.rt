@@ -4,7 +4,7 @@ ghost use Rattle.ice_base.specs.Text.{words};
 ghost use Rattle.ice_asc.specs.Grammar.{words_say, line_says, lines_say, at_line};
 ghost use Rattle.ice_asc.specs.Views.{Gives, reading_view};
 
-use crate::fault::{AscFault, ReadStop};
+use crate::fault::{AscFault, AscStop};
 use crate::headings::heading_line;
 use crate::reading::Reading;
 use crate::rows::row_line;
@@ -20,7 +20,7 @@ fn words_line(
     reading: &mut Reading,
     word: &[u8],
     others: WordIter<'_>,
-) -> Result<(), ReadStop>
+) -> Result<(), AscStop>
     ensures { Gives (λ _. reading_view reading.new) result (words_say chip.now (reading_view reading.old) (reading_view reading.old).section word.now others.entry) }
 {
     match reading.section {
@@ -35,7 +35,7 @@ fn words_line(
         }
         Section::Nowhere => {
             if !begins_with(b'.', word) {
-                return Err(ReadStop::Fault(AscFault::UnknownWord { line: reading.line }));
+                return Err(AscStop::Fault(AscFault::UnknownWord { line: reading.line }));
             }
             heading_line(alloc, chip, reading, heading_named(word), others)
         }
@@ -48,7 +48,7 @@ fn take_line(
     chip: &Chip,
     reading: &mut Reading,
     line: Line<'_>,
-) -> Result<(), ReadStop>
+) -> Result<(), AscStop>
     ensures { Gives (λ _. reading_view reading.new) result (line_says chip.now (at_line (reading_view reading.old) line.entry.number) (words line.entry.text.now)) }
 {
     reading.line = line.number;
@@ -65,7 +65,7 @@ pub fn take_lines(
     chip: &Chip,
     reading: &mut Reading,
     lines: LineIter<'_>,
-) -> Result<(), ReadStop>
+) -> Result<(), AscStop>
     ensures { Gives (λ _. reading_view reading.new) result (lines_say chip.now (reading_view reading.old) lines.entry) }
 {
     for line in lines {

@@ -6,7 +6,7 @@ ghost use Rattle.ice_asc.specs.Grammar.{asc_in};
 ghost use Rattle.ice_asc.specs.Views.{Gives};
 
 use crate::AscFault;
-use crate::fault::ReadStop;
+use crate::fault::AscStop;
 use crate::lines::take_lines;
 use crate::reading::{begin, end};
 use ice_base::lines_of;
@@ -15,7 +15,7 @@ use ice_chip::Chip;
 use std::alloc::Global;
 
 // The bits that a text says, or why reading stops.
-fn read_bits(alloc: Global, text: &[u8], chip: &Chip) -> Result<Bits, ReadStop>
+fn read_bits(alloc: Global, text: &[u8], chip: &Chip) -> Result<Bits, AscStop>
     ensures { Gives (λ bits. bits) result (asc_in chip.now text.now) }
 {
     let mut reading = begin(alloc, chip)?;

@@ -3,7 +3,7 @@ ghost use Rattle.std.specs.Prelude.{◌≡◌, Ok, ◌∷◌, [], ◌++◌};
 ghost use Rattle.ice_asc.specs.Grammar.{with_row, row_says};
 ghost use Rattle.ice_asc.specs.Views.{Gives, reading_view};
 
-use crate::fault::ReadStop;
+use crate::fault::AscStop;
 use crate::reading::Reading;
 use crate::section::Section;
 use crate::words::row_of;
@@ -38,7 +38,7 @@ pub fn row_line(
     kind: TileKind,
     word: &[u8],
     others: WordIter<'_>,
-) -> Result<(), ReadStop>
+) -> Result<(), AscStop>
     ensures { Gives (λ _. reading_view reading.new) result (row_says (reading_view reading.old) heading at kind word.now others.entry) }
 {
     let row = row_of(alloc, reading.line, kind.columns(), word, others)?;

@@ -6,7 +6,7 @@ ghost use Rattle.ice_asc.specs.Words.{bits_of_digits, row_of_words, tile_of_word
 ghost use Rattle.ice_asc.specs.Grammar.{known_row};
 ghost use Rattle.ice_asc.specs.Views.{Gives};
 
-use crate::fault::{AscFault, ReadStop};
+use crate::fault::{AscFault, AscStop};
 use ice_base::{TileAt, WordIter, digit_value, number_of};
 use std::alloc::Global;
 
@@ -38,13 +38,13 @@ pub fn extra_of(mut words: WordIter<'_>) -> Option<(u32, u32, u32)>
 }
 
 // The bits that these digits write.
-fn known_bits(alloc: Global, line: u32, digits: &[u8]) -> Result<Vec<bool>, ReadStop>
+fn known_bits(alloc: Global, line: u32, digits: &[u8]) -> Result<Vec<bool>, AscStop>
     ensures { Gives (λ row. row.items) result (known_row line (all_known (map digit_value digits.now))) }
 {
     let mut row = Vec::with_capacity(alloc, digits.len())?;
     for digit in digits {
         let Some(bit) = digit_value(*digit) else {
-            return Err(ReadStop::Fault(AscFault::BadRow { line }));
+            return Err(AscStop::Fault(AscFault::BadRow { line }));
         };
         row.push(bit)?;
     }
@@ -58,11 +58,11 @@ pub fn row_of(
     columns: u8,
     word: &[u8],
     mut others: WordIter<'_>,
-) -> Result<Vec<bool>, ReadStop>
+) -> Result<Vec<bool>, AscStop>
     ensures { Gives (λ row. row.items) result (known_row line (row_of_words columns word.now others.entry)) }
 {
     if others.next().is_some() || word.len() != usize::from(columns) {
-        return Err(ReadStop::Fault(AscFault::BadRow { line }));
+        return Err(AscStop::Fault(AscFault::BadRow { line }));
     }
     known_bits(alloc, line, word)
 }

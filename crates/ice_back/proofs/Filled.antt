@@ -4,10 +4,10 @@ use Rattle.std.specs.Prelude.{slice_index_or}
 use Rattle.std.proofs.lemmas.Bool.{cases_eq}
 use Rattle.std.proofs.lemmas.List.{length-set}
 use Rattle.ice_base.specs.declared.number.WireNo.{WireNo}
-use Rattle.ice_value.specs.Inputs.{present, reading}
-use Rattle.ice_value.specs.Order.{At, Has}
-use Rattle.ice_value.proofs.Members.{At_right, At_within}
-use Rattle.ice_value.proofs.Places.{At_same}
+use Rattle.ice_base_values.specs.Inputs.{present, reading}
+use Rattle.ice_base_values.specs.Order.{At, Has}
+use Rattle.ice_base_values.proofs.Members.{At_right, At_within}
+use Rattle.ice_base_values.proofs.Places.{At_same}
 use Rattle.ice_chip.specs.Database.{Parts}
 use Rattle.ice_chip.specs.declared.rows.Pad.{Pad}
 use Rattle.ice_bits.specs.Configuration.{Bits}
@@ -18,8 +18,8 @@ use Rattle.ice_decode.specs.Faults.{IsOrderOf}
 use Rattle.ice_decode.specs.Points.{HasWire}
 use Rattle.ice_decode.specs.Reads.{wire_point}
 use Rattle.ice_decode.proofs.PointPlaces.{StandsAs, wire_at, point_cases}
-use Rattle.ice_back_laws.specs.declared.root.Root.{Root}
-use Rattle.ice_back_laws.specs.declared.root.Root.TheVariants.{Fixed}
+use Rattle.ice_back_laws.specs.declared.root.LevelRoot.{LevelRoot}
+use Rattle.ice_back_laws.specs.declared.root.LevelRoot.TheVariants.{Fixed}
 use Rattle.ice_back_laws.specs.Roots.{point_passes, point_root, root_of}
 use Rattle.ice_back_laws.proofs.RootLevels.{passed_read, ordered_made}
 use Rattle.ice_back.specs.Filling.{root_in, wire_root, filled, AreRoots}
@@ -42,29 +42,29 @@ has_wire parts bits order o j p at = let has = o.within p (j, at) in by has.0 p 
     by n (Carry t i) stands = tt
 
 module _ (parts : Parts) (bits : Bits) (order : List Point) (o : IsOrderOf parts bits order) (bonded : List Pad) where
-  abbrev root : Point → Root
+  abbrev root : Point → LevelRoot
   root = root_of parts bits bonded
 
-  abbrev at_wire : List Root → ℕ → Root
+  abbrev at_wire : List LevelRoot → ℕ → LevelRoot
   at_wire roots w = slice_index_or roots w (Fixed false)
 
   -- the wires among the first k points have their roots
-  record IsFilled (k : ℕ) (roots : List Root) : Type 0 where
+  record IsFilled (k : ℕ) (roots : List LevelRoot) : Type 0 where
     pub long : length roots ≡ parts.wires
     pub right : (j : ℕ) (w : WireNo) → j < k → At order j (Wire w) → at_wire roots w.0 ≡ root (Wire w)
 
-  known : (k : ℕ) (roots : List Root) → IsFilled k roots → (j : ℕ) (q : Point) → j < k → At order j q → root_in parts bits roots q ≡ root q
+  known : (k : ℕ) (roots : List LevelRoot) → IsFilled k roots → (j : ℕ) (q : Point) → j < k → At order j q → root_in parts bits roots q ≡ root q
   known k roots is j (Wire w) lt at = is.right j w lt at
   known k roots is j (Carry t i) lt at = sym (ordered_made parts bits order o bonded j (Carry t i) at)
 
-  made : (k : ℕ) (roots : List Root) (w : WireNo) → IsFilled k roots → At order k (Wire w) → wire_root parts bits bonded roots w.0 ≡ root (Wire w)
+  made : (k : ℕ) (roots : List LevelRoot) (w : WireNo) → IsFilled k roots → At order k (Wire w) → wire_root parts bits bonded roots w.0 ≡ root (Wire w)
   made k roots w is at =
       ap (point_root parts bits bonded (Wire w))
       (alike (Fixed false) (root_in parts bits roots) root (point_passes parts bits (Wire w))
       (λ q has. let before = o.after k (Wire w) q at (passed_read parts bits (Wire w) q has) in known k roots is before.0 q before.1 before.2))
       ∙ sym (ordered_made parts bits order o bonded k (Wire w) at)
 
-  wire_filled : (k : ℕ) (roots : List Root) (w : WireNo) → IsFilled k roots → At order k (Wire w) → IsFilled (suc k) (set roots w.0 (wire_root parts bits bonded roots w.0))
+  wire_filled : (k : ℕ) (roots : List LevelRoot) (w : WireNo) → IsFilled k roots → At order k (Wire w) → IsFilled (suc k) (set roots w.0 (wire_root parts bits bonded roots w.0))
   wire_filled k roots w is at = record {
     long = length-set roots w.0 (wire_root parts bits bonded roots w.0) ∙ is.long;
     right = λ j v lt there. elim (cases_eq v.0 w.0) [
@@ -95,7 +95,7 @@ module _ (parts : Parts) (bits : Bits) (order : List Point) (o : IsOrderOf parts
           number : Wire v ≡ Wire w → v.0 ≡ w.0
           number e = cc e
 
-  carry_filled : (k : ℕ) (roots : List Root) (p : Point) → ((w : WireNo) → p ≡ Wire w → ⊥) → IsFilled k roots → At order k p → IsFilled (suc k) roots
+  carry_filled : (k : ℕ) (roots : List LevelRoot) (p : Point) → ((w : WireNo) → p ≡ Wire w → ⊥) → IsFilled k roots → At order k p → IsFilled (suc k) roots
   carry_filled k roots p other is at = record {
     long = is.long;
     right = λ j v lt there. elim (cases_eq j k) [
@@ -112,7 +112,7 @@ module _ (parts : Parts) (bits : Bits) (order : List Point) (o : IsOrderOf parts
   longer : (p : Point) (done : List Point) → suc (length done) ≡ length (done ++ p ∷ [])
   longer p done = let long = length-append done (p ∷ []) in omega (arith, long)
 
-  filled_from : (left done : List Point) (roots : List Root) → order ≡ done ++ left → IsFilled (length done) roots → IsFilled (length order) (filled parts bits bonded left roots)
+  filled_from : (left done : List Point) (roots : List LevelRoot) → order ≡ done ++ left → IsFilled (length done) roots → IsFilled (length order) (filled parts bits bonded left roots)
   filled_from [] done roots e is = record {
     long = is.long;
     right = λ j w lt at. is.right j w (let long = ap length e ∙ length-append done [] in omega (arith, lt, long)) at;
@@ -125,7 +125,7 @@ module _ (parts : Parts) (bits : Bits) (order : List Point) (o : IsOrderOf parts
       (subst (λ n. IsFilled n roots) (longer (Carry t i) done) (carry_filled (length done) roots (Carry t i) (λ w f. cc f) is (stands (Carry t i) left done e)))
 
   -- all wires have their roots
-  pub all_filled : (roots : List Root) → length roots ≡ parts.wires → AreRoots parts bits bonded (filled parts bits bonded order roots)
+  pub all_filled : (roots : List LevelRoot) → length roots ≡ parts.wires → AreRoots parts bits bonded (filled parts bits bonded order roots)
   all_filled roots long w lt =
       let is = filled_from order [] roots refl (record { long = long; right = λ j v below at. absurd (omega (arith, below)) }) in
       let there = o.each (wire_point w) (w, wire_at parts.wires (logic_tiles parts) w lt) in

@@ -2,7 +2,7 @@ mod Turned
 mod Rooms
 mod FirstPins
 mod Filled
-mod SiteFacts
+mod ConfiguredFacts
 mod Ports
 mod PadCells
 mod Named

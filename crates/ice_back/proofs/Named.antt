@@ -9,11 +9,11 @@ use Rattle.ice_decode.specs.Cells.{cells}
 use Rattle.ice_back_laws.specs.Back.{pad_cell, logic_cells, fixed_cells, numbered_pads, back_netlist}
 use Rattle.ice_back_laws.specs.Numbers.{pad_names, cell_names, back_names}
 use Rattle.ice_back.specs.Adding.{with_names, HasRoomForNames, with_cells, HasRoomForCells}
-use Rattle.ice_back.specs.Sites.{SiteData, IsConfigured}
+use Rattle.ice_back.specs.ConfiguredChips.{ConfiguredData, IsConfigured}
 use Rattle.ice_back.proofs.Rooms.{names_first, names_rest, cells_first, cells_rest}
-use Rattle.ice_back.proofs.SiteFacts.{names_fit, cells_fit}
+use Rattle.ice_back.proofs.ConfiguredFacts.{names_fit, cells_fit}
 
-module _ (d : SiteData) where
+module _ (d : ConfiguredData) where
   abbrev zero_name : List (List ℕ)
   zero_name = codes "zero" ∷ []
 

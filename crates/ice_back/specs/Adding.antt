@@ -1,6 +1,6 @@
 -- Names and cells that are added to a netlist.
 use Rattle.std.specs.Prelude.{ℕ, List, All}
-pub use Rattle.ice_added.specs.Adding.{HasRoomForCells, HasRoomForNames, with_cells, with_names}
+pub use Rattle.ice_net_additions.specs.Adding.{HasRoomForCells, HasRoomForNames, with_cells, with_names}
 use Rattle.ice_base.specs.declared.number.TileAt.{TileAt}
 use Rattle.ice_chip.specs.Database.{Parts}
 use Rattle.ice_back_laws.specs.Roots.{StandsAt}

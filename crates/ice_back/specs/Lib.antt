@@ -1,4 +1,4 @@
 pub mod Filling
-pub mod Sites
+pub mod ConfiguredChips
 pub mod Adding
 pub mod Naming

@@ -11,7 +11,7 @@ ghost use Rattle.ice_back_laws.specs.Numbers.{reader_of};
 ghost use Rattle.ice_back_laws.specs.Roots.{StandsAt, cell_table, table_root};
 
 use crate::roots::table_root;
-use crate::site::Site;
+use crate::configured::ConfiguredChip;
 use ice_base::{NoMemory, SignalNo, TileAt};
 use ice_chip::{Pad, input_name, output_enable_name, pad_output_name};
 use ice_decode::{cell_bit, pin_type, setting};
@@ -59,89 +59,89 @@ pub(crate) fn fixed_cell(alloc: Global, level: bool) -> Result<Cell, NoMemory>
 }
 
 // The PIN_TYPE of a pad's SB_IO: the pad's output part, and the input part of a plain input.
-fn buffer_type(site: &Site<'_>, pad: Pad) -> u8
-    ensures { result ≡ buffer_type site.now.parts (bits_of site.now.configuration) pad }
+fn buffer_type(configured: &ConfiguredChip<'_>, pad: Pad) -> u8
+    ensures { result ≡ buffer_type configured.now.parts (bits_of configured.now.configuration) pad }
 {
-    4 * (pin_type(site.chip(), site.bits(), pad) / 4) + 1
+    4 * (pin_type(configured.chip(), configured.bits(), pad) / 4) + 1
 }
 
 /// The SB_IO of the pad of a number.
 pub(crate) fn pad_cell(
     alloc: Global,
-    site: &Site<'_>,
+    configured: &ConfiguredChip<'_>,
     number: u32,
     pad: Pad,
 ) -> Result<Cell, NoMemory>
     requires { number < 2 ^ 30 }
-    ensures { IfOk result (λ made. made ≡ pad_cell site.now.parts (bits_of site.now.configuration) site.now.bonded.pads (number, pad)) }
+    ensures { IfOk result (λ made. made ≡ pad_cell configured.now.parts (bits_of configured.now.configuration) configured.now.bonded.pads (number, pad)) }
 {
     let kind = CellKind::PadCell {
-        pin_type: buffer_type(site, pad),
+        pin_type: buffer_type(configured, pad),
         pullup: false,
     };
     let port = Some(SignalNo(2 + 2 * number));
-    let level = site.pin_reader(false, pad.tile, &pad_output_name(pad.pio));
-    let enable = site.pin_reader(false, pad.tile, &output_enable_name(pad.pio));
+    let level = configured.pin_reader(false, pad.tile, &pad_output_name(pad.pio));
+    let enable = configured.pin_reader(false, pad.tile, &output_enable_name(pad.pio));
     let ins = [port, level, enable, None, None, None, None, None];
     made(alloc, kind, &ins, &[Some(SignalNo(3 + 2 * number)), None])
 }
 
 // What reads an input of a cell.
-fn input(site: &Site<'_>, tile: TileAt, cell: u8, number: u8) -> Option<SignalNo>
-    ensures { result ≡ pin_reader site.now.parts (bits_of site.now.configuration) site.now.bonded.pads false tile (input_name cell number) }
+fn input(configured: &ConfiguredChip<'_>, tile: TileAt, cell: u8, number: u8) -> Option<SignalNo>
+    ensures { result ≡ pin_reader configured.now.parts (bits_of configured.now.configuration) configured.now.bonded.pads false tile (input_name cell number) }
 {
-    site.pin_reader(false, tile, &input_name(cell, number))
+    configured.pin_reader(false, tile, &input_name(cell, number))
 }
 
 /// The look-up table of a cell, where `table` is its table.
 pub(crate) fn table_cell(
     alloc: Global,
-    site: &Site<'_>,
+    configured: &ConfiguredChip<'_>,
     table: u16,
     tile: TileAt,
     cell: u8,
 ) -> Result<Cell, NoMemory>
-    requires stands { StandsAt site.now.parts tile cell }
-    requires table { table ≡ cell_table site.now.parts (bits_of site.now.configuration) tile cell }
-    ensures { IfOk result (λ made. made ≡ table_cell site.now.parts (bits_of site.now.configuration) site.now.bonded.pads (tile, cell)) }
+    requires stands { StandsAt configured.now.parts tile cell }
+    requires table { table ≡ cell_table configured.now.parts (bits_of configured.now.configuration) tile cell }
+    ensures { IfOk result (λ made. made ≡ table_cell configured.now.parts (bits_of configured.now.configuration) configured.now.bonded.pads (tile, cell)) }
 {
     let ins = [
-        input(site, tile, cell, 0),
-        input(site, tile, cell, 1),
-        input(site, tile, cell, 2),
-        input(site, tile, cell, 3),
+        input(configured, tile, cell, 0),
+        input(configured, tile, cell, 1),
+        input(configured, tile, cell, 2),
+        input(configured, tile, cell, 3),
     ];
-    let out = Some(SignalNo(site.cell_number(tile, cell)));
+    let out = Some(SignalNo(configured.cell_number(tile, cell)));
     made(alloc, CellKind::Lut { table }, &ins, &[out])
 }
 
 // What reads the carry into a cell.
-fn carry_into(site: &Site<'_>, tile: TileAt, cell: u8) -> Option<SignalNo>
-    requires { StandsAt site.now.parts tile cell }
-    ensures { result ≡ reader site.now.parts (bits_of site.now.configuration) site.now.bonded.pads false (carry_into site.now.parts tile cell) }
+fn carry_into(configured: &ConfiguredChip<'_>, tile: TileAt, cell: u8) -> Option<SignalNo>
+    requires { StandsAt configured.now.parts tile cell }
+    ensures { result ≡ reader configured.now.parts (bits_of configured.now.configuration) configured.now.bonded.pads false (carry_into configured.now.parts tile cell) }
 {
     if cell == 0 {
-        return site.pin_reader(false, tile, b"carry_in_mux");
+        return configured.pin_reader(false, tile, b"carry_in_mux");
     }
-    site.carry_reader(tile, cell - 1)
+    configured.carry_reader(tile, cell - 1)
 }
 
 /// The carry of a cell.
 pub(crate) fn carry_cell(
     alloc: Global,
-    site: &Site<'_>,
+    configured: &ConfiguredChip<'_>,
     tile: TileAt,
     cell: u8,
 ) -> Result<Cell, NoMemory>
-    requires { StandsAt site.now.parts tile cell }
-    ensures { IfOk result (λ made. made ≡ carry_cell site.now.parts (bits_of site.now.configuration) site.now.bonded.pads (tile, cell)) }
+    requires { StandsAt configured.now.parts tile cell }
+    ensures { IfOk result (λ made. made ≡ carry_cell configured.now.parts (bits_of configured.now.configuration) configured.now.bonded.pads (tile, cell)) }
 {
     let ins = [
-        input(site, tile, cell, 1),
-        input(site, tile, cell, 2),
-        carry_into(site, tile, cell),
+        input(configured, tile, cell, 1),
+        input(configured, tile, cell, 2),
+        carry_into(configured, tile, cell),
     ];
-    let out = Some(SignalNo(site.cell_number(tile, cell) + 2));
+    let out = Some(SignalNo(configured.cell_number(tile, cell) + 2));
     made(alloc, CellKind::Carry, &ins, &[out])
 }
 
@@ -158,10 +158,10 @@ fn reset_by(set: bool, at_once: bool) -> Reset
 }
 
 // The flip-flop of a cell as a kind.
-fn flop_kind(site: &Site<'_>, tile: TileAt, cell: u8) -> CellKind
-    ensures { result ≡ Flop (set_at site.now.parts (bits_of site.now.configuration) tile (codes "NegClk") 0) true (reset_of site.now.parts (bits_of site.now.configuration) tile cell) }
+fn flop_kind(configured: &ConfiguredChip<'_>, tile: TileAt, cell: u8) -> CellKind
+    ensures { result ≡ Flop (set_at configured.now.parts (bits_of configured.now.configuration) tile (codes "NegClk") 0) true (reset_of configured.now.parts (bits_of configured.now.configuration) tile cell) }
 {
-    let (chip, bits) = (site.chip(), site.bits());
+    let (chip, bits) = (configured.chip(), configured.bits());
     let set = cell_bit(chip, bits, tile, cell, 18);
     let at_once = cell_bit(chip, bits, tile, cell, 19);
     CellKind::Flop {
@@ -172,29 +172,29 @@ fn flop_kind(site: &Site<'_>, tile: TileAt, cell: u8) -> CellKind
 }
 
 // What reads the table of a cell.
-fn datum(site: &Site<'_>, tile: TileAt, cell: u8) -> Option<SignalNo>
-    requires { StandsAt site.now.parts tile cell }
-    ensures { result ≡ reader_of site.now.parts site.now.bonded.pads false (table_root site.now.parts (bits_of site.now.configuration) tile cell) }
+fn datum(configured: &ConfiguredChip<'_>, tile: TileAt, cell: u8) -> Option<SignalNo>
+    requires { StandsAt configured.now.parts tile cell }
+    ensures { result ≡ reader_of configured.now.parts configured.now.bonded.pads false (table_root configured.now.parts (bits_of configured.now.configuration) tile cell) }
 {
-    site.reader_of(false, table_root(site.chip(), site.bits(), tile, cell))
+    configured.reader_of(false, table_root(configured.chip(), configured.bits(), tile, cell))
 }
 
 /// The flip-flop of a cell.
 pub(crate) fn flop_cell(
     alloc: Global,
-    site: &Site<'_>,
+    configured: &ConfiguredChip<'_>,
     tile: TileAt,
     cell: u8,
 ) -> Result<Cell, NoMemory>
-    requires { StandsAt site.now.parts tile cell }
-    ensures { IfOk result (λ made. made ≡ flop_cell site.now.parts (bits_of site.now.configuration) site.now.bonded.pads (tile, cell)) }
+    requires { StandsAt configured.now.parts tile cell }
+    ensures { IfOk result (λ made. made ≡ flop_cell configured.now.parts (bits_of configured.now.configuration) configured.now.bonded.pads (tile, cell)) }
 {
     let ins = [
-        site.pin_reader(false, tile, b"lutff_global/clk"),
-        datum(site, tile, cell),
-        site.pin_reader(true, tile, b"lutff_global/cen"),
-        site.pin_reader(false, tile, b"lutff_global/s_r"),
+        configured.pin_reader(false, tile, b"lutff_global/clk"),
+        datum(configured, tile, cell),
+        configured.pin_reader(true, tile, b"lutff_global/cen"),
+        configured.pin_reader(false, tile, b"lutff_global/s_r"),
     ];
-    let out = Some(SignalNo(site.cell_number(tile, cell) + 1));
-    made(alloc, flop_kind(site, tile, cell), &ins, &[out])
+    let out = Some(SignalNo(configured.cell_number(tile, cell) + 1));
+    made(alloc, flop_kind(configured, tile, cell), &ins, &[out])
 }

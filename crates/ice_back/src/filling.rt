@@ -8,7 +8,7 @@ ghost use Rattle.ice_decode.specs.Refusals.{AreDrivers, IsCircuitOf};
 ghost use Rattle.ice_back.specs.Filling.{ComesFrom, wire_root, filled, AreRoots};
 
 use crate::roots::{role_root, switch_root};
-use ice_back_laws::Root;
+use ice_back_laws::LevelRoot;
 use ice_base::{NoMemory, WireNo};
 use ice_chip::{Chip, Pad};
 use ice_decode::{Circuit, Driver, Point, role_of};
@@ -31,9 +31,9 @@ fn wire_root(
     chip: &Chip,
     circuit: &Circuit,
     pads: &IndexSet<Pad>,
-    roots: &[Root],
+    roots: &[LevelRoot],
     wire: WireNo,
-) -> Root
+) -> LevelRoot
     requires drivers { AreDrivers chip.now (bits_of circuit.now.configuration) circuit.now.drivers }
     requires wire { wire.0 < chip.now.wires }
     ensures { result ≡ wire_root chip.now (bits_of circuit.now.configuration) pads.now.keys roots.now wire.0 }
@@ -42,12 +42,12 @@ fn wire_root(
     match driver(chip, circuit, wire) {
         Driver::Nothing => role_root(chip, bits, pads, roots, role_of(chip, wire)),
         Driver::By(switch) => switch_root(chip, bits, roots, switch),
-        Driver::Several(_, _) => Root::Fixed(false),
+        Driver::Several(_, _) => LevelRoot::Fixed(false),
     }
 }
 
 // Gives these points their roots, one after another. Carries need no place, since their roots are those of the bits.
-fn fill(chip: &Chip, circuit: &Circuit, pads: &IndexSet<Pad>, order: &[Point], roots: &mut [Root])
+fn fill(chip: &Chip, circuit: &Circuit, pads: &IndexSet<Pad>, order: &[Point], roots: &mut [LevelRoot])
     requires drivers { AreDrivers chip.now (bits_of circuit.now.configuration) circuit.now.drivers }
     requires order { All (HasWire chip.now) order.now }
     requires long { length roots.old ≡ chip.now.wires }
@@ -69,11 +69,11 @@ pub(crate) fn all_roots(
     chip: &Chip,
     circuit: &Circuit,
     pads: &IndexSet<Pad>,
-) -> Result<Vec<Root>, NoMemory>
+) -> Result<Vec<LevelRoot>, NoMemory>
     requires { IsCircuitOf chip.now circuit.now.configuration circuit.now }
     ensures { IfOk result (λ roots. AreRoots chip.now (bits_of circuit.now.configuration) pads.now.keys roots.items) }
 {
-    let mut roots = vec![in alloc; Root::Fixed(false); chip.wires() as usize]?;
+    let mut roots = vec![in alloc; LevelRoot::Fixed(false); chip.wires() as usize]?;
     fill(chip, circuit, pads, circuit.order(), &mut roots);
     Ok(roots)
 }

@@ -8,6 +8,6 @@ mod logic;
 mod making;
 mod names;
 mod roots;
-mod site;
+mod configured;
 
 pub use making::back;

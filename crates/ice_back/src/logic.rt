@@ -9,7 +9,7 @@ ghost use Rattle.ice_back.specs.Adding.{with_cells, HasRoomForCells, StandAt};
 
 use crate::cells::{carry_cell, fixed_cell, flop_cell, pad_cell, table_cell};
 use crate::roots::cell_table;
-use crate::site::Site;
+use crate::configured::ConfiguredChip;
 use ice_base::{NoMemory, SignalNo, TileAt};
 use ice_chip::Pad;
 use ice_decode::{has_carry, has_flop};
@@ -57,16 +57,16 @@ pub(crate) fn add_fixed(alloc: Global, netlist: &mut Netlist) -> Result<(), NoMe
 // Adds the SB_IO of the pad of a number.
 fn add_pad(
     alloc: Global,
-    site: &Site<'_>,
+    configured: &ConfiguredChip<'_>,
     netlist: &mut Netlist,
     number: u32,
     pad: Pad,
 ) -> Result<(), NoMemory>
-    requires room { HasRoomForCells netlist.old (pad_cell site.now.parts (bits_of site.now.configuration) site.now.bonded.pads (number, pad) ∷ []) }
+    requires room { HasRoomForCells netlist.old (pad_cell configured.now.parts (bits_of configured.now.configuration) configured.now.bonded.pads (number, pad) ∷ []) }
     requires few { number < 2 ^ 30 }
-    ensures { OnOk result (netlist.new ≡ with_cells netlist.old (pad_cell site.now.parts (bits_of site.now.configuration) site.now.bonded.pads (number, pad) ∷ [])) }
+    ensures { OnOk result (netlist.new ≡ with_cells netlist.old (pad_cell configured.now.parts (bits_of configured.now.configuration) configured.now.bonded.pads (number, pad) ∷ [])) }
 {
-    let cell = pad_cell(alloc, site, number, pad)?;
+    let cell = pad_cell(alloc, configured, number, pad)?;
     add_cell(netlist, cell)
 }
 
@@ -76,16 +76,16 @@ fn add_pad(
 /// Want of memory alone.
 pub(crate) fn add_pads(
     alloc: Global,
-    site: &Site<'_>,
+    configured: &ConfiguredChip<'_>,
     netlist: &mut Netlist,
     pads: &[Pad],
 ) -> Result<(), NoMemory>
-    requires room { HasRoomForCells netlist.old (map (pad_cell site.now.parts (bits_of site.now.configuration) site.now.bonded.pads) (numbered_pads pads.now)) }
+    requires room { HasRoomForCells netlist.old (map (pad_cell configured.now.parts (bits_of configured.now.configuration) configured.now.bonded.pads) (numbered_pads pads.now)) }
     requires few { length pads.now < 2 ^ 30 }
-    ensures { OnOk result (netlist.new ≡ with_cells netlist.old (map (pad_cell site.now.parts (bits_of site.now.configuration) site.now.bonded.pads) (numbered_pads pads.now))) }
+    ensures { OnOk result (netlist.new ≡ with_cells netlist.old (map (pad_cell configured.now.parts (bits_of configured.now.configuration) configured.now.bonded.pads) (numbered_pads pads.now))) }
 {
     for (number, pad) in pads.iter().enumerate() {
-        add_pad(alloc, site, netlist, number as u32, *pad)?;
+        add_pad(alloc, configured, netlist, number as u32, *pad)?;
     }
     Ok(())
 }
@@ -93,72 +93,72 @@ pub(crate) fn add_pads(
 // Adds the look-up table of a cell, where its table has a bit.
 fn add_table(
     alloc: Global,
-    site: &Site<'_>,
+    configured: &ConfiguredChip<'_>,
     netlist: &mut Netlist,
     cell: (TileAt, u8),
 ) -> Result<(), NoMemory>
-    requires stands { StandsAt site.now.parts cell.0 cell.1 }
-    requires room { HasRoomForCells netlist.old (table_cells site.now.parts (bits_of site.now.configuration) site.now.bonded.pads cell) }
-    ensures { OnOk result (netlist.new ≡ with_cells netlist.old (table_cells site.now.parts (bits_of site.now.configuration) site.now.bonded.pads cell)) }
+    requires stands { StandsAt configured.now.parts cell.0 cell.1 }
+    requires room { HasRoomForCells netlist.old (table_cells configured.now.parts (bits_of configured.now.configuration) configured.now.bonded.pads cell) }
+    ensures { OnOk result (netlist.new ≡ with_cells netlist.old (table_cells configured.now.parts (bits_of configured.now.configuration) configured.now.bonded.pads cell)) }
 {
-    let table = cell_table(site.chip(), site.bits(), cell.0, cell.1);
+    let table = cell_table(configured.chip(), configured.bits(), cell.0, cell.1);
     if table == 0 {
         return Ok(());
     }
-    let made = table_cell(alloc, site, table, cell.0, cell.1)?;
+    let made = table_cell(alloc, configured, table, cell.0, cell.1)?;
     add_cell(netlist, made)
 }
 
 // Adds the carry of a cell, where it is enabled.
 fn add_carry(
     alloc: Global,
-    site: &Site<'_>,
+    configured: &ConfiguredChip<'_>,
     netlist: &mut Netlist,
     cell: (TileAt, u8),
 ) -> Result<(), NoMemory>
-    requires stands { StandsAt site.now.parts cell.0 cell.1 }
-    requires room { HasRoomForCells netlist.old (carry_cells site.now.parts (bits_of site.now.configuration) site.now.bonded.pads cell) }
-    ensures { OnOk result (netlist.new ≡ with_cells netlist.old (carry_cells site.now.parts (bits_of site.now.configuration) site.now.bonded.pads cell)) }
+    requires stands { StandsAt configured.now.parts cell.0 cell.1 }
+    requires room { HasRoomForCells netlist.old (carry_cells configured.now.parts (bits_of configured.now.configuration) configured.now.bonded.pads cell) }
+    ensures { OnOk result (netlist.new ≡ with_cells netlist.old (carry_cells configured.now.parts (bits_of configured.now.configuration) configured.now.bonded.pads cell)) }
 {
-    if !has_carry(site.chip(), site.bits(), cell.0, cell.1) {
+    if !has_carry(configured.chip(), configured.bits(), cell.0, cell.1) {
         return Ok(());
     }
-    let made = carry_cell(alloc, site, cell.0, cell.1)?;
+    let made = carry_cell(alloc, configured, cell.0, cell.1)?;
     add_cell(netlist, made)
 }
 
 // Adds the flip-flop of a cell, where the cell's output is its.
 fn add_flop(
     alloc: Global,
-    site: &Site<'_>,
+    configured: &ConfiguredChip<'_>,
     netlist: &mut Netlist,
     cell: (TileAt, u8),
 ) -> Result<(), NoMemory>
-    requires stands { StandsAt site.now.parts cell.0 cell.1 }
-    requires room { HasRoomForCells netlist.old (flop_cells site.now.parts (bits_of site.now.configuration) site.now.bonded.pads cell) }
-    ensures { OnOk result (netlist.new ≡ with_cells netlist.old (flop_cells site.now.parts (bits_of site.now.configuration) site.now.bonded.pads cell)) }
+    requires stands { StandsAt configured.now.parts cell.0 cell.1 }
+    requires room { HasRoomForCells netlist.old (flop_cells configured.now.parts (bits_of configured.now.configuration) configured.now.bonded.pads cell) }
+    ensures { OnOk result (netlist.new ≡ with_cells netlist.old (flop_cells configured.now.parts (bits_of configured.now.configuration) configured.now.bonded.pads cell)) }
 {
-    if !has_flop(site.chip(), site.bits(), cell.0, cell.1) {
+    if !has_flop(configured.chip(), configured.bits(), cell.0, cell.1) {
         return Ok(());
     }
-    let made = flop_cell(alloc, site, cell.0, cell.1)?;
+    let made = flop_cell(alloc, configured, cell.0, cell.1)?;
     add_cell(netlist, made)
 }
 
 // Adds what the bits make of a logic cell.
 fn add_logic(
     alloc: Global,
-    site: &Site<'_>,
+    configured: &ConfiguredChip<'_>,
     netlist: &mut Netlist,
     cell: (TileAt, u8),
 ) -> Result<(), NoMemory>
-    requires stands { StandsAt site.now.parts cell.0 cell.1 }
-    requires room { HasRoomForCells netlist.old (logic_cells site.now.parts (bits_of site.now.configuration) site.now.bonded.pads cell) }
-    ensures { OnOk result (netlist.new ≡ with_cells netlist.old (logic_cells site.now.parts (bits_of site.now.configuration) site.now.bonded.pads cell)) }
+    requires stands { StandsAt configured.now.parts cell.0 cell.1 }
+    requires room { HasRoomForCells netlist.old (logic_cells configured.now.parts (bits_of configured.now.configuration) configured.now.bonded.pads cell) }
+    ensures { OnOk result (netlist.new ≡ with_cells netlist.old (logic_cells configured.now.parts (bits_of configured.now.configuration) configured.now.bonded.pads cell)) }
 {
-    add_table(alloc, site, netlist, cell)?;
-    add_carry(alloc, site, netlist, cell)?;
-    add_flop(alloc, site, netlist, cell)
+    add_table(alloc, configured, netlist, cell)?;
+    add_carry(alloc, configured, netlist, cell)?;
+    add_flop(alloc, configured, netlist, cell)
 }
 
 /// Adds what the bits make of these logic cells of the chip.
@@ -167,16 +167,16 @@ fn add_logic(
 /// Want of memory alone.
 pub(crate) fn add_all_logic(
     alloc: Global,
-    site: &Site<'_>,
+    configured: &ConfiguredChip<'_>,
     netlist: &mut Netlist,
     cells: &[(TileAt, u8)],
 ) -> Result<(), NoMemory>
-    requires stand { StandAt site.now.parts cells.now }
-    requires room { HasRoomForCells netlist.old (flat_map (logic_cells site.now.parts (bits_of site.now.configuration) site.now.bonded.pads) cells.now) }
-    ensures { OnOk result (netlist.new ≡ with_cells netlist.old (flat_map (logic_cells site.now.parts (bits_of site.now.configuration) site.now.bonded.pads) cells.now)) }
+    requires stand { StandAt configured.now.parts cells.now }
+    requires room { HasRoomForCells netlist.old (flat_map (logic_cells configured.now.parts (bits_of configured.now.configuration) configured.now.bonded.pads) cells.now) }
+    ensures { OnOk result (netlist.new ≡ with_cells netlist.old (flat_map (logic_cells configured.now.parts (bits_of configured.now.configuration) configured.now.bonded.pads) cells.now)) }
 {
     for cell in cells {
-        add_logic(alloc, site, netlist, *cell)?;
+        add_logic(alloc, configured, netlist, *cell)?;
     }
     Ok(())
 }

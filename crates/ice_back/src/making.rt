@@ -1,6 +1,6 @@
 //! The netlist of a configured chip in a package.
 ghost use Rattle.std.specs.Prelude.{◌≡◌, Bool, List, [], IfOk, OnOk};
-ghost use Rattle.ice_value.specs.Order.{Has};
+ghost use Rattle.ice_base_values.specs.Order.{Has};
 ghost use Rattle.ice_chip.specs.Views.{package_view};
 ghost use Rattle.ice_bits.specs.Configuration.{bits_of};
 ghost use Rattle.ice_net.specs.Meaning as nets;
@@ -13,7 +13,7 @@ ghost use Rattle.ice_back_laws.specs.Back.{back_netlist};
 
 use crate::logic::{add_all_logic, add_fixed, add_pads, add_ports, cells_of};
 use crate::names::{add_cell_names, add_name, add_pad_names};
-use crate::site::Site;
+use crate::configured::ConfiguredChip;
 use ice_back_laws::{netlist_is_sound, netlist_shows_what_bits_show};
 use ice_base::{NoMemory, TileAt};
 use ice_chip::{Chip, Package};
@@ -24,18 +24,18 @@ use std::alloc::Global;
 // Adds the names of the signals and the ports to a netlist that has none.
 fn add_signals(
     alloc: Global,
-    site: &Site<'_>,
+    configured: &ConfiguredChip<'_>,
     netlist: &mut Netlist,
     all_cells: &[(TileAt, u8)],
 ) -> Result<(), NoMemory>
-    requires cells { all_cells.now ≡ cells site.now.parts }
+    requires cells { all_cells.now ≡ cells configured.now.parts }
     requires empty { netlist.old ≡ empty_netlist }
-    ensures { OnOk result (netlist.new ≡ record (back_netlist site.now.parts (bits_of site.now.configuration) site.now.bonded) { cells = [] }) }
+    ensures { OnOk result (netlist.new ≡ record (back_netlist configured.now.parts (bits_of configured.now.configuration) configured.now.bonded) { cells = [] }) }
 {
-    let pads = site.pads();
+    let pads = configured.pads();
     add_name(netlist, b"zero")?;
     add_name(netlist, b"one")?;
-    add_pad_names(alloc, netlist, site.package())?;
+    add_pad_names(alloc, netlist, configured.package())?;
     add_cell_names(alloc, netlist, all_cells)?;
     add_ports(netlist, pads.len() as u32)?;
     Ok(())
@@ -44,43 +44,43 @@ fn add_signals(
 // Adds the cells to a netlist that has the signals and the ports.
 fn add_cells(
     alloc: Global,
-    site: &Site<'_>,
+    configured: &ConfiguredChip<'_>,
     netlist: &mut Netlist,
     all_cells: &[(TileAt, u8)],
 ) -> Result<(), NoMemory>
-    requires cells { all_cells.now ≡ cells site.now.parts }
-    requires named { netlist.old ≡ record (back_netlist site.now.parts (bits_of site.now.configuration) site.now.bonded) { cells = [] } }
-    ensures { OnOk result (netlist.new ≡ back_netlist site.now.parts (bits_of site.now.configuration) site.now.bonded) }
+    requires cells { all_cells.now ≡ cells configured.now.parts }
+    requires named { netlist.old ≡ record (back_netlist configured.now.parts (bits_of configured.now.configuration) configured.now.bonded) { cells = [] } }
+    ensures { OnOk result (netlist.new ≡ back_netlist configured.now.parts (bits_of configured.now.configuration) configured.now.bonded) }
 {
-    let pads = site.pads();
+    let pads = configured.pads();
     add_fixed(alloc, netlist)?;
-    add_pads(alloc, site, netlist, pads)?;
-    add_all_logic(alloc, site, netlist, all_cells)?;
+    add_pads(alloc, configured, netlist, pads)?;
+    add_all_logic(alloc, configured, netlist, all_cells)?;
     Ok(())
 }
 
 // Fills an empty netlist.
 fn add_all(
     alloc: Global,
-    site: &Site<'_>,
+    configured: &ConfiguredChip<'_>,
     netlist: &mut Netlist,
     all_cells: &[(TileAt, u8)],
 ) -> Result<(), NoMemory>
-    requires cells { all_cells.now ≡ cells site.now.parts }
+    requires cells { all_cells.now ≡ cells configured.now.parts }
     requires empty { netlist.old ≡ empty_netlist }
-    ensures { OnOk result (netlist.new ≡ back_netlist site.now.parts (bits_of site.now.configuration) site.now.bonded) }
+    ensures { OnOk result (netlist.new ≡ back_netlist configured.now.parts (bits_of configured.now.configuration) configured.now.bonded) }
 {
-    add_signals(alloc, site, netlist, all_cells)?;
-    add_cells(alloc, site, netlist, all_cells)
+    add_signals(alloc, configured, netlist, all_cells)?;
+    add_cells(alloc, configured, netlist, all_cells)
 }
 
 // The whole netlist.
-fn filled(alloc: Global, site: &Site<'_>, all_cells: &[(TileAt, u8)]) -> Result<Netlist, NoMemory>
-    requires { all_cells.now ≡ cells site.now.parts }
-    ensures { IfOk result (λ netlist. netlist ≡ back_netlist site.now.parts (bits_of site.now.configuration) site.now.bonded) }
+fn filled(alloc: Global, configured: &ConfiguredChip<'_>, all_cells: &[(TileAt, u8)]) -> Result<Netlist, NoMemory>
+    requires { all_cells.now ≡ cells configured.now.parts }
+    ensures { IfOk result (λ netlist. netlist ≡ back_netlist configured.now.parts (bits_of configured.now.configuration) configured.now.bonded) }
 {
     let mut netlist = Netlist::new(alloc);
-    add_all(alloc, site, &mut netlist, all_cells).and(Ok(netlist))
+    add_all(alloc, configured, &mut netlist, all_cells).and(Ok(netlist))
 }
 
 /// The netlist of a configured chip in a package of it: a port and an SB_IO for each pad of the package in order, and cell by cell a
@@ -103,7 +103,7 @@ pub fn back(
 {
     netlist_is_sound();
     netlist_shows_what_bits_show();
-    let site = Site::new(alloc, chip, circuit, package)?;
-    let cells = cells_of(alloc, site.tiles())?;
-    filled(alloc, &site, &cells)
+    let configured = ConfiguredChip::new(alloc, chip, circuit, package)?;
+    let cells = cells_of(alloc, configured.tiles())?;
+    filled(alloc, &configured, &cells)
 }

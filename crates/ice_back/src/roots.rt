@@ -1,6 +1,6 @@
 //! The root of a point, by the roots of the wires that pass their levels on to it.
 ghost use Rattle.std.specs.Prelude.{◌≡◌, ◌<◌, ◌∷◌, [], false, Some, map, slice_index_or, if◌then◌else◌};
-ghost use Rattle.ice_value.specs.Inputs.{reading};
+ghost use Rattle.ice_base_values.specs.Inputs.{reading};
 ghost use Rattle.ice_bits.specs.Configuration.{bits_of};
 ghost use Rattle.ice_net.specs.Meaning.{number_of};
 ghost use Rattle.ice_decode.specs.Cells.{cell_bit};
@@ -8,11 +8,11 @@ ghost use Rattle.ice_decode.specs.Meaning.{passes};
 ghost use Rattle.ice_decode.specs.Reads.{global_feed};
 ghost use Rattle.ice_decode.specs.declared.point.Point.TheVariants.{Wire};
 ghost use Rattle.ice_decode.specs.declared.role.Role.TheVariants.{Output};
-ghost use Rattle.ice_back_laws.specs.declared.root.Root.TheVariants.{Fixed};
+ghost use Rattle.ice_back_laws.specs.declared.root.LevelRoot.TheVariants.{Fixed};
 ghost use Rattle.ice_back_laws.specs.Roots.{cell_table, table_root, carry_root, bonded_root, pad_root, role_passes, role_root, first_root};
 ghost use Rattle.ice_back.specs.Filling.{root_in};
 
-use ice_back_laws::Root;
+use ice_back_laws::LevelRoot;
 use ice_base::{TileAt, WireNo};
 use ice_bits::Bits;
 use ice_chip::{Chip, Pad};
@@ -58,68 +58,68 @@ pub(crate) fn cell_table(chip: &Chip, bits: &Bits, tile: TileAt, cell: u8) -> u1
 }
 
 /// The root of a table: one without a bit gives 0.
-pub(crate) fn table_root(chip: &Chip, bits: &Bits, tile: TileAt, cell: u8) -> Root
+pub(crate) fn table_root(chip: &Chip, bits: &Bits, tile: TileAt, cell: u8) -> LevelRoot
     ensures { result ≡ table_root chip.now (bits_of bits.now) tile cell }
 {
     if cell_table(chip, bits, tile, cell) == 0 {
-        return Root::Fixed(false);
+        return LevelRoot::Fixed(false);
     }
-    Root::Table { tile, cell }
+    LevelRoot::Table { tile, cell }
 }
 
 /// The root of a carry: one that isn't enabled gives 0.
-pub(crate) fn carry_root(chip: &Chip, bits: &Bits, tile: TileAt, cell: u8) -> Root
+pub(crate) fn carry_root(chip: &Chip, bits: &Bits, tile: TileAt, cell: u8) -> LevelRoot
     ensures { result ≡ carry_root chip.now (bits_of bits.now) tile cell }
 {
     if has_carry(chip, bits, tile, cell) {
-        return Root::Sum { tile, cell };
+        return LevelRoot::Sum { tile, cell };
     }
-    Root::Fixed(false)
+    LevelRoot::Fixed(false)
 }
 
 // The root of the output of a cell.
-fn output_root(chip: &Chip, bits: &Bits, tile: TileAt, cell: u8) -> Root
+fn output_root(chip: &Chip, bits: &Bits, tile: TileAt, cell: u8) -> LevelRoot
     ensures { result ≡ role_root chip.now (bits_of bits.now) [] (Output tile cell) [] }
 {
     if has_flop(chip, bits, tile, cell) {
-        return Root::Register { tile, cell };
+        return LevelRoot::Register { tile, cell };
     }
     table_root(chip, bits, tile, cell)
 }
 
 // The root of the input of the pad of a number; a pad outside the package has none.
-fn bonded_root(number: Option<usize>) -> Root
+fn bonded_root(number: Option<usize>) -> LevelRoot
     ensures { result ≡ bonded_root number }
 {
     match number {
-        None => Root::Fixed(false),
-        Some(number) => Root::Input(number),
+        None => LevelRoot::Fixed(false),
+        Some(number) => LevelRoot::Input(number),
     }
 }
 
 // The root of the input of a pad.
 #[tactic(auto, using(crate::proofs::Turned::pad_found))]
-fn pad_root(chip: &Chip, bits: &Bits, pads: &IndexSet<Pad>, pad: Pad) -> Root
+fn pad_root(chip: &Chip, bits: &Bits, pads: &IndexSet<Pad>, pad: Pad) -> LevelRoot
     ensures { result ≡ pad_root chip.now (bits_of bits.now) pads.now.keys pad }
 {
     if !is_enabled(chip, bits, pad) {
-        return Root::Fixed(false);
+        return LevelRoot::Fixed(false);
     }
     bonded_root(pads.get_index_of(&pad))
 }
 
 /// The root of a wire, where `roots` has those of wires by their numbers.
-pub(crate) fn root_at(roots: &[Root], wire: WireNo) -> Root
+pub(crate) fn root_at(roots: &[LevelRoot], wire: WireNo) -> LevelRoot
     ensures { result ≡ slice_index_or roots.now wire.0 (Fixed false) }
 {
     match roots.get(wire.0 as usize) {
         Some(root) => *root,
-        None => Root::Fixed(false),
+        None => LevelRoot::Fixed(false),
     }
 }
 
 // The root of a point, where `roots` has those of wires by their numbers.
-fn root_in(chip: &Chip, bits: &Bits, roots: &[Root], point: Point) -> Root
+fn root_in(chip: &Chip, bits: &Bits, roots: &[LevelRoot], point: Point) -> LevelRoot
     ensures { result ≡ root_in chip.now (bits_of bits.now) roots.now point }
 {
     match point {
@@ -129,14 +129,14 @@ fn root_in(chip: &Chip, bits: &Bits, roots: &[Root], point: Point) -> Root
 }
 
 // The root of a global, which is that of what feeds it.
-fn global_root(chip: &Chip, bits: &Bits, roots: &[Root], global: u8) -> Root
+fn global_root(chip: &Chip, bits: &Bits, roots: &[LevelRoot], global: u8) -> LevelRoot
     ensures { result ≡ reading (Fixed false) (root_in chip.now (bits_of bits.now) roots.now) (global_feed chip.now global) }
 {
     let Some(tile) = chip.global_of(global) else {
-        return Root::Fixed(false);
+        return LevelRoot::Fixed(false);
     };
     match at_pin(chip, tile, b"fabout") {
-        None => Root::Fixed(false),
+        None => LevelRoot::Fixed(false),
         Some(point) => root_in(chip, bits, roots, point),
     }
 }
@@ -146,30 +146,30 @@ pub(crate) fn role_root(
     chip: &Chip,
     bits: &Bits,
     pads: &IndexSet<Pad>,
-    roots: &[Root],
+    roots: &[LevelRoot],
     role: Role,
-) -> Root
+) -> LevelRoot
     ensures { result ≡ role_root chip.now (bits_of bits.now) pads.now.keys role (map (reading (Fixed false) (root_in chip.now (bits_of bits.now) roots.now)) (role_passes chip.now role)) }
 {
     match role {
-        Role::Plain => Root::Fixed(false),
+        Role::Plain => LevelRoot::Fixed(false),
         Role::Output { tile, cell } => output_root(chip, bits, tile, cell),
         Role::LookUp { tile, cell } => table_root(chip, bits, tile, cell),
         Role::CarryOut { tile, cell } => carry_root(chip, bits, tile, cell),
         Role::PadInput(pad) => pad_root(chip, bits, pads, pad),
         Role::Global(global) => global_root(chip, bits, roots, global),
-        Role::CarryIn(tile) => Root::Fixed(setting(chip, bits, tile, b"CarryInSet", 0)),
-        Role::ClockEnable => Root::Fixed(true),
+        Role::CarryIn(tile) => LevelRoot::Fixed(setting(chip, bits, tile, b"CarryInSet", 0)),
+        Role::ClockEnable => LevelRoot::Fixed(true),
     }
 }
 
 /// The root of a wire behind a row that is on: that of its source, where that passes the row.
-pub(crate) fn switch_root(chip: &Chip, bits: &Bits, roots: &[Root], switch: Switch) -> Root
+pub(crate) fn switch_root(chip: &Chip, bits: &Bits, roots: &[LevelRoot], switch: Switch) -> LevelRoot
     requires { switch.source.0 < chip.now.wires }
     ensures { result ≡ first_root (map (reading (Fixed false) (root_in chip.now (bits_of bits.now) roots.now)) (if passes chip.now (bits_of bits.now) switch then Some (Wire switch.source) ∷ [] else [])) }
 {
     if passes(chip, bits, &switch) {
         return root_in(chip, bits, roots, Point::Wire(switch.source));
     }
-    Root::Fixed(false)
+    LevelRoot::Fixed(false)
 }

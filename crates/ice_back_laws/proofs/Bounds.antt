@@ -12,8 +12,8 @@ use Rattle.std.proofs.lemmas.Map.Made.{IsDistinct-keys_filter, length-le_from_is
 use Rattle.indexmap.specs.IndexSet.{insert_key, insert_all}
 use Rattle.ice_base.specs.declared.number.TileAt.{TileAt}
 use Rattle.ice_base.proofs.Keys.{nat_same, nat_self, tile_same, tile_self, tiles_equal}
-use Rattle.ice_value.specs.Order.{At, Has}
-use Rattle.ice_value.proofs.Members.{Has_all, Has_any, Has_map, any_Has, map_Has, filter_Has}
+use Rattle.ice_base_values.specs.Order.{At, Has}
+use Rattle.ice_base_values.proofs.Members.{Has_all, Has_any, Has_map, any_Has, map_Has, filter_Has}
 use Rattle.ice_chip.specs.Database.{Parts, PackageRows}
 use Rattle.ice_chip.specs.IsRead.{IsRead}
 use Rattle.ice_chip.specs.Places.{same_tile, same_pad}

@@ -6,8 +6,8 @@ use Rattle.std.specs.Option.{option_map_or}
 use Rattle.std.proofs.lemmas.Option.{same_Some, none-some}
 use Rattle.ice_base.specs.declared.number.TileAt.{TileAt}
 use Rattle.ice_base.specs.declared.number.SignalNo.{SignalNo}
-use Rattle.ice_value.specs.Order.{At, Has}
-use Rattle.ice_value.proofs.Members.{At_map}
+use Rattle.ice_base_values.specs.Order.{At, Has}
+use Rattle.ice_base_values.proofs.Members.{At_map}
 use Rattle.ice_chip.specs.Database.{Parts, PackageRows}
 use Rattle.ice_chip.specs.IsRead.{IsRead}
 use Rattle.ice_chip.specs.WireNames.{pad_output_name, output_enable_name}
@@ -27,7 +27,7 @@ use Rattle.ice_check.specs.Faults.{first_number, uses_of, is_used, shown_of, is_
 use Rattle.ice_back_laws.specs.Law.{NetlistIsConnected}
 use Rattle.ice_back_laws.specs.Back.{reader, pin_reader, buffer_type, pad_port}
 use Rattle.ice_back_laws.specs.Numbers.{root_number, reader_of, signal}
-use Rattle.ice_back_laws.specs.Roots.{Root, Fixed, Input, Table, Register, Sum, table_root, root_of}
+use Rattle.ice_back_laws.specs.Roots.{LevelRoot, Fixed, Input, Table, Register, Sum, table_root, root_of}
 use Rattle.ice_back_laws.proofs.Ranks.{IsThere, StandsAt, table_good, pin_there}
 use Rattle.ice_back_laws.proofs.Inputs.{input_there, inputs_there, carry_input_there, below_some, point_good}
 use Rattle.ice_back_laws.proofs.Loopless.{place_has}
@@ -48,13 +48,13 @@ module _ (parts : Parts) (bits : Bits) (extras : List (ℕ × ℕ × ℕ)) (read
   abbrev IsDriven : ℕ → Type 0
   IsDriven s = (j : ℕ) × (driver_of n s ≡ drivers.TheVariants.Output j)
 
-  root_drives : (q : Root) → IsThere parts bits pads q → (s : ℕ) → Some (signal (root_number parts pads q)) ≡ Some (signal s) → IsDriven s
+  root_drives : (q : LevelRoot) → IsThere parts bits pads q → (s : ℕ) → Some (signal (root_number parts pads q)) ≡ Some (signal s) → IsDriven s
   root_drives q there s e =
       let same : root_number parts pads q ≡ s = ap (λ (x : SignalNo). x.0) (same_Some (signal (root_number parts pads q)) (signal s) e) in
       let driven = root_driven parts bits package_rows q there in
       (driven.0, ap (driver_of n) (sym same) ∙ driven.1)
 
-  reader_driven : (bare : Bool) (q : Root) → IsThere parts bits pads q → (s : ℕ) → reader_of parts pads bare q ≡ Some (signal s) → IsDriven s
+  reader_driven : (bare : Bool) (q : LevelRoot) → IsThere parts bits pads q → (s : ℕ) → reader_of parts pads bare q ≡ Some (signal s) → IsDriven s
   reader_driven true (Fixed true) there s e = absurd (none-some (signal s) e)
   reader_driven true (Fixed false) there s e = root_drives (Fixed false) there s e
   reader_driven false (Fixed true) there s e = root_drives (Fixed true) there s e
@@ -100,7 +100,7 @@ module _ (parts : Parts) (bits : Bits) (extras : List (ℕ × ℕ × ℕ)) (read
   pad_driven pad s false true (suc (suc j), at) = absurd (none-some (Some (signal s)) at)
   pad_driven pad s false false has = absurd (none-some (Some (signal s)) has.1)
 
-  use_driven : (r : Root) → IsThere parts bits pads r → (s : ℕ) → Has (uses_of (cell_of parts bits package_rows r)) (Some (signal s)) → IsDriven s
+  use_driven : (r : LevelRoot) → IsThere parts bits pads r → (s : ℕ) → Has (uses_of (cell_of parts bits package_rows r)) (Some (signal s)) → IsDriven s
   use_driven (Fixed true) there s has = absurd (none-some (Some (signal s)) has.1)
   use_driven (Fixed false) there s has = absurd (none-some (Some (signal s)) has.1)
   use_driven (Input k) there s has =
@@ -135,7 +135,7 @@ module _ (parts : Parts) (bits : Bits) (extras : List (ℕ × ℕ × ℕ)) (read
   port_stands : (k : ℕ) → k < length pads → At n.ports k (pad_port k)
   port_stands k lt = let e : 0 + k ≡ k = omega arith in At_map pad_port (range_with_len 0 (length pads)) k k (subst (λ m. At (range_with_len 0 (length pads)) k m) e (At_range 0 (length pads) k lt))
 
-  root_ported : (r : Root) → IsThere parts bits pads r → is_portless n.ports (cell_of parts bits package_rows r).kind (pin_of (cell_of parts bits package_rows r)) ≡ false
+  root_ported : (r : LevelRoot) → IsThere parts bits pads r → is_portless n.ports (cell_of parts bits package_rows r).kind (pin_of (cell_of parts bits package_rows r)) ≡ false
   root_ported (Fixed true) there = refl
   root_ported (Fixed false) there = refl
   root_ported (Input k) there = ap (λ o. is_no_way (way_at n.ports o)) (port_place parts bits package_rows k there) ∙ ap (λ (o : Option Port). is_no_way (option_map (λ (p : Port). p.way) o)) (port_stands k there)

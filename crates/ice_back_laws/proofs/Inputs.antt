@@ -2,10 +2,10 @@
 use Rattle.std.proofs.Common.{ℕ, ◌≡◌, zero, suc, ◌+◌, ◌*◌, ◌<◌, Option, None, Some, List, [], ◌∷◌, refl, subst, arith}
 use Rattle.std.proofs.lemmas.Option.{same_Some, none-some}
 use Rattle.ice_base.specs.declared.number.TileAt.{TileAt}
-use Rattle.ice_value.specs.Inputs.{present}
-use Rattle.ice_value.specs.Order.{At, Has}
-use Rattle.ice_value.proofs.Gaps.{present_at}
-use Rattle.ice_value.proofs.Enough.{first}
+use Rattle.ice_base_values.specs.Inputs.{present}
+use Rattle.ice_base_values.specs.Order.{At, Has}
+use Rattle.ice_base_values.proofs.Gaps.{present_at}
+use Rattle.ice_base_values.proofs.Enough.{first}
 use Rattle.ice_chip.specs.Database.{Parts}
 use Rattle.ice_chip.specs.IsRead.{IsRead}
 use Rattle.ice_chip.specs.WireNames.{input_name}
@@ -20,7 +20,7 @@ use Rattle.ice_decode.specs.Reads.{points, count_points, at_pin, cell_inputs, ca
 use Rattle.ice_decode.specs.Refusals.{IsFaultless}
 use Rattle.ice_decode.proofs.KeptLevels.{tile_at}
 use Rattle.ice_decode.proofs.PointPlaces.{carry_at}
-use Rattle.ice_back_laws.specs.Roots.{Root, Fixed, Input, Table, Register, Sum, root_of}
+use Rattle.ice_back_laws.specs.Roots.{LevelRoot, Fixed, Input, Table, Register, Sum, root_of}
 use Rattle.ice_back_laws.proofs.Ranks.{IsThere, StandsAt, Ranks, ranked, AreBelow, IsGood, all_good, pin_there}
 
 module _ (parts : Parts) (read : IsRead parts) where
@@ -72,7 +72,7 @@ module _ (parts : Parts) (read : IsRead parts) where
         by m below r q (suc i, at) = let one = below q (i, at) in (one.0, omega (arith, one.1), one.2)
 
     -- each root that is there is made of points of ranks below some number
-    pub good_some : (r : Root) → IsThere parts bits pads r → (m : ℕ) × IsGood parts bits extras read faultless pads m r
+    pub good_some : (r : LevelRoot) → IsThere parts bits pads r → (m : ℕ) × IsGood parts bits extras read faultless pads m r
     good_some (Fixed level) there = (0, (there, tt))
     good_some (Input k) there = (0, (there, tt))
     good_some (Table t i) there = let below = below_some (cell_inputs parts t i) (inputs_there t i) in (below.0, (there, below.1))

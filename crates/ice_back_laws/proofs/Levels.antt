@@ -7,12 +7,12 @@ use Rattle.std.proofs.lemmas.Bool.{cases_lt}
 use Rattle.std.proofs.lemmas.List.FromFn.{length-range_with_len}
 use Rattle.ice_base.specs.declared.number.TileAt.{TileAt}
 use Rattle.ice_base.specs.declared.number.SignalNo.{SignalNo}
-use Rattle.ice_value.specs.System.{value}
-use Rattle.ice_value.specs.Inputs.{present, reading}
-use Rattle.ice_value.specs.Order.{At, Has}
-use Rattle.ice_value.specs.Arriving.{Arrive, IsMade}
-use Rattle.ice_value.proofs.Arriving.{value_arrives}
-use Rattle.ice_value.proofs.Enough.{value_enough}
+use Rattle.ice_base_values.specs.System.{value}
+use Rattle.ice_base_values.specs.Inputs.{present, reading}
+use Rattle.ice_base_values.specs.Order.{At, Has}
+use Rattle.ice_base_values.specs.Arriving.{Arrive, IsMade}
+use Rattle.ice_base_values.proofs.Arriving.{value_arrives}
+use Rattle.ice_base_values.proofs.Enough.{value_enough}
 use Rattle.ice_chip.specs.Database.{Parts, PackageRows}
 use Rattle.ice_chip.specs.IsRead.{IsRead}
 use Rattle.ice_chip.specs.declared.rows.Pad.{Pad}
@@ -37,7 +37,7 @@ use Rattle.ice_decode.proofs.Valued.{faultless_valued}
 use Rattle.ice_back_laws.specs.Back.{reader}
 use Rattle.ice_back_laws.specs.Law.{root_level}
 use Rattle.ice_back_laws.specs.Numbers.{root_number, reader_of}
-use Rattle.ice_back_laws.specs.Roots.{Root, Fixed, Input, Table, Register, Sum, cell_table, root_of}
+use Rattle.ice_back_laws.specs.Roots.{LevelRoot, Fixed, Input, Table, Register, Sum, cell_table, root_of}
 use Rattle.ice_back_laws.proofs.Ranks.{IsThere, StandsAt, Ranks, ranked, ranks_fall, root_there, AreBelow, IsGood, all_good}
 use Rattle.ice_back_laws.proofs.RootLevels.{all_rooted, own_made, four_below}
 use Rattle.ice_back_laws.proofs.Standing.{netlist, cell_of, root_driven, root_below, undriven, port_place}
@@ -54,10 +54,10 @@ module _ (parts : Parts) (bits : Bits) (extras : List (ℕ × ℕ × ℕ)) (read
   abbrev own : Point → Bool
   own = point_level parts bits pads levels kept
 
-  abbrev root : Point → Root
+  abbrev root : Point → LevelRoot
   root = root_of parts bits pads
 
-  abbrev level : Root → Bool
+  abbrev level : LevelRoot → Bool
   level r = root_level parts bits own levels kept r
 
   abbrev IsRanked : ℕ → Point → Type 0
@@ -75,9 +75,9 @@ module _ (parts : Parts) (bits : Bits) (extras : List (ℕ × ℕ × ℕ)) (read
 
   -- ---- which signal is to have which value
   abbrev Holds : ℕ → ℕ → Bool → Type 0
-  Holds m s x = (r : Root) × IsGood parts bits extras read faultless pads m r × (s ≡ root_number parts pads r) × (x ≡ level r)
+  Holds m s x = (r : LevelRoot) × IsGood parts bits extras read faultless pads m r × (s ≡ root_number parts pads r) × (x ≡ level r)
 
-  reader_arrives : (m k : ℕ) (r : Root) (x : Bool) (qs : List (Option ℕ)) (xs : List Bool) → k < m → IsGood parts bits extras read faultless pads k r → x ≡ level r → Arrive Holds false m qs xs
+  reader_arrives : (m k : ℕ) (r : LevelRoot) (x : Bool) (qs : List (Option ℕ)) (xs : List Bool) → k < m → IsGood parts bits extras read faultless pads k r → x ≡ level r → Arrive Holds false m qs xs
       → Arrive Holds false m (number (reader_of parts pads false r) ∷ qs) (x ∷ xs)
   reader_arrives m k (Fixed true) x qs xs lt is e rest = ((k, lt, (Fixed true, is, refl, e)), rest)
   reader_arrives m k (Fixed false) x qs xs lt is e rest = (e, rest)
@@ -117,7 +117,7 @@ module _ (parts : Parts) (bits : Bits) (extras : List (ℕ × ℕ × ℕ)) (read
       sym (own_made parts bits IsRanked (ranks_fall parts bits extras read faultless) pads (root_there parts bits extras read faultless pads) levels kept own_there _ (Carry t i) r
       ∙ ap (λ b. chip.makes parts bits pads levels kept (Carry t i) (map (reading false own) (if b then carry_inputs parts t i else []))) e)
 
-  cell_makes : (m j : ℕ) (r : Root) → IsGood parts bits extras read faultless pads m r → At n.cells j (cell_of parts bits package_rows r) → ByCell m j (level r) (Some (cell_of parts bits package_rows r))
+  cell_makes : (m j : ℕ) (r : LevelRoot) → IsGood parts bits extras read faultless pads m r → At n.cells j (cell_of parts bits package_rows r) → ByCell m j (level r) (Some (cell_of parts bits package_rows r))
   cell_makes m j (Fixed false) is at = ([], tt, refl)
   cell_makes m j (Fixed true) is at = ([], tt, refl)
   cell_makes m j (Input k) is at = ([], tt, ap (level_by levels) (port_place parts bits package_rows k is.0))
@@ -131,7 +131,7 @@ module _ (parts : Parts) (bits : Bits) (extras : List (ℕ × ℕ × ℕ)) (read
   abbrev local : ℕ → List Bool → Bool
   local s = net.makes n levels remembered (driver_of n s)
 
-  root_made : (m : ℕ) (r : Root) → IsGood parts bits extras read faultless pads m r → IsMade inputs false local Holds m (root_number parts pads r) (level r)
+  root_made : (m : ℕ) (r : LevelRoot) → IsGood parts bits extras read faultless pads m r → IsMade inputs false local Holds m (root_number parts pads r) (level r)
   root_made m r is =
       let driven = root_driven parts bits package_rows r is.0 in
       let made : ByCell m driven.0 (level r) (slice_get n.cells driven.0) = subst (ByCell m driven.0 (level r)) (sym driven.2) (cell_makes m driven.0 r is driven.2) in
@@ -155,11 +155,11 @@ module _ (parts : Parts) (bits : Bits) (extras : List (ℕ × ℕ × ℕ)) (read
     | inr ge ↦ inr (ap (λ d. present (net.reads n d)) (undriven parts bits package_rows q ge))
   ]
 
-  pub signal_arrives : (m : ℕ) (r : Root) → IsGood parts bits extras read faultless pads m r → value (net.system_of n levels remembered) (suc m) (root_number parts pads r) ≡ Some (level r)
+  pub signal_arrives : (m : ℕ) (r : LevelRoot) → IsGood parts bits extras read faultless pads m r → value (net.system_of n levels remembered) (suc m) (root_number parts pads r) ≡ Some (level r)
   signal_arrives m r is = value_arrives inputs false local Holds signal_made (suc m) m (root_number parts pads r) (level r) (r, is, refl, refl) (omega arith)
 
   -- the signal of a root has the root's level
-  pub signal_level : (m : ℕ) (r : Root) → IsGood parts bits extras read faultless pads m r → signal_value n levels remembered (root_number parts pads r) ≡ level r
+  pub signal_level : (m : ℕ) (r : LevelRoot) → IsGood parts bits extras read faultless pads m r → signal_value n levels remembered (root_number parts pads r) ≡ level r
   signal_level m r is =
       let s = root_number parts pads r in
       let system = net.system_of n levels remembered in
@@ -168,7 +168,7 @@ module _ (parts : Parts) (bits : Bits) (extras : List (ℕ × ℕ × ℕ)) (read
       ap (λ o. unwrap_or o false) (subst (λ k. value system (k + 1) s ≡ Some (level r)) long enough)
 
   -- what reads a root reads its level
-  pub root_reads : (bare : Bool) (m : ℕ) (r : Root) → IsGood parts bits extras read faultless pads m r → reading bare (λ (s : SignalNo). signal_value n levels remembered s.0) (reader_of parts pads bare r) ≡ level r
+  pub root_reads : (bare : Bool) (m : ℕ) (r : LevelRoot) → IsGood parts bits extras read faultless pads m r → reading bare (λ (s : SignalNo). signal_value n levels remembered s.0) (reader_of parts pads bare r) ≡ level r
   root_reads true m (Fixed true) is = refl
   root_reads true m (Fixed false) is = signal_level m (Fixed false) is
   root_reads false m (Fixed true) is = signal_level m (Fixed true) is

@@ -6,9 +6,9 @@ use Rattle.std.specs.Option.{option_map_or}
 use Rattle.std.proofs.lemmas.Option.{same_Some, none-some, slice_get-get_or}
 use Rattle.ice_base.specs.declared.number.TileAt.{TileAt}
 use Rattle.ice_base.specs.declared.number.SignalNo.{SignalNo}
-use Rattle.ice_value.specs.Inputs.{present}
-use Rattle.ice_value.specs.Order.{At, Has, IsCycleBelow}
-use Rattle.ice_value.proofs.Cycles.{cycle_goes_on, value_no_cycle}
+use Rattle.ice_base_values.specs.Inputs.{present}
+use Rattle.ice_base_values.specs.Order.{At, Has, IsCycleBelow}
+use Rattle.ice_base_values.proofs.Cycles.{cycle_goes_on, value_no_cycle}
 use Rattle.ice_chip.specs.Database.{Parts, PackageRows}
 use Rattle.ice_chip.specs.IsRead.{IsRead}
 use Rattle.ice_bits.specs.Configuration.{Bits}
@@ -20,7 +20,7 @@ use Rattle.ice_decode.specs.Refusals.{IsFaultless}
 use Rattle.ice_decode.proofs.Members.{At_map_cases}
 use Rattle.ice_back_laws.specs.Law.{NetlistHasNoLoop}
 use Rattle.ice_back_laws.specs.Numbers.{root_number, signal}
-use Rattle.ice_back_laws.specs.Roots.{Root}
+use Rattle.ice_back_laws.specs.Roots.{LevelRoot}
 use Rattle.ice_back_laws.proofs.Ranks.{IsThere}
 use Rattle.ice_back_laws.proofs.Inputs.{good_some}
 use Rattle.ice_back_laws.proofs.Standing.{netlist, cell_made, output_is, is_same}
@@ -45,11 +45,11 @@ nothing_kept parts t i = by (tile_place t (logic_tiles parts))
 
 module _ (parts : Parts) (bits : Bits) (package_rows : PackageRows) where
   -- a signal is that of a root, or depends on nothing
-  root_or_source : (s : ℕ) → ((r : Root) × IsThere parts bits package_rows.pads r × (s ≡ root_number parts package_rows.pads r)) ⊎ (net.depends_on (netlist parts bits package_rows) s ≡ [])
+  root_or_source : (s : ℕ) → ((r : LevelRoot) × IsThere parts bits package_rows.pads r × (s ≡ root_number parts package_rows.pads r)) ⊎ (net.depends_on (netlist parts bits package_rows) s ≡ [])
   root_or_source s = by (place_of s (outputs (netlist parts bits package_rows))) refl (place_of s (pads (netlist parts bits package_rows))) refl
     where
       by : (o : Option ℕ) → place_of s (outputs (netlist parts bits package_rows)) ≡ o → (p : Option ℕ) → place_of s (pads (netlist parts bits package_rows)) ≡ p
-          → ((r : Root) × IsThere parts bits package_rows.pads r × (s ≡ root_number parts package_rows.pads r)) ⊎ (net.depends_on (netlist parts bits package_rows) s ≡ [])
+          → ((r : LevelRoot) × IsThere parts bits package_rows.pads r × (s ≡ root_number parts package_rows.pads r)) ⊎ (net.depends_on (netlist parts bits package_rows) s ≡ [])
       by None e None f = inr (λ j. present (net.reads (netlist parts bits package_rows) (driver_from (f j) (e j))))
       by o e (Some k) f = inr (ap (λ (p : Option ℕ). present (net.reads (netlist parts bits package_rows) (driver_from p (place_of s (outputs (netlist parts bits package_rows)))))) f)
       by (Some i) e None f =

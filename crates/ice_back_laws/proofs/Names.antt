@@ -15,9 +15,9 @@ use Rattle.ice_base.specs.Text.{IsWord, ends_word}
 use Rattle.ice_base.specs.declared.number.TileAt.{TileAt}
 use Rattle.ice_base.proofs.Keys.{bytes_same, bytes_self}
 use Rattle.ice_base.proofs.TextLaws.{decimal_is_word}
-use Rattle.ice_value.specs.Order.{At, Has, StandOnce}
-use Rattle.ice_value.proofs.Members.{Has_all, Has_find, find_Has, At_map}
-use Rattle.ice_value.proofs.Places.{At_same}
+use Rattle.ice_base_values.specs.Order.{At, Has, StandOnce}
+use Rattle.ice_base_values.proofs.Members.{Has_all, Has_find, find_Has, At_map}
+use Rattle.ice_base_values.proofs.Places.{At_same}
 use Rattle.ice_chip.specs.Database.{Parts, PackageRows}
 use Rattle.ice_chip.specs.IsRead.{IsRead}
 use Rattle.ice_chip.specs.Lookups.{first_pin}

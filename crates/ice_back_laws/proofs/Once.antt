@@ -4,8 +4,8 @@ use Rattle.std.specs.List.{IsDistinct, flat_map}
 use Rattle.std.proofs.lemmas.Bool.{false_from_ne_true}
 use Rattle.std.proofs.lemmas.Map.Keys.{IsDistinct-from_apart}
 use Rattle.std.proofs.lemmas.Option.{none-some, slice_get-get_or}
-use Rattle.ice_value.specs.Order.{At, Has, StandOnce}
-use Rattle.ice_value.proofs.Places.{At_append_cases}
+use Rattle.ice_base_values.specs.Order.{At, Has, StandOnce}
+use Rattle.ice_base_values.proofs.Places.{At_append_cases}
 use Rattle.ice_back_laws.proofs.Standing.{flat_back}
 
 pub once_append : {X : Type 0} (xs ys : List X) → StandOnce xs → StandOnce ys → ((x : X) → Has xs x → Has ys x → ⊥) → StandOnce (xs ++ ys)

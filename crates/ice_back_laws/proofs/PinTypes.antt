@@ -9,8 +9,8 @@ use Rattle.indexmap.specs.IndexSet.{insert_key, insert_all}
 use Rattle.ice_base.specs.declared.number.BitAt.{BitAt}
 use Rattle.ice_base.specs.declared.number.TileAt.{TileAt}
 use Rattle.ice_base.proofs.Keys.{bytes_same, tile_same}
-use Rattle.ice_value.specs.Order.{Has}
-use Rattle.ice_value.proofs.Members.{Has_all, Has_cases, Has_filter, Has_find, find_Has, lookup_Has, map_Has}
+use Rattle.ice_base_values.specs.Order.{Has}
+use Rattle.ice_base_values.proofs.Members.{Has_all, Has_cases, Has_filter, Has_find, find_Has, lookup_Has, map_Has}
 use Rattle.ice_chip.specs.Database.{Parts, PackageRows, FunctionRow}
 use Rattle.ice_chip.specs.FunctionNames.{pin_type_function}
 use Rattle.ice_chip.specs.Functions.{is_read, is_foreign, same_kind}

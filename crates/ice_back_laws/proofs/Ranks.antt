@@ -4,10 +4,10 @@ use Rattle.std.specs.Prelude.{option_map, slice_index_or, unwrap_or}
 use Rattle.std.proofs.lemmas.List.Elements.{All-map, All-filter}
 use Rattle.ice_base.specs.declared.number.TileAt.{TileAt}
 use Rattle.ice_base.proofs.Entries.{lookup_all}
-use Rattle.ice_value.specs.System.{value}
-use Rattle.ice_value.specs.Inputs.{present, reading}
-use Rattle.ice_value.specs.Order.{Has, Descends}
-use Rattle.ice_value.proofs.Enough.{first, first_falls}
+use Rattle.ice_base_values.specs.System.{value}
+use Rattle.ice_base_values.specs.Inputs.{present, reading}
+use Rattle.ice_base_values.specs.Order.{Has, Descends}
+use Rattle.ice_base_values.proofs.Enough.{first, first_falls}
 use Rattle.ice_chip.specs.Database.{Parts, WireName}
 use Rattle.ice_chip.specs.IsRead.{IsRead}
 use Rattle.ice_chip.specs.Lookups.{wire_named, placed_at, placed_wire, placed_names, is_placed}
@@ -36,7 +36,7 @@ use Rattle.ice_decode.proofs.ReadPoints.{read_there}
 use Rattle.ice_decode.proofs.RolePlaces.{IsCell, logic_there}
 use Rattle.ice_decode.proofs.Valued.{counted, faultless_valued}
 use Rattle.ice_decode.proofs.Walks.{all_valued}
-use Rattle.ice_back_laws.specs.Roots.{Root, Fixed, Input, Table, Register, Sum, cell_table, table_root, carry_root, pad_number, bonded_root, driven_passes, driven_root, roots_of, root_of}
+use Rattle.ice_back_laws.specs.Roots.{LevelRoot, Fixed, Input, Table, Register, Sum, cell_table, table_root, carry_root, pad_number, bonded_root, driven_passes, driven_root, roots_of, root_of}
 pub use Rattle.ice_back_laws.specs.Roots.{StandsAt, IsThere}
 use Rattle.ice_back_laws.proofs.CellRoles.{IsOfCell, role_of_cell}
 use Rattle.ice_back_laws.proofs.RootLevels.{passed_read, root_made}
@@ -108,27 +108,27 @@ module _ (parts : Parts) (bits : Bits) (extras : List (ℕ × ℕ × ℕ)) (read
         })) p r.0 in
         let long : length (points parts) ≡ count_points parts = points_long parts.wires (logic_tiles parts) ∙ sym (counted parts) in
         let enough : value system (count_points parts + 1) p ≡ Some found.0 = subst (λ n. value system (n + 1) p ≡ Some found.0) long found.1 in
-        enough ∙ ap (λ (x : Root). Some x) (sym (ap (λ x. unwrap_or x (Fixed false)) enough))
+        enough ∙ ap (λ (x : LevelRoot). Some x) (sym (ap (λ x. unwrap_or x (Fixed false)) enough))
 
     -- ---- what roots are made of
     abbrev pub AreBelow : ℕ → List (Option Point) → Type 0
     AreBelow m ps = (q : Point) → Has (present ps) q → (j : ℕ) × (j < m) × Ranks j q
 
     -- what makes the root's level reads points of lower ranks
-    abbrev pub IsReady : ℕ → Root → Type 0
+    abbrev pub IsReady : ℕ → LevelRoot → Type 0
     IsReady m (Fixed level) = Unit {0}
     IsReady m (Input k) = Unit {0}
     IsReady m (Table t i) = AreBelow m (cell_inputs parts t i)
     IsReady m (Register t i) = Unit {0}
     IsReady m (Sum t i) = AreBelow m (carry_inputs parts t i)
 
-    abbrev pub IsGood : ℕ → Root → Type 0
+    abbrev pub IsGood : ℕ → LevelRoot → Type 0
     IsGood m r = IsThere parts bits bonded r × IsReady m r
 
     below_more : (j m : ℕ) → j < m → (ps : List (Option Point)) → AreBelow j ps → AreBelow m ps
     below_more j m lt ps below q has = let one = below q has in (one.0, omega (arith, lt, one.1), one.2)
 
-    good_more : (j m : ℕ) → j < m → (r : Root) → IsGood j r → IsGood m r
+    good_more : (j m : ℕ) → j < m → (r : LevelRoot) → IsGood j r → IsGood m r
     good_more j m lt (Fixed level) good = good
     good_more j m lt (Input k) good = good
     good_more j m lt (Table t i) good = (good.0, below_more j m lt (cell_inputs parts t i) good.1)
@@ -149,7 +149,7 @@ module _ (parts : Parts) (bits : Bits) (extras : List (ℕ × ℕ × ℕ)) (read
         by true e falls = ((cell, e), below_more j m lt (carry_inputs parts t i) falls)
         by false e falls = (tt, tt)
 
-    abbrev root : Point → Root
+    abbrev root : Point → LevelRoot
     root = root_of parts bits bonded
 
     driven_good : (m : ℕ) (r : Role) (d : Driver) → IsOfCell parts r → AreBelow m (driven_reads parts bits r d) → ((q : Point) → Has (present (driven_passes parts bits r d)) q → IsGood m (root q))

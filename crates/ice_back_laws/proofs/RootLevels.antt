@@ -2,11 +2,11 @@
 use Rattle.std.proofs.Common.{◌≡◌, ℕ, ◌+◌, ◌*◌, ◌<◌, ◌==◌, ◌&&◌, zero, suc, Bool, true, false, Option, None, Some, List, [], ◌∷◌, map, get_or, slice_index_or, option_map, unwrap_or, if◌then◌else◌, refl, sym, ap, ◌∙◌, arith, rules, tests}
 use Rattle.std.proofs.lemmas.Option.{same_Some, slice_get_within}
 use Rattle.ice_base.specs.declared.number.TileAt.{TileAt}
-use Rattle.ice_value.specs.System.{System, value, MeetsEquation}
-use Rattle.ice_value.specs.Inputs.{present, reading}
-use Rattle.ice_value.specs.Order.{At, Has, Descends}
-use Rattle.ice_value.proofs.Values.{value_suc, value_step, value_there}
-use Rattle.ice_value.proofs.Gaps.{local_gapped}
+use Rattle.ice_base_values.specs.System.{System, value, MeetsEquation}
+use Rattle.ice_base_values.specs.Inputs.{present, reading}
+use Rattle.ice_base_values.specs.Order.{At, Has, Descends}
+use Rattle.ice_base_values.proofs.Values.{value_suc, value_step, value_there}
+use Rattle.ice_base_values.proofs.Gaps.{local_gapped}
 use Rattle.ice_chip.specs.Database.{Parts}
 use Rattle.ice_chip.specs.Places.{same_pad}
 use Rattle.ice_chip.specs.declared.rows.Pad.{Pad}
@@ -28,7 +28,7 @@ use Rattle.ice_decode.specs.Roles.{role_of}
 use Rattle.ice_decode.proofs.PointPlaces.{points_long}
 use Rattle.ice_decode.proofs.Valued.{counted, valued}
 use Rattle.ice_back_laws.specs.Law.{root_level, PointsHaveTheirRootsLevels}
-use Rattle.ice_back_laws.specs.Roots.{Root, Fixed, Table, Register, Sum, cell_table, table_root, carry_root, pad_number, bonded_root, driven_passes, point_passes, driven_root, point_root, roots_of, root_of}
+use Rattle.ice_back_laws.specs.Roots.{LevelRoot, Fixed, Table, Register, Sum, cell_table, table_root, carry_root, pad_number, bonded_root, driven_passes, point_passes, driven_root, point_root, roots_of, root_of}
 
 -- ---- values meet their equations
 meets : {P A : Type 0} (s : System P A) (v : P → A) (f : ℕ) (p : P) → value s f p ≡ Some (v p) → ((q : P) → Has (s.depends p) q → value s f q ≡ Some (v q)) → MeetsEquation s v p
@@ -124,7 +124,7 @@ table_level_is parts bits v levels kept t i = by (cell_table parts bits t i == 0
 -- Points are ranked, those that a point depends on lower, and the ranked ones have levels and roots.
 module _ (parts : Parts) (bits : Bits) (R : ℕ → Point → Type 0) (falls : Descends (depends_on parts bits) R) (bonded : List Pad)
     (root_there : (i : ℕ) (p : Point) → R i p → value (roots_of parts bits bonded) (count_points parts + 1) p ≡ Some (root_of parts bits bonded p)) where
-  abbrev root : Point → Root
+  abbrev root : Point → LevelRoot
   root = root_of parts bits bonded
 
   pub root_made : (i : ℕ) (p : Point) → R i p → root p ≡ point_root parts bits bonded p (map (reading (Fixed false) root) (point_passes parts bits p))

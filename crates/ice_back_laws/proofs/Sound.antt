@@ -9,8 +9,8 @@ use Rattle.std.proofs.lemmas.List.Elements.{All-nil, All-cons, All-from_recursio
 use Rattle.std.proofs.lemmas.Option.{slice_get-get_or}
 use Rattle.ice_base.specs.declared.number.TileAt.{TileAt}
 use Rattle.ice_base.specs.declared.number.SignalNo.{SignalNo}
-use Rattle.ice_value.specs.Order.{At, Has}
-use Rattle.ice_value.proofs.Members.{Has_all}
+use Rattle.ice_base_values.specs.Order.{At, Has}
+use Rattle.ice_base_values.proofs.Members.{Has_all}
 use Rattle.ice_chip.specs.Database.{Parts, PackageRows}
 use Rattle.ice_chip.specs.IsRead.{IsRead}
 use Rattle.ice_chip.specs.WireNames.{pad_output_name, output_enable_name}
@@ -32,7 +32,7 @@ use Rattle.ice_decode.proofs.PointPlaces.{cells_long}
 use Rattle.ice_back_laws.specs.Back.{signal_at, reader, pin_reader, buffer_type, pad_cell, table_cells, carry_cells, flop_cells, logic_cells, fixed_cells, numbered_pads}
 use Rattle.ice_back_laws.specs.Law.{NetlistIsSound}
 use Rattle.ice_back_laws.specs.Numbers.{port_number, reader_of, root_number, signal}
-use Rattle.ice_back_laws.specs.Roots.{Root, Fixed, Input, Table, Register, Sum, cell_table, table_root, root_of}
+use Rattle.ice_back_laws.specs.Roots.{LevelRoot, Fixed, Input, Table, Register, Sum, cell_table, table_root, root_of}
 use Rattle.ice_back_laws.proofs.Bounds.{few_tiles, few_pads}
 use Rattle.ice_back_laws.proofs.Driving.{first_none, connected}
 use Rattle.ice_back_laws.proofs.Inputs.{input_there, inputs_there, carry_input_there, below_some, point_good}
@@ -86,11 +86,11 @@ module _ (parts : Parts) (bits : Bits) (extras : List (ℕ × ℕ × ℕ)) (read
   abbrev signals : ℕ
   signals = length n.names
 
-  abbrev own : Root → Cell
+  abbrev own : LevelRoot → Cell
   own r = cell_of parts bits package_rows r
 
   -- ---- signals of cells have names
-  reader_below : (bare : Bool) (q : Root) → IsThere parts bits pads q → IsBelow signals (reader_of parts pads bare q)
+  reader_below : (bare : Bool) (q : LevelRoot) → IsThere parts bits pads q → IsBelow signals (reader_of parts pads bare q)
   reader_below true (Fixed true) there = tt
   reader_below true (Fixed false) there = root_below parts bits package_rows (Fixed false) there
   reader_below false (Fixed true) there = root_below parts bits package_rows (Fixed true) there
@@ -191,7 +191,7 @@ module _ (parts : Parts) (bits : Bits) (extras : List (ℕ × ℕ × ℕ)) (read
       port_below : port_number k < signals
       port_below = omega (arith, names_long parts bits package_rows, lt)
 
-  root_formed : (r : Root) → IsThere parts bits pads r → IsFormedCell signals (own r)
+  root_formed : (r : LevelRoot) → IsThere parts bits pads r → IsFormedCell signals (own r)
   root_formed (Fixed level) there = fixed_formed level
   root_formed (Input k) there = pad_formed k there
   root_formed (Table t i) there = record {
@@ -268,7 +268,7 @@ module _ (parts : Parts) (bits : Bits) (extras : List (ℕ × ℕ × ℕ)) (read
   formed = record { few = (let few = few_names in omega (arith, few)); few_cells = (let few = few_cells in omega (arith, few)); ports = ports_below; cells = cells_formed }
 
   -- ---- types
-  root_typed : (r : Root) → IsThere parts bits pads r → is_type_out (own r).kind ≡ false
+  root_typed : (r : LevelRoot) → IsThere parts bits pads r → is_type_out (own r).kind ≡ false
   root_typed (Fixed true) there = refl
   root_typed (Fixed false) there = refl
   root_typed (Input k) there = not_from_true (is_type (buffer_type parts bits (pad_at k))) (pad_typed k there)

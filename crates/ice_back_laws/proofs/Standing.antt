@@ -5,8 +5,8 @@ use Rattle.std.specs.List.{flat_map, range_with_len, position_or_len}
 use Rattle.std.proofs.lemmas.Option.{same_Some, none-some, get_or_from_slice_get}
 use Rattle.ice_base.specs.declared.number.TileAt.{TileAt}
 use Rattle.ice_base.specs.declared.number.SignalNo.{SignalNo}
-use Rattle.ice_value.specs.Order.{At, Has}
-use Rattle.ice_value.proofs.Members.{At_within}
+use Rattle.ice_base_values.specs.Order.{At, Has}
+use Rattle.ice_base_values.proofs.Members.{At_within}
 use Rattle.ice_chip.specs.Database.{Parts, PackageRows}
 use Rattle.ice_chip.specs.declared.rows.Pad.{Pad}
 use Rattle.ice_bits.specs.Configuration.{Bits}
@@ -25,7 +25,7 @@ use Rattle.ice_decode.proofs.Members.{At_map_cases, At_range_cases, Has_left, Ha
 use Rattle.ice_decode.proofs.PointPlaces.{cell_at, cell_cases, cells_long}
 use Rattle.ice_back_laws.specs.Back.{reader, cell, signal_at, pad_cell, table_cells, carry_cells, flop_cell, flop_cells, logic_cells, fixed_cells, numbered_pads, pad_port, back_netlist}
 use Rattle.ice_back_laws.specs.Numbers.{port_number, input_number, cell_number, root_number, signal, pad_names, cell_names}
-use Rattle.ice_back_laws.specs.Roots.{Root, Fixed, Input, Table, Register, Sum, cell_table}
+use Rattle.ice_back_laws.specs.Roots.{LevelRoot, Fixed, Input, Table, Register, Sum, cell_table}
 use Rattle.ice_back_laws.proofs.Ranks.{IsThere, StandsAt, place_found}
 
 -- ---- lists
@@ -107,11 +107,11 @@ module _ (parts : Parts) (bits : Bits) (package_rows : PackageRows) where
   abbrev pub netlist : NetlistData
   netlist = back_netlist parts bits package_rows
 
-  abbrev pub Stands : Root → Type 0
+  abbrev pub Stands : LevelRoot → Type 0
   Stands r = IsThere parts bits bonded r
 
   -- the cell that makes the level of a root
-  abbrev pub cell_of : Root → Cell
+  abbrev pub cell_of : LevelRoot → Cell
   cell_of (Fixed false) = cell (Cover 0 0) [] (signal_at 0 ∷ [])
   cell_of (Fixed true) = cell (Cover 1 0) [] (signal_at 1 ∷ [])
   cell_of (Input k) = pad_cell parts bits bonded (k, get_or bonded k no_pad)
@@ -127,7 +127,7 @@ module _ (parts : Parts) (bits : Bits) (package_rows : PackageRows) where
 
   -- ---- each cell makes a root's level
   abbrev IsMadeFor : Cell → Type 0
-  IsMadeFor c = (r : Root) × Stands r × (c ≡ cell_of r)
+  IsMadeFor c = (r : LevelRoot) × Stands r × (c ≡ cell_of r)
 
   fixed_made : (i : ℕ) (c : Cell) → At fixed_cells i c → IsMadeFor c
   fixed_made zero c at = (Fixed false, tt, sym (same_Some (cell_of (Fixed false)) c at))
@@ -186,7 +186,7 @@ module _ (parts : Parts) (bits : Bits) (package_rows : PackageRows) where
       Has_right fixed_cells (pad_cells ++ all_logic) c (Has_right pad_cells all_logic c
       (flat_on (logic_cells parts bits bonded) (cells parts) (8 * k + i) (t, i) c (cell_at (logic_tiles parts) k i t (tile_at t (logic_tiles parts) k e) lt) has))
 
-  pub root_stands : (r : Root) → Stands r → Has netlist.cells (cell_of r)
+  pub root_stands : (r : LevelRoot) → Stands r → Has netlist.cells (cell_of r)
   root_stands (Fixed false) there = (0, refl)
   root_stands (Fixed true) there = (1, refl)
   root_stands (Input k) there =
@@ -206,7 +206,7 @@ module _ (parts : Parts) (bits : Bits) (package_rows : PackageRows) where
       (subst (λ b. Has (if b then cell_of (Sum t i) ∷ [] else []) (cell_of (Sum t i))) (sym there.1) (0, refl))))
 
   -- ---- numbers tell roots
-  abbrev of_cell : TileAt × ℕ → ℕ → Root
+  abbrev of_cell : TileAt × ℕ → ℕ → LevelRoot
   of_cell c zero = Table c.0 c.1
   of_cell c (suc zero) = Register c.0 c.1
   of_cell c (suc (suc n)) = Sum c.0 c.1
@@ -214,12 +214,12 @@ module _ (parts : Parts) (bits : Bits) (package_rows : PackageRows) where
   abbrev no_cell : TileAt × ℕ
   no_cell = (record { x = 0; y = 0 }, 0)
 
-  abbrev behind_fixed : ℕ → Bool → Root
+  abbrev behind_fixed : ℕ → Bool → LevelRoot
   behind_fixed n true = Input (n / 2)
   behind_fixed n false = of_cell (get_or (cells parts) ((n - 2 * length bonded) / 3) no_cell) ((n - 2 * length bonded) % 3)
 
   -- the root of a signal's number
-  abbrev told : ℕ → Root
+  abbrev told : ℕ → LevelRoot
   told zero = Fixed false
   told (suc zero) = Fixed true
   told (suc (suc n)) = behind_fixed n (nat_lt n (2 * length bonded))
@@ -252,7 +252,7 @@ module _ (parts : Parts) (bits : Bits) (package_rows : PackageRows) where
       not_less : (a b n : ℕ) → n ≡ a + b → nat_lt n a ≡ false
       not_less a b n e = search (rules, tests, arith)
 
-  root_told : (r : Root) → Stands r → told (root_number parts bonded r) ≡ r
+  root_told : (r : LevelRoot) → Stands r → told (root_number parts bonded r) ≡ r
   root_told (Fixed false) there = refl
   root_told (Fixed true) there = refl
   root_told (Input k) there = input_told k there
@@ -260,10 +260,10 @@ module _ (parts : Parts) (bits : Bits) (package_rows : PackageRows) where
   root_told (Register t i) there = cell_told t i 1 there.0 (omega arith)
   root_told (Sum t i) there = cell_told t i 2 there.0 (omega arith)
 
-  same_root : (r q : Root) → Stands r → Stands q → root_number parts bonded r ≡ root_number parts bonded q → r ≡ q
+  same_root : (r q : LevelRoot) → Stands r → Stands q → root_number parts bonded r ≡ root_number parts bonded q → r ≡ q
   same_root r q there here e = sym (root_told r there) ∙ ap told e ∙ root_told q here
 
-  pub output_is : (r : Root) → output_of (cell_of r) ≡ Some (signal (root_number parts bonded r))
+  pub output_is : (r : LevelRoot) → output_of (cell_of r) ≡ Some (signal (root_number parts bonded r))
   output_is (Fixed false) = refl
   output_is (Fixed true) = refl
   output_is (Input k) = refl
@@ -284,7 +284,7 @@ module _ (parts : Parts) (bits : Bits) (package_rows : PackageRows) where
   cell_above : (t : TileAt) (i : ℕ) → StandsAt parts t i → 2 + 2 * length bonded ≤ cell_number parts bonded t i
   cell_above t i (k, e, lt) = omega (arith, number_is t i k e)
 
-  not_port : (r : Root) → Stands r → (k : ℕ) → k < length bonded → port_number k ≡ root_number parts bonded r → ⊥
+  not_port : (r : LevelRoot) → Stands r → (k : ℕ) → k < length bonded → port_number k ≡ root_number parts bonded r → ⊥
   not_port (Fixed false) there k lt e = omega (arith, e)
   not_port (Fixed true) there k lt e = omega (arith, e)
   not_port (Input j) there k lt e = omega (arith, e)
@@ -298,7 +298,7 @@ module _ (parts : Parts) (bits : Bits) (package_rows : PackageRows) where
       (λ p has e. let is = port_made p has in never is.0 is.1 (same_number (port_number is.0) s (ap (pad_of netlist.cells) (sym is.2) ∙ e)))
 
   -- ---- what drives the signal of a root
-  pub root_driven : (r : Root) → Stands r → (i : ℕ) × (driver_of netlist (root_number parts bonded r) ≡ drivers.TheVariants.Output i) × At netlist.cells i (cell_of r)
+  pub root_driven : (r : LevelRoot) → Stands r → (i : ℕ) × (driver_of netlist (root_number parts bonded r) ≡ drivers.TheVariants.Output i) × At netlist.cells i (cell_of r)
   root_driven r there =
       let s = root_number parts bonded r in
       let found = place_one output_of s (cell_of r) netlist.cells (root_stands r there) (output_is r)
@@ -321,7 +321,7 @@ module _ (parts : Parts) (bits : Bits) (package_rows : PackageRows) where
       let inside = At_within (logic_tiles parts) k t (tile_at t (logic_tiles parts) k e) in
       omega (arith, number_is t i k e, names_long, inside, lt)
 
-  pub root_below : (r : Root) → Stands r → root_number parts bonded r < length netlist.names
+  pub root_below : (r : LevelRoot) → Stands r → root_number parts bonded r < length netlist.names
   root_below (Fixed false) there = omega (arith, names_long)
   root_below (Fixed true) there = omega (arith, names_long)
   root_below (Input k) there = omega (arith, names_long, there)
@@ -341,7 +341,7 @@ module _ (parts : Parts) (bits : Bits) (package_rows : PackageRows) where
       λ j. driver_from (ports j) (outs j)
 
   -- ---- the SB_IO of a port
-  pin_at : (r : Root) (k : ℕ) → pin_of (cell_of r) ≡ Some (signal (port_number k)) → r ≡ Input k
+  pin_at : (r : LevelRoot) (k : ℕ) → pin_of (cell_of r) ≡ Some (signal (port_number k)) → r ≡ Input k
   pin_at (Fixed false) k e = cc e
   pin_at (Fixed true) k e = cc e
   pin_at (Input j) k e = let same : port_number j ≡ port_number k = same_number (port_number j) (port_number k) e in let f : j ≡ k = omega (arith, same) in ap Input f

@@ -6,11 +6,11 @@ use Rattle.std.specs.List.{range_with_len}
 use Rattle.std.proofs.lemmas.Option.{same_Some, none-some, get_or_from_slice_get}
 use Rattle.ice_base.specs.declared.number.TileAt.{TileAt}
 use Rattle.ice_base.specs.declared.number.SignalNo.{SignalNo}
-use Rattle.ice_value.specs.Inputs.{reading}
-use Rattle.ice_value.specs.Machine.{Simulates}
-use Rattle.ice_value.specs.Order.{At}
-use Rattle.ice_value.proofs.Machines.{shows_always_alike}
-use Rattle.ice_value.proofs.Members.{At_map, At_within}
+use Rattle.ice_base_values.specs.Inputs.{reading}
+use Rattle.ice_base_values.specs.Machine.{Simulates}
+use Rattle.ice_base_values.specs.Order.{At}
+use Rattle.ice_base_values.proofs.Machines.{shows_always_alike}
+use Rattle.ice_base_values.proofs.Members.{At_map, At_within}
 use Rattle.ice_chip.specs.Database.{Parts, PackageRows}
 use Rattle.ice_chip.specs.IsRead.{IsRead}
 use Rattle.ice_chip.specs.WireNames.{pad_output_name, output_enable_name}

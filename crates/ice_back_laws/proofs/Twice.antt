@@ -22,7 +22,7 @@ use Rattle.ice_decode.proofs.Members.{At_map_cases, At_range_cases}
 use Rattle.ice_decode.proofs.PointPlaces.{cell_cases}
 use Rattle.ice_back_laws.specs.Back.{pad_cell, table_cells, carry_cells, flop_cells, logic_cells, fixed_cells, numbered_pads, pad_port}
 use Rattle.ice_back_laws.specs.Numbers.{port_number, input_number, cell_number, signal}
-use Rattle.ice_back_laws.specs.Roots.{Root, Table, Register, Sum, cell_table}
+use Rattle.ice_back_laws.specs.Roots.{LevelRoot, Table, Register, Sum, cell_table}
 use Rattle.ice_back_laws.proofs.Counting.{IsRare, rare_none, rare_weaker, rare_join, rare_few, not_many, times_one, append_rare, flat_rare, map_rare}
 use Rattle.ice_back_laws.proofs.Driving.{first_none}
 use Rattle.ice_back_laws.proofs.Standing.{netlist, cell_of, numbered_cases}
@@ -115,7 +115,7 @@ module _ (parts : Parts) (bits : Bits) (package_rows : PackageRows) (s : ℕ) wh
     abbrev number : ℕ
     number = cell_number parts bonded t i
 
-    abbrev own : Root → Cell
+    abbrev own : LevelRoot → Cell
     own r = cell_of parts bits package_rows r
 
     split : (f : Cell → Option SignalNo)

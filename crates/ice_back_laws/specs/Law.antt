@@ -6,7 +6,7 @@ use Rattle.ice_bits.specs.Configuration.{Bits}
 use Rattle.ice_net.specs.Meaning as net
 use Rattle.ice_decode.specs.Meaning as chip
 use Rattle.ice_decode.specs.Refusals.{IsFaultless}
-use Rattle.ice_value.specs.Order.{Has}
+use Rattle.ice_base_values.specs.Order.{Has}
 use Rattle.ice_chip.specs.declared.rows.Pad.{Pad}
 use Rattle.ice_decode.specs.declared.point.Point.{Point}
 use Rattle.ice_decode.specs.declared.point.Point.TheVariants.{Carry}
@@ -17,7 +17,7 @@ use Rattle.ice_check.specs.Faults.{undriven, pin_not_port, inout_bare}
 use Rattle.ice_check.specs.Loops.{HasNoLoop}
 use Rattle.ice_check.specs.Sound.{IsSound}
 use Rattle.ice_back_laws.specs.Back.{back_netlist}
-use Rattle.ice_back_laws.specs.Roots.{Root, Fixed, Input, Table, Register, Sum, root_of}
+use Rattle.ice_back_laws.specs.Roots.{LevelRoot, Fixed, Input, Table, Register, Sum, root_of}
 
 -- For every list of levels the netlist drives at its ports, which are the pads of the package in order, what the chip drives there, where
 -- the bits have no fault and the package is one of the chip's.
@@ -47,7 +47,7 @@ NetlistIsSound = (parts : Parts) (bits : Bits) (extras : List (ℕ × ℕ × ℕ
     → IsSound (back_netlist parts bits package_rows)
 
 -- the level of a root at a moment, by the levels of points
-abbrev pub root_level : Parts → Bits → (Point → Bool) → List Bool → List Bool → Root → Bool
+abbrev pub root_level : Parts → Bits → (Point → Bool) → List Bool → List Bool → LevelRoot → Bool
 root_level parts bits v levels kept (Fixed level) = level
 root_level parts bits v levels kept (Input k) = slice_index_or levels k false
 root_level parts bits v levels kept (Table t i) = chip.table_level parts bits v t i

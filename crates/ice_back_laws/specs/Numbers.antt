@@ -8,7 +8,7 @@ use Rattle.ice_chip.specs.Lookups.{first_pin}
 use Rattle.ice_chip.specs.declared.rows.Pad.{Pad}
 use Rattle.ice_decode.specs.Cells.{logic_tiles, cells}
 use Rattle.ice_decode.specs.Meaning.{tile_place}
-use Rattle.ice_back_laws.specs.Roots.{Root, Fixed, Input, Table, Register, Sum}
+use Rattle.ice_back_laws.specs.Roots.{LevelRoot, Fixed, Input, Table, Register, Sum}
 
 -- ---- numbers
 -- 0 and 1 are the fixed levels; two signals for each pad of the package follow, its port's and its input's, and then three for each
@@ -27,7 +27,7 @@ abbrev pub cell_number : Parts → List Pad → TileAt → ℕ → ℕ
 cell_number parts bonded t i = 2 + 2 * length bonded + 3 * cell_place parts t i
 
 -- the signal of a root
-abbrev pub root_number : Parts → List Pad → Root → ℕ
+abbrev pub root_number : Parts → List Pad → LevelRoot → ℕ
 root_number parts bonded (Fixed level) = if level then 1 else 0
 root_number parts bonded (Input k) = input_number k
 root_number parts bonded (Table t i) = cell_number parts bonded t i
@@ -38,7 +38,7 @@ abbrev pub signal : ℕ → SignalNo
 signal n = record { 0 = n }
 
 -- what reads a root: an input at which a level stands that it would read if it were missing is missing
-abbrev pub reader_of : Parts → List Pad → Bool → Root → Option SignalNo
+abbrev pub reader_of : Parts → List Pad → Bool → LevelRoot → Option SignalNo
 reader_of parts bonded true (Fixed true) = None
 reader_of parts bonded true (Fixed false) = Some (signal 0)
 reader_of parts bonded false (Fixed true) = Some (signal 1)

@@ -8,4 +8,4 @@ pub use laws::{
     netlist_has_no_loop, netlist_is_connected, netlist_is_sound, netlist_shows_what_bits_show,
     points_have_their_roots_levels,
 };
-pub use root::Root;
+pub use root::LevelRoot;

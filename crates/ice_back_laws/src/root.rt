@@ -5,7 +5,7 @@ use ice_base::TileAt;
 /// What the level of a point of a configured chip comes from, once all wires that pass it on are passed. Cells are numbered from 0 to 7
 /// in their tile.
 #[derive(Clone, Copy)]
-pub enum Root {
+pub enum LevelRoot {
     /// A fixed level.
     Fixed(bool),
     /// The pad of this number of the package.

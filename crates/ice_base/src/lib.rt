@@ -18,7 +18,7 @@ pub use bit_name::{bit_named, cut_at, digit_value};
 pub use comments::{PlainWords, begins_with, plain_words_of};
 pub use decimal::{number_below, number_of};
 pub use lines::{Line, LineIter, lines_of};
-pub use memory::{NoMemory, both};
+pub use memory::{NoMemory, both, to_u32};
 pub use name::{Name, name_of};
 pub use number::{BitAt, NetNo, RowNo, SignalNo, TileAt, WireNo};
 pub use plain::{PlainLine, PlainLines, plain_lines};

@@ -33,3 +33,13 @@ pub fn both<A: Drop, B: Drop>(
         _ => Err(NoMemory),
     }
 }
+
+/// A number of 32 bits. Where it is larger, memory would not hold what it counts.
+pub fn to_u32(number: usize) -> Result<u32, NoMemory>
+    ensures { IfOk result (λ n. n ≡ number) }
+{
+    match u32::try_from(number) {
+        Ok(number) => Ok(number),
+        Err(_) => Err(NoMemory),
+    }
+}

@@ -4,8 +4,8 @@ use Rattle.std.specs.Prelude.{option_map, slice_get}
 use Rattle.std.specs.Option.{option_map_or}
 use Rattle.std.proofs.lemmas.Option.{none-some}
 use Rattle.ice_base.specs.declared.number.SignalNo.{SignalNo}
-use Rattle.ice_value.specs.Inputs.{present}
-use Rattle.ice_value.specs.Order.{Has}
+use Rattle.ice_base_values.specs.Inputs.{present}
+use Rattle.ice_base_values.specs.Order.{Has}
 use Rattle.ice_net.specs.declared.cell.Cell.{Cell}
 use Rattle.ice_net.specs.declared.driver.Driver.{Driver}
 use Rattle.ice_net.specs.declared.driver.Driver.TheVariants as driver

@@ -7,10 +7,10 @@ use Rattle.std.proofs.lemmas.List.FromFn.{length-range_with_len}
 use Rattle.ice_base.specs.Lists.{all_known}
 use Rattle.ice_base.proofs.Options.{option_map_same}
 use Rattle.ice_base.specs.declared.number.SignalNo.{SignalNo}
-use Rattle.ice_value.specs.Inputs.{present, filled}
-use Rattle.ice_value.specs.Order.{At, Has}
-use Rattle.ice_value.specs.System.{value}
-use Rattle.ice_value.proofs.Enough.{value_enough}
+use Rattle.ice_base_values.specs.Inputs.{present, filled}
+use Rattle.ice_base_values.specs.Order.{At, Has}
+use Rattle.ice_base_values.specs.System.{value}
+use Rattle.ice_base_values.proofs.Enough.{value_enough}
 use Rattle.ice_net.specs.declared.cell.Cell.{Cell}
 use Rattle.ice_net.specs.declared.driver.Driver.{Driver}
 use Rattle.ice_net.specs.declared.driver.Driver.TheVariants as driver

@@ -4,8 +4,8 @@ ghost use Rattle.ice_cells.specs.Same.{same_control};
 ghost use Rattle.ice_cells.specs.Moves.{differs, piece_moves, run_moves, moves};
 ghost use Rattle.ice_cells.specs.Runs.{numbered};
 
-use ice_base::NoMemory;
-use ice_cells::{Control, LogicCell, Run, control_at, first_control, piece, pieces_count, short};
+use ice_base::{NoMemory, to_u32};
+use ice_cells::{Control, LogicCell, Run, control_at, first_control, piece, pieces_count};
 use std::alloc::Global;
 
 // Whether two flip-flops are driven alike.
@@ -82,7 +82,7 @@ pub(crate) fn number_moves(
     let mut pairs = Vec::new(alloc);
     let mut number = first;
     for c in movers {
-        pairs.push((*c, short(number)?))?;
+        pairs.push((*c, to_u32(number)?))?;
         number += 1;
     }
     Ok(pairs)

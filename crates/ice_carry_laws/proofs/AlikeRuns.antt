@@ -5,9 +5,9 @@ use Rattle.std.specs.List.{flat_map, filter_map, cons_option, range_with_len}
 use Rattle.std.proofs.lemmas.List.{length-append}
 use Rattle.std.proofs.lemmas.Option.{none-some, same_Some}
 use Rattle.ice_net.specs.declared.kind.Reset.{Reset}
-use Rattle.ice_value.specs.Order.{At, Has}
-use Rattle.ice_value.proofs.Members.{At_within, Has_filter}
-use Rattle.ice_value.proofs.Places.{At_take, At_drop}
+use Rattle.ice_base_values.specs.Order.{At, Has}
+use Rattle.ice_base_values.proofs.Members.{At_within, Has_filter}
+use Rattle.ice_base_values.proofs.Places.{At_take, At_drop}
 use Rattle.ice_cells.specs.declared.cell.Control.{Control}
 use Rattle.ice_cells.specs.declared.cell.LogicCell.{LogicCell}
 use Rattle.ice_cells.specs.declared.design.Design.{Design}
@@ -21,12 +21,12 @@ use Rattle.ice_cells.specs.Runs.{numbered, run_heads, runs_made, cells_fed, fed_
 use Rattle.ice_cells.specs.Same.{same_control}
 use Rattle.ice_cells.proofs.SameControls.{same_control_is}
 use Rattle.ice_cells.proofs.TableLaws.{get_or-table}
-use Rattle.ice_chains.specs.Before.{IsBeforeRuns}
-use Rattle.ice_chains.proofs.CellsAfter.{after_at}
-use Rattle.ice_chains.proofs.DesignChains.{chain_below}
-use Rattle.ice_chains.proofs.DesignRuns.{in_run}
-use Rattle.ice_chains.proofs.FedNumbers.{number_there}
-use Rattle.ice_chains.proofs.RunsOnce.{CellFrom, Fed as FedFrom, Carried, from_where}
+use Rattle.ice_carry_chains.specs.Before.{IsBeforeRuns}
+use Rattle.ice_carry_chains.proofs.CellsAfter.{after_at}
+use Rattle.ice_carry_chains.proofs.DesignChains.{chain_below}
+use Rattle.ice_carry_chains.proofs.DesignRuns.{in_run}
+use Rattle.ice_carry_chains.proofs.FedNumbers.{number_there}
+use Rattle.ice_carry_chains.proofs.RunsOnce.{CellFrom, Fed as FedFrom, Carried, from_where}
 use Rattle.ice_cells.proofs.NodeLevels.{range_at}
 use Rattle.ice_carry_laws.proofs.ReadRoots.{Has_flat}
 use Rattle.ice_carry_laws.proofs.Shown.{at_within}

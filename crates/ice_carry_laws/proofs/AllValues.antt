@@ -4,10 +4,10 @@ use Rattle.std.specs.Prelude.{unwrap_or, slice_get, slice_index_or, option_map}
 use Rattle.std.specs.Option.{option_map_or}
 use Rattle.std.proofs.lemmas.Option.{slice_get-map}
 use Rattle.ice_net.specs.declared.kind.Reset.{Reset}
-use Rattle.ice_value.specs.Arriving.{HasValue, HaveValues}
-use Rattle.ice_value.specs.Order.{At, Has}
-use Rattle.ice_value.proofs.Arriving.{value_made}
-use Rattle.ice_value.proofs.Members.{At_within}
+use Rattle.ice_base_values.specs.Arriving.{HasValue, HaveValues}
+use Rattle.ice_base_values.specs.Order.{At, Has}
+use Rattle.ice_base_values.proofs.Arriving.{value_made}
+use Rattle.ice_base_values.proofs.Members.{At_within}
 use Rattle.ice_cells.specs.declared.cell.Control.{Control}
 use Rattle.ice_cells.specs.declared.cell.LogicCell.{LogicCell}
 use Rattle.ice_cells.specs.declared.design.Design.{Design}
@@ -20,8 +20,8 @@ use Rattle.ice_cells.specs.Readings.{roots_read}
 use Rattle.ice_cells.specs.Runs.{fed_numbers, moved_numbers, runs_of}
 use Rattle.ice_cells.specs.Tables.{table}
 use Rattle.ice_cells.proofs.TableLaws.{get_or-table}
-use Rattle.ice_chains.specs.Before.{IsBeforeRuns}
-use Rattle.ice_chains.proofs.DesignRuns.{old_at}
+use Rattle.ice_carry_chains.specs.Before.{IsBeforeRuns}
+use Rattle.ice_carry_chains.proofs.DesignRuns.{old_at}
 use Rattle.ice_carry_laws.specs.AreRuns.{IsIn, home, own, taking, passing}
 use Rattle.ice_carry_laws.specs.RunLaws.{ReadsWithin}
 use Rattle.ice_carry_laws.proofs.Arriving.{arrives, read_value, have_four, table_new}

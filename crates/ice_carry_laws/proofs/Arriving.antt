@@ -4,11 +4,11 @@ use Rattle.std.specs.Prelude.{unwrap_or, slice_get, slice_index_or}
 use Rattle.std.specs.Option.{option_map_or}
 use Rattle.ice_net.specs.declared.kind.Reset.{Reset}
 use Rattle.ice_net.specs.Meaning.{number_of, table_bit, majority}
-use Rattle.ice_value.specs.Order.{At, Has}
-use Rattle.ice_value.specs.Inputs.{reading}
-use Rattle.ice_value.specs.Arriving.{HasValue, HaveValues}
-use Rattle.ice_value.proofs.Arriving.{value_made}
-use Rattle.ice_value.proofs.Members.{At_map}
+use Rattle.ice_base_values.specs.Order.{At, Has}
+use Rattle.ice_base_values.specs.Inputs.{reading}
+use Rattle.ice_base_values.specs.Arriving.{HasValue, HaveValues}
+use Rattle.ice_base_values.proofs.Arriving.{value_made}
+use Rattle.ice_base_values.proofs.Members.{At_map}
 use Rattle.ice_cells.specs.declared.cell.Control.{Control}
 use Rattle.ice_cells.specs.declared.cell.LogicCell.{LogicCell}
 use Rattle.ice_cells.specs.declared.design.Design.{Design}

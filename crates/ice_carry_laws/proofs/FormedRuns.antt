@@ -6,8 +6,8 @@ use Rattle.std.proofs.lemmas.List.{length-map}
 use Rattle.std.proofs.lemmas.Option.{none-some, same_Some}
 use Rattle.ice_net.specs.declared.kind.Reset.{Reset}
 use Rattle.ice_net.specs.declared.kind.Reset.TheVariants.{Nothing}
-use Rattle.ice_value.specs.Order.{At, Has}
-use Rattle.ice_value.proofs.Members.{At_within, map_At}
+use Rattle.ice_base_values.specs.Order.{At, Has}
+use Rattle.ice_base_values.proofs.Members.{At_within, map_At}
 use Rattle.ice_cells.specs.declared.cell.Control.{Control}
 use Rattle.ice_cells.specs.declared.cell.LogicCell.{LogicCell}
 use Rattle.ice_cells.specs.declared.design.Design.{Design}
@@ -18,11 +18,11 @@ use Rattle.ice_cells.specs.Formed.{IsRootOf, IsPad, IsFormed}
 use Rattle.ice_cells.specs.Moves.{renamed, renamed_source, renamed_control, renamed_flop, kept_flop, become, moved_cell}
 use Rattle.ice_cells.specs.Readings.{roots_read, is_read}
 use Rattle.ice_cells.specs.Runs.{renamed_pad, cells_fed, fed_numbers, movers, moved_numbers, runs_of}
-use Rattle.ice_chains.specs.Before.{IsBeforeRuns}
-use Rattle.ice_chains.specs.Holding.{HoldCarries}
-use Rattle.ice_chains.proofs.CellsAfter.{CellAfter, Became, Moved, after_back}
-use Rattle.ice_chains.proofs.DesignRuns.{old_at}
-use Rattle.ice_chains.proofs.Holding.{hold_carries}
+use Rattle.ice_carry_chains.specs.Before.{IsBeforeRuns}
+use Rattle.ice_carry_chains.specs.Holding.{HoldCarries}
+use Rattle.ice_carry_chains.proofs.CellsAfter.{CellAfter, Became, Moved, after_back}
+use Rattle.ice_carry_chains.proofs.DesignRuns.{old_at}
+use Rattle.ice_carry_chains.proofs.Holding.{hold_carries}
 use Rattle.ice_carry_laws.specs.AreRuns.{taking, passing}
 use Rattle.ice_carry_laws.specs.FormedBefore.{IsFormedBefore}
 use Rattle.ice_carry_laws.specs.RunLaws.{ReadsWithin}

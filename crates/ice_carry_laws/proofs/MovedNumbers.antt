@@ -7,8 +7,8 @@ use Rattle.std.proofs.lemmas.Bool.{cases_lt}
 use Rattle.std.proofs.lemmas.List.{get_or_past}
 use Rattle.std.proofs.lemmas.Option.{none-some, same_Some}
 use Rattle.ice_net.specs.declared.kind.Reset.{Reset}
-use Rattle.ice_value.specs.Order.{At, Has}
-use Rattle.ice_value.proofs.Members.{Has_none, filter_Has, At_map, At_right}
+use Rattle.ice_base_values.specs.Order.{At, Has}
+use Rattle.ice_base_values.proofs.Members.{Has_none, filter_Has, At_map, At_right}
 use Rattle.ice_cells.specs.declared.cell.Control.{Control}
 use Rattle.ice_cells.specs.declared.cell.LogicCell.{LogicCell}
 use Rattle.ice_cells.specs.declared.design.Design.{Design}
@@ -19,10 +19,10 @@ use Rattle.ice_cells.specs.Moves.{differs, moves_at, run_moves, moves, renamed_f
 use Rattle.ice_cells.specs.Pieces.{control_by, control_at, first_control, piece, pieces_count}
 use Rattle.ice_cells.specs.Runs.{numbered, cells_fed, fed_numbers, movers, moved_numbers, runs_of}
 use Rattle.ice_cells.proofs.TableLaws.{length-table, get_or-table}
-use Rattle.ice_chains.proofs.CellsAfter.{FeedsIn, FeedsOut, cell_in, cell_out}
-use Rattle.ice_chains.proofs.DesignRuns.{CellFed, Old, Feed, cell_fed}
-use Rattle.ice_chains.proofs.FedNumbers.{number_back}
-use Rattle.ice_chains.proofs.RunLists.{flat_back}
+use Rattle.ice_carry_chains.proofs.CellsAfter.{FeedsIn, FeedsOut, cell_in, cell_out}
+use Rattle.ice_carry_chains.proofs.DesignRuns.{CellFed, Old, Feed, cell_fed}
+use Rattle.ice_carry_chains.proofs.FedNumbers.{number_back}
+use Rattle.ice_carry_chains.proofs.RunLists.{flat_back}
 
 -- ---- numbers by cells
 -- what the table of numbers has of a cell, the list of pairs has

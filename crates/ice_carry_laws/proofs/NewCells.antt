@@ -4,8 +4,8 @@ use Rattle.std.specs.Prelude.{slice_get, slice_index_or}
 use Rattle.std.specs.Option.{option_map_or}
 use Rattle.std.proofs.lemmas.Option.{none-some}
 use Rattle.ice_net.specs.declared.kind.Reset.{Reset}
-use Rattle.ice_value.specs.Order.{At, Has}
-use Rattle.ice_value.proofs.Members.{At_parts, map_At}
+use Rattle.ice_base_values.specs.Order.{At, Has}
+use Rattle.ice_base_values.proofs.Members.{At_parts, map_At}
 use Rattle.ice_cells.specs.declared.cell.Control.{Control}
 use Rattle.ice_cells.specs.declared.cell.LogicCell.{LogicCell}
 use Rattle.ice_cells.specs.declared.design.Design.{Design}
@@ -17,12 +17,12 @@ use Rattle.ice_cells.specs.Follows.{follows}
 use Rattle.ice_cells.specs.Moves.{renamed, renamed_flop, become_from, moved_cell}
 use Rattle.ice_cells.specs.Readings.{roots_read}
 use Rattle.ice_cells.specs.Runs.{cells_fed, fed_numbers, movers, moved_numbers, runs_of}
-use Rattle.ice_chains.specs.Before.{HasCarry, IsBeforeRuns}
-use Rattle.ice_chains.proofs.CellsAfter.{FeedsIn, FeedsOut}
-use Rattle.ice_chains.proofs.DesignChains.{heads_are}
-use Rattle.ice_chains.proofs.ReadsFed.{into_fed}
-use Rattle.ice_chains.proofs.DesignRuns.{feed_number, CellFed, Old, Feed, cell_fed}
-use Rattle.ice_chains.proofs.HeadPlaces.{head_back}
+use Rattle.ice_carry_chains.specs.Before.{HasCarry, IsBeforeRuns}
+use Rattle.ice_carry_chains.proofs.CellsAfter.{FeedsIn, FeedsOut}
+use Rattle.ice_carry_chains.proofs.DesignChains.{heads_are}
+use Rattle.ice_carry_chains.proofs.ReadsFed.{into_fed}
+use Rattle.ice_carry_chains.proofs.DesignRuns.{feed_number, CellFed, Old, Feed, cell_fed}
+use Rattle.ice_carry_chains.proofs.HeadPlaces.{head_back}
 use Rattle.ice_carry_laws.specs.AreRuns.{TakesIn, PassesOn}
 use Rattle.ice_carry_laws.proofs.MovedNumbers.{moves_back}
 use Rattle.ice_carry_laws.proofs.ReadRoots.{carry_read}

@@ -5,8 +5,8 @@ use Rattle.std.specs.List.{flat_map}
 use Rattle.std.specs.Option.{option_map_or}
 use Rattle.std.proofs.lemmas.Option.{none-some, same_Some}
 use Rattle.ice_net.specs.declared.kind.Reset.{Reset}
-use Rattle.ice_value.specs.Order.{At, Has}
-use Rattle.ice_value.proofs.Members.{At_parts, At_map, map_At}
+use Rattle.ice_base_values.specs.Order.{At, Has}
+use Rattle.ice_base_values.proofs.Members.{At_parts, At_map, map_At}
 use Rattle.ice_cells.specs.declared.cell.Control.{Control}
 use Rattle.ice_cells.specs.declared.cell.LogicCell.{LogicCell}
 use Rattle.ice_cells.specs.declared.design.Design.{Design}
@@ -17,10 +17,10 @@ use Rattle.ice_cells.specs.declared.root.Root.TheVariants.{CellOut, CarryOut}
 use Rattle.ice_cells.specs.Moves.{renamed, renamed_source, renamed_flop, kept_flop, is_chained, last_input, become, moved_cell}
 use Rattle.ice_cells.specs.Readings.{Reading, plain, carry_reading, control_readings, cell_readings, cells_readings, pad_readings, readings, control_roots, cell_roots, pad_roots, roots_read}
 use Rattle.ice_cells.specs.Runs.{renamed_pad, fed_numbers, moved_numbers, runs_of}
-use Rattle.ice_chains.specs.Before.{IsBeforeRuns}
-use Rattle.ice_chains.proofs.DesignRuns.{old_at}
-use Rattle.ice_chains.proofs.ReadsFed.{plain_fed}
-use Rattle.ice_chains.proofs.RunLists.{flat_back}
+use Rattle.ice_carry_chains.specs.Before.{IsBeforeRuns}
+use Rattle.ice_carry_chains.proofs.DesignRuns.{old_at}
+use Rattle.ice_carry_chains.proofs.ReadsFed.{plain_fed}
+use Rattle.ice_carry_chains.proofs.RunLists.{flat_back}
 use Rattle.ice_carry_laws.specs.AreRuns.{taking, passing}
 use Rattle.ice_carry_laws.proofs.NewCells.{NewCell, Kept, Taking, Passing, Gone, new_cell}
 use Rattle.ice_carry_laws.proofs.ReadRoots.{Has_left, Has_right, Has_flat, cell_read, pad_read, global_read}

@@ -6,8 +6,8 @@ use Rattle.std.specs.Option.{option_map_or}
 use Rattle.std.proofs.lemmas.Bool.{eqb-true, eq-eqb}
 use Rattle.std.proofs.lemmas.Option.{none-some, same_Some}
 use Rattle.ice_net.specs.declared.kind.Reset.{Reset}
-use Rattle.ice_value.specs.Order.{At, Has}
-use Rattle.ice_value.proofs.Members.{At_parts, At_map, map_At, any_Has, Has_any}
+use Rattle.ice_base_values.specs.Order.{At, Has}
+use Rattle.ice_base_values.proofs.Members.{At_parts, At_map, map_At, any_Has, Has_any}
 use Rattle.ice_cells.specs.declared.cell.Control.{Control}
 use Rattle.ice_cells.specs.declared.cell.LogicCell.{LogicCell}
 use Rattle.ice_cells.specs.declared.design.Design.{Design}
@@ -20,9 +20,9 @@ use Rattle.ice_cells.specs.Moves.{renamed, renamed_source, renamed_flop, kept_fl
 use Rattle.ice_cells.specs.Readings.{carry_root, control_roots, cell_roots, pad_roots, roots_read, is_read}
 use Rattle.ice_cells.specs.Runs.{renamed_pad, fed_numbers, moved_numbers, runs_of}
 use Rattle.ice_cells.specs.Same.{same_source}
-use Rattle.ice_chains.specs.Before.{IsBeforeRuns}
-use Rattle.ice_chains.proofs.DesignRuns.{old_at}
-use Rattle.ice_chains.proofs.RunLists.{flat_back}
+use Rattle.ice_carry_chains.specs.Before.{IsBeforeRuns}
+use Rattle.ice_carry_chains.proofs.DesignRuns.{old_at}
+use Rattle.ice_carry_chains.proofs.RunLists.{flat_back}
 use Rattle.ice_carry_laws.specs.AreRuns.{taking, CarriesIn}
 use Rattle.ice_carry_laws.proofs.MovedNumbers.{moved_to}
 use Rattle.ice_carry_laws.proofs.NewReads.{NewRoot, Renamed, Left, new_root}

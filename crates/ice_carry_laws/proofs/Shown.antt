@@ -1,6 +1,6 @@
 -- A design shows with its runs what it shows without.
 use Rattle.std.proofs.Common.{◌≡◌, ℕ, zero, suc, ◌<◌, Bool, true, Some, List, [], ◌∷◌, length, refl, ap, arith}
-use Rattle.ice_value.specs.Order.{At, Has}
+use Rattle.ice_base_values.specs.Order.{At, Has}
 use Rattle.ice_cells.specs.declared.cell.LogicCell.{LogicCell}
 use Rattle.ice_cells.specs.declared.design.Design.{Design}
 use Rattle.ice_cells.specs.declared.root.CarryIn.{CarryIn}
@@ -10,8 +10,8 @@ use Rattle.ice_cells.specs.Meaning.{node_reads, shows}
 use Rattle.ice_cells.specs.Nodes.{Node, Net, source_node, node_or, into_runs, carry_into}
 use Rattle.ice_cells.specs.Readings.{roots_read}
 use Rattle.ice_cells.specs.Runs.{fed_numbers, moved_numbers, runs_of}
-use Rattle.ice_chains.specs.Before.{IsBeforeRuns}
-use Rattle.ice_chains.proofs.DesignChains.{into_is}
+use Rattle.ice_carry_chains.specs.Before.{IsBeforeRuns}
+use Rattle.ice_carry_chains.proofs.DesignChains.{into_is}
 use Rattle.ice_carry_laws.specs.AreRuns.{IsIn}
 use Rattle.ice_carry_laws.specs.RunLaws.{ReadsWithin}
 use Rattle.ice_carry_laws.proofs.ReadRoots.{closed}

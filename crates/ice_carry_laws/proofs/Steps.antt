@@ -6,12 +6,12 @@ use Rattle.ice_net.specs.declared.kind.Reset.{Reset}
 use Rattle.ice_net.specs.Drives.{pad_drive}
 use Rattle.ice_net.specs.Flops.{is_edge, fired}
 use Rattle.ice_net.specs.Meaning.{number_of, table_bit, State}
-use Rattle.ice_value.specs.Arriving.{HasValue}
-use Rattle.ice_value.specs.Inputs.{reading}
-use Rattle.ice_value.specs.Machine.{Simulates}
-use Rattle.ice_value.specs.Order.{At, Has}
-use Rattle.ice_value.proofs.Machines.{shows_always_alike}
-use Rattle.ice_value.proofs.Members.{At_within}
+use Rattle.ice_base_values.specs.Arriving.{HasValue}
+use Rattle.ice_base_values.specs.Inputs.{reading}
+use Rattle.ice_base_values.specs.Machine.{Simulates}
+use Rattle.ice_base_values.specs.Order.{At, Has}
+use Rattle.ice_base_values.proofs.Machines.{shows_always_alike}
+use Rattle.ice_base_values.proofs.Members.{At_within}
 use Rattle.ice_cells.specs.declared.cell.Control.{Control}
 use Rattle.ice_cells.specs.declared.cell.LogicCell.{LogicCell}
 use Rattle.ice_cells.specs.declared.design.Design.{Design}

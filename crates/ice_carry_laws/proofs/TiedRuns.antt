@@ -4,8 +4,8 @@ use Rattle.std.specs.Prelude.{slice_index_or}
 use Rattle.std.specs.List.{flat_map}
 use Rattle.std.specs.Option.{option_map_or}
 use Rattle.std.proofs.lemmas.Option.{none-some, same_Some}
-use Rattle.ice_value.specs.Order.{At, Has, StandOnce}
-use Rattle.ice_value.proofs.Members.{At_left, At_within}
+use Rattle.ice_base_values.specs.Order.{At, Has, StandOnce}
+use Rattle.ice_base_values.proofs.Members.{At_left, At_within}
 use Rattle.ice_cells.specs.declared.cell.LogicCell.{LogicCell}
 use Rattle.ice_cells.specs.declared.design.Design.{Design}
 use Rattle.ice_cells.specs.declared.design.Run.{Run}
@@ -22,17 +22,17 @@ use Rattle.ice_cells.specs.Moves.{renamed, renamed_flop, kept_flop, become}
 use Rattle.ice_cells.specs.Nodes.{Net, Level, source_node, node_or, into_runs, carry_into}
 use Rattle.ice_cells.specs.Runs.{run_heads, cells_fed, fed_numbers, moved_numbers, runs_of}
 use Rattle.ice_cells.proofs.TableLaws.{get_or-table}
-use Rattle.ice_chains.specs.Before.{HasCarry, IsBeforeRuns}
-use Rattle.ice_chains.proofs.CellsAfter.{cell_in, cell_out, feeds_in_at, feeds_out_at}
-use Rattle.ice_chains.proofs.ChainLaws.{behind, before, behind_shift, chain_has, one_head}
-use Rattle.ice_chains.proofs.DesignChains.{StandsBehind, stands_behind, head_carry, behind_carry, heads_are, one_before, into_is, carry_below, end_is}
-use Rattle.ice_chains.proofs.DesignLaws.{next_takes}
-use Rattle.ice_chains.proofs.DesignRuns.{feed_number, the_run, feed_there, old_at, runs_once}
-use Rattle.ice_chains.proofs.FedNumbers.{fed_of, fed_there, fed_back, number_there, number_back}
-use Rattle.ice_chains.proofs.HeadPlaces.{head_back}
-use Rattle.ice_chains.proofs.IntoRuns.{level_into, carry_next}
-use Rattle.ice_chains.proofs.LastInputs.{last_follows}
-use Rattle.ice_chains.proofs.RunLists.{takes_first, carries_inner, passes_last}
+use Rattle.ice_carry_chains.specs.Before.{HasCarry, IsBeforeRuns}
+use Rattle.ice_carry_chains.proofs.CellsAfter.{cell_in, cell_out, feeds_in_at, feeds_out_at}
+use Rattle.ice_carry_chains.proofs.ChainLaws.{behind, before, behind_shift, chain_has, one_head}
+use Rattle.ice_carry_chains.proofs.DesignChains.{StandsBehind, stands_behind, head_carry, behind_carry, heads_are, one_before, into_is, carry_below, end_is}
+use Rattle.ice_carry_chains.proofs.DesignLaws.{next_takes}
+use Rattle.ice_carry_chains.proofs.DesignRuns.{feed_number, the_run, feed_there, old_at, runs_once}
+use Rattle.ice_carry_chains.proofs.FedNumbers.{fed_of, fed_there, fed_back, number_there, number_back}
+use Rattle.ice_carry_chains.proofs.HeadPlaces.{head_back}
+use Rattle.ice_carry_chains.proofs.IntoRuns.{level_into, carry_next}
+use Rattle.ice_carry_chains.proofs.LastInputs.{last_follows}
+use Rattle.ice_carry_chains.proofs.RunLists.{takes_first, carries_inner, passes_last}
 use Rattle.ice_carry_laws.proofs.MovedNumbers.{from_table, moved_to}
 use Rattle.ice_carry_laws.proofs.ReadRoots.{cell_read}
 use Rattle.ice_carry_laws.specs.AreRuns.{taking, passing, TakesIn, PassesOn, CarriesIn, AreRuns}

@@ -1,13 +1,13 @@
 -- The laws of runs.
 use Rattle.std.specs.Prelude.{◌≡◌, ℕ, ◌<◌, Bool, Some, List, length}
-use Rattle.ice_value.specs.Order.{Has}
+use Rattle.ice_base_values.specs.Order.{Has}
 use Rattle.ice_cells.specs.declared.design.Design.{Design}
 use Rattle.ice_cells.specs.declared.root.Root.TheVariants.{PadIn, CellOut, GlobalOut}
 use Rattle.ice_cells.specs.Formed.{IsFormed}
 use Rattle.ice_cells.specs.Meaning.{HasValues, shows}
 use Rattle.ice_cells.specs.Readings.{roots_read}
 use Rattle.ice_cells.specs.Runs.{fed_numbers, moved_numbers, runs_of}
-use Rattle.ice_chains.specs.Before.{IsBeforeRuns}
+use Rattle.ice_carry_chains.specs.Before.{IsBeforeRuns}
 use Rattle.ice_carry_laws.specs.AreRuns.{AreRuns}
 use Rattle.ice_carry_laws.specs.FormedBefore.{IsFormedBefore}
 

@@ -8,15 +8,15 @@ use Rattle.std.proofs.lemmas.List.{length-append, length-map}
 use Rattle.std.proofs.lemmas.List.FromFn.{length-range_with_len, get_or-range_with_len}
 use Rattle.std.proofs.lemmas.Option.{same_Some, slice_get_past, slice_get-get_or}
 use Rattle.ice_base.specs.Lists.{all_known}
-use Rattle.ice_value.specs.Arriving.{HasValue}
-use Rattle.ice_value.specs.Inputs.{reading, present}
-use Rattle.ice_value.specs.Order.{At, Has}
-use Rattle.ice_value.specs.System.{System, value}
-use Rattle.ice_value.proofs.Arriving.{values_rank}
-use Rattle.ice_value.proofs.Enough.{first, value_enough}
-use Rattle.ice_value.proofs.Gaps.{local_gapped}
-use Rattle.ice_value.proofs.Members.{At_map, At_left, At_right}
-use Rattle.ice_value.proofs.Values.{value_suc, value_at_more, value_step}
+use Rattle.ice_base_values.specs.Arriving.{HasValue}
+use Rattle.ice_base_values.specs.Inputs.{reading, present}
+use Rattle.ice_base_values.specs.Order.{At, Has}
+use Rattle.ice_base_values.specs.System.{System, value}
+use Rattle.ice_base_values.proofs.Arriving.{values_rank}
+use Rattle.ice_base_values.proofs.Enough.{first, value_enough}
+use Rattle.ice_base_values.proofs.Gaps.{local_gapped}
+use Rattle.ice_base_values.proofs.Members.{At_map, At_left, At_right}
+use Rattle.ice_base_values.proofs.Values.{value_suc, value_at_more, value_step}
 use Rattle.ice_cells.specs.declared.cell.LogicCell.{LogicCell}
 use Rattle.ice_cells.specs.declared.design.Design.{Design}
 use Rattle.ice_cells.specs.declared.root.Root.TheVariants.{PadIn, CellOut, GlobalOut, CarryOut}

@@ -2,7 +2,7 @@
 use Rattle.std.specs.Prelude.{◌≡◌, List, ℕ, ◌++◌, map, IsPermutation}
 use Rattle.ice_cells.specs.declared.cell.LogicCell.{LogicCell}
 use Rattle.ice_cells.specs.declared.cluster.Clusters.{Clusters}
-use Rattle.ice_cells.specs.declared.cluster.Group.{Group}
+use Rattle.ice_cells.specs.declared.cluster.TileCells.{TileCells}
 use Rattle.ice_cells.specs.declared.design.Design.{Design}
 use Rattle.ice_cells.specs.declared.design.Run.{Run}
 use Rattle.ice_cells.specs.Clusters.{runs_pieces, sets_pieces, plain_pieces, filled, left, loose_flops, loose_plains, with_slots}
@@ -10,11 +10,11 @@ use Rattle.ice_cells.specs.Sets.{FlopCell}
 
 -- ---- groups, by the cells that stand in no run
 -- the chunks of runs, and the flip-flops of each control set in eights
-abbrev pub opened_by : List LogicCell → List Run → List FlopCell → List Group
+abbrev pub opened_by : List LogicCell → List Run → List FlopCell → List TileCells
 opened_by cells runs flops = runs_pieces cells 0 runs ++ sets_pieces flops
 
 -- plain cells fill these, and then stand in groups of their own
-abbrev pub groups_by : List LogicCell → List Run → List FlopCell → List ℕ → List Group
+abbrev pub groups_by : List LogicCell → List Run → List FlopCell → List ℕ → List TileCells
 groups_by cells runs flops plains = filled (opened_by cells runs flops) plains ++ plain_pieces (left (opened_by cells runs flops) plains)
 
 abbrev pub clusters_with : Design → List FlopCell → List ℕ → Clusters

@@ -6,7 +6,7 @@ use Rattle.ice_cells.specs.declared.cell.Control.{Control}
 use Rattle.ice_cells.specs.declared.cell.LogicCell.{LogicCell}
 use Rattle.ice_cells.specs.declared.cluster.Cluster.{Cluster}
 use Rattle.ice_cells.specs.declared.cluster.Clusters.{Clusters}
-use Rattle.ice_cells.specs.declared.cluster.Group.{Group}
+use Rattle.ice_cells.specs.declared.cluster.TileCells.{TileCells}
 use Rattle.ice_cells.specs.declared.design.Design.{Design}
 use Rattle.ice_cells.specs.declared.design.Run.{Run}
 use Rattle.ice_cells.specs.Pieces.{pieces_count, piece, control_at, first_control}
@@ -15,50 +15,50 @@ use Rattle.ice_cells.specs.Tables.{table, scattered}
 
 -- ---- groups before plain cells fill them
 -- piece k of run r
-abbrev pub run_piece : List LogicCell → ℕ → List ℕ → ℕ → Group
+abbrev pub run_piece : List LogicCell → ℕ → List ℕ → ℕ → TileCells
 run_piece cells r members k = record { cells = piece members k; control = first_control cells (piece members k); run = Some (r, k) }
 
-abbrev pub run_pieces : List LogicCell → ℕ → Run → List Group
+abbrev pub run_pieces : List LogicCell → ℕ → Run → List TileCells
 run_pieces cells r run = map (run_piece cells r run.cells) (range_with_len 0 (pieces_count run.cells))
 
 -- the pieces of runs, the first of which has that number
-abbrev pub runs_pieces : List LogicCell → ℕ → List Run → List Group
+abbrev pub runs_pieces : List LogicCell → ℕ → List Run → List TileCells
 runs_pieces cells r [] = []
 runs_pieces cells r (run ∷ runs) = run_pieces cells r run ++ runs_pieces cells (r + 1) runs
 
-abbrev pub set_piece : Control → List ℕ → ℕ → Group
+abbrev pub set_piece : Control → List ℕ → ℕ → TileCells
 set_piece control members k = record { cells = piece members k; control = Some control; run = None }
 
-abbrev pub set_pieces : Control → List ℕ → List Group
+abbrev pub set_pieces : Control → List ℕ → List TileCells
 set_pieces control members = map (set_piece control members) (range_with_len 0 (pieces_count members))
 
-abbrev pub sets_pieces : List FlopCell → List Group
+abbrev pub sets_pieces : List FlopCell → List TileCells
 sets_pieces flops = flat_map (λ control. set_pieces control (cells_with flops control)) (sets_of flops)
 
-abbrev pub plain_piece : List ℕ → ℕ → Group
+abbrev pub plain_piece : List ℕ → ℕ → TileCells
 plain_piece members k = record { cells = piece members k; control = None; run = None }
 
-abbrev pub plain_pieces : List ℕ → List Group
+abbrev pub plain_pieces : List ℕ → List TileCells
 plain_pieces members = map (plain_piece members) (range_with_len 0 (pieces_count members))
 
 -- ---- plain cells in the free slots, group by group
-abbrev pub room : Group → ℕ
+abbrev pub room : TileCells → ℕ
 room group = 8 - length group.cells
 
-abbrev pub filled_one : Group → List ℕ → Group
+abbrev pub filled_one : TileCells → List ℕ → TileCells
 filled_one group plains = record { cells = group.cells ++ take (room group) plains; control = group.control; run = group.run }
 
-abbrev pub filled : List Group → List ℕ → List Group
+abbrev pub filled : List TileCells → List ℕ → List TileCells
 filled [] plains = []
 filled (group ∷ groups) plains = filled_one group plains ∷ filled groups (drop (room group) plains)
 
 -- the plain cells that are left then
-abbrev pub left : List Group → List ℕ → List ℕ
+abbrev pub left : List TileCells → List ℕ → List ℕ
 left [] plains = plains
 left (group ∷ groups) plains = left groups (drop (room group) plains)
 
 -- the groups so far with those that are opened behind them, and the plain cells that are left
-abbrev pub ends : List Group → List ℕ → List Group → List Group × List ℕ
+abbrev pub ends : List TileCells → List ℕ → List TileCells → List TileCells × List ℕ
 ends opened plains groups = (groups ++ filled opened plains, left opened plains)
 
 -- ---- which cells stand in runs, which have a flip-flop, and which are plain
@@ -99,10 +99,10 @@ abbrev pub loose_plains : List LogicCell → List Run → List ℕ
 loose_plains cells runs = plains_by (held_list runs (length cells)) cells
 
 -- ---- all groups of cells that go into one tile
-abbrev pub opened : List LogicCell → List Run → List Group
+abbrev pub opened : List LogicCell → List Run → List TileCells
 opened cells runs = runs_pieces cells 0 runs ++ sets_pieces (loose_flops cells runs)
 
-abbrev pub groups_of : List LogicCell → List Run → List Group
+abbrev pub groups_of : List LogicCell → List Run → List TileCells
 groups_of cells runs = filled (opened cells runs) (loose_plains cells runs) ++ plain_pieces (left (opened cells runs) (loose_plains cells runs))
 
 -- ---- the clusters
@@ -110,7 +110,7 @@ groups_of cells runs = filled (opened cells runs) (loose_plains cells runs) ++ p
 abbrev pub slots : List ℕ → List (Option ℕ)
 slots cells = map (λ c. Some c) cells ++ replicate (8 - length cells) None
 
-abbrev pub with_slots : Group → Cluster
+abbrev pub with_slots : TileCells → Cluster
 with_slots group = record { cells = slots group.cells; control = group.control; run = group.run }
 
 abbrev pub clusters_of : Design → Clusters
@@ -121,14 +121,14 @@ abbrev pub need : Design → ℕ
 need d = length (clusters_of d).list
 
 -- ---- the same, step by step
-abbrev pub group_of : List ℕ → Option Control → Option (ℕ × ℕ) → Group
+abbrev pub group_of : List ℕ → Option Control → Option (ℕ × ℕ) → TileCells
 group_of members control run = record { cells = members; control = control; run = run }
 
 -- the pieces of the cells of control set k
-abbrev pub group_pieces : List Control → ℕ → List ℕ → List Group
+abbrev pub group_pieces : List Control → ℕ → List ℕ → List TileCells
 group_pieces sets k members = option_map_or (λ control. set_pieces control members) (slice_get sets k) []
 
-abbrev pub groups_pieces : List Control → ℕ → List (List ℕ) → List Group
+abbrev pub groups_pieces : List Control → ℕ → List (List ℕ) → List TileCells
 groups_pieces sets k [] = []
 groups_pieces sets k (members ∷ groups) = group_pieces sets k members ++ groups_pieces sets (k + 1) groups
 

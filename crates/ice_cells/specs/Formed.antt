@@ -1,7 +1,7 @@
 -- What every design of a netlist keeps to, once its runs are made.
 use Rattle.std.specs.Prelude.{◌≡◌, ℕ, ◌+◌, ◌<◌, true, None, Some, List, [], length, flat_map, slice_index_or}
 use Rattle.std.proofs.Common.{◌⊎◌}
-use Rattle.ice_value.specs.Order.{At, Has, StandOnce}
+use Rattle.ice_base_values.specs.Order.{At, Has, StandOnce}
 use Rattle.ice_net.specs.declared.kind.Reset.TheVariants.{Nothing}
 use Rattle.ice_cells.specs.declared.cell.Control.{Control}
 use Rattle.ice_cells.specs.declared.cell.LogicCell.{LogicCell}

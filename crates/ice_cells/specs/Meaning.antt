@@ -2,9 +2,9 @@
 use Rattle.std.specs.Prelude.{◌≡◌, ℕ, ◌+◌, ◌*◌, Bool, true, false, Option, None, Some, List, [], ◌∷◌, length, map, if◌then◌else◌, slice_get, slice_index_or, unwrap_or}
 use Rattle.std.specs.List.{range_with_len}
 use Rattle.std.specs.Option.{option_map_or}
-use Rattle.ice_value.specs.System.{System, value}
-use Rattle.ice_value.specs.Inputs.{reading, gapped}
-use Rattle.ice_value.specs.Machine as machine
+use Rattle.ice_base_values.specs.System.{System, value}
+use Rattle.ice_base_values.specs.Inputs.{reading, gapped}
+use Rattle.ice_base_values.specs.Machine as machine
 use Rattle.ice_net.specs.declared.drive.Drive.{Drive}
 use Rattle.ice_net.specs.declared.kind.Reset.{Reset}
 use Rattle.ice_net.specs.Meaning.{number_of, table_bit, majority, State}

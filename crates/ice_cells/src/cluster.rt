@@ -5,7 +5,7 @@ use crate::{Control, Items};
 
 /// Cells that go into one tile, from slot 0 on, at most eight.
 #[derive(Drop)]
-pub struct Group {
+pub struct TileCells {
     /// The numbers of the cells.
     pub cells: Items<u32>,
     /// The control set of its flip-flops, where there are any.

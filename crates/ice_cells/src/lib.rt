@@ -13,11 +13,11 @@ mod root;
 mod share;
 
 pub use cell::{Control, LogicCell};
-pub use cluster::{Cluster, Clusters, Group};
+pub use cluster::{Cluster, Clusters, TileCells};
 pub use design::{Design, DesignPad, Run};
 pub use follow::{Follow, Reader};
 pub use items::Items;
 pub use origin::{Origin, Use};
-pub use pieces::{control_at, first_control, piece, pieces_count, short};
+pub use pieces::{control_at, first_control, piece, pieces_count};
 pub use root::{CarryIn, Root};
 pub use share::{Pair, Part, Role};

@@ -1,19 +1,8 @@
 //! Cells in pieces of eight, as many as a tile has slots.
-ghost use Rattle.std.specs.Prelude.{◌≡◌, IfOk};
+ghost use Rattle.std.specs.Prelude.{◌≡◌};
 ghost use Rattle.ice_cells.specs.Pieces.{piece, pieces_count, control_at, first_control};
 
 use crate::{Control, LogicCell};
-use ice_base::NoMemory;
-
-/// A number of 32 bits. Where it is larger, memory would not hold what it counts.
-pub fn short(number: usize) -> Result<u32, NoMemory>
-    ensures { IfOk result (λ n. n ≡ number) }
-{
-    match u32::try_from(number) {
-        Ok(number) => Ok(number),
-        Err(_) => Err(NoMemory),
-    }
-}
 
 /// Piece k of eight cells; the last may be shorter.
 pub fn piece(cells: &[u32], k: usize) -> &[u32]

@@ -5,11 +5,11 @@ use Rattle.std.specs.Option.{option_map_or}
 use Rattle.std.proofs.lemmas.List.{length-map, get_or-map}
 use Rattle.std.proofs.lemmas.Option.{slice_get-get_or, same_Some}
 use Rattle.ice_base.specs.declared.number.SignalNo.{SignalNo}
-use Rattle.ice_value.specs.System.{System}
-use Rattle.ice_value.specs.Order.{At, Has, IsOrder, IsCycleBelow}
-use Rattle.ice_value.specs.Inputs.{present}
-use Rattle.ice_value.proofs.Values.{value_ordered}
-use Rattle.ice_value.proofs.Cycles.{value_never, cycle_goes_on}
+use Rattle.ice_base_values.specs.System.{System}
+use Rattle.ice_base_values.specs.Order.{At, Has, IsOrder, IsCycleBelow}
+use Rattle.ice_base_values.specs.Inputs.{present}
+use Rattle.ice_base_values.proofs.Values.{value_ordered}
+use Rattle.ice_base_values.proofs.Cycles.{value_never, cycle_goes_on}
 use Rattle.ice_net.specs.declared.cell.Cell.{Cell}
 use Rattle.ice_net.specs.declared.kind.CellKind.TheVariants.{Carry}
 use Rattle.ice_net.specs.declared.driver.Driver.{Driver}

@@ -7,11 +7,11 @@ use Rattle.std.proofs.lemmas.List.Elements.{All-get_or}
 use Rattle.std.proofs.lemmas.Option.{slice_get_within, get_or_from_slice_get, same_Some}
 use Rattle.std.proofs.lemmas.Bool.{cases_lt}
 use Rattle.ice_base.specs.declared.number.SignalNo.{SignalNo}
-use Rattle.ice_value.specs.Order.{At, IsOrder, IsCycleBelow}
-use Rattle.ice_value.proofs.Values.{order_same}
-use Rattle.ice_value.proofs.Cycles.{cycle_below_same}
-use Rattle.ice_value.specs.Graph.{depends_of}
-use Rattle.ice_value.specs.Inputs.{present}
+use Rattle.ice_base_values.specs.Order.{At, IsOrder, IsCycleBelow}
+use Rattle.ice_base_values.proofs.Values.{order_same}
+use Rattle.ice_base_values.proofs.Cycles.{cycle_below_same}
+use Rattle.ice_base_values.specs.Graph.{depends_of}
+use Rattle.ice_base_values.specs.Inputs.{present}
 use Rattle.ice_net.specs.declared.cell.Cell.{Cell}
 use Rattle.ice_net.specs.declared.kind.CellKind.{CellKind}
 use Rattle.ice_net.specs.declared.kind.CellKind.TheVariants.{Lut, Cover, Carry, Flop, PadCell, Global}

@@ -1,10 +1,10 @@
 -- Loops of signals, and orders in which the signals and the cells of a netlist can be evaluated.
 use Rattle.std.specs.Prelude.{◌≡◌, ℕ, ◌<◌, ◌≤◌, List, length, map, Option, Some, None}
-use Rattle.ice_value.specs.Order.{At, IsOrder, IsCycleBelow, IsSimpleCycle}
-use Rattle.ice_value.specs.Graph.{depends_of, IsWithin}
-use Rattle.ice_value.specs.Inputs.{present}
-use Rattle.ice_value.specs.declared.search.Outcome.{Outcome}
-use Rattle.ice_value.specs.declared.search.Outcome.TheVariants.{Order, Cycle}
+use Rattle.ice_base_values.specs.Order.{At, IsOrder, IsCycleBelow, IsSimpleCycle}
+use Rattle.ice_base_values.specs.Graph.{depends_of, IsWithin}
+use Rattle.ice_base_values.specs.Inputs.{present}
+use Rattle.ice_base_values.specs.declared.search.Outcome.{Outcome}
+use Rattle.ice_base_values.specs.declared.search.Outcome.TheVariants.{Order, Cycle}
 use Rattle.ice_net.specs.declared.driver.Driver.{Driver}
 use Rattle.ice_net.specs.declared.driver.Driver.TheVariants.{Nothing, Pad, Output}
 use Rattle.ice_net.specs.NetlistData.{NetlistData}

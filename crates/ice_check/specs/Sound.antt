@@ -1,6 +1,6 @@
 -- Sound netlists, and what is kept with one.
 use Rattle.std.specs.Prelude.{◌≡◌, ℕ, List, length, map, Option, None}
-use Rattle.ice_value.specs.Order.{IsOrder}
+use Rattle.ice_base_values.specs.Order.{IsOrder}
 use Rattle.ice_net.specs.declared.driver.Driver.{Driver}
 use Rattle.ice_net.specs.NetlistData.{NetlistData}
 use Rattle.ice_net.specs.Drivers.{pin_of}

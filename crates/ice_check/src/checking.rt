@@ -1,6 +1,6 @@
 //! The check of a netlist: whether it is sound, and the fault that it has otherwise.
 ghost use Rattle.std.specs.Prelude.{◌≡◌, None, length, IfOk, IfErr, OnOk};
-ghost use Rattle.ice_value.specs.Order.{IsOrder};
+ghost use Rattle.ice_base_values.specs.Order.{IsOrder};
 ghost use Rattle.ice_net.specs.Formed.{IsFormed};
 ghost use Rattle.ice_net.specs.Meaning.{depends_on};
 ghost use Rattle.ice_check.specs.Tables.{AreDrivers};
@@ -21,7 +21,7 @@ use crate::sound::Orders;
 use crate::{NetFault, Sound};
 use ice_base::NoMemory;
 use ice_net::{CellKind, Driver, Netlist};
-use ice_value::Outcome;
+use ice_base_values::Outcome;
 use std::alloc::Global;
 
 // The PIN_TYPE of an SB_IO, and 0 for other cells.

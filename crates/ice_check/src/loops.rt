@@ -1,6 +1,6 @@
 //! The search for loops: signals that depend on one another in a circle.
 ghost use Rattle.std.specs.Prelude.{◌≡◌, ◌++◌, length, map, IfOk, OnOk};
-ghost use Rattle.ice_value.specs.Inputs.{present};
+ghost use Rattle.ice_base_values.specs.Inputs.{present};
 ghost use Rattle.ice_net.specs.Drivers.{numbers};
 ghost use Rattle.ice_net.specs.Formed.{IsFormed};
 ghost use Rattle.ice_net.specs.Meaning.{reads_by, reads, depends_on};
@@ -9,7 +9,7 @@ ghost use Rattle.ice_check.specs.Loops.{IsGraphOf, IsSearched};
 
 use ice_base::{NoMemory, SignalNo};
 use ice_net::{CellKind, Driver, Netlist};
-use ice_value::{Graph, Outcome, from_least, order};
+use ice_base_values::{Graph, Outcome, from_least, order};
 use std::alloc::Global;
 
 // Puts the numbers of the signals that are there behind a row.

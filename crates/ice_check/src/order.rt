@@ -1,6 +1,6 @@
 //! The order in which the cells of a netlist are evaluated.
 ghost use Rattle.std.specs.Prelude.{◌≡◌, ◌++◌, ◌<◌, ◌^◌, length, slice_index_or, All, IfOk, OnOk};
-ghost use Rattle.ice_value.specs.Order.{IsOrder};
+ghost use Rattle.ice_base_values.specs.Order.{IsOrder};
 ghost use Rattle.ice_net.specs.Formed.{IsFormed};
 ghost use Rattle.ice_check.specs.Tables.{AreDrivers};
 ghost use Rattle.ice_check.specs.Loops.{IsGraphOf, HasOrder, cell_by, cells_at, cells_before};
@@ -8,7 +8,7 @@ ghost use Rattle.ice_check.specs.Loops.{IsGraphOf, HasOrder, cell_by, cells_at, 
 use crate::loops::read_by;
 use ice_base::NoMemory;
 use ice_net::{Driver, Netlist};
-use ice_value::{Graph, Outcome, order};
+use ice_base_values::{Graph, Outcome, order};
 use std::alloc::Global;
 
 // The cell that drives a signal, if one does.

@@ -1,6 +1,6 @@
 //! Sound netlists.
 ghost use Rattle.std.specs.Prelude.{◌≡◌, length};
-ghost use Rattle.ice_value.specs.Order.{IsOrder};
+ghost use Rattle.ice_base_values.specs.Order.{IsOrder};
 ghost use Rattle.ice_net.specs.Meaning.{depends_on};
 ghost use Rattle.ice_check.specs.Tables.{AreDrivers};
 ghost use Rattle.ice_check.specs.Loops.{cells_before};

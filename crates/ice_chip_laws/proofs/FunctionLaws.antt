@@ -19,10 +19,10 @@ use Rattle.ice_chip.specs.declared.rows.TileKind.{TileKind}
 use Rattle.ice_chip.specs.declared.rows.TileKind.TheVariants.{Io, Logic, RamBottom, RamTop}
 use Rattle.ice_chip_laws.specs.Bits.{function_place}
 use Rattle.ice_chip_laws.specs.Functions.{HasFunction, HasColumnBuffers, HasFunctions}
-use Rattle.ice_value.specs.Order.{Has}
+use Rattle.ice_base_values.specs.Order.{Has}
 use Rattle.ice_chip_laws.proofs.FaultFree.{no_fault}
 use Rattle.ice_chip_laws.proofs.KnownTiles.{known_kind}
-use Rattle.ice_value.proofs.Members.{Has_cases, Has_none, find_Has, lookup_Has}
+use Rattle.ice_base_values.proofs.Members.{Has_cases, Has_none, find_Has, lookup_Has}
 use Rattle.ice_chip_laws.proofs.NameTests.{passes, buffers, is_own, cell_own, first_type_own, second_type_own, enable_own, buffer_is_one, buffer_is_read}
 use Rattle.ice_base.proofs.Keys.{nat_same, bytes_same}
 use Rattle.ice_chip_laws.proofs.SameKeys.{kind_same, kind_self}

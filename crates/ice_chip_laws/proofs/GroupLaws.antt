@@ -13,11 +13,11 @@ use Rattle.ice_chip.specs.Within.{IsBit, IsGroup}
 use Rattle.ice_chip.specs.WholeFaults.{lacks_tile, group_without_tile, has_bit_beyond, exceeds, group_beyond_tile}
 use Rattle.ice_chip.specs.declared.parts.TileLine.{TileLine}
 use Rattle.ice_chip.specs.declared.rows.TileKind.{TileKind}
-use Rattle.ice_value.specs.Order.{Has}
+use Rattle.ice_base_values.specs.Order.{Has}
 use Rattle.ice_chip_laws.specs.Groups.{HasGroups}
 use Rattle.ice_chip_laws.proofs.FaultFree.{no_fault}
 use Rattle.ice_chip_laws.proofs.KnownTiles.{known_kind, kind_known}
-use Rattle.ice_value.proofs.Members.{Has_cases, Has_none, Has_all}
+use Rattle.ice_base_values.proofs.Members.{Has_cases, Has_none, Has_all}
 
 -- no group is at fault
 no_group : (tiles : List (TileAt × TileLine)) (gs : List SwitchGroup) (g : SwitchGroup) → group_without_tile tiles gs ≡ None → Has gs g → lacks_tile (tile_known tiles g.tile) ≡ false

@@ -14,12 +14,12 @@ use Rattle.ice_chip.specs.declared.parts.TileLine.{TileLine}
 use Rattle.ice_chip.specs.declared.rows.TileKind.{TileKind}
 use Rattle.ice_chip.specs.declared.placed.PlacedName.{PlacedName}
 use Rattle.ice_chip.specs.declared.placed.WireLine.{WireLine}
-use Rattle.ice_value.specs.Order.{Has}
+use Rattle.ice_base_values.specs.Order.{Has}
 use Rattle.ice_chip_laws.specs.Names.{HasNames}
 use Rattle.ice_chip_laws.proofs.FaultFree.{no_fault}
 use Rattle.ice_chip_laws.proofs.KnownTiles.{some_known, kind_known}
 use Rattle.ice_base.proofs.Entries.{lookup_kept, lookup_added}
-use Rattle.ice_value.proofs.Members.{Has_map, map_Has, Has_filter, filter_Has, lookup_Has, Has_lookup}
+use Rattle.ice_base_values.proofs.Members.{Has_map, map_Has, Has_filter, filter_Has, lookup_Has, Has_lookup}
 use Rattle.ice_chip_laws.proofs.OneName.{goes_on, fit_one}
 use Rattle.ice_base.proofs.Keys.{nat_same, nat_self}
 use Rattle.ice_chip_laws.proofs.SameKeys.{placed_same, placed_self}

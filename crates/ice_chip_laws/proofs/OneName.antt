@@ -5,8 +5,8 @@ use Rattle.std.specs.Map.{lookup}
 use Rattle.std.proofs.lemmas.Option.{none-some, same_Some}
 use Rattle.ice_chip.specs.Database.{WireName}
 use Rattle.ice_chip.specs.WholeFaults.{unless_clash}
-use Rattle.ice_value.specs.Order.{Has}
-use Rattle.ice_value.proofs.Members.{Has_cases, Has_none}
+use Rattle.ice_base_values.specs.Order.{Has}
+use Rattle.ice_base_values.proofs.Members.{Has_cases, Has_none}
 
 -- what a test goes on with, where it answers no clash
 pub goes_on : {A : Type 0} (r : Result A (ℕ × ℕ)) (test : A → Option (ℕ × ℕ)) → unless_clash r test ≡ None → (more : A) × (r ≡ Ok more) × (test more ≡ None)

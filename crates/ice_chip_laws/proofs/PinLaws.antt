@@ -15,11 +15,11 @@ use Rattle.ice_chip.specs.WholeFaults.{placed}
 use Rattle.ice_chip.specs.declared.parts.TileLine.{TileLine}
 use Rattle.ice_chip.specs.declared.placed.PinLine.{PinLine}
 use Rattle.ice_chip.specs.declared.placed.PlacedName.{PlacedName}
-use Rattle.ice_value.specs.Order.{Has}
+use Rattle.ice_base_values.specs.Order.{Has}
 use Rattle.ice_chip_laws.specs.Pins.{is_pin_in, is_pin_name, pin_of, AreOnePin, IsPinOf, IsOnePin, HasPins}
 use Rattle.ice_chip_laws.proofs.FaultFree.{no_fault}
 use Rattle.ice_base.proofs.Entries.{lookup_kept, lookup_added}
-use Rattle.ice_value.proofs.Members.{find_Has, Has_find}
+use Rattle.ice_base_values.proofs.Members.{find_Has, Has_find}
 use Rattle.ice_chip_laws.proofs.NameLaws.{gives}
 use Rattle.ice_chip_laws.proofs.OneName.{goes_on, fit_one}
 use Rattle.ice_base.proofs.Keys.{nat_self, bytes_same, bytes_self, tile_same, tile_self}

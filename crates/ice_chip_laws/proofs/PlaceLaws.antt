@@ -17,9 +17,9 @@ use Rattle.ice_chip.specs.Lookups.{kind_at, function_of}
 use Rattle.ice_chip.specs.declared.rows.TileKind.{TileKind}
 use Rattle.ice_chip.specs.declared.rows.TileKind.TheVariants.{Io, Logic, RamBottom, RamTop}
 use Rattle.ice_chip_laws.specs.Bits.{function_place, IsReadAt, read_bits, is_there, function_at}
-use Rattle.ice_value.specs.Order.{Has}
+use Rattle.ice_base_values.specs.Order.{Has}
 use Rattle.ice_chip_laws.proofs.FunctionLaws.{size_of}
-use Rattle.ice_value.proofs.Members.{find_Has, Has_find, all_Has, any_Has}
+use Rattle.ice_base_values.proofs.Members.{find_Has, Has_find, all_Has, any_Has}
 use Rattle.ice_chip_laws.proofs.NameTests.{passes, enables_pass, cells, buffers, first_types, second_types}
 use Rattle.ice_base.proofs.Keys.{nat_same, nat_self, bytes_same}
 

@@ -6,10 +6,10 @@ use Rattle.std.proofs.lemmas.List.{length-map}
 use Rattle.ice_chip.specs.Database.{Parts, SwitchGroup, SwitchRow}
 use Rattle.ice_chip.specs.IsRead.{AreNumbered, IsChip}
 use Rattle.ice_chip.specs.Lookups.{in_group, rows_of}
-use Rattle.ice_value.specs.Order.{At, Has}
+use Rattle.ice_base_values.specs.Order.{At, Has}
 use Rattle.ice_chip_laws.specs.Groups.{HasRows}
-use Rattle.ice_value.proofs.Members.{Has_cases, Has_none, At_left, At_right, At_parts, At_map, map_At}
-use Rattle.ice_value.proofs.Together.{Has_tail}
+use Rattle.ice_base_values.proofs.Members.{Has_cases, Has_none, At_left, At_right, At_parts, At_map, map_At}
+use Rattle.ice_base_values.proofs.Together.{Has_tail}
 
 -- the place of a row among these rows, the first of which has the number n
 place_of_row : (n : ℕ) (gs : List SwitchGroup) (g : SwitchGroup) (k : ℕ) (r : SwitchRow) → AreNumbered n gs → Has gs g → At g.rows k r

@@ -13,11 +13,11 @@ use Rattle.ice_chip.specs.declared.parts.TileLine.{TileLine}
 use Rattle.ice_chip.specs.declared.rows.Pad.{Pad}
 use Rattle.ice_chip.specs.declared.rows.TileKind.{TileKind}
 use Rattle.ice_chip.specs.declared.rows.TileKind.TheVariants.{Io, Logic, RamBottom, RamTop}
-use Rattle.ice_value.specs.Order.{Has}
+use Rattle.ice_base_values.specs.Order.{Has}
 use Rattle.ice_chip_laws.specs.Served.{HoldsBuffers, HasServers}
 use Rattle.ice_chip_laws.proofs.FunctionLaws.{held_buffers, source_buffers}
 use Rattle.ice_chip_laws.proofs.KnownTiles.{kind_known}
-use Rattle.ice_value.proofs.Members.{map_Has, filter_Has, lookup_Has, Has_all}
+use Rattle.ice_base_values.proofs.Members.{map_Has, filter_Has, lookup_Has, Has_all}
 use Rattle.ice_base.proofs.Keys.{nat_same}
 
 -- a tile stands where column buffers are held

@@ -10,10 +10,10 @@ use Rattle.ice_chip.specs.Places.{same_tile}
 use Rattle.ice_chip.specs.Within.{IsPlace}
 use Rattle.ice_chip.specs.declared.parts.TileLine.{TileLine}
 use Rattle.ice_chip.specs.declared.rows.TileKind.{TileKind}
-use Rattle.ice_value.specs.Order.{Has}
+use Rattle.ice_base_values.specs.Order.{Has}
 use Rattle.ice_chip_laws.specs.Tiles.{HasTiles}
 use Rattle.ice_chip_laws.proofs.KnownTiles.{known_kind, kind_known}
-use Rattle.ice_value.proofs.Members.{lookup_Has, Has_lookup, Has_map, Has_all}
+use Rattle.ice_base_values.proofs.Members.{lookup_Has, Has_lookup, Has_map, Has_all}
 use Rattle.ice_base.proofs.Keys.{tile_same, tile_self, tiles_equal}
 
 listed : (parts : Parts) (t : TileAt) (kind : TileKind) → kind_at parts t ≡ Some kind → (known : TileLine) × Has parts.tiles (t, known) × (known.kind ≡ kind)

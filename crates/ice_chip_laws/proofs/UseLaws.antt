@@ -19,11 +19,11 @@ use Rattle.ice_chip.specs.declared.parts.TileLine.{TileLine}
 use Rattle.ice_chip.specs.declared.rows.TileKind.{TileKind}
 use Rattle.ice_chip.specs.declared.uses.BitUse.{BitUse}
 use Rattle.ice_chip_laws.specs.Bits.{function_place, IsReadAt, HasOwnBits}
-use Rattle.ice_value.specs.Order.{At, Has}
+use Rattle.ice_base_values.specs.Order.{At, Has}
 use Rattle.ice_chip_laws.proofs.FaultFree.{no_fault}
 use Rattle.ice_chip_laws.proofs.FunctionLaws.{IsOf, is_of}
 use Rattle.ice_chip_laws.proofs.KnownTiles.{known_kind}
-use Rattle.ice_value.proofs.Members.{At_left, At_right, At_within, At_map, Has_map, Has_all}
+use Rattle.ice_base_values.proofs.Members.{At_left, At_right, At_within, At_map, Has_map, Has_all}
 use Rattle.ice_chip_laws.proofs.NameTests.{read_not_foreign}
 use Rattle.ice_chip_laws.proofs.PlaceLaws.{found_at, found_there, bit_listed, number_below}
 use Rattle.ice_base.proofs.Keys.{nat_self}

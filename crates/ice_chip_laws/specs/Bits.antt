@@ -11,7 +11,7 @@ use Rattle.ice_chip.specs.Lookups.{kind_at, function_of}
 use Rattle.ice_chip.specs.Places.{columns}
 use Rattle.ice_chip.specs.declared.rows.TileKind.{TileKind}
 use Rattle.ice_chip.specs.declared.rows.TileKind.TheVariants.{Io, Logic, RamBottom, RamTop}
-use Rattle.ice_value.specs.Order.{Has}
+use Rattle.ice_base_values.specs.Order.{Has}
 
 -- where the bit numbered k of a function stands in the tiles of a kind
 abbrev pub function_place : Parts → TileKind → List ℕ → ℕ → Option BitAt

@@ -5,7 +5,7 @@ use Rattle.ice_chip.specs.Database.{Parts, SwitchGroup, SwitchRow}
 use Rattle.ice_chip.specs.Lookups.{kind_at, rows_of}
 use Rattle.ice_chip.specs.Places.{columns}
 use Rattle.ice_chip.specs.declared.rows.TileKind.{TileKind}
-use Rattle.ice_value.specs.Order.{At, Has}
+use Rattle.ice_base_values.specs.Order.{At, Has}
 use Rattle.ice_chip_laws.specs.Tiles.{Stands}
 
 -- a group of switches stands in a tile that has its bits, and its wires are of the chip

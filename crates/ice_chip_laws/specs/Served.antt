@@ -7,7 +7,7 @@ use Rattle.ice_chip.specs.declared.rows.Pad.{Pad}
 use Rattle.ice_chip.specs.declared.rows.TileKind.{TileKind}
 use Rattle.ice_chip.specs.declared.rows.TileKind.TheVariants.{Io}
 use Rattle.ice_chip_laws.specs.Functions.{HasColumnBuffers}
-use Rattle.ice_value.specs.Order.{Has}
+use Rattle.ice_base_values.specs.Order.{Has}
 
 -- a tile stands there that has column buffers
 abbrev pub HoldsBuffers : Parts → TileAt → Type 0

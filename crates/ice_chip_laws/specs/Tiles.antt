@@ -6,7 +6,7 @@ use Rattle.ice_chip.specs.Lookups.{kind_at}
 use Rattle.ice_chip.specs.Within.{IsPlace}
 use Rattle.ice_chip.specs.declared.parts.TileLine.{TileLine}
 use Rattle.ice_chip.specs.declared.rows.TileKind.{TileKind}
-use Rattle.ice_value.specs.Order.{Has}
+use Rattle.ice_base_values.specs.Order.{Has}
 
 -- a tile stands at the place
 abbrev pub Stands : Parts → TileAt → Type 0

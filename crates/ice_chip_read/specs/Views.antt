@@ -3,8 +3,8 @@ use Rattle.std.specs.Prelude.{◌≡◌, Result, Ok, Err}
 use Rattle.ice_chip.specs.Views.{parts_view, group_view, package_view}
 use Rattle.ice_chip_read.specs.Reading as spec
 use Rattle.ice_chip.specs.declared.fault.ChipFault.{ChipFault}
-use Rattle.ice_chip_read.specs.declared.fault.ReadStop.{ReadStop}
-use Rattle.ice_chip_read.specs.declared.fault.ReadStop.TheVariants.{NoMemory, Fault}
+use Rattle.ice_chip_read.specs.declared.fault.ChipStop.{ChipStop}
+use Rattle.ice_chip_read.specs.declared.fault.ChipStop.TheVariants.{NoMemory, Fault}
 use Rattle.ice_chip_read.specs.declared.reading.Reading.{Reading}
 
 -- what a function that takes no memory returned, seen by view, is what the definition says
@@ -12,12 +12,12 @@ abbrev pub Says : {X Y : Type 0} → (X → Y) → Result X ChipFault → Result
 Says view (Ok x) said = said ≡ Ok (view x)
 Says view (Err fault) said = said ≡ Err fault
 
-abbrev pub Stops : {Y : Type 0} → ReadStop → Result Y ChipFault → Type 0
+abbrev pub Stops : {Y : Type 0} → ChipStop → Result Y ChipFault → Type 0
 Stops NoMemory said = Unit {0}
 Stops (Fault fault) said = said ≡ Err fault
 
 -- what a function returned, seen by view, is what the definition says, unless memory ran out
-abbrev pub Gives : {X Y : Type 0} → (X → Y) → Result X ReadStop → Result Y ChipFault → Type 0
+abbrev pub Gives : {X Y : Type 0} → (X → Y) → Result X ChipStop → Result Y ChipFault → Type 0
 Gives view (Ok x) said = said ≡ Ok (view x)
 Gives view (Err stop) said = Stops stop said
 

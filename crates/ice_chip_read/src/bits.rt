@@ -3,7 +3,7 @@ ghost use Rattle.ice_base.specs.BitNames.{bits_named, values_in};
 ghost use Rattle.ice_chip_read.specs.Lines.{bits_at, group_bits, values_at, known_values};
 ghost use Rattle.ice_chip_read.specs.Views.{Gives};
 
-use crate::ReadStop;
+use crate::ChipStop;
 use ice_base::{PlainWords, bit_named, digit_value};
 use ice_chip::{BitList, ChipFault, ValueList};
 use std::alloc::Global;
@@ -15,13 +15,13 @@ pub fn bits(
     line: u32,
     columns: u8,
     mut names: PlainWords<'_>,
-) -> Result<BitList, ReadStop>
+) -> Result<BitList, ChipStop>
     ensures { Gives (λ bits. bits.items) result (bits_at line (bits_named columns names.entry)) }
 {
     let mut bits = BitList::new(alloc);
     while let Some(name) = names.next() {
         let Some(bit) = bit_named(columns, name) else {
-            return Err(ReadStop::Fault(ChipFault::BadBit { line }));
+            return Err(ChipStop::Fault(ChipFault::BadBit { line }));
         };
         bits.push(bit)?;
     }
@@ -29,25 +29,25 @@ pub fn bits(
 }
 
 /// The bits of a group, one or more.
-pub fn group_bits(alloc: Global, line: u32, names: PlainWords<'_>) -> Result<BitList, ReadStop>
+pub fn group_bits(alloc: Global, line: u32, names: PlainWords<'_>) -> Result<BitList, ChipStop>
     ensures { Gives (λ bits. bits.items) result (group_bits line names.entry) }
 {
     let bits = bits(alloc, line, 54, names)?;
     if bits.is_empty() {
-        return Err(ReadStop::Fault(ChipFault::BadBit { line }));
+        return Err(ChipStop::Fault(ChipFault::BadBit { line }));
     }
     Ok(bits)
 }
 
 // The values that these digits write.
 #[tactic(auto, using(ice_base::proofs::KnownLists::all_begin, ice_base::proofs::KnownLists::value_joins, ice_base::proofs::KnownLists::value_stops, ice_base::proofs::KnownLists::values_end))]
-fn known_values(alloc: Global, line: u32, digits: &[u8]) -> Result<ValueList, ReadStop>
+fn known_values(alloc: Global, line: u32, digits: &[u8]) -> Result<ValueList, ChipStop>
     ensures { Gives (λ values. values.items) result (known_values line (values_in digits.now)) }
 {
     let mut values = ValueList::with_capacity(alloc, digits.len())?;
     for digit in digits {
         let Some(value) = digit_value(*digit) else {
-            return Err(ReadStop::Fault(ChipFault::BadValues { line }));
+            return Err(ChipStop::Fault(ChipFault::BadValues { line }));
         };
         values.push(value)?;
     }
@@ -55,11 +55,11 @@ fn known_values(alloc: Global, line: u32, digits: &[u8]) -> Result<ValueList, Re
 }
 
 /// The values of a row, one for each of its group's bits.
-pub fn values(alloc: Global, line: u32, bits: usize, digits: &[u8]) -> Result<ValueList, ReadStop>
+pub fn values(alloc: Global, line: u32, bits: usize, digits: &[u8]) -> Result<ValueList, ChipStop>
     ensures { Gives (λ values. values.items) result (values_at line bits digits.now) }
 {
     if digits.len() != bits {
-        return Err(ReadStop::Fault(ChipFault::BadValues { line }));
+        return Err(ChipStop::Fault(ChipFault::BadValues { line }));
     }
     known_values(alloc, line, digits)
 }

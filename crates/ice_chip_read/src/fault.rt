@@ -1,7 +1,7 @@
 //! Why the lines of a chip text give no rows.
 ghost use Rattle.std.specs.Prelude.{◌≡◌};
 ghost use Rattle.ice_chip_read.specs.Stops.{fault_of};
-ghost use Rattle.ice_chip_read.specs.declared.fault.ReadStop.TheVariants.{NoMemory, Fault};
+ghost use Rattle.ice_chip_read.specs.declared.fault.ChipStop.TheVariants.{NoMemory, Fault};
 
 use ice_chip::ChipFault;
 use std::alloc::{AllocError, AllocFailed};
@@ -9,7 +9,7 @@ use thiserror::Error;
 
 /// Why a chip text gives no rows.
 #[derive(Clone, Copy, Debug, Error)]
-pub enum ReadStop {
+pub enum ChipStop {
     /// Want of memory.
     #[error("want of memory")]
     NoMemory,
@@ -18,45 +18,45 @@ pub enum ReadStop {
     Fault(ChipFault),
 }
 
-impl From<AllocError> for ReadStop {
+impl From<AllocError> for ChipStop {
     ghost from_gives = { λ _ e. e ≡ NoMemory };
 
     fn from(_: AllocError) -> Self {
-        ReadStop::NoMemory
+        ChipStop::NoMemory
     }
 }
 
-impl<T: Drop> From<AllocFailed<T>> for ReadStop {
+impl<T: Drop> From<AllocFailed<T>> for ChipStop {
     ghost from_gives = { λ _ e. e ≡ NoMemory };
 
     fn from(_: AllocFailed<T>) -> Self {
-        ReadStop::NoMemory
+        ChipStop::NoMemory
     }
 }
 
-impl From<ice_base::NoMemory> for ReadStop {
+impl From<ice_base::NoMemory> for ChipStop {
     ghost from_gives = { λ _ e. e ≡ NoMemory };
 
     fn from(_: ice_base::NoMemory) -> Self {
-        ReadStop::NoMemory
+        ChipStop::NoMemory
     }
 }
 
-impl From<ChipFault> for ReadStop {
+impl From<ChipFault> for ChipStop {
     ghost from_gives = { λ fault e. e ≡ Fault fault };
 
     fn from(fault: ChipFault) -> Self {
-        ReadStop::Fault(fault)
+        ChipStop::Fault(fault)
     }
 }
 
-impl From<ReadStop> for ChipFault {
+impl From<ChipStop> for ChipFault {
     ghost from_gives = { λ stop fault. fault ≡ fault_of stop };
 
-    fn from(stop: ReadStop) -> Self {
+    fn from(stop: ChipStop) -> Self {
         match stop {
-            ReadStop::NoMemory => ChipFault::NoMemory,
-            ReadStop::Fault(fault) => fault,
+            ChipStop::NoMemory => ChipFault::NoMemory,
+            ChipStop::Fault(fault) => fault,
         }
     }
 }

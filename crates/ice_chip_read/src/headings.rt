@@ -15,7 +15,7 @@ ghost use Rattle.ice_chip_read.specs.Lines.{
 };
 ghost use Rattle.ice_chip_read.specs.Views.{Says, Gives, reading_view};
 
-use crate::ReadStop;
+use crate::ChipStop;
 use crate::bits::group_bits;
 use crate::ranges::{tile_in, wire_in};
 use crate::reading::{Reading, begin};
@@ -94,7 +94,7 @@ fn pins_heading(
     reading: &mut Reading,
     line: u32,
     words: PlainWords<'_>,
-) -> Result<(), ReadStop>
+) -> Result<(), ChipStop>
     ensures { Gives (λ _. reading_view reading.new) result (pins_heading (reading_view reading.old) line words.entry) }
 {
     let name = one_word(line, words)?;
@@ -127,14 +127,14 @@ fn tile_heading(
     line: u32,
     kind: TileKind,
     mut words: PlainWords<'_>,
-) -> Result<(), ReadStop>
+) -> Result<(), ChipStop>
     ensures { Gives (λ _. reading_view reading.new) result (tile_heading (reading_view reading.old) line kind words.entry) }
 {
     let (x, y) = two(line, &mut words)?;
     ended(line, words)?;
     let tile = tile_in(line, &reading.parts, x, y)?;
     if let Some(old) = reading.parts.tile_at(tile) {
-        return Err(ReadStop::Fault(ChipFault::Twice {
+        return Err(ChipStop::Fault(ChipFault::Twice {
             line,
             other: old.line,
         }));
@@ -163,14 +163,14 @@ fn bits_heading(
 }
 
 // `.net N`
-fn net_heading(reading: &mut Reading, line: u32, mut words: PlainWords<'_>) -> Result<(), ReadStop>
+fn net_heading(reading: &mut Reading, line: u32, mut words: PlainWords<'_>) -> Result<(), ChipStop>
     ensures { Gives (λ _. reading_view reading.new) result (net_heading (reading_view reading.old) line words.entry) }
 {
     let wire = number(line, &mut words)?;
     ended(line, words)?;
     let wire = wire_in(line, &reading.parts, wire)?;
     if let Some(other) = reading.nets.get(&wire) {
-        return Err(ReadStop::Fault(ChipFault::Twice {
+        return Err(ChipStop::Fault(ChipFault::Twice {
             line,
             other: *other,
         }));
@@ -196,7 +196,7 @@ fn switches_heading(
     reading: &mut Reading,
     line: u32,
     mut words: PlainWords<'_>,
-) -> Result<(), ReadStop>
+) -> Result<(), ChipStop>
     ensures { Gives (λ _. reading_view reading.new) result (switches_heading (reading_view reading.old) line words.entry) }
 {
     let (x, y, wire) = three(line, &mut words)?;
@@ -223,7 +223,7 @@ pub fn heading_line(
     line: u32,
     heading: Heading,
     words: PlainWords<'_>,
-) -> Result<(), ReadStop>
+) -> Result<(), ChipStop>
     ensures { Gives (λ _. reading_view reading.new) result (heading_says (reading_view reading.old) line heading words.entry) }
 {
     match heading {

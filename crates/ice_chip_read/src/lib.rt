@@ -12,7 +12,7 @@ mod rows;
 mod section;
 mod words;
 
-pub use fault::ReadStop;
+pub use fault::ChipStop;
 pub use laws::says_chip_or_first_fault;
 pub use read::{finish, read_chip, take_first, take_line};
 pub use reading::Reading;

@@ -7,21 +7,21 @@ ghost use Rattle.ice_chip_read.specs.Reading.{closed};
 ghost use Rattle.ice_chip_read.specs.Whole.{chip_says, AreReadOfLines};
 ghost use Rattle.ice_chip_read.specs.Views.{Says, Gives, reading_view};
 
-use crate::ReadStop;
+use crate::ChipStop;
 use crate::headings::{device_first, heading_line};
 use crate::reading::{Reading, close};
 use crate::rows::row_line;
 use crate::section::heading_named;
 use ice_base::{NoMemory, PlainLine, PlainLines, begins_with, lines_of, plain_lines};
 use ice_chip::{Chip, ChipFault, ChipParts};
-use ice_chip_faults::build;
+use ice_chip_build::build;
 use std::alloc::Global;
 
 /// One line more. After an error what is read is of no use.
 ///
 /// # Errors
 /// The line's fault, or want of memory.
-pub fn take_line(alloc: Global, reading: &mut Reading, line: PlainLine<'_>) -> Result<(), ReadStop>
+pub fn take_line(alloc: Global, reading: &mut Reading, line: PlainLine<'_>) -> Result<(), ChipStop>
     ensures { Gives (λ _. reading_view reading.new) result (line_says (reading_view reading.old) line.entry.number (line.entry.first.now ∷ line.entry.others)) }
 {
     if begins_with(b'.', line.first) {
@@ -51,7 +51,7 @@ pub fn take_first(alloc: Global, line: PlainLine<'_>) -> Result<Reading, ChipFau
 }
 
 // All these lines more.
-fn take_lines(alloc: Global, reading: &mut Reading, lines: PlainLines<'_>) -> Result<(), ReadStop>
+fn take_lines(alloc: Global, reading: &mut Reading, lines: PlainLines<'_>) -> Result<(), ChipStop>
     ensures { Gives (λ _. reading_view reading.new) result (lines_say (reading_view reading.old) lines.entry) }
 {
     for line in lines {
@@ -61,11 +61,11 @@ fn take_lines(alloc: Global, reading: &mut Reading, lines: PlainLines<'_>) -> Re
 }
 
 // What is read of all these lines.
-fn read_lines(alloc: Global, mut lines: PlainLines<'_>) -> Result<Reading, ReadStop>
+fn read_lines(alloc: Global, mut lines: PlainLines<'_>) -> Result<Reading, ChipStop>
     ensures { Gives reading_view result (plain_says lines.entry) }
 {
     let Some(first) = lines.next() else {
-        return Err(ReadStop::Fault(ChipFault::NoDevice { line: 0 }));
+        return Err(ChipStop::Fault(ChipFault::NoDevice { line: 0 }));
     };
     let mut reading = take_first(alloc, first)?;
     match take_lines(alloc, &mut reading, lines) {

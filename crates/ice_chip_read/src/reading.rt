@@ -5,7 +5,7 @@ ghost use Rattle.ice_chip_read.specs.Reading.{begun, no_group, no_package};
 ghost use Rattle.ice_chip_read.specs.Lines.{with_closed};
 ghost use Rattle.ice_chip_read.specs.Views.{Gives, reading_view};
 
-use crate::ReadStop;
+use crate::ChipStop;
 use crate::section::Section;
 use ice_base::{Name, RowNo, TileAt, WireNo};
 use ice_chip::{BitList, ChipParts, Group, Package};
@@ -73,7 +73,7 @@ pub fn begin(alloc: Global, line: u32, width: u16, height: u16, wires: u32) -> R
 }
 
 /// Ends the section that is open: its group or package joins the others.
-pub fn close(alloc: Global, reading: &mut Reading) -> Result<(), ReadStop>
+pub fn close(alloc: Global, reading: &mut Reading) -> Result<(), ChipStop>
     ensures { Gives (λ _. reading_view reading.new) result (Ok (with_closed (reading_view reading.old))) }
 {
     let section = mem::replace(&mut reading.section, Section::Rowless);

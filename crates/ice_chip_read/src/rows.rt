@@ -17,7 +17,7 @@ ghost use Rattle.ice_chip_read.specs.Lines.{
 };
 ghost use Rattle.ice_chip_read.specs.Views.{Gives, reading_view};
 
-use crate::ReadStop;
+use crate::ChipStop;
 use crate::bits::{bits, values};
 use crate::ranges::{global_in, pad_in, tile_in, wire_in};
 use crate::reading::Reading;
@@ -34,7 +34,7 @@ use std::alloc::Global;
 const MOST_ROWS: u32 = 16_777_216;
 
 // A pin of a package; of repeated pins the first counts.
-fn add_pin(alloc: Global, pins: &mut Package, pin: &[u8], pad: Pad) -> Result<(), ReadStop>
+fn add_pin(alloc: Global, pins: &mut Package, pin: &[u8], pad: Pad) -> Result<(), ChipStop>
     ensures { Gives (λ _. package_view pins.new) result (Ok (with_pin (package_view pins.old) pin.now pad (lookup (bytes_eq pin.now) (package_view pins.old).pins))) }
 {
     let pin = name_of(alloc, pin)?;
@@ -53,7 +53,7 @@ fn pin_row(
     line: u32,
     pin: &[u8],
     mut words: PlainWords<'_>,
-) -> Result<(), ReadStop>
+) -> Result<(), ChipStop>
     ensures { Gives (λ _. reading_view reading.new) result (pin_row (reading_view reading.old) line pin.now words.entry) }
 {
     let (x, y, pio) = three(line, &mut words)?;
@@ -68,7 +68,7 @@ fn buffer_input_row(
     line: u32,
     first: &[u8],
     mut words: PlainWords<'_>,
-) -> Result<(), ReadStop>
+) -> Result<(), ChipStop>
     ensures { Gives (λ _. reading_view reading.new) result (buffer_input_row (reading_view reading.old) line (first.now ∷ words.entry)) }
 {
     let (x, y, global) = three_from(line, first, &mut words)?;
@@ -85,7 +85,7 @@ fn buffer_pin_row(
     line: u32,
     first: &[u8],
     mut words: PlainWords<'_>,
-) -> Result<(), ReadStop>
+) -> Result<(), ChipStop>
     ensures { Gives (λ _. reading_view reading.new) result (buffer_pin_row (reading_view reading.old) line (first.now ∷ words.entry)) }
 {
     let (x, y, pio) = three_from(line, first, &mut words)?;
@@ -103,7 +103,7 @@ fn input_enable_row(
     line: u32,
     first: &[u8],
     mut words: PlainWords<'_>,
-) -> Result<(), ReadStop>
+) -> Result<(), ChipStop>
     ensures { Gives (λ _. reading_view reading.new) result (input_enable_row (reading_view reading.old) line (first.now ∷ words.entry)) }
 {
     let (x, y, pio) = three_from(line, first, &mut words)?;
@@ -121,7 +121,7 @@ fn column_buffer_row(
     line: u32,
     first: &[u8],
     mut words: PlainWords<'_>,
-) -> Result<(), ReadStop>
+) -> Result<(), ChipStop>
     ensures { Gives (λ _. reading_view reading.new) result (column_buffer_row (reading_view reading.old) line (first.now ∷ words.entry)) }
 {
     let (source_x, source_y) = two_from(line, first, &mut words)?;
@@ -141,7 +141,7 @@ fn kept_function(
     kind: TileKind,
     name: &[u8],
     words: PlainWords<'_>,
-) -> Result<(), ReadStop>
+) -> Result<(), ChipStop>
     ensures { Gives (λ _. reading_view reading.new) result (kept_function (reading_view reading.old) line kind name.now words.entry) }
 {
     let bits = bits(alloc, line, kind.columns(), words)?;
@@ -163,12 +163,12 @@ fn function_row(
     kind: TileKind,
     name: &[u8],
     words: PlainWords<'_>,
-) -> Result<(), ReadStop>
+) -> Result<(), ChipStop>
     ensures { Gives (λ _. reading_view reading.new) result (function_row (reading_view reading.old) line kind name.now words.entry) }
 {
     if is_read(kind, name) {
         if let Some(other) = function_line(kind, name, &reading.parts.functions) {
-            return Err(ReadStop::Fault(ChipFault::Twice { line, other }));
+            return Err(ChipStop::Fault(ChipFault::Twice { line, other }));
         }
         return kept_function(alloc, reading, line, kind, name, words);
     }
@@ -186,7 +186,7 @@ fn name_row(
     wire: u32,
     first: &[u8],
     mut words: PlainWords<'_>,
-) -> Result<(), ReadStop>
+) -> Result<(), ChipStop>
     ensures { Gives (λ _. reading_view reading.new) result (name_row (reading_view reading.old) line wire (first.now ∷ words.entry)) }
 {
     let (x, y) = two_from(line, first, &mut words)?;
@@ -209,7 +209,7 @@ fn switch_row(
     line: u32,
     digits: &[u8],
     mut words: PlainWords<'_>,
-) -> Result<(), ReadStop>
+) -> Result<(), ChipStop>
     ensures { Gives (λ _. reading_view reading.new) result (switch_row (reading_view reading.old) line digits.now words.entry) }
 {
     let source = number(line, &mut words)?;
@@ -217,7 +217,7 @@ fn switch_row(
     let source = wire_in(line, &reading.parts, source)?;
     let values = values(alloc, line, reading.group.bits.len(), digits)?;
     if reading.rows >= MOST_ROWS {
-        return Err(ReadStop::Fault(ChipFault::TooMany { limit: MOST_ROWS }));
+        return Err(ChipStop::Fault(ChipFault::TooMany { limit: MOST_ROWS }));
     }
     reading.group.rows.push(Row {
         values,
@@ -235,11 +235,11 @@ pub fn row_line(
     line: u32,
     first: &[u8],
     words: PlainWords<'_>,
-) -> Result<(), ReadStop>
+) -> Result<(), ChipStop>
     ensures { Gives (λ _. reading_view reading.new) result (row_says (reading_view reading.old) line reading.old.section first.now words.entry) }
 {
     match reading.section {
-        Section::Rowless => Err(ReadStop::Fault(ChipFault::BadNumber { line })),
+        Section::Rowless => Err(ChipStop::Fault(ChipFault::BadNumber { line })),
         Section::ReadOver => Ok(()),
         Section::Pins => pin_row(alloc, reading, line, first, words),
         Section::BufferInputs => buffer_input_row(reading, line, first, words),

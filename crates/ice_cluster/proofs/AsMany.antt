@@ -8,7 +8,7 @@ use Rattle.std.proofs.lemmas.List.Sorted.{length_permutation}
 use Rattle.ice_cells.specs.declared.cell.Control.{Control}
 use Rattle.ice_cells.specs.declared.cell.LogicCell.{LogicCell}
 use Rattle.ice_cells.specs.declared.cluster.Clusters.{Clusters}
-use Rattle.ice_cells.specs.declared.cluster.Group.{Group}
+use Rattle.ice_cells.specs.declared.cluster.TileCells.{TileCells}
 use Rattle.ice_cells.specs.declared.design.Design.{Design}
 use Rattle.ice_cells.specs.declared.design.Run.{Run}
 use Rattle.ice_cells.specs.Clusterings.{opened_by, groups_by, IsClustering}
@@ -18,7 +18,7 @@ use Rattle.ice_cells.specs.Sets.{FlopCell, sets_of, cells_with}
 use Rattle.ice_cluster.proofs.SetSums.{set_sum, same_in_order}
 
 -- ---- what is measured of groups by how many cells they have
-abbrev measured : (ℕ → ℕ) → List Group → ℕ
+abbrev measured : (ℕ → ℕ) → List TileCells → ℕ
 measured f [] = 0
 measured f (g ∷ groups) = f (length g.cells) + measured f groups
 
@@ -34,11 +34,11 @@ nothing_before n = omega arith
 assoc : (a b c : ℕ) → a + (b + c) ≡ a + b + c
 assoc a b c = omega arith
 
-measured_append : (f : ℕ → ℕ) (a b : List Group) → measured f (a ++ b) ≡ measured f a + measured f b
+measured_append : (f : ℕ → ℕ) (a b : List TileCells) → measured f (a ++ b) ≡ measured f a + measured f b
 measured_append f [] b = nothing_before (measured f b)
 measured_append f (g ∷ a) b = ap (λ n. f (length g.cells) + n) (measured_append f a b) ∙ assoc (f (length g.cells)) (measured f a) (measured f b)
 
-length_measured : (groups : List Group) → length groups ≡ measured counts_one groups
+length_measured : (groups : List TileCells) → length groups ≡ measured counts_one groups
 length_measured [] = refl
 length_measured (g ∷ groups) = ap suc (length_measured groups) ∙ (let e : suc (measured counts_one groups) ≡ 1 + measured counts_one groups = omega arith in e)
 
@@ -74,7 +74,7 @@ opened_alike f cells runs flops others moved =
     ∙ sym (measured_append f (runs_pieces cells 0 runs) (sets_pieces flops))
 
 -- ---- what plain cells need besides
-filled_length : (groups : List Group) (plains : List ℕ) → length (filled groups plains) ≡ length groups
+filled_length : (groups : List TileCells) (plains : List ℕ) → length (filled groups plains) ≡ length groups
 filled_length [] plains = refl
 filled_length (g ∷ groups) plains = ap suc (filled_length groups (drop (room g) plains))
 
@@ -84,7 +84,7 @@ less n a b = omega arith
 less_none : (n : ℕ) → n ≡ n - 0
 less_none n = omega arith
 
-left_length : (groups : List Group) (plains : List ℕ) → length (left groups plains) ≡ length plains - measured counts_free groups
+left_length : (groups : List TileCells) (plains : List ℕ) → length (left groups plains) ≡ length plains - measured counts_free groups
 left_length [] plains = less_none (length plains)
 left_length (g ∷ groups) plains =
     left_length groups (drop (room g) plains) ∙ ap (λ n. n - measured counts_free groups) (length-drop (room g) plains) ∙ less (length plains) (room g) (measured counts_free groups)

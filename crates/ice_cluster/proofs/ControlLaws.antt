@@ -3,14 +3,14 @@ use Rattle.std.proofs.Common.{◌≡◌, ◌⊎◌, ℕ, zero, suc, ◌+◌, ◌
 use Rattle.std.specs.Prelude.{filter, filter_map, flat_map, slice_get}
 use Rattle.std.specs.List.{range_with_len, cons_option}
 use Rattle.std.proofs.lemmas.Option.{none-some, same_Some}
-use Rattle.ice_value.specs.Order.{At, Has}
-use Rattle.ice_value.proofs.Members.{map_At, map_Has, filter_Has, At_parts, Has_cases}
-use Rattle.ice_value.proofs.Places.{At_take, At_drop}
+use Rattle.ice_base_values.specs.Order.{At, Has}
+use Rattle.ice_base_values.proofs.Members.{map_At, map_Has, filter_Has, At_parts, Has_cases}
+use Rattle.ice_base_values.proofs.Places.{At_take, At_drop}
 use Rattle.ice_cells.specs.declared.cell.Control.{Control}
 use Rattle.ice_cells.specs.declared.cell.LogicCell.{LogicCell}
 use Rattle.ice_cells.specs.declared.cluster.Cluster.{Cluster}
 use Rattle.ice_cells.specs.declared.cluster.Clusters.{Clusters}
-use Rattle.ice_cells.specs.declared.cluster.Group.{Group}
+use Rattle.ice_cells.specs.declared.cluster.TileCells.{TileCells}
 use Rattle.ice_cells.specs.declared.design.Design.{Design}
 use Rattle.ice_cells.specs.declared.design.Run.{Run}
 use Rattle.ice_cells.specs.Clusters.{room, filled_one, filled, left, run_piece, run_pieces, runs_pieces, set_piece, set_pieces, sets_pieces, plain_piece, plain_pieces, held_list, flop_if, flop_at, flops_by, plain_if, plain_at, plains_by, loose_flops, loose_plains, with_slots}
@@ -59,11 +59,11 @@ plain_back false k None c e = (same_Some k c e, refl)
 plain_back false k (Some x) c e = absurd (none-some c e)
 
 module _ (cells : List LogicCell) where
-  abbrev IsDriven : Group → Type 0
+  abbrev IsDriven : TileCells → Type 0
   IsDriven group = (c : ℕ) (control : Control) → Has group.cells c → control_at cells c ≡ Some control → group.control ≡ Some control
 
-  abbrev AllDriven : List Group → Type 0
-  AllDriven groups = (k : ℕ) (group : Group) → At groups k group → IsDriven group
+  abbrev AllDriven : List TileCells → Type 0
+  AllDriven groups = (k : ℕ) (group : TileCells) → At groups k group → IsDriven group
 
   abbrev ArePlain : List ℕ → Type 0
   ArePlain plains = (c : ℕ) → Has plains c → control_at cells c ≡ None
@@ -71,21 +71,21 @@ module _ (cells : List LogicCell) where
   none_driven : AllDriven []
   none_driven k group at = absurd (none-some group at)
 
-  append_driven : (a b : List Group) → AllDriven a → AllDriven b → AllDriven (a ++ b)
+  append_driven : (a b : List TileCells) → AllDriven a → AllDriven b → AllDriven (a ++ b)
   append_driven a b f g k group at = by (At_parts a b k group at)
     where
       by : At a k group ⊎ ((j : ℕ) × (k ≡ length a + j) × At b j group) → IsDriven group
       by (inl here) = f k group here
       by (inr (j, e, there)) = g j group there
 
-  map_driven : (f : ℕ → Group) → ((k : ℕ) → IsDriven (f k)) → (ks : List ℕ) → AllDriven (map f ks)
+  map_driven : (f : ℕ → TileCells) → ((k : ℕ) → IsDriven (f k)) → (ks : List ℕ) → AllDriven (map f ks)
   map_driven f each ks k group at = let back = map_At f ks k group at in subst IsDriven back.2 (each back.0)
 
   -- ---- plain cells bring no flip-flop
   plain_never : (plains : List ℕ) → ArePlain plains → (c : ℕ) (control : Control) → Has plains c → control_at cells c ≡ Some control → ⊥
   plain_never plains plain c control has e = none-some control (sym (plain c has) ∙ e)
 
-  filled_driven : (groups : List Group) (plains : List ℕ) → AllDriven groups → ArePlain plains → AllDriven (filled groups plains)
+  filled_driven : (groups : List TileCells) (plains : List ℕ) → AllDriven groups → ArePlain plains → AllDriven (filled groups plains)
   filled_driven [] plains driven plain k group at = absurd (none-some group at)
   filled_driven (g ∷ groups) plains driven plain zero group at = subst IsDriven (same_Some (filled_one g plains) group at) first
     where
@@ -98,7 +98,7 @@ module _ (cells : List LogicCell) where
   filled_driven (g ∷ groups) plains driven plain (suc k) group at =
       filled_driven groups (drop (room g) plains) (λ j other there. driven (suc j) other there) (λ c has. plain c (Has_drop (room g) plains c has)) k group at
 
-  left_plain : (groups : List Group) (plains : List ℕ) → ArePlain plains → ArePlain (left groups plains)
+  left_plain : (groups : List TileCells) (plains : List ℕ) → ArePlain plains → ArePlain (left groups plains)
   left_plain [] plains plain = plain
   left_plain (g ∷ groups) plains plain = left_plain groups (drop (room g) plains) (λ c has. plain c (Has_drop (room g) plains c has))
 

@@ -6,12 +6,12 @@ use Rattle.std.proofs.lemmas.Bool.{eqb-true}
 use Rattle.std.proofs.lemmas.Option.{none-some}
 use Rattle.std.proofs.lemmas.List.{take-append-drop, drop-drop, drop_all}
 use Rattle.std.proofs.lemmas.List.Sorted.{IsPermutation-map}
-use Rattle.ice_value.specs.Order.{Has, StandOnce}
-use Rattle.ice_value.proofs.Members.{At_left, Has_cases, any_Has}
-use Rattle.ice_value.proofs.Places.{At_push_new}
+use Rattle.ice_base_values.specs.Order.{Has, StandOnce}
+use Rattle.ice_base_values.proofs.Members.{At_left, Has_cases, any_Has}
+use Rattle.ice_base_values.proofs.Places.{At_push_new}
 use Rattle.ice_cells.specs.declared.cell.Control.{Control}
 use Rattle.ice_cells.specs.declared.cell.LogicCell.{LogicCell}
-use Rattle.ice_cells.specs.declared.cluster.Group.{Group}
+use Rattle.ice_cells.specs.declared.cluster.TileCells.{TileCells}
 use Rattle.ice_cells.specs.declared.design.Run.{Run}
 use Rattle.ice_cells.specs.Clusters.{room, filled, left, run_piece, run_pieces, runs_pieces, set_piece, set_pieces, sets_pieces, plain_piece, plain_pieces, run_cells, held_list, flop_if, flop_at, plain_if, plain_at, loose_flops, loose_plains}
 use Rattle.ice_cells.specs.Clusterings.{opened_by, groups_by}
@@ -22,10 +22,10 @@ use Rattle.ice_cells.proofs.SameControls.{same_control_is, same_control_self}
 use Rattle.ice_cluster.proofs.Grouping.{sets_once, none_once}
 use Rattle.ice_cluster.proofs.Tallies.{nothing_before, one_if, tally, tally_append, tally_permuted}
 
-abbrev pub group_cells : Group → List ℕ
+abbrev pub group_cells : TileCells → List ℕ
 group_cells group = group.cells
 
-abbrev pub members_of : List Group → List ℕ
+abbrev pub members_of : List TileCells → List ℕ
 members_of groups = flat_map group_cells groups
 
 -- ---- numbers
@@ -36,14 +36,14 @@ filled_sum : (front t d ps g rest left_ whole gs top : ℕ) → front ≡ g + t 
 filled_sum front t d ps g rest left_ whole gs top a b c e f = omega arith
 
 -- ---- groups, one behind the other
-pub members_append : (c : ℕ) (a b : List Group) → tally c (members_of (a ++ b)) ≡ tally c (members_of a) + tally c (members_of b)
+pub members_append : (c : ℕ) (a b : List TileCells) → tally c (members_of (a ++ b)) ≡ tally c (members_of a) + tally c (members_of b)
 members_append c [] b = nothing_before (tally c (members_of b))
 members_append c (g ∷ a) b =
     tally_append c g.cells (members_of (a ++ b)) ∙ both_more (tally c (members_of (a ++ b))) (tally c (members_of a)) (tally c g.cells) (tally c (members_of b)) (members_append c a b)
     ∙ ap (λ n. n + tally c (members_of b)) (sym (tally_append c g.cells (members_of a)))
 
 -- what fills groups, and what is left
-pub filled_tally : (c : ℕ) (groups : List Group) (plains : List ℕ) → tally c (members_of (filled groups plains)) + tally c (left groups plains) ≡ tally c (members_of groups) + tally c plains
+pub filled_tally : (c : ℕ) (groups : List TileCells) (plains : List ℕ) → tally c (members_of (filled groups plains)) + tally c (left groups plains) ≡ tally c (members_of groups) + tally c plains
 filled_tally c [] plains = refl
 filled_tally c (g ∷ groups) plains =
     filled_sum (tally c (g.cells ++ take (room g) plains)) (tally c (take (room g) plains)) (tally c (drop (room g) plains)) (tally c plains) (tally c g.cells)
@@ -71,11 +71,11 @@ enough_pieces n = omega arith
 pub pieces_all : (xs : List ℕ) → flat_map (piece xs) (range_with_len 0 (pieces_count xs)) ≡ xs
 pieces_all xs = pieces_from xs (pieces_count xs) 0 (enough_pieces (length xs))
 
-pub members_pieces : (f : ℕ → Group) (xs : List ℕ) → ((k : ℕ) → group_cells (f k) ≡ piece xs k) → (ks : List ℕ) → members_of (map f ks) ≡ flat_map (piece xs) ks
+pub members_pieces : (f : ℕ → TileCells) (xs : List ℕ) → ((k : ℕ) → group_cells (f k) ≡ piece xs k) → (ks : List ℕ) → members_of (map f ks) ≡ flat_map (piece xs) ks
 members_pieces f xs same [] = refl
 members_pieces f xs same (k ∷ ks) = λ i. same k i ++ members_pieces f xs same ks i
 
-pub members_all : (f : ℕ → Group) (xs : List ℕ) → ((k : ℕ) → group_cells (f k) ≡ piece xs k) → members_of (map f (range_with_len 0 (pieces_count xs))) ≡ xs
+pub members_all : (f : ℕ → TileCells) (xs : List ℕ) → ((k : ℕ) → group_cells (f k) ≡ piece xs k) → members_of (map f (range_with_len 0 (pieces_count xs))) ≡ xs
 members_all f xs same = members_pieces f xs same (range_with_len 0 (pieces_count xs)) ∙ pieces_all xs
 
 pub runs_tally : (c : ℕ) (cells : List LogicCell) (r : ℕ) (runs : List Run) → tally c (members_of (runs_pieces cells r runs)) ≡ tally c (flat_map run_cells runs)

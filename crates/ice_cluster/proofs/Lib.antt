@@ -1,3 +1,4 @@
+mod ChunkLaws
 mod ByRank
 mod InOrders
 mod Grouping

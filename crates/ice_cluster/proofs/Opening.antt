@@ -16,29 +16,29 @@ use Rattle.ice_cells.specs.Pieces.{piece, pieces_count}
 use Rattle.ice_cells.specs.Sets.{FlopCell, sets_of, cells_by_sets, cells_with}
 use Rattle.ice_cells.specs.Tables.{gathered}
 use Rattle.ice_cells.proofs.TableLaws.{replicate_table, scattered_table, table_same}
-use Rattle.ice_cells.specs.declared.cluster.Group.{Group}
+use Rattle.ice_cells.specs.declared.cluster.TileCells.{TileCells}
 use Rattle.ice_cells.specs.Clusterings.{opened_by, groups_by}
 
-pub filled_append : (a b : List Group) (plains : List ℕ) → filled (a ++ b) plains ≡ filled a plains ++ filled b (left a plains)
+pub filled_append : (a b : List TileCells) (plains : List ℕ) → filled (a ++ b) plains ≡ filled a plains ++ filled b (left a plains)
 filled_append [] b plains = refl
 filled_append (x ∷ a) b plains = ap (λ xs. filled_one x plains ∷ xs) (filled_append a b (drop (room x) plains))
 
-pub left_append : (a b : List Group) (plains : List ℕ) → left (a ++ b) plains ≡ left b (left a plains)
+pub left_append : (a b : List TileCells) (plains : List ℕ) → left (a ++ b) plains ≡ left b (left a plains)
 left_append [] b plains = refl
 left_append (x ∷ a) b plains = left_append a b (drop (room x) plains)
 
 -- some clusters more
-pub ends_more : (a b : List Group) (plains rest : List ℕ) (clusters new : List Group) → (new, rest) ≡ ends a plains clusters → ends b rest new ≡ ends (a ++ b) plains clusters
+pub ends_more : (a b : List TileCells) (plains rest : List ℕ) (clusters new : List TileCells) → (new, rest) ≡ ends a plains clusters → ends b rest new ≡ ends (a ++ b) plains clusters
 ends_more a b plains rest clusters new e =
-    ap (λ (x : List Group × List ℕ). ends b x.1 x.0) e
+    ap (λ (x : List TileCells × List ℕ). ends b x.1 x.0) e
     ∙ (λ i. (append_assoc clusters (filled a plains) (filled b (left a plains)) i, left b (left a plains)))
     ∙ sym (λ i. (clusters ++ filled_append a b plains i, left_append a b plains i))
 
-pub ends_none : (plains : List ℕ) (clusters : List Group) → ends [] plains clusters ≡ (clusters, plains)
+pub ends_none : (plains : List ℕ) (clusters : List TileCells) → ends [] plains clusters ≡ (clusters, plains)
 ends_none plains clusters = λ i. (append-nil clusters i, plains)
 
 -- one cluster is opened and filled
-pub opened_one : (clusters new : List Group) (members plains now later : List ℕ) (control : Option Control) (run : Option (ℕ × ℕ)) (n : ℕ) → n ≡ min (8 - length members) (length plains)
+pub opened_one : (clusters new : List TileCells) (members plains now later : List ℕ) (control : Option Control) (run : Option (ℕ × ℕ)) (n : ℕ) → n ≡ min (8 - length members) (length plains)
     → now ≡ take n plains → later ≡ drop n plains → new ≡ clusters ++ group_of (members ++ now) control run ∷ []
     → (new, later) ≡ ends (group_of members control run ∷ []) plains clusters
 opened_one clusters new members plains now later control run n is e f g =
@@ -47,25 +47,25 @@ opened_one clusters new members plains now later control run n is e f g =
     let made : new ≡ clusters ++ group_of (members ++ take (8 - length members) plains) control run ∷ [] = g ∙ ap (λ xs. clusters ++ group_of (members ++ xs) control run ∷ []) taken in
     λ i. (made i, rest i)
 
-pieces_left : (f : ℕ → Group) (k n : ℕ) → k < n → map f (range_with_len k (n - k)) ≡ f k ∷ map f (range_with_len (k + 1) (n - (k + 1)))
+pieces_left : (f : ℕ → TileCells) (k n : ℕ) → k < n → map f (range_with_len k (n - k)) ≡ f k ∷ map f (range_with_len (k + 1) (n - (k + 1)))
 pieces_left f k n lt = ap (λ m. map f (range_with_len k m)) (let e : n - k ≡ suc (n - (k + 1)) = omega arith in e)
 
 -- one piece more
-pub piece_more : (f : ℕ → Group) (k n : ℕ) (plains rest : List ℕ) (clusters new : List Group) → k < n → (new, rest) ≡ ends (f k ∷ []) plains clusters
+pub piece_more : (f : ℕ → TileCells) (k n : ℕ) (plains rest : List ℕ) (clusters new : List TileCells) → k < n → (new, rest) ≡ ends (f k ∷ []) plains clusters
     → ends (map f (range_with_len (k + 1) (n - (k + 1)))) rest new ≡ ends (map f (range_with_len k (n - k))) plains clusters
 piece_more f k n plains rest clusters new lt e =
     ends_more (f k ∷ []) (map f (range_with_len (k + 1) (n - (k + 1)))) plains rest clusters new e ∙ ap (λ xs. ends xs plains clusters) (sym (pieces_left f k n lt))
 
 -- no piece is left
-pub pieces_done : (f : ℕ → Group) (k n : ℕ) (rest : List ℕ) (clusters : List Group) → n ≤ k → (clusters, rest) ≡ ends (map f (range_with_len k (n - k))) rest clusters
+pub pieces_done : (f : ℕ → TileCells) (k n : ℕ) (rest : List ℕ) (clusters : List TileCells) → n ≤ k → (clusters, rest) ≡ ends (map f (range_with_len k (n - k))) rest clusters
 pieces_done f k n rest clusters le = sym (ap (λ m. ends (map f (range_with_len k m)) rest clusters) (let e : n - k ≡ 0 = omega arith in e) ∙ ends_none rest clusters)
 
-pub same_opened : (m n : List ℕ) (x y : Option Control) (run : Option (ℕ × ℕ)) (plains : List ℕ) (clusters : List Group) → m ≡ n → x ≡ y
+pub same_opened : (m n : List ℕ) (x y : Option Control) (run : Option (ℕ × ℕ)) (plains : List ℕ) (clusters : List TileCells) → m ≡ n → x ≡ y
     → ends (group_of m x run ∷ []) plains clusters ≡ ends (group_of n y run ∷ []) plains clusters
 same_opened m n x y run plains clusters e f = λ i. ends (group_of (e i) (f i) run ∷ []) plains clusters
 
 -- one run more
-pub runs_more : (cells : List LogicCell) (runs : List Run) (r : ℕ) (run : Run) (members plains rest : List ℕ) (clusters new : List Group) → r < length runs → run ≡ get_or runs r run → members ≡ run.cells
+pub runs_more : (cells : List LogicCell) (runs : List Run) (r : ℕ) (run : Run) (members plains rest : List ℕ) (clusters new : List TileCells) → r < length runs → run ≡ get_or runs r run → members ≡ run.cells
     → (new, rest) ≡ ends (map (run_piece cells r members) (range_with_len 0 (pieces_count members))) plains clusters
     → ends (runs_pieces cells (r + 1) (drop (r + 1) runs)) rest new ≡ ends (runs_pieces cells r (drop r runs)) plains clusters
 runs_more cells runs r run members plains rest clusters new lt at is e =
@@ -74,7 +74,7 @@ runs_more cells runs r run members plains rest clusters new lt at is e =
     ∙ ap (λ rs. ends (runs_pieces cells r rs) plains clusters) (sym (drop_more runs r run lt ∙ ap (λ (x : Run). x ∷ drop (r + 1) runs) (sym at)))
 
 -- one control set more
-pub groups_more : (sets : List Control) (groups : List (List ℕ)) (k : ℕ) (group members plains rest : List ℕ) (clusters new : List Group) → k < length groups → group ≡ get_or groups k group
+pub groups_more : (sets : List Control) (groups : List (List ℕ)) (k : ℕ) (group members plains rest : List ℕ) (clusters new : List TileCells) → k < length groups → group ≡ get_or groups k group
     → members ≡ group → (new, rest) ≡ ends (group_pieces sets k members) plains clusters
     → ends (groups_pieces sets (k + 1) (drop (k + 1) groups)) rest new ≡ ends (groups_pieces sets k (drop k groups)) plains clusters
 groups_more sets groups k group members plains rest clusters new lt at is e =
@@ -120,17 +120,17 @@ drop_none : (n : ℕ) → drop n nothing ≡ nothing
 drop_none zero = refl
 drop_none (suc n) = refl
 
-pub filled_nothing : (clusters : List Group) → filled clusters nothing ≡ clusters
+pub filled_nothing : (clusters : List TileCells) → filled clusters nothing ≡ clusters
 filled_nothing [] = refl
 filled_nothing (x ∷ clusters) =
     (λ i. (record { cells = (ap (λ ps. x.cells ++ ps) (take_none (room x)) ∙ append-nil x.cells) i; control = x.control; run = x.run }) ∷ filled clusters (drop_none (room x) i))
     ∙ ap (λ cs. x ∷ cs) (filled_nothing clusters)
 
 -- one plain cluster more
-pub plain_more : (plains : List ℕ) (k : ℕ) (before clusters new : List Group) (members rest : List ℕ) → clusters ≡ before ++ map (plain_piece plains) (range_with_len 0 k) → members ≡ piece plains k
+pub plain_more : (plains : List ℕ) (k : ℕ) (before clusters new : List TileCells) (members rest : List ℕ) → clusters ≡ before ++ map (plain_piece plains) (range_with_len 0 k) → members ≡ piece plains k
     → (new, rest) ≡ ends (group_of members None None ∷ []) nothing clusters → new ≡ before ++ map (plain_piece plains) (range_with_len 0 (k + 1))
 plain_more plains k before clusters new members rest were is e =
-    ap (λ (x : List Group × List ℕ). x.0) e ∙ ap (λ xs. clusters ++ xs) (filled_nothing (group_of members None None ∷ [])) ∙ ap (λ m. clusters ++ group_of m None None ∷ []) is
+    ap (λ (x : List TileCells × List ℕ). x.0) e ∙ ap (λ xs. clusters ++ xs) (filled_nothing (group_of members None None ∷ [])) ∙ ap (λ m. clusters ++ group_of m None None ∷ []) is
     ∙ ap (λ xs. xs ++ plain_piece plains k ∷ []) were ∙ append_assoc before (map (plain_piece plains) (range_with_len 0 k)) (plain_piece plains k ∷ [])
     ∙ ap (λ xs. before ++ xs) (sym (map-range_with_len_more (plain_piece plains) 0 k k (omega arith)))
 
@@ -160,12 +160,12 @@ pub sets_opened : (flops : List FlopCell) (sets : List Control) (lists : List (L
     → groups_pieces sets 0 lists ≡ sets_pieces flops
 sets_opened flops sets lists g k = (λ i. groups_pieces (g i) 0 (k i)) ∙ groups_all (cells_with flops) (sets_of flops)
 
-pub groups_in : (cells : List LogicCell) (runs : List Run) (flops : List FlopCell) (plains one two : List ℕ) (first second third : List Group)
+pub groups_in : (cells : List LogicCell) (runs : List Run) (flops : List FlopCell) (plains one two : List ℕ) (first second third : List TileCells)
     → (first, one) ≡ ends (runs_pieces cells 0 runs) plains [] → (second, two) ≡ ends (sets_pieces flops) one first → third ≡ second ++ plain_pieces two → third ≡ groups_by cells runs flops plains
 groups_in cells runs flops plains one two first second third a b c =
     let ended : (second, two) ≡ ends (opened_by cells runs flops) plains []
     = b ∙ ends_more (runs_pieces cells 0 runs) (sets_pieces flops) plains one [] first a in
-    c ∙ ap (λ (x : List Group × List ℕ). x.0 ++ plain_pieces x.1) ended
+    c ∙ ap (λ (x : List TileCells × List ℕ). x.0 ++ plain_pieces x.1) ended
 
 pub hold_more : (runs : List Run) (i : ℕ) (run : Run) (members : List ℕ) (held new : List Bool) → i < length runs → run ≡ get_or runs i run → members ≡ run.cells → new ≡ all_held held members
     → all_held new (flat_map run_cells (drop (i + 1) runs)) ≡ all_held held (flat_map run_cells (drop i runs))

@@ -7,7 +7,7 @@ use Rattle.ice_cells.specs.declared.cell.Control.{Control}
 use Rattle.ice_cells.specs.declared.cell.LogicCell.{LogicCell}
 use Rattle.ice_cells.specs.declared.cluster.Cluster.{Cluster}
 use Rattle.ice_cells.specs.declared.cluster.Clusters.{Clusters}
-use Rattle.ice_cells.specs.declared.cluster.Group.{Group}
+use Rattle.ice_cells.specs.declared.cluster.TileCells.{TileCells}
 use Rattle.ice_cells.specs.declared.design.Design.{Design}
 use Rattle.ice_cells.specs.declared.design.Run.{Run}
 use Rattle.ice_cells.specs.Clusterings.{opened_by, groups_by, IsClustering}
@@ -19,17 +19,17 @@ use Rattle.ice_cluster.proofs.AsMany.{same_length}
 abbrev Chunk : Type 0
 Chunk = Option (ℕ × ℕ)
 
-abbrev run_in : Group → Chunk
+abbrev run_in : TileCells → Chunk
 run_in g = g.run
 
-abbrev no_run : Group → Chunk
+abbrev no_run : TileCells → Chunk
 no_run g = None
 
 -- ---- groups that are no chunks
-abbrev HaveNone : List Group → Type 0
+abbrev HaveNone : List TileCells → Type 0
 HaveNone groups = map run_in groups ≡ map no_run groups
 
-none_join : (a b : List Group) → HaveNone a → HaveNone b → HaveNone (a ++ b)
+none_join : (a b : List TileCells) → HaveNone a → HaveNone b → HaveNone (a ++ b)
 none_join a b f g = map-append run_in a b ∙ (λ i. f i ++ g i) ∙ sym (map-append no_run a b)
 
 none_set : (s : Control) (members ks : List ℕ) → HaveNone (map (set_piece s members) ks)
@@ -46,31 +46,31 @@ none_plain : (members ks : List ℕ) → HaveNone (map (plain_piece members) ks)
 none_plain members [] = refl
 none_plain members (k ∷ ks) = ap (λ xs. None ∷ xs) (none_plain members ks)
 
-by_count : (a b : List Group) → length a ≡ length b → map no_run a ≡ map no_run b
+by_count : (a b : List TileCells) → length a ≡ length b → map no_run a ≡ map no_run b
 by_count [] [] e = refl
 by_count [] (g ∷ b) e = absurd (omega arith)
 by_count (g ∷ a) [] e = absurd (omega arith)
 by_count (g ∷ a) (h ∷ b) e = ap (λ xs. None ∷ xs) (by_count a b (omega arith))
 
 -- ---- all groups
-run_of_filled : (groups : List Group) (plains : List ℕ) → map run_in (filled groups plains) ≡ map run_in groups
+run_of_filled : (groups : List TileCells) (plains : List ℕ) → map run_in (filled groups plains) ≡ map run_in groups
 run_of_filled [] plains = refl
 run_of_filled (g ∷ groups) plains = ap (λ xs. g.run ∷ xs) (run_of_filled groups (drop (room g) plains))
 
-filled_length : (groups : List Group) (plains : List ℕ) → length (filled groups plains) ≡ length groups
+filled_length : (groups : List TileCells) (plains : List ℕ) → length (filled groups plains) ≡ length groups
 filled_length [] plains = refl
 filled_length (g ∷ groups) plains = ap suc (filled_length groups (drop (room g) plains))
 
-run_of_slots : (groups : List Group) → map (λ (c : Cluster). c.run) (map with_slots groups) ≡ map run_in groups
+run_of_slots : (groups : List TileCells) → map (λ (c : Cluster). c.run) (map with_slots groups) ≡ map run_in groups
 run_of_slots [] = refl
 run_of_slots (g ∷ groups) = ap (λ xs. g.run ∷ xs) (run_of_slots groups)
 
 module _ (cells : List LogicCell) (runs : List Run) where
-  abbrev chunks : List Group
+  abbrev chunks : List TileCells
   chunks = runs_pieces cells 0 runs
 
   -- the groups behind the chunks
-  abbrev others : List FlopCell → List ℕ → List Group
+  abbrev others : List FlopCell → List ℕ → List TileCells
   others flops plains = sets_pieces flops ++ plain_pieces (left (opened_by cells runs flops) plains)
 
   chunks_first : (flops : List FlopCell) (plains : List ℕ) → map run_in (groups_by cells runs flops plains) ≡ map run_in chunks ++ map no_run (others flops plains)

@@ -5,9 +5,9 @@ use Rattle.std.specs.List.{list_any, sum_by}
 use Rattle.std.proofs.lemmas.List.{length-map}
 use Rattle.std.proofs.lemmas.List.Sorted.{sum_by-IsPermutation, IsPermutation-sym}
 use Rattle.std.proofs.lemmas.List.Sums.{sum_by-cons}
-use Rattle.ice_value.specs.Order.{Has, StandOnce}
-use Rattle.ice_value.proofs.Members.{Has_none, map_Has}
-use Rattle.ice_value.proofs.Places.{At_push_cases}
+use Rattle.ice_base_values.specs.Order.{Has, StandOnce}
+use Rattle.ice_base_values.proofs.Members.{Has_none, map_Has}
+use Rattle.ice_base_values.proofs.Places.{At_push_cases}
 use Rattle.ice_cells.specs.declared.cell.Control.{Control}
 use Rattle.ice_cells.specs.Same.{same_control}
 use Rattle.ice_cells.specs.Sets.{FlopCell, with_set, sets_of, cells_with}

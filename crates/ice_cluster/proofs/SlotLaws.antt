@@ -5,12 +5,12 @@ use Rattle.std.specs.List.{range_with_len, list_any}
 use Rattle.std.proofs.lemmas.Bool.{cases_lt, eqb-true, eq-eqb}
 use Rattle.std.proofs.lemmas.Option.{none-some, same_Some}
 use Rattle.std.proofs.lemmas.List.{length-append, length-map, length-replicate, length-take}
-use Rattle.ice_value.specs.Order.{At, Has}
-use Rattle.ice_value.proofs.Members.{At_map, map_At, At_left, At_parts, Has_any, any_Has}
-use Rattle.ice_value.proofs.Places.{At_replicate}
+use Rattle.ice_base_values.specs.Order.{At, Has}
+use Rattle.ice_base_values.proofs.Members.{At_map, map_At, At_left, At_parts, Has_any, any_Has}
+use Rattle.ice_base_values.proofs.Places.{At_replicate}
 use Rattle.ice_cells.specs.declared.cluster.Cluster.{Cluster}
 use Rattle.ice_cells.specs.declared.cluster.Clusters.{Clusters}
-use Rattle.ice_cells.specs.declared.cluster.Group.{Group}
+use Rattle.ice_cells.specs.declared.cluster.TileCells.{TileCells}
 use Rattle.ice_cells.specs.declared.cell.LogicCell.{LogicCell}
 use Rattle.ice_cells.specs.declared.design.Design.{Design}
 use Rattle.ice_cells.specs.declared.design.Run.{Run}
@@ -26,8 +26,8 @@ use Rattle.ice_cluster.proofs.Counted.{members_of, held_at, groups_tally}
 use Rattle.ice_cluster.proofs.Tallies.{tally, tally_append, at_tally, one_place, has_tally, once_tally, row_tally, high_tally}
 
 -- ---- a place among groups
-pub record StandsIn (groups : List Group) (k i c : ℕ) : Type 0 where
-  pub group : Group
+pub record StandsIn (groups : List TileCells) (k i c : ℕ) : Type 0 where
+  pub group : TileCells
   pub at : At groups k group
   pub slot : At group.cells i c
 
@@ -49,18 +49,18 @@ second_few a b c e few = omega arith
 no_count : (a b c : ℕ) → c ≡ a + b → a ≡ 0 → b ≡ c
 no_count a b c e f = omega arith
 
-counted : (c : ℕ) (g : Group) (groups : List Group) → tally c (members_of (g ∷ groups)) ≡ tally c g.cells + tally c (members_of groups)
+counted : (c : ℕ) (g : TileCells) (groups : List TileCells) → tally c (members_of (g ∷ groups)) ≡ tally c g.cells + tally c (members_of groups)
 counted c g groups = tally_append c g.cells (members_of groups)
 
-stands_tally : (c : ℕ) (groups : List Group) (k i : ℕ) (group : Group) → At groups k group → At group.cells i c → 1 ≤ tally c (members_of groups)
+stands_tally : (c : ℕ) (groups : List TileCells) (k i : ℕ) (group : TileCells) → At groups k group → At group.cells i c → 1 ≤ tally c (members_of groups)
 stands_tally c [] k i group at slot = absurd (none-some group at)
 stands_tally c (g ∷ groups) zero i group at slot =
     first_count (tally c g.cells) (tally c (members_of groups)) (tally c (members_of (g ∷ groups))) (counted c g groups)
-    (at_tally c g.cells i (subst (λ (x : Group). At x.cells i c) (sym (same_Some g group at)) slot))
+    (at_tally c g.cells i (subst (λ (x : TileCells). At x.cells i c) (sym (same_Some g group at)) slot))
 stands_tally c (g ∷ groups) (suc k) i group at slot =
     second_count (tally c g.cells) (tally c (members_of groups)) (tally c (members_of (g ∷ groups))) (counted c g groups) (stands_tally c groups k i group at slot)
 
-tally_stands : (c : ℕ) (groups : List Group) → tally c (members_of groups) ≡ 1 → (k : ℕ) × (i : ℕ) × StandsIn groups k i c
+tally_stands : (c : ℕ) (groups : List TileCells) → tally c (members_of groups) ≡ 1 → (k : ℕ) × (i : ℕ) × StandsIn groups k i c
 tally_stands c [] e = cc
 tally_stands c (g ∷ groups) e = by (has_tally c g.cells) (tally_stands c groups)
   where
@@ -70,20 +70,20 @@ tally_stands c (g ∷ groups) e = by (has_tally c g.cells) (tally_stands c group
         let more = rest (no_count (tally c g.cells) (tally c (members_of groups)) (tally c (members_of (g ∷ groups))) (counted c g groups) none ∙ e) in
         (suc more.0, more.1, record { group = more.2.group; at = more.2.at; slot = more.2.slot })
 
-same_place : (c : ℕ) (groups : List Group) → tally c (members_of groups) ≤ 1 → (k i m j : ℕ) (one other : Group) → At groups k one → At one.cells i c → At groups m other → At other.cells j c
+same_place : (c : ℕ) (groups : List TileCells) → tally c (members_of groups) ≤ 1 → (k i m j : ℕ) (one other : TileCells) → At groups k one → At one.cells i c → At groups m other → At other.cells j c
     → (k ≡ m) × (i ≡ j)
 same_place c [] few k i m j one other a s b t = absurd (none-some one a)
 same_place c (g ∷ groups) few zero i zero j one other a s b t = (
   refl,
-  one_place c g.cells i j (subst (λ (x : Group). At x.cells i c) (sym (same_Some g one a)) s) (subst (λ (x : Group). At x.cells j c) (sym (same_Some g other b)) t)
+  one_place c g.cells i j (subst (λ (x : TileCells). At x.cells i c) (sym (same_Some g one a)) s) (subst (λ (x : TileCells). At x.cells j c) (sym (same_Some g other b)) t)
       (first_few (tally c g.cells) (tally c (members_of groups)) (tally c (members_of (g ∷ groups))) (counted c g groups) few),
 )
 same_place c (g ∷ groups) few zero i (suc m) j one other a s b t =
     absurd (two_counts (tally c g.cells) (tally c (members_of groups)) (tally c (members_of (g ∷ groups))) (counted c g groups) few
-    (at_tally c g.cells i (subst (λ (x : Group). At x.cells i c) (sym (same_Some g one a)) s)) (stands_tally c groups m j other b t))
+    (at_tally c g.cells i (subst (λ (x : TileCells). At x.cells i c) (sym (same_Some g one a)) s)) (stands_tally c groups m j other b t))
 same_place c (g ∷ groups) few (suc k) i zero j one other a s b t =
     absurd (two_counts (tally c g.cells) (tally c (members_of groups)) (tally c (members_of (g ∷ groups))) (counted c g groups) few
-    (at_tally c g.cells j (subst (λ (x : Group). At x.cells j c) (sym (same_Some g other b)) t)) (stands_tally c groups k i one a s))
+    (at_tally c g.cells j (subst (λ (x : TileCells). At x.cells j c) (sym (same_Some g other b)) t)) (stands_tally c groups k i one a s))
 same_place c (g ∷ groups) few (suc k) i (suc m) j one other a s b t =
     let rest = same_place c groups (second_few (tally c g.cells) (tally c (members_of groups)) (tally c (members_of (g ∷ groups))) (counted c g groups) few) k i m j one other a s b t in
     (ap suc rest.0, rest.1)
@@ -108,7 +108,7 @@ slots_length cells le =
     ∙ (λ i. length-map cells (λ (x : ℕ). Some x) i + length-replicate {A = Option ℕ} (8 - length cells) None i)
     ∙ (let e : length cells + (8 - length cells) ≡ 8 = omega arith in e)
 
-stands_back : (groups : List Group) (clusters : Clusters) → clusters.list ≡ map with_slots groups → (k i c : ℕ) → Stands clusters k i c → StandsIn groups k i c
+stands_back : (groups : List TileCells) (clusters : Clusters) → clusters.list ≡ map with_slots groups → (k i c : ℕ) → Stands clusters k i c → StandsIn groups k i c
 stands_back groups clusters e k i c stands =
     let back = map_At with_slots groups k stands.cluster (subst (λ (xs : List Cluster). At xs k stands.cluster) e stands.at) in
     record {
@@ -117,7 +117,7 @@ stands_back groups clusters e k i c stands =
       slot = slot_back (back.0).cells i c (subst (λ (x : Cluster). At x.cells i (Some c)) (sym back.2) stands.slot);
     }
 
-stands_on : (groups : List Group) (clusters : Clusters) → clusters.list ≡ map with_slots groups → (k i c : ℕ) → StandsIn groups k i c → Stands clusters k i c
+stands_on : (groups : List TileCells) (clusters : Clusters) → clusters.list ≡ map with_slots groups → (k i c : ℕ) → StandsIn groups k i c → Stands clusters k i c
 stands_on groups clusters e k i c stands = record {
   cluster = with_slots stands.group;
   at = subst (λ (xs : List Cluster). At xs k (with_slots stands.group)) (sym e) (At_map with_slots groups k stands.group stands.at);
@@ -125,23 +125,23 @@ stands_on groups clusters e k i c stands = record {
 }
 
 -- ---- no group has more than eight cells
-abbrev IsShort : Group → Type 0
+abbrev IsShort : TileCells → Type 0
 IsShort group = length group.cells ≤ 8
 
-abbrev AreShort : List Group → Type 0
-AreShort groups = (k : ℕ) (group : Group) → At groups k group → IsShort group
+abbrev AreShort : List TileCells → Type 0
+AreShort groups = (k : ℕ) (group : TileCells) → At groups k group → IsShort group
 
 none_short : AreShort []
 none_short k group at = absurd (none-some group at)
 
-append_short : (a b : List Group) → AreShort a → AreShort b → AreShort (a ++ b)
+append_short : (a b : List TileCells) → AreShort a → AreShort b → AreShort (a ++ b)
 append_short a b f g k group at = by (At_parts a b k group at)
   where
     by : At a k group ⊎ ((j : ℕ) × (k ≡ length a + j) × At b j group) → IsShort group
     by (inl here) = f k group here
     by (inr (j, e, there)) = g j group there
 
-map_short : (f : ℕ → Group) → ((k : ℕ) → IsShort (f k)) → (ks : List ℕ) → AreShort (map f ks)
+map_short : (f : ℕ → TileCells) → ((k : ℕ) → IsShort (f k)) → (ks : List ℕ) → AreShort (map f ks)
 map_short f each ks k group at = let back = map_At f ks k group at in subst IsShort back.2 (each back.0)
 
 eight_at_most : (n m : ℕ) → n ≡ min 8 m → n ≤ 8
@@ -165,7 +165,7 @@ sets_short f (s ∷ sets) =
 fill_few : (a t p : ℕ) → a ≤ 8 → t ≡ min (8 - a) p → a + t ≤ 8
 fill_few a t p le e = omega arith
 
-filled_short : (groups : List Group) (plains : List ℕ) → AreShort groups → AreShort (filled groups plains)
+filled_short : (groups : List TileCells) (plains : List ℕ) → AreShort groups → AreShort (filled groups plains)
 filled_short [] plains short k group at = absurd (none-some group at)
 filled_short (g ∷ groups) plains short zero group at =
     subst IsShort (same_Some (filled_one g plains) group at)
@@ -248,7 +248,7 @@ module _ (d : Design) (formed : IsFormed d) (flops : List FlopCell) (plains : Li
     | inr le ↦ (let e = tally_beyond c le in omega arith)
   ]
 
-  abbrev all_groups : List Group
+  abbrev all_groups : List TileCells
   all_groups = groups_by d.cells d.runs flops plains
 
   abbrev made : Clusters

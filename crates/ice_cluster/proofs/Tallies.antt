@@ -6,7 +6,7 @@ use Rattle.std.proofs.lemmas.Bool.{eq-eqb, ne_eqb, cases_eq, cases_lt}
 use Rattle.std.proofs.lemmas.List.Sorted.{sum_by-IsPermutation}
 use Rattle.std.proofs.lemmas.List.Sums.{sum_by-cons}
 use Rattle.std.proofs.lemmas.Option.{none-some, same_Some}
-use Rattle.ice_value.specs.Order.{At, Has, StandOnce}
+use Rattle.ice_base_values.specs.Order.{At, Has, StandOnce}
 
 abbrev pub one_if : Bool → ℕ
 one_if true = 1

@@ -1,6 +1,6 @@
 -- Which cells stand in the slots of clusters.
 use Rattle.std.specs.Prelude.{◌≡◌, ℕ, ◌<◌, Some, length}
-use Rattle.ice_value.specs.Order.{At}
+use Rattle.ice_base_values.specs.Order.{At}
 use Rattle.ice_cells.specs.declared.cell.Control.{Control}
 use Rattle.ice_cells.specs.declared.cluster.Cluster.{Cluster}
 use Rattle.ice_cells.specs.declared.cluster.Clusters.{Clusters}

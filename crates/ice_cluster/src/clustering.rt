@@ -9,13 +9,13 @@ use crate::ranking::{rank_flops, rank_plains};
 use crate::sets::by_sets;
 use crate::sorting::loose_cells;
 use ice_base::NoMemory;
-use ice_cells::{Cluster, Clusters, Control, Design, Group, Items, LogicCell, Run};
+use ice_cells::{Cluster, Clusters, Control, Design, TileCells, Items, LogicCell, Run};
 use std::alloc::Global;
 
 // Opens groups of the flip-flops by their control sets, and fills them with plain cells; gives those that are left.
 fn open_sets<'a>(
     alloc: Global,
-    groups: &mut Vec<Group>,
+    groups: &mut Vec<TileCells>,
     flops: &[(u32, Control)],
     plains: &'a [u32],
 ) -> Result<&'a [u32], NoMemory>
@@ -32,7 +32,7 @@ fn groups_in(
     runs: &[Run],
     flops: &[(u32, Control)],
     plains: &[u32],
-) -> Result<Vec<Group>, NoMemory>
+) -> Result<Vec<TileCells>, NoMemory>
     ensures { IfOk result (λ groups. groups.items ≡ groups_by cells.now runs.now flops.now plains.now) }
 {
     let mut groups = Vec::new(alloc);
@@ -57,7 +57,7 @@ fn slots_of(alloc: Global, cells: &[u32]) -> Result<Vec<Option<u32>>, NoMemory>
 }
 
 // The cluster of a group.
-fn cluster_of(alloc: Global, group: &Group) -> Result<Cluster, NoMemory>
+fn cluster_of(alloc: Global, group: &TileCells) -> Result<Cluster, NoMemory>
     ensures { IfOk result (λ cluster. cluster ≡ with_slots group.now) }
 {
     Ok(Cluster {
@@ -68,7 +68,7 @@ fn cluster_of(alloc: Global, group: &Group) -> Result<Cluster, NoMemory>
 }
 
 // The clusters of all groups.
-fn clusters_in(alloc: Global, groups: &[Group]) -> Result<Vec<Cluster>, NoMemory>
+fn clusters_in(alloc: Global, groups: &[TileCells]) -> Result<Vec<Cluster>, NoMemory>
     ensures { IfOk result (λ clusters. clusters.items ≡ map with_slots groups.now) }
 {
     let mut clusters = Vec::new(alloc);

@@ -4,8 +4,8 @@ ghost use Rattle.std.specs.List.{range_with_len};
 ghost use Rattle.ice_cells.specs.Pieces.{pieces_count};
 ghost use Rattle.ice_cells.specs.Clusters.{run_piece, set_piece, runs_pieces, plain_pieces, ends, group_of, group_pieces, groups_pieces};
 
-use ice_base::NoMemory;
-use ice_cells::{Control, Group, Items, LogicCell, Run, first_control, piece, pieces_count, short};
+use ice_base::{NoMemory, to_u32};
+use ice_cells::{Control, TileCells, Items, LogicCell, Run, first_control, piece, pieces_count};
 use indexmap::IndexSet;
 use std::alloc::Global;
 
@@ -13,7 +13,7 @@ use std::alloc::Global;
 #[tactic(auto, using(crate::proofs::Opening::opened_one))]
 fn open<'a>(
     alloc: Global,
-    groups: &mut Vec<Group>,
+    groups: &mut Vec<TileCells>,
     members: &[u32],
     control: Option<Control>,
     run: Option<(u32, u32)>,
@@ -26,7 +26,7 @@ fn open<'a>(
     let room = 8usize.saturating_sub(members.len()).min(plains.len());
     let (now, later) = plains.split_at(room);
     cells.extend_from_slice(now)?;
-    groups.push(Group {
+    groups.push(TileCells {
         cells: Items::from_vec(cells),
         control,
         run,
@@ -37,7 +37,7 @@ fn open<'a>(
 // Opens the pieces of a run.
 fn open_run<'a>(
     alloc: Global,
-    groups: &mut Vec<Group>,
+    groups: &mut Vec<TileCells>,
     cells: &[LogicCell],
     r: u32,
     members: &[u32],
@@ -48,7 +48,7 @@ fn open_run<'a>(
     let mut rest = plains;
     for k in 0..pieces_count(members) {
         let part = piece(members, k);
-        let chunk = (r, short(k)?);
+        let chunk = (r, to_u32(k)?);
         rest = open(
             alloc,
             groups,
@@ -64,7 +64,7 @@ fn open_run<'a>(
 // Opens the pieces of all runs.
 pub(crate) fn open_runs<'a>(
     alloc: Global,
-    groups: &mut Vec<Group>,
+    groups: &mut Vec<TileCells>,
     cells: &[LogicCell],
     runs: &[Run],
     plains: &'a [u32],
@@ -73,7 +73,7 @@ pub(crate) fn open_runs<'a>(
 {
     let mut rest = plains;
     for (r, run) in runs.iter().enumerate() {
-        rest = open_run(alloc, groups, cells, short(r)?, run.cells.as_slice(), rest)?;
+        rest = open_run(alloc, groups, cells, to_u32(r)?, run.cells.as_slice(), rest)?;
     }
     Ok(rest)
 }
@@ -81,7 +81,7 @@ pub(crate) fn open_runs<'a>(
 // Opens the pieces of a control set's cells.
 fn open_set<'a>(
     alloc: Global,
-    groups: &mut Vec<Group>,
+    groups: &mut Vec<TileCells>,
     control: Control,
     members: &[u32],
     plains: &'a [u32],
@@ -98,7 +98,7 @@ fn open_set<'a>(
 // Opens the pieces of the cells of control set k.
 fn open_list<'a>(
     alloc: Global,
-    groups: &mut Vec<Group>,
+    groups: &mut Vec<TileCells>,
     sets: &IndexSet<Control>,
     k: usize,
     members: &[u32],
@@ -115,7 +115,7 @@ fn open_list<'a>(
 // Opens the pieces of the cells of all control sets.
 pub(crate) fn open_lists<'a>(
     alloc: Global,
-    groups: &mut Vec<Group>,
+    groups: &mut Vec<TileCells>,
     sets: &IndexSet<Control>,
     lists: &[Items<u32>],
     plains: &'a [u32],
@@ -132,7 +132,7 @@ pub(crate) fn open_lists<'a>(
 // Opens groups of plain cells alone.
 pub(crate) fn open_plains(
     alloc: Global,
-    groups: &mut Vec<Group>,
+    groups: &mut Vec<TileCells>,
     plains: &[u32],
 ) -> Result<(), NoMemory>
     ensures { OnOk result (groups.new.items ≡ groups.old.items ++ plain_pieces plains.now) }

@@ -1,6 +1,12 @@
 //! The laws of clusters, each as the contract of a function that does nothing.
+ghost use Rattle.ice_cluster.specs.Chunks.{RunsStandInChunks};
 ghost use Rattle.ice_cluster.specs.Orders.{OneRankKeepsTheOrder, OrdersHaveTheSameChunks, OrdersNeedAsMany, RanksGiveClusterings};
 ghost use Rattle.ice_cluster.specs.Slots.{CellsStandInOneSlot, FlopsAreDrivenAsTheirCluster};
+
+/// Each chunk of eight of a run has a cluster of its own, in which its cells stand from the first slot on.
+pub fn runs_stand_in_chunks()
+    ensures { RunsStandInChunks }
+{}
 
 /// Each cluster has eight slots, and each cell of a design stands in exactly one.
 pub fn cells_stand_in_one_slot()

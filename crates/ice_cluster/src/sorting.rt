@@ -2,8 +2,8 @@
 ghost use Rattle.std.specs.Prelude.{◌≡◌, ◌++◌, length, flat_map, replicate, false, option_to_list, IfOk, OnOk};
 ghost use Rattle.ice_cells.specs.Clusters.{all_held, flop_if, plain_if, run_cells, held_list, flops_by, plains_by, loose_flops, loose_plains};
 
-use ice_base::NoMemory;
-use ice_cells::{Control, LogicCell, Run, control_at, short};
+use ice_base::{NoMemory, to_u32};
+use ice_cells::{Control, LogicCell, Run, control_at};
 use std::alloc::Global;
 
 // Notes the cells of a run.
@@ -77,7 +77,7 @@ fn sort_cells(
     let mut flops = Vec::new(alloc);
     let mut plains = Vec::new(alloc);
     for c in 0..cells.len() {
-        let number = short(c)?;
+        let number = to_u32(c)?;
         sort_cell(
             &mut flops,
             &mut plains,

@@ -1,8 +1,8 @@
 -- An order or a loop of the points, by one of their numbers.
 use Rattle.std.proofs.Common.{◌≡◌, ℕ, Some, List, length, map, arith}
 use Rattle.std.specs.Prelude.{slice_get}
-use Rattle.ice_value.specs.Order.{IsOrder, IsCycleBelow, StandOnce}
-use Rattle.ice_value.specs.Graph.{depends_of}
+use Rattle.ice_base_values.specs.Order.{IsOrder, IsCycleBelow, StandOnce}
+use Rattle.ice_base_values.specs.Graph.{depends_of}
 use Rattle.ice_chip.specs.Database.{Parts}
 use Rattle.ice_bits.specs.Configuration.{Bits}
 use Rattle.ice_decode.specs.declared.point.Point.{Point}

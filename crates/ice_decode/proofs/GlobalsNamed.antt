@@ -17,7 +17,7 @@ use Rattle.ice_chip.specs.declared.wire_names.TileWire.{TileWire}
 use Rattle.ice_chip.specs.declared.wire_names.TileWire.TheVariants.{Global}
 use Rattle.ice_chip.proofs.Prefixes.{set_number}
 use Rattle.ice_chip_laws.specs.Laws.{IsLawful}
-use Rattle.ice_value.specs.Order.{Has}
+use Rattle.ice_base_values.specs.Order.{Has}
 use Rattle.ice_chip_laws.specs.Names.{HasName}
 use Rattle.ice_chip_laws.specs.Pins.{is_pin_in, IsPinOf}
 use Rattle.ice_decode.specs.Roles.{number_at}

@@ -5,8 +5,8 @@ use Rattle.std.proofs.lemmas.Bool.{cases_lt}
 use Rattle.std.proofs.lemmas.List.{length-map, get_or_past, map_push, take_more}
 use Rattle.std.proofs.lemmas.List.Elements.{All-from_get_or}
 use Rattle.std.proofs.lemmas.Option.{same_Some, slice_get_within, slice_get-get_or}
-use Rattle.ice_value.specs.Order.{At, Has, StandOnce, StandsAfter, IsOrder, IsCycle, IsCycleBelow}
-use Rattle.ice_value.specs.Graph.{depends_of, IsWithin}
+use Rattle.ice_base_values.specs.Order.{At, Has, StandOnce, StandsAfter, IsOrder, IsCycle, IsCycleBelow}
+use Rattle.ice_base_values.specs.Graph.{depends_of, IsWithin}
 use Rattle.ice_decode.specs.Points.{IsGraphOf}
 
 -- what stands at a place of a list, where two lists are the same through f and g

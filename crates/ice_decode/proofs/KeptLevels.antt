@@ -6,7 +6,7 @@ use Rattle.std.specs.Option.{option_map_or}
 use Rattle.std.proofs.lemmas.Option.{same_Some, get_or_from_slice_get}
 use Rattle.ice_base.specs.declared.number.TileAt.{TileAt}
 use Rattle.ice_base.proofs.Keys.{tile_same}
-use Rattle.ice_value.specs.Order.{At}
+use Rattle.ice_base_values.specs.Order.{At}
 use Rattle.ice_chip.specs.Database.{Parts}
 use Rattle.ice_chip.specs.Places.{same_tile}
 use Rattle.ice_bits.specs.Configuration.{Bits}

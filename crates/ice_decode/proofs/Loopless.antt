@@ -3,10 +3,10 @@ use Rattle.std.proofs.Common.{◌≡◌, ℕ, zero, suc, ◌+◌, ◌<◌, ◌�
 use Rattle.std.specs.Prelude.{unwrap_or}
 use Rattle.std.proofs.lemmas.Option.{slice_get-get_or}
 use Rattle.ice_base.specs.declared.number.TileAt.{TileAt}
-use Rattle.ice_value.specs.System.{System, value}
-use Rattle.ice_value.specs.Order.{Has}
-use Rattle.ice_value.proofs.Values.{value_step, value_at_more}
-use Rattle.ice_value.proofs.Cycles.{cycle_goes_on, value_in_cycle}
+use Rattle.ice_base_values.specs.System.{System, value}
+use Rattle.ice_base_values.specs.Order.{Has}
+use Rattle.ice_base_values.proofs.Values.{value_step, value_at_more}
+use Rattle.ice_base_values.proofs.Cycles.{cycle_goes_on, value_in_cycle}
 use Rattle.ice_chip.specs.Database.{Parts}
 use Rattle.ice_chip.specs.IsRead.{IsRead}
 use Rattle.ice_chip.specs.declared.rows.Pad.{Pad}

@@ -2,8 +2,8 @@
 use Rattle.std.proofs.Common.{◌≡◌, ◌⊎◌, ℕ, zero, suc, ◌+◌, ◌-◌, ◌<◌, Bool, true, false, cond, List, [], ◌∷◌, ◌++◌, Some, inl, inr, refl, ap, sym, ◌∙◌, subst, length, map, filter, arith}
 use Rattle.std.specs.List.{range_with_len, list_any}
 use Rattle.std.proofs.lemmas.Option.{same_Some}
-use Rattle.ice_value.specs.Order.{At, Has, StandOnce}
-use Rattle.ice_value.proofs.Places.{At_push_cases, At_append_cases}
+use Rattle.ice_base_values.specs.Order.{At, Has, StandOnce}
+use Rattle.ice_base_values.proofs.Places.{At_push_cases, At_append_cases}
 
 module _ {X : Type 0} where
   pub At_left : (xs ys : List X) (i : ℕ) (x : X) → At xs i x → At (xs ++ ys) i x

@@ -6,9 +6,9 @@ use Rattle.std.proofs.lemmas.Option.{same_Some, slice_get_within, slice_get-get_
 use Rattle.std.proofs.lemmas.List.{take_more, map_push, map-append}
 use Rattle.std.proofs.lemmas.List.Elements.{All-from_get_or}
 use Rattle.ice_base.specs.declared.number.TileAt.{TileAt}
-use Rattle.ice_value.specs.Inputs.{present}
-use Rattle.ice_value.specs.Order.{At, Has, StandOnce}
-use Rattle.ice_value.proofs.Gaps.{present_more}
+use Rattle.ice_base_values.specs.Inputs.{present}
+use Rattle.ice_base_values.specs.Order.{At, Has, StandOnce}
+use Rattle.ice_base_values.proofs.Gaps.{present_more}
 use Rattle.ice_chip.specs.Database.{Parts}
 use Rattle.ice_chip.specs.IsRead.{IsRead}
 use Rattle.ice_chip.specs.Places.{same_tile}

@@ -6,8 +6,8 @@ use Rattle.std.proofs.lemmas.Bool.{and_parts, or_right}
 use Rattle.std.proofs.lemmas.Option.{same_Some}
 use Rattle.ice_base.specs.declared.number.TileAt.{TileAt}
 use Rattle.ice_base.proofs.Keys.{nat_same, bytes_same}
-use Rattle.ice_value.specs.Order.{Has}
-use Rattle.ice_value.proofs.Together.{Has_head, Has_tail}
+use Rattle.ice_base_values.specs.Order.{Has}
+use Rattle.ice_base_values.proofs.Together.{Has_head, Has_tail}
 use Rattle.ice_chip.specs.Database.{Parts}
 use Rattle.ice_chip.specs.Digits.{digit, numbered_or}
 use Rattle.ice_chip.specs.Lookups.{kind_at, names_of, wire_named, placed_at}

@@ -2,11 +2,11 @@
 use Rattle.std.proofs.Common.{◌≡◌, ◌≢◌, ℕ, ◌+◌, ◌*◌, ◌<◌, Bool, false, Some, List, refl, ap, sym, ◌∙◌, subst, length, map, arith}
 use Rattle.std.specs.Prelude.{unwrap_or}
 use Rattle.std.proofs.lemmas.Option.{slice_get_within}
-use Rattle.ice_value.specs.System.{value}
-use Rattle.ice_value.specs.Inputs.{reading}
-use Rattle.ice_value.specs.Order.{At, Has}
-use Rattle.ice_value.proofs.Values.{value_there, value_ranked}
-use Rattle.ice_value.proofs.Gaps.{local_gapped}
+use Rattle.ice_base_values.specs.System.{value}
+use Rattle.ice_base_values.specs.Inputs.{reading}
+use Rattle.ice_base_values.specs.Order.{At, Has}
+use Rattle.ice_base_values.proofs.Values.{value_there, value_ranked}
+use Rattle.ice_base_values.proofs.Gaps.{local_gapped}
 use Rattle.ice_chip.specs.Database.{Parts}
 use Rattle.ice_chip.specs.IsRead.{IsRead}
 use Rattle.ice_chip.specs.declared.rows.Pad.{Pad}

@@ -7,10 +7,10 @@ use Rattle.std.proofs.lemmas.List.{length-map, length-drop}
 use Rattle.std.proofs.lemmas.Map.Keys.{IsDistinct-from_apart}
 use Rattle.std.proofs.lemmas.Map.Steps.{length-le_from_distinct_below}
 use Rattle.std.proofs.lemmas.Option.{slice_get_within, slice_get-get_or, get_or_from_slice_get, same_Some}
-use Rattle.ice_value.specs.System.{System, value}
-use Rattle.ice_value.specs.Order.{At, Has, StandOnce, Descends, IsCycle}
-use Rattle.ice_value.proofs.Places.{At_same, At_drop, At_push_cases, At_push_new}
-use Rattle.ice_value.proofs.Values.{value_there}
+use Rattle.ice_base_values.specs.System.{System, value}
+use Rattle.ice_base_values.specs.Order.{At, Has, StandOnce, Descends, IsCycle}
+use Rattle.ice_base_values.proofs.Places.{At_same, At_drop, At_push_cases, At_push_new}
+use Rattle.ice_base_values.proofs.Values.{value_there}
 use Rattle.ice_decode.proofs.Members.{At_map_cases, Has_any, Has_none, once_push}
 
 -- different numbers below n are at most n

@@ -9,7 +9,7 @@ use Rattle.ice_chip.specs.Lookups.{names_of, wire_named}
 use Rattle.ice_chip.specs.declared.rows.Pad.{Pad}
 use Rattle.ice_chip.specs.declared.parts.TileLine.{TileLine}
 use Rattle.ice_bits.specs.Configuration.{Bits}
-use Rattle.ice_value.specs.Order.{Has, IsCycle, StandOnce, StandsAfter}
+use Rattle.ice_base_values.specs.Order.{Has, IsCycle, StandOnce, StandsAfter}
 use Rattle.ice_decode.specs.declared.point.Point.{Point}
 use Rattle.ice_decode.specs.declared.point.Point.TheVariants.{Wire, Carry}
 use Rattle.ice_decode.specs.declared.driver.Switch.{Switch}

@@ -1,9 +1,9 @@
 -- The laws of the meaning of bits, each as one sentence.
 use Rattle.std.specs.Prelude.{◌≡◌, ◌≢◌, ◌↔◌, ℕ, ◌+◌, ◌*◌, ◌<◌, All, Bool, false, Option, None, Some, List, length, map}
 use Rattle.ice_base.specs.declared.number.RowNo.{RowNo}
-use Rattle.ice_value.specs.System.{value}
-use Rattle.ice_value.specs.Inputs.{reading}
-use Rattle.ice_value.specs.Order.{Has}
+use Rattle.ice_base_values.specs.System.{value}
+use Rattle.ice_base_values.specs.Inputs.{reading}
+use Rattle.ice_base_values.specs.Order.{Has}
 use Rattle.ice_chip.specs.Database.{Parts, SwitchGroup}
 use Rattle.ice_chip.specs.IsRead.{IsRead}
 use Rattle.ice_chip.specs.declared.rows.Pad.{Pad}

@@ -5,9 +5,9 @@ use Rattle.std.specs.List.{zip}
 use Rattle.std.specs.Prelude.{option_map}
 use Rattle.std.proofs.Common.{suc}
 use Rattle.ice_base.specs.declared.number.TileAt.{TileAt}
-use Rattle.ice_value.specs.System.{System, value}
-use Rattle.ice_value.specs.Inputs.{gapped, reading}
-use Rattle.ice_value.specs.Machine as machine
+use Rattle.ice_base_values.specs.System.{System, value}
+use Rattle.ice_base_values.specs.Inputs.{gapped, reading}
+use Rattle.ice_base_values.specs.Machine as machine
 use Rattle.ice_chip.specs.Database.{Parts}
 use Rattle.ice_chip.specs.Places.{same_tile}
 use Rattle.ice_chip.specs.Lookups.{colbuf_of, names_of}

@@ -1,6 +1,6 @@
 -- The points of a chip as they are kept.
 use Rattle.std.specs.Prelude.{◌≡◌}
-use Rattle.ice_value.specs.Order.{StandOnce}
+use Rattle.ice_base_values.specs.Order.{StandOnce}
 use Rattle.ice_decode.specs.Points.{points_by}
 use Rattle.ice_decode.specs.declared.numbering.Numbering.TheInside.{Inside}
 

@@ -9,7 +9,7 @@ use Rattle.ice_chip.specs.declared.rows.Pad.{Pad}
 use Rattle.ice_chip.specs.declared.parts.TileLine.{TileLine}
 use Rattle.ice_bits.specs.Configuration.{Bits}
 use Rattle.ice_bits.specs.Settings.{set_at}
-use Rattle.ice_value.specs.Inputs.{reading}
+use Rattle.ice_base_values.specs.Inputs.{reading}
 use Rattle.ice_net.specs.declared.drive.Drive.{Drive}
 use Rattle.ice_net.specs.declared.drive.Drive.TheVariants.{Off}
 use Rattle.ice_net.specs.Drives.{level_drive}

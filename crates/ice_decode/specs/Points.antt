@@ -3,8 +3,8 @@ use Rattle.std.specs.Prelude.{◌≡◌, ℕ, ◌<◌, ◌≤◌, Option, None, 
 use Rattle.std.specs.List.{flat_map, range_with_len}
 use Rattle.ice_base.specs.declared.number.TileAt.{TileAt}
 use Rattle.ice_chip.specs.Database.{Parts}
-use Rattle.ice_value.specs.Order.{Has, StandOnce}
-use Rattle.ice_value.specs.Graph.{depends_of}
+use Rattle.ice_base_values.specs.Order.{Has, StandOnce}
+use Rattle.ice_base_values.specs.Graph.{depends_of}
 use Rattle.ice_decode.specs.declared.point.Point.{Point}
 use Rattle.ice_decode.specs.declared.point.Point.TheVariants.{Wire, Carry}
 use Rattle.ice_decode.specs.Cells.{cells_in}

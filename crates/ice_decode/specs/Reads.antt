@@ -6,7 +6,7 @@ use Rattle.ice_base.specs.declared.number.TileAt.{TileAt}
 use Rattle.ice_chip.specs.Database.{Parts}
 use Rattle.ice_chip.specs.Lookups.{wire_named, global_of}
 use Rattle.ice_bits.specs.Configuration.{Bits}
-use Rattle.ice_value.specs.Inputs.{present}
+use Rattle.ice_base_values.specs.Inputs.{present}
 use Rattle.ice_decode.specs.declared.point.Point.{Point}
 use Rattle.ice_decode.specs.declared.point.Point.TheVariants.{Wire, Carry}
 use Rattle.ice_decode.specs.declared.driver.Driver.{Driver}

@@ -1,7 +1,7 @@
 //! An order in which the points of a chip can be evaluated, or a loop of them.
 ghost use Rattle.std.specs.Prelude.{◌≡◌, ◌++◌, length, map, IfOk};
-ghost use Rattle.ice_value.specs.Order.{IsOrder, IsSimpleCycle};
-ghost use Rattle.ice_value.specs.Graph.{depends_of};
+ghost use Rattle.ice_base_values.specs.Order.{IsOrder, IsSimpleCycle};
+ghost use Rattle.ice_base_values.specs.Graph.{depends_of};
 ghost use Rattle.ice_bits.specs.Configuration.{bits_of};
 ghost use Rattle.ice_decode.specs.Reads.{depends_on};
 ghost use Rattle.ice_decode.specs.Faults.{wires_among};
@@ -15,7 +15,7 @@ use crate::{Driver, Point, Wires};
 use ice_base::NoMemory;
 use ice_bits::Bits;
 use ice_chip::Chip;
-use ice_value::{Graph, Outcome, from_least, order};
+use ice_base_values::{Graph, Outcome, from_least, order};
 use std::alloc::Global;
 
 /// What the search for an order of all points finds.

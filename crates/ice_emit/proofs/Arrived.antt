@@ -4,11 +4,11 @@ use Rattle.std.specs.Prelude.{position, option_map, if◌then◌else◌}
 use Rattle.ice_base.specs.declared.number.TileAt.{TileAt}
 use Rattle.ice_base.specs.declared.number.WireNo.{WireNo}
 use Rattle.ice_cells.specs.declared.root.Root.{Root}
-use Rattle.ice_plan.specs.Loads.{Pin, Input}
-use Rattle.ice_nets.specs.Ends.{wire_no, pin_wire}
-use Rattle.ice_nets.specs.Nets.{root_wire}
-use Rattle.ice_nets.specs.Plans.{plan_in}
-use Rattle.ice_written.specs.Arrivals.{holds, arrival}
+use Rattle.ice_place_defs.specs.Loads.{Pin, Input}
+use Rattle.ice_emit_nets.specs.Ends.{wire_no, pin_wire}
+use Rattle.ice_emit_nets.specs.Nets.{root_wire}
+use Rattle.ice_emit_nets.specs.Plans.{plan_in}
+use Rattle.ice_emit_defs.specs.Arrivals.{holds, arrival}
 use Rattle.ice_emit.specs.Owners.{tree_no, is_in, first_in}
 use Rattle.ice_emit.specs.Routed.{IsRouted, held_in, routes_in}
 use Rattle.ice_emit.specs.declared.routed.Routed.{Routed}

@@ -5,11 +5,11 @@ use Rattle.ice_chip.specs.Database.{Parts}
 use Rattle.ice_cells.specs.declared.cell.LogicCell.{LogicCell}
 use Rattle.ice_cells.specs.declared.cluster.Cluster.{Cluster}
 use Rattle.ice_decode.specs.declared.driver.Switch.{Switch}
-use Rattle.ice_nets.specs.Sides.{sides}
-use Rattle.ice_nets.proofs.Siding.{sides_are}
-use Rattle.ice_wiring.specs.Settings.{Setting}
-use Rattle.ice_written.specs.Functions.{clusters_settings}
-use Rattle.ice_written.specs.Links.{all_links}
+use Rattle.ice_emit_nets.specs.Sides.{sides}
+use Rattle.ice_emit_nets.proofs.Siding.{sides_are}
+use Rattle.ice_emit_rows_laws.specs.Settings.{Setting}
+use Rattle.ice_emit_defs.specs.Functions.{clusters_settings}
+use Rattle.ice_emit_defs.specs.Links.{all_links}
 use Rattle.ice_emit.specs.Links.{cluster_link}
 use Rattle.ice_emit.specs.Routed.{held_in, cluster_gives}
 use Rattle.ice_emit.specs.declared.routed.Routed.{Routed}

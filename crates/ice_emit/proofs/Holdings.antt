@@ -9,8 +9,8 @@ use Rattle.ice_graph.specs.declared.tree.Tree.{Tree}
 use Rattle.ice_cells.specs.Tables.{table, is_place, put_at, keep}
 use Rattle.ice_cells.proofs.TableLaws.{scattered_kept, table_same}
 use Rattle.ice_graph.specs.Leading.{Route, route_of}
-use Rattle.ice_nets.specs.Ends.{wire_no}
-use Rattle.ice_written.specs.Arrivals.{holds}
+use Rattle.ice_emit_nets.specs.Ends.{wire_no}
+use Rattle.ice_emit_defs.specs.Arrivals.{holds}
 use Rattle.ice_emit.specs.Holding.{Holding, holding, held_wire, holder, noted, tree_holdings, all_holdings}
 use Rattle.ice_emit.specs.Routed.{owner_from}
 

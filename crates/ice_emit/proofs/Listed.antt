@@ -10,11 +10,11 @@ use Rattle.ice_chip.specs.Database.{Parts}
 use Rattle.ice_chip.specs.Lookups.{wire_named}
 use Rattle.ice_chip.specs.WireNames.{carry_in_name, first_carry_name}
 use Rattle.ice_decode.specs.declared.driver.Switch.{Switch}
-use Rattle.ice_rows.specs.FirstSound.{first_sound}
-use Rattle.ice_written.specs.Links.{tree_switch, switch_numbered, listed, link_into, link, chunk_links}
+use Rattle.ice_bits_rows.specs.FirstSound.{first_sound}
+use Rattle.ice_emit_defs.specs.Links.{tree_switch, switch_numbered, listed, link_into, link, chunk_links}
 use Rattle.ice_emit.specs.Links.{number}
-use Rattle.ice_settings.specs.Views.{switches}
-use Rattle.ice_settings.proofs.Listed.{last_row}
+use Rattle.ice_emit_settings.specs.Views.{switches}
+use Rattle.ice_emit_settings.proofs.Listed.{last_row}
 
 -- one row more, if there is one
 pub one_more : (parts : Parts) (old new : List RowNo) (row : Option RowNo) (r : RowNo) → row ≡ Some r → new ≡ old ++ r ∷ [] → switches parts new ≡ switches parts old ++ listed (option_and_then (tree_switch parts) row)

@@ -8,16 +8,16 @@ use Rattle.ice_bits.specs.Configuration.{Bits, Configuration, bits_of}
 use Rattle.ice_decode.specs.Faults.{HasNoLoop}
 use Rattle.ice_decode.specs.declared.driver.Switch.{Switch}
 use Rattle.ice_graph.specs.Leading.{Route}
-use Rattle.ice_plan.specs.Plan.{Plan}
-use Rattle.ice_realised.specs.Feeds.{FeedsNoGlobal}
-use Rattle.ice_set.specs.SetLaws.{SetsDesigns, SetsNoGroups, design_bits}
-use Rattle.ice_wiring.specs.Wanted.{AreWanted, AreNoGroups, IsWired, set_bits}
-use Rattle.ice_written.specs.Arrivals.{Held}
-use Rattle.ice_written.specs.Led.{AreLed}
-use Rattle.ice_written.specs.Realised.{Realises}
-use Rattle.ice_written.specs.Routed.{AreTrees, IsPlaced}
-use Rattle.ice_written.specs.Set.{AreSet}
-use Rattle.ice_written.specs.Written.{held_by, wanted_rows, written_bits, IsWritten}
+use Rattle.ice_place_defs.specs.Plan.{Plan}
+use Rattle.ice_emit_meaning_laws.specs.Feeds.{FeedsNoGlobal}
+use Rattle.ice_emit_set_laws.specs.SetLaws.{SetsDesigns, SetsNoGroups, design_bits}
+use Rattle.ice_emit_rows_laws.specs.Wanted.{AreWanted, AreNoGroups, IsWired, set_bits}
+use Rattle.ice_emit_defs.specs.Arrivals.{Held}
+use Rattle.ice_emit_defs.specs.Led.{AreLed}
+use Rattle.ice_emit_defs.specs.Realised.{Realises}
+use Rattle.ice_emit_defs.specs.Routed.{AreTrees, IsPlaced}
+use Rattle.ice_emit_defs.specs.Set.{AreSet}
+use Rattle.ice_emit_defs.specs.Written.{held_by, wanted_rows, written_bits, IsWritten}
 
 -- what each law says of the chip
 abbrev pub Leads : Parts → Type 0

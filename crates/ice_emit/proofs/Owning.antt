@@ -5,12 +5,12 @@ use Rattle.std.specs.Option.{option_map_or, option_and_then}
 use Rattle.std.proofs.lemmas.Bool.{eqb-true, eq-eqb, ne_eqb}
 use Rattle.std.proofs.lemmas.Option.{same_Some}
 use Rattle.ice_base.specs.declared.number.WireNo.{WireNo}
-use Rattle.ice_value.specs.Order.{At, Has}
-use Rattle.ice_value.proofs.Members.{any_Has, Has_any}
+use Rattle.ice_base_values.specs.Order.{At, Has}
+use Rattle.ice_base_values.proofs.Members.{any_Has, Has_any}
 use Rattle.ice_graph.specs.Leading.{Route}
-use Rattle.ice_nets.specs.Ends.{wire_no}
-use Rattle.ice_written.specs.Arrivals.{holds}
-use Rattle.ice_written.specs.Written.{starts_at, tree_from, held_from}
+use Rattle.ice_emit_nets.specs.Ends.{wire_no}
+use Rattle.ice_emit_defs.specs.Arrivals.{holds}
+use Rattle.ice_emit_defs.specs.Written.{starts_at, tree_from, held_from}
 use Rattle.ice_emit.specs.Owners.{begins_at, number_if, tree_no, is_number, is_in}
 use Rattle.ice_emit.specs.Routed.{AreApart, IsRouted, owner_from, routes_in}
 use Rattle.ice_emit.specs.declared.routed.Routed.{Routed}

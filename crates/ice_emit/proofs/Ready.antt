@@ -14,22 +14,22 @@ use Rattle.ice_bits.specs.Configuration.{Configuration, bits_of, bit_at, blank, 
 use Rattle.ice_cells.specs.Tables.{table}
 use Rattle.ice_cluster.specs.Slots.{CellsStandInOneSlot}
 use Rattle.ice_graph.specs.Leading.{route_of}
-use Rattle.ice_nets.specs.Plans.{plan_in}
-use Rattle.ice_nets.specs.Rooted.{wires_in, root_wires}
-use Rattle.ice_plan.specs.Plan.{Plan, listed}
-use Rattle.ice_wiring.specs.Settings.{function_bits}
-use Rattle.ice_wiring.specs.Wanted.{sets_of, sets_switch}
-use Rattle.ice_writing.specs.Adds.{Adds}
-use Rattle.ice_writing.specs.Lists.{setting_view, all_rows}
-use Rattle.ice_writing.specs.declared.settings.Setting.{Setting}
-use Rattle.ice_written.specs.Functions.{settings}
-use Rattle.ice_written.specs.Links.{switch_of_row}
-use Rattle.ice_written.specs.Routed.{AreTrees}
-use Rattle.ice_written.specs.Written.{held_by, wanted_rows, IsWritten}
+use Rattle.ice_emit_nets.specs.Plans.{plan_in}
+use Rattle.ice_emit_nets.specs.Rooted.{wires_in, root_wires}
+use Rattle.ice_place_defs.specs.Plan.{Plan, listed}
+use Rattle.ice_emit_rows_laws.specs.Settings.{function_bits}
+use Rattle.ice_emit_rows_laws.specs.Wanted.{sets_of, sets_switch}
+use Rattle.ice_emit_bits.specs.Adds.{Adds}
+use Rattle.ice_emit_bits.specs.Lists.{setting_view, all_rows}
+use Rattle.ice_emit_bits.specs.declared.settings.Setting.{Setting}
+use Rattle.ice_emit_defs.specs.Functions.{settings}
+use Rattle.ice_emit_defs.specs.Links.{switch_of_row}
+use Rattle.ice_emit_defs.specs.Routed.{AreTrees}
+use Rattle.ice_emit_defs.specs.Written.{held_by, wanted_rows, IsWritten}
 use Rattle.ice_emit.specs.Placed.{IsPlacedOn}
 use Rattle.ice_emit.specs.Routed.{IsRouted, owner_from, routes_in}
 use Rattle.ice_emit.specs.Views.{AreBitsWith}
-use Rattle.ice_settings.specs.Views.{views, switches}
+use Rattle.ice_emit_settings.specs.Views.{views, switches}
 use Rattle.ice_emit.specs.declared.routed.Routed.{Routed}
 use Rattle.ice_graph.specs.declared.tree.Tree.{Tree}
 use Rattle.ice_emit.proofs.Slotless.{no_slot}

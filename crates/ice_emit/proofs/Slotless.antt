@@ -5,13 +5,13 @@ use Rattle.std.proofs.lemmas.Bool.{eqb-true}
 use Rattle.std.proofs.lemmas.List.Quantifiers.{position-Some}
 use Rattle.std.proofs.lemmas.Option.{slice_get-get_or}
 use Rattle.ice_base.specs.declared.number.TileAt.{TileAt}
-use Rattle.ice_value.specs.Order.{At}
+use Rattle.ice_base_values.specs.Order.{At}
 use Rattle.ice_cells.specs.declared.cluster.Cluster.{Cluster}
 use Rattle.ice_cells.specs.declared.cluster.Clusters.{Clusters}
 use Rattle.ice_cells.specs.declared.design.Design.{Design}
 use Rattle.ice_cells.specs.Tables.{is_place}
 use Rattle.ice_cluster.specs.Slots.{AreSlots}
-use Rattle.ice_plan.specs.Plan.{slot_in, slot_among, in_tile, first_slot}
+use Rattle.ice_place_defs.specs.Plan.{slot_in, slot_among, in_tile, first_slot}
 
 placed : (c : ℕ) (x : Option ℕ) → is_place c x ≡ true → x ≡ Some c
 placed c None e = absurd (cc)

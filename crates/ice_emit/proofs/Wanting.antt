@@ -7,14 +7,14 @@ use Rattle.ice_chip.specs.Database.{Parts}
 use Rattle.ice_chip.specs.Indices.{enables_of}
 use Rattle.ice_decode.specs.declared.driver.Switch.{Switch}
 use Rattle.ice_graph.specs.Leading.{route_of}
-use Rattle.ice_plan.specs.Plan.{Plan}
-use Rattle.ice_wiring.specs.Settings.{Setting}
-use Rattle.ice_written.specs.Arrivals.{Held}
-use Rattle.ice_written.specs.Functions.{settings, clusters_settings, ports_settings, enable_settings, read_pads, buffer_settings}
-use Rattle.ice_written.specs.Links.{all_links}
-use Rattle.ice_written.specs.Written.{route_rows, wanted_rows}
+use Rattle.ice_place_defs.specs.Plan.{Plan}
+use Rattle.ice_emit_rows_laws.specs.Settings.{Setting}
+use Rattle.ice_emit_defs.specs.Arrivals.{Held}
+use Rattle.ice_emit_defs.specs.Functions.{settings, clusters_settings, ports_settings, enable_settings, read_pads, buffer_settings}
+use Rattle.ice_emit_defs.specs.Links.{all_links}
+use Rattle.ice_emit_defs.specs.Written.{route_rows, wanted_rows}
 use Rattle.ice_emit.specs.Views.{rows_in}
-use Rattle.ice_settings.specs.Views.{switches}
+use Rattle.ice_emit_settings.specs.Views.{switches}
 
 tree_rows : (trees : List Tree) → flat_map rows_in trees ≡ flat_map (λ (rows : List RowNo). rows) (map route_rows (map route_of trees))
 tree_rows [] = refl

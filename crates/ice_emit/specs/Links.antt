@@ -6,7 +6,7 @@ use Rattle.ice_chip.specs.Database.{Parts}
 use Rattle.ice_cells.specs.declared.cell.LogicCell.{LogicCell}
 use Rattle.ice_cells.specs.declared.cluster.Cluster.{Cluster}
 use Rattle.ice_decode.specs.declared.driver.Switch.{Switch}
-use Rattle.ice_written.specs.Links.{cluster_links}
+use Rattle.ice_emit_defs.specs.Links.{cluster_links}
 
 abbrev pub number : WireNo → ℕ
 number w = w.0

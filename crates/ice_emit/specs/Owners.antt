@@ -4,10 +4,10 @@ use Rattle.std.specs.Option.{option_map_or, option_and_then}
 use Rattle.ice_base.specs.declared.number.WireNo.{WireNo}
 use Rattle.ice_base.specs.declared.number.TileAt.{TileAt}
 use Rattle.ice_chip.specs.Database.{Parts}
-use Rattle.ice_plan.specs.Loads.{Input}
-use Rattle.ice_nets.specs.Ends.{pin_wire}
+use Rattle.ice_place_defs.specs.Loads.{Input}
+use Rattle.ice_emit_nets.specs.Ends.{pin_wire}
 use Rattle.ice_graph.specs.Leading.{Route}
-use Rattle.ice_written.specs.Written.{starts_at}
+use Rattle.ice_emit_defs.specs.Written.{starts_at}
 use Rattle.ice_emit.specs.Routed.{owner_from}
 
 -- the tree of that number begins at the wire

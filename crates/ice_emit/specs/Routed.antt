@@ -2,17 +2,17 @@
 use Rattle.std.specs.Prelude.{◌≡◌, ℕ, ◌<◌, ◌≤◌, suc, Option, None, Some, List, [], ◌∷◌, length, map, if◌then◌else◌}
 use Rattle.ice_base.specs.declared.number.TileAt.{TileAt}
 use Rattle.ice_base.specs.declared.number.WireNo.{WireNo}
-use Rattle.ice_value.specs.Order.{At, Has}
+use Rattle.ice_base_values.specs.Order.{At, Has}
 use Rattle.ice_cells.specs.declared.cluster.Cluster.{Cluster}
 use Rattle.ice_cells.specs.Tables.{table}
 use Rattle.ice_graph.specs.Leading.{Route, route_of}
-use Rattle.ice_plan.specs.Plan.{slot_of}
-use Rattle.ice_nets.specs.Plans.{plan_in}
-use Rattle.ice_nets.specs.Rooted.{wires_in, root_wires}
-use Rattle.ice_wiring.specs.Settings.{Setting}
-use Rattle.ice_written.specs.Arrivals.{Held, holds}
-use Rattle.ice_written.specs.Functions.{cluster_settings}
-use Rattle.ice_written.specs.Written.{held_by}
+use Rattle.ice_place_defs.specs.Plan.{slot_of}
+use Rattle.ice_emit_nets.specs.Plans.{plan_in}
+use Rattle.ice_emit_nets.specs.Rooted.{wires_in, root_wires}
+use Rattle.ice_emit_rows_laws.specs.Settings.{Setting}
+use Rattle.ice_emit_defs.specs.Arrivals.{Held, holds}
+use Rattle.ice_emit_defs.specs.Functions.{cluster_settings}
+use Rattle.ice_emit_defs.specs.Written.{held_by}
 use Rattle.ice_emit.specs.declared.routed.Routed.{Routed}
 
 abbrev pub routes_in : Routed → List Route

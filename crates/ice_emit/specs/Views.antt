@@ -6,10 +6,10 @@ use Rattle.ice_base.specs.declared.number.TileAt.{TileAt}
 use Rattle.ice_bits.specs.Configuration.{Configuration, bits_of, IsOf}
 use Rattle.ice_chip.specs.Database.{Parts}
 use Rattle.ice_graph.specs.declared.tree.Tree.{Tree}
-use Rattle.ice_settings.specs.Views.{views}
-use Rattle.ice_wiring.specs.Settings.{function_bits}
-use Rattle.ice_writing.specs.Lists.{all_rows}
-use Rattle.ice_writing.specs.declared.settings.Setting.{Setting}
+use Rattle.ice_emit_settings.specs.Views.{views}
+use Rattle.ice_emit_rows_laws.specs.Settings.{function_bits}
+use Rattle.ice_emit_bits.specs.Lists.{all_rows}
+use Rattle.ice_emit_bits.specs.declared.settings.Setting.{Setting}
 
 abbrev pub rows_in : Tree → List RowNo
 rows_in tree = tree.rows.items

@@ -1,12 +1,12 @@
 //! At which inputs of free cells their signals arrive, and the tables that follow.
 ghost use Rattle.std.specs.Prelude.{◌≡◌, None, option_map, map, slice_index_or};
 ghost use Rattle.ice_base.specs.declared.number.WireNo.{WireNo};
-ghost use Rattle.ice_plan.specs.Loads.{Input};
-ghost use Rattle.ice_nets.specs.Ends.{wire_no, pin_wire};
-ghost use Rattle.ice_nets.specs.Nets.{root_wire};
-ghost use Rattle.ice_nets.specs.Plans.{plan_in};
-ghost use Rattle.ice_written.specs.Arrivals.{arrival, input_from, written_table};
-ghost use Rattle.ice_written.specs.Written.{starts_at};
+ghost use Rattle.ice_place_defs.specs.Loads.{Input};
+ghost use Rattle.ice_emit_nets.specs.Ends.{wire_no, pin_wire};
+ghost use Rattle.ice_emit_nets.specs.Nets.{root_wire};
+ghost use Rattle.ice_emit_nets.specs.Plans.{plan_in};
+ghost use Rattle.ice_emit_defs.specs.Arrivals.{arrival, input_from, written_table};
+ghost use Rattle.ice_emit_defs.specs.Written.{starts_at};
 ghost use Rattle.ice_emit.specs.Owners.{begins_at, tree_no, is_in, first_in};
 ghost use Rattle.ice_emit.specs.Routed.{IsRouted, held_in, routes_in, owner_from};
 
@@ -14,7 +14,7 @@ use crate::routed::Routed;
 use ice_base::{TileAt, WireNo};
 use ice_cells::{LogicCell, Root};
 use ice_lut::rewired;
-use ice_nets::{TilePin, is_free, pin_wire};
+use ice_emit_nets::{TilePin, is_free, pin_wire};
 
 // What stands in a list at a place, where there may be nothing.
 fn wire_at(wires: &[Option<WireNo>], k: u32) -> Option<WireNo>

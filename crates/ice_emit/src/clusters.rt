@@ -2,18 +2,18 @@
 ghost use Rattle.std.specs.Prelude.{◌≡◌, ◌++◌, [], Some, slice_get, OnOk};
 ghost use Rattle.std.specs.Option.{option_map_or};
 ghost use Rattle.ice_chip.specs.FunctionNames.{cell_function};
-ghost use Rattle.ice_plan.specs.Loads.{slot_gives, slots_give};
-ghost use Rattle.ice_written.specs.Functions.{cell_settings, is_set, edge_settings, carry_settings, cluster_settings, clusters_settings};
+ghost use Rattle.ice_place_defs.specs.Loads.{slot_gives, slots_give};
+ghost use Rattle.ice_emit_defs.specs.Functions.{cell_settings, is_set, edge_settings, carry_settings, cluster_settings, clusters_settings};
 ghost use Rattle.ice_emit.specs.Routed.{IsRouted, held_in, cluster_gives};
-ghost use Rattle.ice_settings.specs.Views.{views};
+ghost use Rattle.ice_emit_settings.specs.Views.{views};
 
 use crate::arriving::written_table;
 use crate::routed::{Routed, tile_at};
 use ice_base::{NoMemory, TileAt};
 use ice_cells::{Cluster, Control, LogicCell, Run};
 use ice_chip::TileFunction;
-use ice_settings::{push_cell, push_if};
-use ice_writing::Setting;
+use ice_emit_settings::{push_cell, push_if};
+use ice_emit_bits::Setting;
 
 // The cell of a number.
 fn cell_at(cells: &[LogicCell], c: u32) -> Option<LogicCell>

@@ -4,18 +4,18 @@ ghost use Rattle.std.specs.Option.{option_map_or, option_and_then};
 ghost use Rattle.ice_base.specs.declared.number.WireNo.{WireNo};
 ghost use Rattle.ice_chip.specs.Lookups.{wire_named};
 ghost use Rattle.ice_chip.specs.WireNames.{input_name, carry_out_name};
-ghost use Rattle.ice_plan.specs.Loads.{slot_gives, slots_give};
-ghost use Rattle.ice_rows.specs.Index.{IsIndexOf};
-ghost use Rattle.ice_written.specs.Links.{tree_switch, link_into, carry_source, cell_links, chunk_links, cluster_links, all_links};
+ghost use Rattle.ice_place_defs.specs.Loads.{slot_gives, slots_give};
+ghost use Rattle.ice_bits_rows.specs.Index.{IsIndexOf};
+ghost use Rattle.ice_emit_defs.specs.Links.{tree_switch, link_into, carry_source, cell_links, chunk_links, cluster_links, all_links};
 ghost use Rattle.ice_emit.specs.Links.{number, cluster_link};
-ghost use Rattle.ice_settings.specs.Views.{switches};
+ghost use Rattle.ice_emit_settings.specs.Views.{switches};
 
 use crate::routed::tile_at;
 use crate::rows::push_row;
 use ice_base::{NoMemory, RowNo, TileAt, WireNo};
 use ice_cells::{Cluster, LogicCell};
 use ice_chip::{Chip, carry_in_name, carry_out_name, first_carry_name, input_name};
-use ice_rows::{Index, first_sound};
+use ice_bits_rows::{Index, first_sound};
 
 // The first sound row from the one wire to the other, if there are both.
 #[tactic(auto, using(crate::proofs::Listed::link_is, crate::proofs::Listed::no_source, crate::proofs::Listed::no_target))]

@@ -5,8 +5,7 @@ ghost use Rattle.ice_graph.specs.Leading.{route_of};
 ghost use Rattle.ice_emit.specs.Holding.{holding, holder, noted, tree_holdings, all_holdings};
 ghost use Rattle.ice_emit.specs.Routed.{owner_from};
 
-use ice_base::{NoMemory, WireNo};
-use ice_cells::short;
+use ice_base::{NoMemory, WireNo, to_u32};
 use ice_graph::Tree;
 use std::alloc::Global;
 
@@ -62,7 +61,7 @@ fn no_owners(alloc: Global, wires: u32) -> Result<Vec<Option<u32>>, NoMemory>
 pub fn owners_of(alloc: Global, wires: u32, trees: &[Tree]) -> Result<Vec<Option<u32>>, NoMemory>
     ensures { IfOk result (λ owners. owners.items ≡ table (owner_from 0 (map route_of trees.now)) wires) }
 {
-    short(trees.len())?;
+    to_u32(trees.len())?;
     let mut owners = no_owners(alloc, wires)?;
     note_trees(&mut owners, trees);
     Ok(owners)

@@ -3,7 +3,7 @@ ghost use Rattle.std.specs.Prelude.{◌≡◌, slice_get};
 
 use ice_base::TileAt;
 use ice_graph::Tree;
-use ice_nets::{Placed, Wires};
+use ice_emit_nets::{Placed, Wires};
 
 /// A placed and routed design.
 #[derive(Clone, Copy)]

@@ -2,9 +2,9 @@
 ghost use Rattle.std.specs.Prelude.{◌≡◌, ◌++◌, flat_map, OnOk};
 ghost use Rattle.std.specs.Option.{option_and_then};
 ghost use Rattle.ice_chip.specs.Database.{Parts};
-ghost use Rattle.ice_written.specs.Links.{tree_switch, listed};
+ghost use Rattle.ice_emit_defs.specs.Links.{tree_switch, listed};
 ghost use Rattle.ice_emit.specs.Views.{rows_in};
-ghost use Rattle.ice_settings.specs.Views.{switches};
+ghost use Rattle.ice_emit_settings.specs.Views.{switches};
 
 use ice_base::{NoMemory, RowNo};
 use ice_graph::Tree;

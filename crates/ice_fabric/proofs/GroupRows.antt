@@ -4,8 +4,8 @@ use Rattle.std.proofs.lemmas.List.{at_drop_more, at_drop_all}
 use Rattle.ice_base.specs.declared.number.TileAt.{TileAt}
 use Rattle.ice_graph.specs.declared.edge.Edge.{Edge}
 use Rattle.ice_chip.specs.Database.{Parts, SwitchRow, SwitchGroup}
-use Rattle.ice_rows.specs.Usable.{is_open, is_usable}
-use Rattle.ice_rows.proofs.Taken.{unusable}
+use Rattle.ice_bits_rows.specs.Usable.{is_open, is_usable}
+use Rattle.ice_bits_rows.proofs.Taken.{unusable}
 use Rattle.ice_fabric.specs.Edges.{edge, edges_of, edges_from, places_of, places_from, usable_places, usable_rows}
 
 -- there is none in a group that is not open

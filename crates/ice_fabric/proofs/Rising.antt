@@ -5,7 +5,7 @@ use Rattle.ice_graph.specs.declared.edge.Edge.{Edge}
 use Rattle.ice_graph.specs.Network.{AreBetween, RowsRise}
 use Rattle.ice_chip.specs.Database.{Parts, SwitchRow, SwitchGroup}
 use Rattle.ice_chip.specs.IsRead.{HasWiresBelow, AreNumbered, IsRead}
-use Rattle.ice_rows.specs.Usable.{is_usable}
+use Rattle.ice_bits_rows.specs.Usable.{is_usable}
 use Rattle.ice_fabric.specs.Edges.{edge, edges_of, edges_from, usable_rows}
 
 -- the rows rise from one number to below another

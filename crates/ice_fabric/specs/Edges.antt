@@ -3,7 +3,7 @@ use Rattle.std.specs.Prelude.{ℕ, ◌+◌, List, [], ◌∷◌, ◌++◌, if◌
 use Rattle.ice_base.specs.declared.number.TileAt.{TileAt}
 use Rattle.ice_graph.specs.declared.edge.Edge.{Edge}
 use Rattle.ice_chip.specs.Database.{Parts, SwitchRow, SwitchGroup}
-use Rattle.ice_rows.specs.Usable.{is_usable}
+use Rattle.ice_bits_rows.specs.Usable.{is_usable}
 
 abbrev pub edge : SwitchGroup → ℕ → SwitchRow → Edge
 edge g n r = record { row = record { 0 = n }; from = record { 0 = r.source }; to = record { 0 = g.wire } }

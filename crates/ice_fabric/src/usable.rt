@@ -4,15 +4,15 @@ ghost use Rattle.std.specs.List.{Contains};
 ghost use Rattle.ice_chip.specs.IsRead.{HasWiresBelow};
 ghost use Rattle.ice_chip.specs.Limits.{most_rows};
 ghost use Rattle.ice_chip.specs.Views.{row_view, group_view};
-ghost use Rattle.ice_rows.specs.Index.{IsIndexOf};
-ghost use Rattle.ice_rows.specs.Sources.{AreSources};
+ghost use Rattle.ice_bits_rows.specs.Index.{IsIndexOf};
+ghost use Rattle.ice_bits_rows.specs.Sources.{AreSources};
 ghost use Rattle.ice_graph.specs.Network.{ArePlaces};
 ghost use Rattle.ice_fabric.specs.Edges.{edges_of, places_of, usable_places, usable_rows};
 
 use ice_base::{NoMemory, RowNo, TileAt};
 use ice_chip::{Chip, Group};
 use ice_graph::{Edge, Graph};
-use ice_rows::{Index, index_of, is_open, is_plain, is_taken, sources_of};
+use ice_bits_rows::{Index, index_of, is_open, is_plain, is_taken, sources_of};
 use std::alloc::Global;
 
 // Adds an edge and the tile of its group, where its row is taken.

@@ -3,31 +3,31 @@ use Rattle.std.proofs.Common.{◌≡◌, ◌∙◌, ℕ, Option, None, Some, Lis
 use Rattle.clap.specs.Words.{Text, takes, subcommand_of}
 use Rattle.ice_desk.specs.Desk.{Meaning, SameButSaying}
 use Rattle.ice_desk.specs.Said.{SaidRow}
-use Rattle.ice_request.specs.Command.{command}
-use Rattle.ice_request.specs.Requests.{Asked, Build, Back, PlayNet, PlayBits, Time, Sample, ForBuild, ForBack, ForPlayNet, ForPlayBits, ForTime, ForSample, is_taken, asked_in, request_of}
-use Rattle.ice_answer.specs.declared.cause.Cause.{Cause}
-use Rattle.ice_answer.specs.declared.cause.Cause.TheVariants.{Usage, NoMemory}
-use Rattle.ice_answer.specs.declared.cause.Done.{Done}
-use Rattle.ice_answer.specs.Causes.{status_of, line_of}
-use Rattle.ice_answer.specs.Commands.{Command, Output, Aloud, InFiles, IsTrueOf}
-use Rattle.ice_answer.specs.Ends.{IsEndOf}
-use Rattle.ice_answer.specs.Reading.{File, TellsLong}
-use Rattle.ice_answer.specs.Refusals.{IsKnown}
-use Rattle.ice_answer.specs.Rows.{SaidBy, MadeRow, SilentRow}
-use Rattle.ice_answer.proofs.CommandRows as answers
-use Rattle.ice_answer.proofs.CommandRows.{known, asked}
-use Rattle.ice_back_files.proofs.BackLaws as back
-use Rattle.ice_back_files.specs.Command.{back_files}
-use Rattle.ice_build_files.proofs.BuildLaws as built
-use Rattle.ice_build_files.specs.Command.{build_files}
-use Rattle.ice_play.proofs.PlayLaws as play
-use Rattle.ice_play.specs.Played.{PlayNet as NetPlay, play_net}
-use Rattle.ice_play_bits.proofs.BitsLaws as bits
-use Rattle.ice_play_bits.specs.Played.{PlayBits as BitsPlay, play_bits}
+use Rattle.ice_flow_words.specs.Command.{command}
+use Rattle.ice_flow_words.specs.Requests.{Asked, Build, Back, PlayNet, PlayBits, Time, Sample, ForBuild, ForBack, ForPlayNet, ForPlayBits, ForTime, ForSample, is_taken, asked_in, request_of}
+use Rattle.ice_flow_frame.specs.declared.cause.Cause.{Cause}
+use Rattle.ice_flow_frame.specs.declared.cause.Cause.TheVariants.{Usage, NoMemory}
+use Rattle.ice_flow_frame.specs.declared.cause.Done.{Done}
+use Rattle.ice_flow_frame.specs.Causes.{status_of, line_of}
+use Rattle.ice_flow_frame.specs.Commands.{Command, Output, Aloud, InFiles, IsTrueOf}
+use Rattle.ice_flow_frame.specs.Ends.{IsEndOf}
+use Rattle.ice_flow_frame.specs.Reading.{File, TellsLong}
+use Rattle.ice_flow_frame.specs.Refusals.{IsKnown}
+use Rattle.ice_flow_frame.specs.Rows.{SaidBy, MadeRow, SilentRow}
+use Rattle.ice_flow_frame.proofs.CommandRows as answers
+use Rattle.ice_flow_frame.proofs.CommandRows.{known, asked}
+use Rattle.ice_flow_back_cmd.proofs.BackLaws as back
+use Rattle.ice_flow_back_cmd.specs.Command.{back_files}
+use Rattle.ice_flow_build_cmd.proofs.BuildLaws as built
+use Rattle.ice_flow_build_cmd.specs.Command.{build_files}
+use Rattle.ice_flow_play_net_cmd.proofs.PlayLaws as play
+use Rattle.ice_flow_play_net_cmd.specs.Played.{PlayNet as NetPlay, play_net}
+use Rattle.ice_flow_play_bits_cmd.proofs.BitsLaws as bits
+use Rattle.ice_flow_play_bits_cmd.specs.Played.{PlayBits as BitsPlay, play_bits}
 use Rattle.ice_flow_time_cmd.proofs.TimeLaws as timing
 use Rattle.ice_flow_time_cmd.specs.Timings.{Time as BitsTime, time}
-use Rattle.ice_sample_run.proofs.SampleLaws as sample
-use Rattle.ice_sample_run.specs.Command.{sample as sample_command}
+use Rattle.ice_flow_sample_cmd.proofs.SampleLaws as sample
+use Rattle.ice_flow_sample_cmd.specs.Command.{sample as sample_command}
 use Rattle.ice_flow.specs.Command.{asked_for, build_of, back_of, play_of, bits_of, time_of, sample_of}
 use Rattle.ice_flow.specs.Ends.{IsDoneAs, IsRefusedAs}
 use Rattle.ice_flow.specs.Plays.{IsNetAnswer, IsBitsAnswer, IsTimeAnswer}

@@ -1,20 +1,20 @@
 -- The commands that words ask for.
-use Rattle.ice_build.specs.declared.answer.Effort.{Effort}
-use Rattle.ice_build_files.specs.Asked as build
-use Rattle.ice_build_files.specs.Command.{build_files}
-use Rattle.ice_back_files.specs.Asked as back
-use Rattle.ice_back_files.specs.Command.{back_files}
-use Rattle.ice_play.specs.Played as play
-use Rattle.ice_play.specs.Played.{play_net}
-use Rattle.ice_play_bits.specs.Played as bits
-use Rattle.ice_play_bits.specs.Played.{play_bits}
+use Rattle.ice_flow_build.specs.declared.answer.Effort.{Effort}
+use Rattle.ice_flow_build_cmd.specs.Asked as build
+use Rattle.ice_flow_build_cmd.specs.Command.{build_files}
+use Rattle.ice_flow_back_cmd.specs.Asked as back
+use Rattle.ice_flow_back_cmd.specs.Command.{back_files}
+use Rattle.ice_flow_play_net_cmd.specs.Played as play
+use Rattle.ice_flow_play_net_cmd.specs.Played.{play_net}
+use Rattle.ice_flow_play_bits_cmd.specs.Played as bits
+use Rattle.ice_flow_play_bits_cmd.specs.Played.{play_bits}
 use Rattle.ice_flow_time_cmd.specs.Timings as timing
 use Rattle.ice_flow_time_cmd.specs.Timings.{time}
-use Rattle.ice_sample_run.specs.Samples as sample
-use Rattle.ice_sample_run.specs.Command.{sample}
-use Rattle.ice_answer.specs.Commands.{Command}
-use Rattle.ice_request.specs.Requests.{Asked, ForBuild, ForBack, ForPlayNet, ForPlayBits, ForTime, ForSample}
-use Rattle.ice_request.specs.Requests as words
+use Rattle.ice_flow_sample_cmd.specs.Samples as sample
+use Rattle.ice_flow_sample_cmd.specs.Command.{sample}
+use Rattle.ice_flow_frame.specs.Commands.{Command}
+use Rattle.ice_flow_words.specs.Requests.{Asked, ForBuild, ForBack, ForPlayNet, ForPlayBits, ForTime, ForSample}
+use Rattle.ice_flow_words.specs.Requests as words
 
 -- how long a build tries, and from where
 abbrev pub effort_of : words.Build → Effort

@@ -2,13 +2,13 @@
 use Rattle.std.specs.Prelude.{◌≡◌, true}
 use Rattle.ice_desk.specs.Desk.{Meaning, SameButSaying}
 use Rattle.ice_desk.specs.Said.{SaidRow}
-use Rattle.ice_request.specs.Requests.{Asked, ForSample}
-use Rattle.ice_answer.specs.declared.cause.Cause.{Cause}
-use Rattle.ice_answer.specs.declared.cause.Done.{Done}
-use Rattle.ice_answer.specs.Causes.{status_of, line_of}
-use Rattle.ice_answer.specs.Ends.{IsEndOf}
-use Rattle.ice_answer.specs.Reading.{TellsLong}
-use Rattle.ice_answer.specs.Says.{SilentWhereDone}
+use Rattle.ice_flow_words.specs.Requests.{Asked, ForSample}
+use Rattle.ice_flow_frame.specs.declared.cause.Cause.{Cause}
+use Rattle.ice_flow_frame.specs.declared.cause.Done.{Done}
+use Rattle.ice_flow_frame.specs.Causes.{status_of, line_of}
+use Rattle.ice_flow_frame.specs.Ends.{IsEndOf}
+use Rattle.ice_flow_frame.specs.Reading.{TellsLong}
+use Rattle.ice_flow_frame.specs.Says.{SilentWhereDone}
 use Rattle.ice_flow.specs.Command.{asked_for}
 
 -- where the file that was begun last gave more than the limit, a command that reads files says that a text is too long

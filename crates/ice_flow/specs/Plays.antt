@@ -1,12 +1,12 @@
 -- The end of a command that plays or times, clause by clause.
 use Rattle.std.specs.Prelude.{ℕ}
 use Rattle.ice_desk.specs.Desk.{Meaning}
-use Rattle.ice_answer.specs.declared.cause.Done.{Done}
-use Rattle.ice_answer.specs.Rows.{DoneRow, GoodRow, ReadFaultRow, WriteFaultRow, TooLongRow}
-use Rattle.ice_play.specs.Played.{PlayNet, play_net}
-use Rattle.ice_play.specs.PlayRows as play
-use Rattle.ice_play_bits.specs.Played.{PlayBits, play_bits}
-use Rattle.ice_play_bits.specs.BitsRows as bits
+use Rattle.ice_flow_frame.specs.declared.cause.Done.{Done}
+use Rattle.ice_flow_frame.specs.Rows.{DoneRow, GoodRow, ReadFaultRow, WriteFaultRow, TooLongRow}
+use Rattle.ice_flow_play_net_cmd.specs.Played.{PlayNet, play_net}
+use Rattle.ice_flow_play_net_cmd.specs.PlayRows as play
+use Rattle.ice_flow_play_bits_cmd.specs.Played.{PlayBits, play_bits}
+use Rattle.ice_flow_play_bits_cmd.specs.BitsRows as bits
 use Rattle.ice_flow_time_cmd.specs.Timings.{Time, time}
 use Rattle.ice_flow_time_cmd.specs.TimeRows as timing
 

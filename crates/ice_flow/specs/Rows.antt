@@ -3,16 +3,16 @@ use Rattle.std.specs.Prelude.{◌≡◌, ◌⊎◌, ℕ, false, Option, None, So
 use Rattle.clap.specs.Words.{Text, takes}
 use Rattle.ice_desk.specs.Desk.{Meaning, SameButSaying}
 use Rattle.ice_desk.specs.Said.{SaidRow}
-use Rattle.ice_request.specs.Command.{command}
-use Rattle.ice_request.specs.Requests.{Asked, Build, Back, PlayNet, PlayBits, Time, Sample, ForBuild, ForBack, ForPlayNet, ForPlayBits, ForTime, ForSample}
-use Rattle.ice_answer.specs.declared.cause.Cause.{Cause}
-use Rattle.ice_answer.specs.declared.cause.Cause.TheVariants.{Usage, NoMemory}
-use Rattle.ice_answer.specs.Causes.{line_of}
-use Rattle.ice_answer.specs.Commands.{IsTrueOf}
-use Rattle.ice_answer.specs.Reading.{TellsLong}
-use Rattle.ice_answer.specs.Refusals.{IsKnown}
-use Rattle.ice_answer.specs.Rows as answers
-use Rattle.ice_answer.specs.Rows.{SaidBy}
+use Rattle.ice_flow_words.specs.Command.{command}
+use Rattle.ice_flow_words.specs.Requests.{Asked, Build, Back, PlayNet, PlayBits, Time, Sample, ForBuild, ForBack, ForPlayNet, ForPlayBits, ForTime, ForSample}
+use Rattle.ice_flow_frame.specs.declared.cause.Cause.{Cause}
+use Rattle.ice_flow_frame.specs.declared.cause.Cause.TheVariants.{Usage, NoMemory}
+use Rattle.ice_flow_frame.specs.Causes.{line_of}
+use Rattle.ice_flow_frame.specs.Commands.{IsTrueOf}
+use Rattle.ice_flow_frame.specs.Reading.{TellsLong}
+use Rattle.ice_flow_frame.specs.Refusals.{IsKnown}
+use Rattle.ice_flow_frame.specs.Rows as answers
+use Rattle.ice_flow_frame.specs.Rows.{SaidBy}
 use Rattle.ice_flow.specs.Command.{asked_for}
 
 -- ---- the words

@@ -2,12 +2,12 @@
 use Rattle.std.specs.Prelude.{◌≡◌, true, Option, Some, List}
 use Rattle.clap.specs.Words.{Text}
 use Rattle.ice_desk.specs.Desk.{Meaning}
-use Rattle.ice_answer.specs.declared.cause.Done.{Done}
-use Rattle.ice_answer.specs.Causes.{status_of}
-use Rattle.ice_build_files.specs.BuildRows.{HeadlineRow, IsBuildAnswer}
-use Rattle.ice_back_files.specs.BackRows.{IsBackAnswer}
-use Rattle.ice_sample_run.specs.SampleRows.{IsSampleAnswer}
-use Rattle.ice_request.specs.Requests.{Asked, Build, ForBuild, request_of}
+use Rattle.ice_flow_frame.specs.declared.cause.Done.{Done}
+use Rattle.ice_flow_frame.specs.Causes.{status_of}
+use Rattle.ice_flow_build_cmd.specs.BuildRows.{HeadlineRow, IsBuildAnswer}
+use Rattle.ice_flow_back_cmd.specs.BackRows.{IsBackAnswer}
+use Rattle.ice_flow_sample_cmd.specs.SampleRows.{IsSampleAnswer}
+use Rattle.ice_flow_words.specs.Requests.{Asked, Build, ForBuild, request_of}
 use Rattle.ice_flow.specs.Command.{build_of, back_of, play_of, bits_of, time_of, sample_of}
 use Rattle.ice_flow.specs.Plays.{IsNetAnswer, IsBitsAnswer, IsTimeAnswer}
 use Rattle.ice_flow.specs.Rows.{Caused, Builds, BacksUp, Plays, PlaysBits, Times, Samples, UsageRow, NoMemoryRow, SaidByWords, KeptRow, MadeRow, SilentRow, PartedRow}

@@ -4,5 +4,5 @@
 mod request;
 mod top_call;
 
-pub use ice_answer::{Cause, Done, FileRole};
+pub use ice_flow_frame::{Cause, Done, FileRole};
 pub use top_call::run;

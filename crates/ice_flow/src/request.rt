@@ -1,25 +1,25 @@
 //! From what the words ask for to the requests of the commands.
 ghost use Rattle.std.specs.Prelude.{◌≡◌, ◌≤◌};
-ghost use Rattle.ice_build.specs.Stages.{IsPermitted};
-ghost use Rattle.ice_build_files.specs.Requests as build;
-ghost use Rattle.ice_back_files.specs.Requests as back;
-ghost use Rattle.ice_play.specs.Requests as play;
-ghost use Rattle.ice_play_bits.specs.Requests as bits;
+ghost use Rattle.ice_flow_build.specs.Stages.{IsPermitted};
+ghost use Rattle.ice_flow_build_cmd.specs.Requests as build;
+ghost use Rattle.ice_flow_back_cmd.specs.Requests as back;
+ghost use Rattle.ice_flow_play_net_cmd.specs.Requests as play;
+ghost use Rattle.ice_flow_play_bits_cmd.specs.Requests as bits;
 ghost use Rattle.ice_flow_time_cmd.specs.Requests as timing;
-ghost use Rattle.ice_request.specs.Views.{build_view, back_view, net_view, bits_view, time_view, sample_view, IsInLimits};
-ghost use Rattle.ice_request.specs.declared.request.Request.TheVariants as asked;
-ghost use Rattle.ice_sample_run.specs.Requests as sample;
-ghost use Rattle.ice_sample_run.specs.Samples.{IsManned};
+ghost use Rattle.ice_flow_words.specs.Views.{build_view, back_view, net_view, bits_view, time_view, sample_view, IsInLimits};
+ghost use Rattle.ice_flow_words.specs.declared.request.Request.TheVariants as asked;
+ghost use Rattle.ice_flow_sample_cmd.specs.Requests as sample;
+ghost use Rattle.ice_flow_sample_cmd.specs.Samples.{IsManned};
 ghost use Rattle.ice_flow.specs.Command.{build_of, back_of, play_of, bits_of, time_of, sample_of};
 
-use ice_back_files::BackRequest;
-use ice_build::Effort;
-use ice_build_files::BuildRequest;
+use ice_flow_back_cmd::BackRequest;
+use ice_flow_build::Effort;
+use ice_flow_build_cmd::BuildRequest;
 use ice_flow_time_cmd::TimeRequest;
-use ice_play::NetRequest;
-use ice_play_bits::BitsRequest;
-use ice_request::{BackWords, BitsWords, BuildWords, NetWords, TimeWords};
-use ice_sample_run::SampleRequest;
+use ice_flow_play_net_cmd::NetRequest;
+use ice_flow_play_bits_cmd::BitsRequest;
+use ice_flow_words::{BackWords, BitsWords, BuildWords, NetWords, TimeWords};
+use ice_flow_sample_cmd::SampleRequest;
 
 /// What the words of a build ask for.
 pub fn build_request<'a>(words: &BuildWords<'a>) -> BuildRequest<'a>

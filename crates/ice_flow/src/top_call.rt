@@ -1,8 +1,8 @@
 //! The top call: from the words of the program to its status.
 ghost use Rattle.std.specs.Prelude.{Some, map, string_bytes};
-ghost use Rattle.ice_request.specs.Requests.{request_of, ForBuild, ForBack, ForPlayNet, ForPlayBits, ForTime, ForSample};
-ghost use Rattle.ice_request.specs.Views.{request_view, build_view, back_view, net_view, bits_view, time_view, sample_view, IsInLimits};
-ghost use Rattle.ice_request.specs.declared.request.Request.TheVariants as asked;
+ghost use Rattle.ice_flow_words.specs.Requests.{request_of, ForBuild, ForBack, ForPlayNet, ForPlayBits, ForTime, ForSample};
+ghost use Rattle.ice_flow_words.specs.Views.{request_view, build_view, back_view, net_view, bits_view, time_view, sample_view, IsInLimits};
+ghost use Rattle.ice_flow_words.specs.declared.request.Request.TheVariants as asked;
 ghost use Rattle.ice_flow.specs.Ends.{IsDoneAs};
 ghost use Rattle.ice_flow.specs.Rows.{MayUse};
 ghost use Rattle.ice_flow.specs.Run.{IsAnswer};
@@ -10,17 +10,17 @@ ghost use Rattle.ice_flow.specs.Run.{IsAnswer};
 use crate::request::{
     back_request, bits_request, build_request, net_request, sample_request, time_request,
 };
-use ice_answer::{Cause, Done, finish};
-use ice_back_files::back_files;
-use ice_build_files::build_files;
+use ice_flow_frame::{Cause, Done, finish};
+use ice_flow_back_cmd::back_files;
+use ice_flow_build_cmd::build_files;
 use ice_desk::{Desk, Gate};
 use ice_flow_time_cmd::time;
-use ice_play::play_net;
-use ice_play_bits::play_bits;
-use ice_request::{
+use ice_flow_play_net_cmd::play_net;
+use ice_flow_play_bits_cmd::play_bits;
+use ice_flow_words::{
     BackWords, BitsWords, BuildWords, NetWords, Request, TimeWords, WordsFault, read_request,
 };
-use ice_sample_run::sample;
+use ice_flow_sample_cmd::sample;
 use std::alloc::Global;
 use std::thread::Threads;
 

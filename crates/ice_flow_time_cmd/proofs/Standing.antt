@@ -6,13 +6,13 @@ use Rattle.ice_timing_delays.specs.declared.delays.Delays.{Delays}
 use Rattle.ice_timing_delays.specs.DelayTexts.{delays_of}
 use Rattle.ice_timing_delays.specs.declared.fault.DelayFault.{DelayFault}
 use Rattle.ice_timing_delays.specs.declared.fault.DelayFault.TheVariants.{BadLine}
-use Rattle.ice_answer.specs.declared.cause.Cause.{Cause}
-use Rattle.ice_answer.specs.declared.cause.Cause.TheVariants.{BadDelays}
-use Rattle.ice_answer.specs.Commands.{IsDone, IsRefusal}
-use Rattle.ice_answer.specs.Texts.{text_at}
-use Rattle.ice_answer.proofs.Standings.{at_fault}
-use Rattle.ice_bits_files.specs.Standing.{IsConfigured}
-use Rattle.ice_bits_files.proofs.Looks.{configured_so}
+use Rattle.ice_flow_frame.specs.declared.cause.Cause.{Cause}
+use Rattle.ice_flow_frame.specs.declared.cause.Cause.TheVariants.{BadDelays}
+use Rattle.ice_flow_frame.specs.Commands.{IsDone, IsRefusal}
+use Rattle.ice_flow_frame.specs.Texts.{text_at}
+use Rattle.ice_flow_frame.proofs.Standings.{at_fault}
+use Rattle.ice_flow_chip_frame.specs.Standing.{IsConfigured}
+use Rattle.ice_flow_chip_frame.proofs.Looks.{configured_so}
 use Rattle.ice_flow_time_cmd.specs.Timings.{delays_cause, DelaysStand, Stands, IsLongestText, IsTimed}
 
 -- what was made of a circuit that has these bits

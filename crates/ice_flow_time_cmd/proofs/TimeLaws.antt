@@ -6,17 +6,17 @@ use Rattle.ice_timing_delays.specs.declared.delays.Delays.{Delays}
 use Rattle.ice_timing_delays.specs.declared.fault.DelayFault.{DelayFault}
 use Rattle.ice_timing_delays.specs.declared.fault.DelayFault.TheVariants.{BadLine}
 use Rattle.ice_timing_delays.specs.DelayTexts.{delays_of}
-use Rattle.ice_answer.specs.declared.cause.Cause.{Cause}
-use Rattle.ice_answer.specs.declared.cause.Cause.TheVariants.{Usage, BadDelays}
-use Rattle.ice_answer.specs.Commands.{IsDone, IsTrueOf}
-use Rattle.ice_answer.specs.Texts.{text_at}
-use Rattle.ice_answer.proofs.CommandRows.{Lawful, StandsAlone, comes}
-use Rattle.ice_answer.proofs.Standings.{behind, fault_alone, then_stands, of_done}
-use Rattle.ice_answer.proofs.TextFacts.{of_weaker}
-use Rattle.ice_bits_files.proofs.Looks.{then_so, configured_so}
-use Rattle.ice_bits_files.proofs.RowLaws as bits
-use Rattle.ice_bits_files.proofs.RowLaws.{IsLater, IsOnBits}
-use Rattle.ice_bits_files.proofs.Told.{Refuses, IsBehind, told}
+use Rattle.ice_flow_frame.specs.declared.cause.Cause.{Cause}
+use Rattle.ice_flow_frame.specs.declared.cause.Cause.TheVariants.{Usage, BadDelays}
+use Rattle.ice_flow_frame.specs.Commands.{IsDone, IsTrueOf}
+use Rattle.ice_flow_frame.specs.Texts.{text_at}
+use Rattle.ice_flow_frame.proofs.CommandRows.{Lawful, StandsAlone, comes}
+use Rattle.ice_flow_frame.proofs.Standings.{behind, fault_alone, then_stands, of_done}
+use Rattle.ice_flow_frame.proofs.TextFacts.{of_weaker}
+use Rattle.ice_flow_chip_frame.proofs.Looks.{then_so, configured_so}
+use Rattle.ice_flow_chip_frame.proofs.RowLaws as bits
+use Rattle.ice_flow_chip_frame.proofs.RowLaws.{IsLater, IsOnBits}
+use Rattle.ice_flow_chip_frame.proofs.Told.{Refuses, IsBehind, told}
 use Rattle.ice_flow_time_cmd.specs.Timings.{Time, files_of, delays_cause, DelaysStand, Stands, HasBadDelays, time}
 use Rattle.ice_flow_time_cmd.specs.TimeRows.{ChipRow, AscRow, PackageRow, BitsRow, DelaysRow}
 

@@ -2,10 +2,10 @@
 -- answers come as those of every command.
 use Rattle.std.specs.Prelude.{◌≡◌, ℕ}
 use Rattle.ice_desk.specs.Desk.{Meaning}
-use Rattle.ice_answer.specs.declared.cause.Cause.{Cause}
-use Rattle.ice_answer.specs.declared.cause.Cause.TheVariants.{BadDelays}
-use Rattle.ice_answer.specs.Rows.{ComesExactly}
-use Rattle.ice_bits_files.specs.Rows as bits
+use Rattle.ice_flow_frame.specs.declared.cause.Cause.{Cause}
+use Rattle.ice_flow_frame.specs.declared.cause.Cause.TheVariants.{BadDelays}
+use Rattle.ice_flow_frame.specs.Rows.{ComesExactly}
+use Rattle.ice_flow_chip_frame.specs.Rows as bits
 use Rattle.ice_flow_time_cmd.specs.Timings.{Time, HasBadDelays, time}
 
 -- status 5: exactly where the chip text has a fault, with the first one

@@ -11,15 +11,15 @@ use Rattle.ice_timing_delays.specs.DelayTexts.{delays_of}
 use Rattle.ice_timing.specs.declared.end.TimedPath.{TimedPath}
 use Rattle.ice_timing.specs.Timed.{IsFound}
 use Rattle.ice_timing.specs.PathText.{path_text}
-use Rattle.ice_answer.specs.declared.cause.Cause.{Cause}
-use Rattle.ice_answer.specs.declared.cause.Cause.TheVariants.{BadDelays}
-use Rattle.ice_answer.specs.declared.cause.FileRole.TheVariants.{Chip, Asc, Delays}
-use Rattle.ice_answer.specs.Causes.{no_arrangement}
-use Rattle.ice_answer.specs.Commands.{Command, command_of, Aloud, IsDone, stands_by}
-use Rattle.ice_answer.specs.Reading.{Files}
-use Rattle.ice_answer.specs.Texts.{text_at}
-use Rattle.ice_bits_files.specs.Standing as bits
-use Rattle.ice_bits_files.specs.Standing.{IsConfigured}
+use Rattle.ice_flow_frame.specs.declared.cause.Cause.{Cause}
+use Rattle.ice_flow_frame.specs.declared.cause.Cause.TheVariants.{BadDelays}
+use Rattle.ice_flow_frame.specs.declared.cause.FileRole.TheVariants.{Chip, Asc, Delays}
+use Rattle.ice_flow_frame.specs.Causes.{no_arrangement}
+use Rattle.ice_flow_frame.specs.Commands.{Command, command_of, Aloud, IsDone, stands_by}
+use Rattle.ice_flow_frame.specs.Reading.{Files}
+use Rattle.ice_flow_frame.specs.Texts.{text_at}
+use Rattle.ice_flow_chip_frame.specs.Standing as bits
+use Rattle.ice_flow_chip_frame.specs.Standing.{IsConfigured}
 use Rattle.ice_words.specs.Grips.{Shut}
 
 -- the words of `time CHIP PACKAGE ASC DELAYS`: names of files, and the name of a package

@@ -1,17 +1,17 @@
 //! Timing bits: three texts are read, and the text of a longest path is said.
 ghost use Rattle.std.specs.Prelude.{◌≡◌, ◌∷◌, ℕ, List, true, None, Ok, IfOk, IfErr};
-ghost use Rattle.ice_answer.specs.Causes.{status_of};
-ghost use Rattle.ice_answer.specs.Commands.{Aloud, IsRefusal, IsTrueOf};
-ghost use Rattle.ice_answer.specs.Reading.{TellsLong};
-ghost use Rattle.ice_answer.specs.Rows.{SaidBy, KeptRow};
+ghost use Rattle.ice_flow_frame.specs.Causes.{status_of};
+ghost use Rattle.ice_flow_frame.specs.Commands.{Aloud, IsRefusal, IsTrueOf};
+ghost use Rattle.ice_flow_frame.specs.Reading.{TellsLong};
+ghost use Rattle.ice_flow_frame.specs.Rows.{SaidBy, KeptRow};
 ghost use Rattle.ice_bits.specs.Configuration.{bits_of};
 ghost use Rattle.ice_chip_read.specs.Whole.{chip_says};
 ghost use Rattle.ice_decode.specs.Refusals.{IsCircuitOf};
-ghost use Rattle.ice_bits_files.specs.Standing.{IsRead};
+ghost use Rattle.ice_flow_chip_frame.specs.Standing.{IsRead};
 ghost use Rattle.ice_flow_time_cmd.specs.Timings.{delays_cause, Stands, IsLongestText, IsMade, time};
 ghost use Rattle.ice_flow_time_cmd.specs.Requests.{request_view};
 
-use ice_answer::{
+use ice_flow_frame::{
     Cause, CommandFile, Done, FileRole, Made, Texts, asc_refusal, bits_refusal, chip_refusal,
     made_text,
 };
@@ -19,8 +19,8 @@ use ice_asc::read_asc;
 use ice_base::NoMemory;
 use ice_bits::Bits;
 use ice_chip::Chip;
-use ice_chip_pieces::ChipReader;
-use ice_chip_texts::{ChipMaking, say_made_on_chip};
+use ice_chip_read_pieces::ChipReader;
+use ice_flow_chip_frame::{ChipMaking, say_made_on_chip};
 use ice_decode::{Circuit, decode};
 use ice_desk::Desk;
 use ice_pads::PinFault;

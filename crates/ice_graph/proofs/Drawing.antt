@@ -6,7 +6,7 @@ use Rattle.std.proofs.lemmas.Nat.Bits.{bit_at_or, bit_at-lt, bit_at-zero, bit_at
 use Rattle.std.proofs.lemmas.Option.{same_Some, slice_get_within}
 use Rattle.ice_graph.specs.declared.edge.Edge.{Edge}
 use Rattle.std.proofs.lemmas.List.{length_push}
-use Rattle.ice_value.proofs.Places.{At_push_cases, At_push_old}
+use Rattle.ice_base_values.proofs.Places.{At_push_cases, At_push_old}
 use Rattle.ice_graph.specs.Levels.{AreAll, AreLevels, Draws, Reaches}
 
 -- ---- bits

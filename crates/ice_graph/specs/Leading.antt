@@ -2,7 +2,7 @@
 use Rattle.std.specs.Prelude.{◌≡◌, ℕ, ◌+◌, ◌≤◌, ◌⊎◌, List, [], ◌∷◌, Some, length, slice_get}
 use Rattle.ice_base.specs.declared.number.WireNo.{WireNo}
 use Rattle.ice_base.specs.declared.number.RowNo.{RowNo}
-use Rattle.ice_value.specs.Order.{At, Has}
+use Rattle.ice_base_values.specs.Order.{At, Has}
 use Rattle.ice_graph.specs.declared.edge.Edge.{Edge}
 use Rattle.ice_graph.specs.declared.tree.Tree.{Tree}
 use Rattle.ice_graph.specs.Walks.{HasEdge}

@@ -1,7 +1,7 @@
 //! Boxes around wires, by the places of their edges.
 ghost use Rattle.std.specs.Prelude.{◌≡◌, ◌+◌, ◌<◌, ◌≤◌, ℕ, Option, Some, None, length, slice_get, slice_set, IfOk};
 ghost use Rattle.ice_base.specs.declared.number.TileAt.{TileAt as Tile};
-ghost use Rattle.ice_graph.specs.declared.edge.Edge.{Edge as Row};
+ghost use Rattle.ice_graph.specs.declared.edge.Edge.{Edge as GraphEdge};
 ghost use Rattle.ice_graph.specs.Boxes.{AreBoxes, AreBoxesUpTo, IsBoxOf, IsSpread, box_of, grown_by};
 ghost use Rattle.ice_graph.specs.Network.{AreBetween};
 

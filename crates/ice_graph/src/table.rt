@@ -1,6 +1,6 @@
 //! The table of least hops.
 ghost use Rattle.std.specs.Prelude.{◌≡◌, ◌+◌, ◌<◌, ◌≤◌, ℕ, [], Some, Option, List, length, IfOk, OnOk, IfSome, slice_get};
-ghost use Rattle.ice_graph.specs.declared.edge.Edge.{Edge as Row};
+ghost use Rattle.ice_graph.specs.declared.edge.Edge.{Edge as GraphEdge};
 ghost use Rattle.ice_base.specs.declared.number.WireNo.{WireNo as Wire};
 ghost use Rattle.ice_graph.specs.Network.{AreBetween};
 ghost use Rattle.ice_graph.specs.Hops.{AreColumns, AreHops, IsTable, set_at};
@@ -55,7 +55,7 @@ fn push_columns(
 impl Hops {
     /// A table of no sets.
     pub fn none(alloc: Global) -> Hops
-        ensures { (edges : List Row) → IsTable edges result }
+        ensures { (edges : List GraphEdge) → IsTable edges result }
     {
         Hops {
             sets: Vec::new(alloc),
@@ -110,7 +110,7 @@ impl Hops {
     /// It is empty, and says nothing, where they are not all in one set.
     pub fn to(&self, targets: &[WireNo]) -> &[u8]
         requires { 0 < length targets.now }
-        ensures { (edges : List Row) → IsTable edges self.now → AreHops edges targets.now result.now }
+        ensures { (edges : List GraphEdge) → IsTable edges self.now → AreHops edges targets.now result.now }
     {
         let Some(set) = self.set_of_all(targets) else {
             return &[];

@@ -3,7 +3,7 @@
 
 use ice_desk::{HostDesk, OpenGate};
 use ice_flow::run;
-use ice_request::usage_for;
+use ice_flow_words::usage_for;
 use std::alloc::Global;
 use std::env::{self, Env};
 use std::io::{self, Eprint};

@@ -1,7 +1,5 @@
-pub mod Joining
-pub mod Leaving
-pub mod Advancing
 pub mod Listing
+pub mod Beginning
 pub mod Rounding
-pub mod Repeating
-pub mod Leading
+pub mod Verdict
+pub mod Stating

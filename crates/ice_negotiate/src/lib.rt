@@ -1,12 +1,8 @@
-//! Negotiated routing: the tree of a net, its sinks joined one by one, and, as definitions and laws, the rounds in which nets
-//! that share a wire move until none is shared.
+//! Rounds of negotiated congestion, each by workers on shared words, until no wire is overused or until no more are permitted.
 #![tactic(auto)]
 
-mod fault;
-pub mod laws;
-mod stop;
-mod tree;
+mod logs;
+mod rounds;
+mod start;
 
-pub use fault::{RouteFault, Routed};
-pub use stop::TreeStop;
-pub use tree::tree_of;
+pub use rounds::negotiate;

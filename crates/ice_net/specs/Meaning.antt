@@ -3,9 +3,9 @@ use Rattle.std.specs.Prelude.{ℕ, ◌+◌, ◌*◌, ◌/◌, ◌%◌, ◌^◌, 
 use Rattle.std.specs.Option.{option_map_or}
 use Rattle.std.specs.List.{zip}
 use Rattle.ice_base.specs.declared.number.SignalNo.{SignalNo}
-use Rattle.ice_value.specs.System.{System, value}
-use Rattle.ice_value.specs.Inputs.{present, gapped}
-use Rattle.ice_value.specs.Machine as machine
+use Rattle.ice_base_values.specs.System.{System, value}
+use Rattle.ice_base_values.specs.Inputs.{present, gapped}
+use Rattle.ice_base_values.specs.Machine as machine
 use Rattle.ice_net.specs.declared.cell.Cell.{Cell}
 use Rattle.ice_net.specs.declared.drive.Drive.{Drive}
 use Rattle.ice_net.specs.declared.kind.CellKind.{CellKind}

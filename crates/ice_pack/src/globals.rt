@@ -1,12 +1,12 @@
 //! What global buffers read.
 ghost use Rattle.std.specs.Prelude.{◌≡◌, ◌++◌, IfOk, OnOk};
 ghost use Rattle.ice_cells.specs.Packed.{global_by, globals_of};
-ghost use Rattle.ice_sinks.specs.Plans.{plan};
+ghost use Rattle.ice_pack_sinks.specs.Plans.{plan};
 
 use ice_base::NoMemory;
 use ice_cells::Root;
 use ice_net::{Cell, CellKind};
-use ice_sinks::{Slices, input_at, sink};
+use ice_pack_sinks::{Slices, input_at, sink};
 use std::alloc::Global;
 
 // Adds what a cell reads, where it is a global buffer.

@@ -5,19 +5,19 @@ ghost use Rattle.ice_cells.specs.Homes.{carriers_of, homes, openers};
 ghost use Rattle.ice_cells.specs.Origins.{origins};
 ghost use Rattle.ice_cells.specs.Uses.{bare_outputs};
 ghost use Rattle.ice_cells.specs.Packed.{one_if, needs_zero, plan_by, plan_of, pads_from, globals_of, unread_by, with_reads, packed};
-ghost use Rattle.ice_sinks.specs.Plans.{plan};
+ghost use Rattle.ice_pack_sinks.specs.Plans.{plan};
 ghost use Rattle.ice_pack.specs.Marks.{HasPort};
 ghost use Rattle.ice_pack.specs.Parts.{plan_with};
 
 use crate::globals::globals_of;
 use crate::pads::pads_from;
 use crate::reads::{marked_pads, marks_of};
-use ice_base::NoMemory;
-use ice_cells::{Design, DesignPad, Items, Origin, Root, short};
+use ice_base::{NoMemory, to_u32};
+use ice_cells::{Design, DesignPad, Items, Origin, Root};
 use ice_check::Sound;
 use ice_net::{Cell, Netlist, Port};
-use ice_share::{Facts, Homes, bare_outputs, facts_of, homes_of, origins};
-use ice_sinks::{Slices, carries_from, cells_by, needs_zero, roots_from};
+use ice_pack_share::{Facts, Homes, bare_outputs, facts_of, homes_of, origins};
+use ice_pack_sinks::{Slices, carries_from, cells_by, needs_zero, roots_from};
 use std::alloc::Global;
 
 // The pads of all ports, and what each global buffer reads.
@@ -74,7 +74,7 @@ fn next_if(number: u32, taken: bool) -> Result<u32, NoMemory>
     ensures { IfOk result (λ next. next ≡ number + one_if taken) }
 {
     let taken = if taken { 1 } else { 0 };
-    let next = short(number as usize + taken)?;
+    let next = to_u32(number as usize + taken)?;
     Ok(next)
 }
 
@@ -110,7 +110,7 @@ fn constants_of(
     ensures zero { IfOk result (λ r. r.0 ≡ length openers.now) }
     ensures one { IfOk result (λ r. r.1 ≡ length openers.now + one_if (needs_zero origins.now cells.now)) }
 {
-    let zero = short(openers.len())?;
+    let zero = to_u32(openers.len())?;
     let one = next_if(zero, needs_zero(origins, cells))?;
     Ok((zero, one))
 }

@@ -4,13 +4,13 @@ ghost use Rattle.ice_net.specs.Drives.{pad_uses};
 ghost use Rattle.ice_net.specs.Drivers.{pin_of};
 ghost use Rattle.ice_check.specs.Tables.{ArePlaces};
 ghost use Rattle.ice_cells.specs.Packed.{bare_drive, bare_type, bare_pad, buffered_pad, pad_by, pads_from};
-ghost use Rattle.ice_sinks.specs.Plans.{plan};
+ghost use Rattle.ice_pack_sinks.specs.Plans.{plan};
 ghost use Rattle.ice_pack.specs.Buffered.{pads_by};
 
-use ice_base::{NoMemory, SignalNo};
-use ice_cells::{DesignPad, Root, short};
+use ice_base::{NoMemory, SignalNo, to_u32};
+use ice_cells::{DesignPad, Root};
 use ice_net::{Cell, CellKind, Netlist, Port, Way};
-use ice_sinks::{Slices, input_at, sink};
+use ice_pack_sinks::{Slices, input_at, sink};
 use std::alloc::Global;
 
 // What the pad of a port without an SB_IO is driven with.
@@ -136,7 +136,7 @@ fn pads_by(
     let mut pads = Vec::new(alloc);
     for (k, port) in ports.iter().enumerate() {
         let buffer = buffer_of(buffers, port.signal);
-        pads.push(pad_by(slices, cells, short(k)?, *port, buffer))?;
+        pads.push(pad_by(slices, cells, to_u32(k)?, *port, buffer))?;
     }
     Ok(pads)
 }

@@ -6,8 +6,8 @@ use Rattle.std.proofs.lemmas.Bool.{and_parts, eqb-true}
 use Rattle.std.proofs.lemmas.List.{length-map, length-append}
 use Rattle.std.proofs.lemmas.Option.{same_Some}
 use Rattle.ice_base.specs.declared.number.SignalNo.{SignalNo}
-use Rattle.ice_value.specs.Order.{At, Has}
-use Rattle.ice_value.proofs.Members.{At_map, map_At, At_left, At_right, At_parts, At_within}
+use Rattle.ice_base_values.specs.Order.{At, Has}
+use Rattle.ice_base_values.proofs.Members.{At_map, map_At, At_left, At_right, At_parts, At_within}
 use Rattle.ice_net.specs.declared.cell.Cell.{Cell}
 use Rattle.ice_net.specs.declared.kind.CellKind.{CellKind}
 use Rattle.ice_net.specs.declared.kind.CellKind.TheVariants as kind
@@ -25,7 +25,7 @@ use Rattle.ice_cells.specs.Tables.{table}
 use Rattle.ice_cells.specs.Packed.{Plan, plan_of, packed, root_by, is_global, one_if, roots_from, global_by, carry_input, carry_by, carries_from, cell_by, cell_of, constant_cell, constant_if, needs_zero, needs_one, pad_by, pads_from}
 use Rattle.ice_cells.proofs.TableLaws.{get_or-table}
 use Rattle.ice_cells.proofs.RangeFilters.{passing_at}
-use Rattle.ice_share.proofs.HomeLaws.{first_anchor, home_opened}
+use Rattle.ice_pack_share.proofs.HomeLaws.{first_anchor, home_opened}
 
 -- ---- lists that go along the cells
 module _ (os : List Origin) (hs : List ℕ) (p : Plan) where

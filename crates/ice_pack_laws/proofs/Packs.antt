@@ -6,9 +6,9 @@ use Rattle.std.proofs.lemmas.List.{length-map}
 use Rattle.std.proofs.lemmas.Option.{same_Some, get_or_from_slice_get}
 use Rattle.std.proofs.lemmas.Bool.{eq-eqb}
 use Rattle.ice_base.specs.declared.number.SignalNo.{SignalNo}
-use Rattle.ice_value.specs.Order.{At, Has}
-use Rattle.ice_value.proofs.Members.{At_map, map_At, At_within, Has_any, Has_filter}
-use Rattle.ice_value.proofs.Places.{At_same}
+use Rattle.ice_base_values.specs.Order.{At, Has}
+use Rattle.ice_base_values.proofs.Members.{At_map, map_At, At_within, Has_any, Has_filter}
+use Rattle.ice_base_values.proofs.Places.{At_same}
 use Rattle.ice_net.specs.declared.cell.Cell.{Cell}
 use Rattle.ice_net.specs.declared.kind.CellKind.{CellKind}
 use Rattle.ice_net.specs.declared.kind.CellKind.TheVariants as kind
@@ -35,7 +35,7 @@ use Rattle.ice_cells.specs.Uses as use_of
 use Rattle.ice_cells.specs.Homes.{part, part_by, is_table, is_kept, taker, taken_anchor, anchor, anchor_by, carriers_of, home, homes}
 use Rattle.ice_cells.specs.Packed.{root_by, lut_inputs, enable_sink, reads_zero, reads_one, has_level, set_input, enable_input, data_input, flop_by, flop_of, cell_by, constant_cell, passing_table, plain_sink, sink, global_by, packed, unread_by, plan_of, read_pad, pads_from, bare_pad, buffered_pad, pad_by, with_carry}
 use Rattle.ice_cells.proofs.TableLaws.{get_or-table}
-use Rattle.ice_share.proofs.HomeLaws.{goes, kept_anchor, anchor_again, taker_parts, taker_part, carry_part, carrier_lut, carrier_is}
+use Rattle.ice_pack_share.proofs.HomeLaws.{goes, kept_anchor, anchor_again, taker_parts, taker_part, carry_part, carrier_lut, carrier_is}
 use Rattle.ice_pack_laws.specs.IsPacked.{root_at, IsSunk, IsEnabled, IsCarryCell, HasCarry, IsAlone, IsBehind, HasFlop, Stands, keeps, gives, carries, fixed, IsPadOf, lies, through, IsPacked}
 use Rattle.ice_pack_laws.proofs.Inputs.{at_all, input_at, place_at}
 use Rattle.ice_pack_laws.proofs.Found.{os, bare, fs, p, same_home, parts_long, global_back, pad_there, pads_long, opened_back, IsOpened}

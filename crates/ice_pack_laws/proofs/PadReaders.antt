@@ -5,8 +5,8 @@ use Rattle.std.specs.List.{flat_map}
 use Rattle.std.specs.Option.{option_map_or}
 use Rattle.std.proofs.lemmas.Option.{same_Some}
 use Rattle.ice_base.specs.declared.number.SignalNo.{SignalNo}
-use Rattle.ice_value.specs.Order.{At, Has}
-use Rattle.ice_value.proofs.Members.{At_left, At_right, At_parts, At_within, At_map, map_At, Has_all}
+use Rattle.ice_base_values.specs.Order.{At, Has}
+use Rattle.ice_base_values.proofs.Members.{At_left, At_right, At_parts, At_within, At_map, map_At, Has_all}
 use Rattle.ice_net.specs.declared.cell.Cell.{Cell}
 use Rattle.ice_net.specs.declared.kind.CellKind.{CellKind}
 use Rattle.ice_net.specs.declared.kind.CellKind.TheVariants.{Lut, Cover, Carry, Flop, PadCell, Global}
@@ -36,7 +36,7 @@ use Rattle.ice_cells.specs.Origins.{is_table_kind, input_origin, origins}
 use Rattle.ice_cells.specs.Packed.{bare_drive, plain_sink, sink, enable_sink, origin_root, flop_by, flop_of, ins_at, four, lut_inputs, inputs_for, flop_for, carry_for, with_carry, no_inputs, cell_by, carry_input, carry_source, global_by, bare_pad, buffered_pad, pad_by, pads_from, unread_by, constant_cell, packed}
 use Rattle.ice_cells.specs.Readings.{carry_root, control_roots, cell_roots, pad_roots, roots_read}
 use Rattle.ice_cells.specs.Uses.{dropped}
-use Rattle.ice_share.proofs.HomeLaws.{carrier_lut, carry_part}
+use Rattle.ice_pack_share.proofs.HomeLaws.{carrier_lut, carry_part}
 use Rattle.ice_pack_laws.specs.IsPacked.{IsBehind, HasFlop, MayShareWith, IsPacked}
 use Rattle.ice_pack_laws.proofs.Found.{os, bare, fs, p, opened_back, entry, entry_there, entry_back, pad_there}
 use Rattle.ice_pack_laws.proofs.Packs.{packed_is}

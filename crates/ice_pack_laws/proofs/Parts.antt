@@ -5,9 +5,9 @@ use Rattle.std.specs.List.{list_any}
 use Rattle.std.specs.Option.{option_map_or}
 use Rattle.std.proofs.lemmas.Bool.{eqb-true, eq-eqb}
 use Rattle.ice_base.specs.declared.number.SignalNo.{SignalNo}
-use Rattle.ice_value.specs.Order.{At, Has}
-use Rattle.ice_value.proofs.Members.{find_Has, Has_find, Has_any}
-use Rattle.ice_value.proofs.Places.{At_same}
+use Rattle.ice_base_values.specs.Order.{At, Has}
+use Rattle.ice_base_values.proofs.Members.{find_Has, Has_find, Has_any}
+use Rattle.ice_base_values.proofs.Places.{At_same}
 use Rattle.ice_net.specs.declared.cell.Cell.{Cell}
 use Rattle.ice_net.specs.declared.kind.CellKind.{CellKind}
 use Rattle.ice_net.specs.declared.kind.CellKind.TheVariants as kind
@@ -30,8 +30,8 @@ use Rattle.ice_cells.specs.Uses.{dropped, maker, reading_ins, readings}
 use Rattle.ice_cells.specs.Uses as use_of
 use Rattle.ice_cells.specs.Homes.{part, part_of, part_by, is_kept, anchor, anchor_by, carriers_of, home, homes}
 use Rattle.ice_cells.specs.Packed.{root_by, carry_input, cell_by, constant_cell, is_level, has_level, reads_one, zero_by, one_by, port_one, ins_at, packed}
-use Rattle.ice_share.proofs.HomeLaws.{one_anchor, part_is, role_is, table_part, carrier_lut, lut_taken, carry_by}
-use Rattle.ice_share.proofs.LutLaws.{taking, one_carry}
+use Rattle.ice_pack_share.proofs.HomeLaws.{one_anchor, part_is, role_is, table_part, carrier_lut, lut_taken, carry_by}
+use Rattle.ice_pack_share.proofs.LutLaws.{taking, one_carry}
 use Rattle.ice_pack_laws.specs.IsPacked.{root_at, IsOpen, IsCarryCell, SharesWith, MayShareWith, HasTable}
 use Rattle.ice_pack_laws.proofs.Inputs.{input_at}
 use Rattle.ice_pack_laws.proofs.Found.{os, bare, fs, p, cell_at, home_is, zero_at, one_at, IsRooted, rooted, entry, entry_there, entry_back}

@@ -6,9 +6,9 @@ use Rattle.std.specs.Option.{option_map_or}
 use Rattle.std.proofs.lemmas.Bool.{eqb-true, eq-eqb, cases_lt, lt-ltb}
 use Rattle.std.proofs.lemmas.Option.{same_Some}
 use Rattle.ice_base.specs.declared.number.SignalNo.{SignalNo}
-use Rattle.ice_value.specs.Order.{At, IsOrder}
-use Rattle.ice_value.specs.Inputs.{reading}
-use Rattle.ice_value.proofs.Members.{At_map, At_within}
+use Rattle.ice_base_values.specs.Order.{At, IsOrder}
+use Rattle.ice_base_values.specs.Inputs.{reading}
+use Rattle.ice_base_values.proofs.Members.{At_map, At_within}
 use Rattle.ice_net.specs.declared.cell.Cell.{Cell}
 use Rattle.ice_net.specs.declared.driver.Driver.{Driver}
 use Rattle.ice_net.specs.declared.driver.Driver.TheVariants as driver
@@ -24,7 +24,7 @@ use Rattle.ice_check.specs.Faults.{first_number, is_portless, is_no_port, is_no_
 use Rattle.ice_cells.specs.declared.origin.Origin.TheVariants.{Fixed, Pad}
 use Rattle.ice_cells.specs.Origins.{aliases, origin_made, input_origin, origin}
 use Rattle.ice_cells.specs.Packed.{Plan}
-use Rattle.ice_share.proofs.OriginSteps.{origin_meets}
+use Rattle.ice_pack_share.proofs.OriginSteps.{origin_meets}
 use Rattle.ice_pack_laws.proofs.Inputs.{at_all, input_at}
 use Rattle.ice_pack_laws.proofs.Values.{ReadsPads}
 

@@ -2,9 +2,9 @@
 use Rattle.std.proofs.Common.{◌≡◌, ℕ, zero, suc, ◌+◌, Option, None, Some, List, [], ◌∷◌, ◌++◌, length, map, refl, sym, ap, ◌∙◌, subst, arith}
 use Rattle.std.proofs.lemmas.Option.{same_Some}
 use Rattle.ice_base.specs.declared.number.SignalNo.{SignalNo}
-use Rattle.ice_value.specs.Order.{At, Has}
-use Rattle.ice_value.proofs.Members.{At_map, At_left, At_right}
-use Rattle.ice_value.proofs.Places.{At_same}
+use Rattle.ice_base_values.specs.Order.{At, Has}
+use Rattle.ice_base_values.proofs.Members.{At_map, At_left, At_right}
+use Rattle.ice_base_values.proofs.Places.{At_same}
 use Rattle.ice_net.specs.declared.cell.Cell.{Cell}
 use Rattle.ice_net.specs.declared.kind.CellKind.{CellKind}
 use Rattle.ice_net.specs.declared.port.Port.{Port}
@@ -15,8 +15,8 @@ use Rattle.ice_cells.specs.Homes.{Facts, facts_of}
 use Rattle.ice_cells.specs.Homes as homes
 use Rattle.ice_cells.specs.Origins.{input_origin}
 use Rattle.ice_cells.specs.Uses.{Reading, taker, reading_ins, reads_from, cells_read, port_reading, readings}
-use Rattle.ice_share.proofs.UseLaws.{read_otherwise, taken_once}
-use Rattle.ice_share.proofs.HomeLaws.{taker_use, taker_reads}
+use Rattle.ice_pack_share.proofs.UseLaws.{read_otherwise, taken_once}
+use Rattle.ice_pack_share.proofs.HomeLaws.{taker_use, taker_reads}
 
 pub Has_left : {X : Type 0} (xs ys : List X) (x : X) → Has xs x → Has (xs ++ ys) x
 Has_left xs ys x has = (has.0, At_left xs ys has.0 x has.1)

@@ -6,12 +6,12 @@ use Rattle.std.specs.Option.{option_map_or}
 use Rattle.std.proofs.lemmas.List.{length-map}
 use Rattle.std.proofs.lemmas.Option.{same_Some, get_or_from_slice_get}
 use Rattle.ice_base.specs.declared.number.SignalNo.{SignalNo}
-use Rattle.ice_value.specs.Inputs.{reading}
-use Rattle.ice_value.specs.Machine.{Simulates}
-use Rattle.ice_value.specs.Order.{At}
-use Rattle.ice_value.proofs.Machines.{shows_always_alike}
-use Rattle.ice_value.proofs.Members.{At_map, At_within}
-use Rattle.ice_value.proofs.Places.{At_same}
+use Rattle.ice_base_values.specs.Inputs.{reading}
+use Rattle.ice_base_values.specs.Machine.{Simulates}
+use Rattle.ice_base_values.specs.Order.{At}
+use Rattle.ice_base_values.proofs.Machines.{shows_always_alike}
+use Rattle.ice_base_values.proofs.Members.{At_map, At_within}
+use Rattle.ice_base_values.proofs.Places.{At_same}
 use Rattle.ice_net.specs.declared.cell.Cell.{Cell}
 use Rattle.ice_net.specs.declared.kind.CellKind.{CellKind}
 use Rattle.ice_net.specs.declared.kind.CellKind.TheVariants.{Flop}

@@ -4,12 +4,12 @@ use Rattle.std.specs.Prelude.{slice_get, slice_index_or, not, ◌&&◌, ◌==◌
 use Rattle.std.specs.Option.{option_map_or}
 use Rattle.std.proofs.lemmas.Option.{same_Some}
 use Rattle.ice_base.specs.declared.number.SignalNo.{SignalNo}
-use Rattle.ice_value.specs.Arriving.{HasValue, HaveValues}
-use Rattle.ice_value.specs.Inputs.{reading, present}
-use Rattle.ice_value.specs.Order.{At, Has, IsOrder}
-use Rattle.ice_value.proofs.Arriving.{value_made}
-use Rattle.ice_value.proofs.Members.{At_map}
-use Rattle.ice_value.proofs.Places.{At_same}
+use Rattle.ice_base_values.specs.Arriving.{HasValue, HaveValues}
+use Rattle.ice_base_values.specs.Inputs.{reading, present}
+use Rattle.ice_base_values.specs.Order.{At, Has, IsOrder}
+use Rattle.ice_base_values.proofs.Arriving.{value_made}
+use Rattle.ice_base_values.proofs.Members.{At_map}
+use Rattle.ice_base_values.proofs.Places.{At_same}
 use Rattle.ice_net.specs.declared.cell.Cell.{Cell}
 use Rattle.ice_net.specs.declared.driver.Driver.{Driver}
 use Rattle.ice_net.specs.declared.driver.Driver.TheVariants.{Nothing, Output}
@@ -37,9 +37,9 @@ use Rattle.ice_cells.specs.Nodes.{Node, Net, Level, net, source_node, carry_into
 use Rattle.ice_cells.specs.Origins.{is_alias, constant_of, is_table_kind, cell_aliases, aliases, cell_origin, origin_made, input_origin, input_level, level_of, origin}
 use Rattle.ice_cells.specs.Packed.{Plan, four, table_at, table_by, lut_inputs, with_carry, ins_at, plain_sink, sink, origin_root, sink_root, constant_cell, carry_source, carry_input, flop_by, flop_of, pad_root}
 use Rattle.ice_cells.specs.Uses.{dropped}
-use Rattle.ice_share.specs.Laws.{origin_level}
-use Rattle.ice_share.proofs.OriginSteps.{origin_meets}
-use Rattle.ice_share.proofs.LevelLaws.{level_of_origin}
+use Rattle.ice_pack_share.specs.Laws.{origin_level}
+use Rattle.ice_pack_share.proofs.OriginSteps.{origin_meets}
+use Rattle.ice_pack_share.proofs.LevelLaws.{level_of_origin}
 use Rattle.ice_pack_laws.specs.IsPacked.{root_at, IsOpen, IsSunk, IsCarryCell, HasCarry, MayShareWith, HasTable, IsPacked}
 use Rattle.ice_pack_laws.proofs.Inputs.{at_all, input_at, present_number, place_at, overlaid_one, read_at, table_gives}
 

@@ -1,6 +1,6 @@
 -- The laws of packing.
 use Rattle.std.specs.Prelude.{◌≡◌, ℕ, Bool, List, length}
-use Rattle.ice_value.specs.Order.{IsOrder}
+use Rattle.ice_base_values.specs.Order.{IsOrder}
 use Rattle.ice_net.specs.Formed.{IsFormed}
 use Rattle.ice_net.specs.Meaning.{depends_on, shows}
 use Rattle.ice_net.specs.NetlistData.{NetlistData}

@@ -9,7 +9,7 @@ use Rattle.ice_chip.specs.WireNames.{clock_enable_name, set_reset_name, fabout_n
 use Rattle.ice_chip.specs.declared.tile.Tile.{Tile}
 use Rattle.ice_chip.specs.declared.rows.TileKind.{TileKind}
 use Rattle.ice_chip.specs.declared.rows.TileKind.TheVariants.{Io, Logic, RamBottom, RamTop}
-use Rattle.ice_rows.specs.FirstSound.{is_joined}
+use Rattle.ice_bits_rows.specs.FirstSound.{is_joined}
 use Rattle.ice_pads.specs.declared.want.Pins.{Pins}
 use Rattle.ice_pads.specs.declared.fault.PinFault.{PinFault}
 use Rattle.ice_pads.specs.declared.fault.PinFault.TheVariants.{TooManyGlobals}

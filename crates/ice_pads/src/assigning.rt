@@ -1,7 +1,7 @@
 //! The pads, pull-ups and globals of a design.
 ghost use Rattle.std.specs.Prelude.{◌≡◌, IfOk};
 ghost use Rattle.ice_chip.specs.Views.{package_view};
-ghost use Rattle.ice_rows.specs.Index.{IsIndexOf};
+ghost use Rattle.ice_bits_rows.specs.Index.{IsIndexOf};
 ghost use Rattle.ice_pads.specs.Assign.{pads_with, chosen_by, assign_of};
 ghost use Rattle.ice_pads.specs.Answers.{Answers, Lists};
 
@@ -16,7 +16,7 @@ use ice_cells::Design;
 use ice_chip::{Chip, Package, Pad};
 use ice_net::Netlist;
 use ice_pcf::{Constraint, Pcf};
-use ice_rows::{Index, index_of};
+use ice_bits_rows::{Index, index_of};
 use std::alloc::Global;
 use std::marker::Model;
 

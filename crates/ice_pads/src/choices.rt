@@ -1,7 +1,7 @@
 //! The globals that the global buffers of a design take.
 ghost use Rattle.std.specs.Prelude.{◌≡◌, [], map, find, length, option_map, IfOk};
 ghost use Rattle.std.specs.List.{range_with_len};
-ghost use Rattle.ice_rows.specs.Index.{IsIndexOf};
+ghost use Rattle.ice_bits_rows.specs.Index.{IsIndexOf};
 ghost use Rattle.ice_pads.specs.Wants.{pins_of, pins};
 ghost use Rattle.ice_pads.specs.Globals.{serves, picked, or_first, without, choice, other_choices, chosen_from, globals_of};
 ghost use Rattle.ice_pads.specs.Answers.{Lists};
@@ -10,7 +10,7 @@ use crate::{PinFault, Pins, globals, pins_of, serves};
 use ice_base::NoMemory;
 use ice_cells::{Design, LogicCell};
 use ice_chip::Chip;
-use ice_rows::Index;
+use ice_bits_rows::Index;
 use std::alloc::Global;
 
 // As what each of so many global buffers is read by the flip-flops of these cells.

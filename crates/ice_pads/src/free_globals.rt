@@ -2,7 +2,7 @@
 ghost use Rattle.std.specs.Prelude.{◌≡◌, ◌<◌, filter, option_map, IfOk};
 ghost use Rattle.ice_chip.specs.Lookups.{wire_named};
 ghost use Rattle.ice_chip.specs.WireNames.{clock_enable_name, set_reset_name};
-ghost use Rattle.ice_rows.specs.Index.{IsIndexOf};
+ghost use Rattle.ice_bits_rows.specs.Index.{IsIndexOf};
 ghost use Rattle.ice_pads.specs.Passing.{first_passing};
 ghost use Rattle.ice_pads.specs.Globals.{has_name, global_wire, is_same_tile, is_fed, some_lower, is_global, globals, is_joined_to, is_logic_kind, reaches, serves};
 
@@ -10,7 +10,7 @@ use crate::Pins;
 use crate::wires::has_io_wire;
 use ice_base::{NoMemory, TileAt, WireNo};
 use ice_chip::{Chip, TileKind, clock_enable_name, fabout_name, global_name, set_reset_name};
-use ice_rows::{Index, is_joined};
+use ice_bits_rows::{Index, is_joined};
 use std::alloc::Global;
 
 // Whether one of the wire's names is this one.

@@ -12,7 +12,7 @@ use Rattle.ice_path.specs.Aims.{IsAim}
 use Rattle.ice_path.specs.Walks.{HasEdge, InTree, IsWalk, IsTarget, IsCostTo, NoWalkTo, FallsBy, AreSettled, cost}
 use Rattle.ice_path.specs.Search.{label, done, AreExact, IsLeastOpen, IsNearest, IsNext, Lists, Searches, nearest_after, is_beyond, opens}
 use Rattle.ice_path.proofs.Settling.{one_label}
-use Rattle.ice_value.proofs.Places.{At_push_cases, At_push_old, At_push_new}
+use Rattle.ice_base_values.proofs.Places.{At_push_cases, At_push_old, At_push_new}
 
 -- along a walk the bound falls by no more than the walk costs
 pub bound_walks : (edges : List Edge) (price bound : ℕ → ℕ) → FallsBy edges price bound → (path : List Edge) (a b : ℕ) → IsWalk edges a path b → bound a ≤ cost price path + bound b

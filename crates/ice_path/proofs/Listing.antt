@@ -5,7 +5,7 @@ use Rattle.std.proofs.lemmas.Option.{slice_get-get_or}
 use Rattle.std.proofs.lemmas.List.{length_push}
 use Rattle.std.proofs.lemmas.List.Elements.{All-nil}
 use Rattle.std.specs.List.{All}
-use Rattle.ice_value.proofs.Places.{At_push_cases, At_push_old, At_push_new}
+use Rattle.ice_base_values.proofs.Places.{At_push_cases, At_push_old, At_push_new}
 use Rattle.ice_path.specs.declared.queue.Waiting.{Waiting}
 use Rattle.ice_path.specs.Queue.{AreLists, Entry, IsFirstOpen, LeadDown, Listed, OnList, StandsBelow, done}
 

@@ -1,7 +1,7 @@
 //! Walking back from the target of a search to the tree.
 ghost use Rattle.std.specs.Prelude.{◌≡◌, ◌+◌, ◌<◌, ◌≤◌, ℕ, [], List, Option, Some, length, slice_get, vec_capacity, IfSome, OnSome};
 ghost use Rattle.ice_core.specs.Congestion.{ArePrices, price};
-ghost use Rattle.ice_graph.specs.declared.edge.Edge.{Edge as Row};
+ghost use Rattle.ice_graph.specs.declared.edge.Edge.{Edge as GraphEdge};
 ghost use Rattle.ice_path.specs.Search.{AreExact, AreExactBehind, IsFirstFrom, IsFirstLabelled, label};
 ghost use Rattle.ice_path.specs.Aims.{IsAim, bound_in, leads};
 ghost use Rattle.ice_path.specs.Room.{AreWires};
@@ -15,7 +15,7 @@ use ice_graph::{Edge, Graph};
 
 // The first of the rows whose source has this label.
 fn first_from(rows: &[Edge], labels: &[Option<u64>], cost: u64) -> Option<Edge>
-    requires within { (k : ℕ) (e : Row) → slice_get rows.now k ≡ Some e → e.from.0 < length labels.now }
+    requires within { (k : ℕ) (e : GraphEdge) → slice_get rows.now k ≡ Some e → e.from.0 < length labels.now }
     ensures { IsFirstFrom labels.now cost rows.now result }
 {
     for row in rows {

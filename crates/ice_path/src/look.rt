@@ -3,7 +3,7 @@
 ghost use Rattle.std.specs.Prelude.{◌≡◌, ◌+◌, ◌*◌, ◌<◌, ◌≤◌, ℕ, [], Bool, List, Option, None, Some, true, false, length, slice_get, slice_index, slice_set, min, vec_capacity};
 ghost use Rattle.std.specs.List.{All, Contains};
 ghost use Rattle.ice_core.specs.Congestion.{ArePrices, price};
-ghost use Rattle.ice_graph.specs.declared.edge.Edge.{Edge as Row};
+ghost use Rattle.ice_graph.specs.declared.edge.Edge.{Edge as GraphEdge};
 ghost use Rattle.ice_graph.specs.Hops.{AreHops};
 ghost use Rattle.ice_path.specs.Aims.{Fits, Knows, RestFalls, beyond_at, bound_in, leads, rest};
 ghost use Rattle.ice_path.specs.Looks.{AreFar, Ends, Keeps, LevelsOut, Looks, Reaches, flips};
@@ -41,7 +41,7 @@ fn widen_one(
     requires room { queue_len queue.old < queue.old.room }
     requires touches { Touches near.old marked.old.items }
     requires space { length near.old ≤ vec_capacity marked.old }
-    ensures relaxes { (rows : List Row) (k : ℕ) (first : List (Option ℕ)) → slice_get rows k ≡ Some row → Relaxes (flips rows) (λ w. cost) (λ w. true) settled.now 0 k first near.old → Relaxes (flips rows) (λ w. cost) (λ w. true) settled.now 0 (k + 1) first near.new }
+    ensures relaxes { (rows : List GraphEdge) (k : ℕ) (first : List (Option ℕ)) → slice_get rows k ≡ Some row → Relaxes (flips rows) (λ w. cost) (λ w. true) settled.now 0 k first near.old → Relaxes (flips rows) (λ w. cost) (λ w. true) settled.now 0 (k + 1) first near.new }
     ensures waits { (now : List Bool) → Queues (bound_in graph.now aim.now) now near.old queue.old → Queues (bound_in graph.now aim.now) now near.new queue.new }
     ensures order { IsQueue queue.new }
     ensures len { queue_len queue.new ≤ queue_len queue.old + 1 }
@@ -70,7 +70,7 @@ fn widen(
     requires wires { length near.old ≡ graph.now.wires }
     requires fits { Fits graph.now aim.now }
     requires leads { (w : ℕ) → leads aim.now w ≡ true }
-    requires rows { (k : ℕ) (e : Row) → slice_get rows.now k ≡ Some e → e.from.0 < length near.old }
+    requires rows { (k : ℕ) (e : GraphEdge) → slice_get rows.now k ≡ Some e → e.from.0 < length near.old }
     requires lengths { length settled.now ≡ length near.old }
     requires cost { cost ≤ 1048575 * 17046213234436 }
     requires order { IsQueue queue.old }

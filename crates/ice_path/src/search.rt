@@ -2,7 +2,7 @@
 //! the least sum, until that is more than the label of the nearest target.
 ghost use Rattle.std.specs.Prelude.{◌≡◌, ◌+◌, ◌*◌, ◌<◌, ◌≤◌, ◌^◌, ℕ, [], ◌∷◌, Bool, List, Option, length, slice_get, slice_set, true, false, IfSome, IfNone, Some, vec_capacity};
 ghost use Rattle.ice_core.specs.Congestion.{ArePrices, price};
-ghost use Rattle.ice_graph.specs.declared.edge.Edge.{Edge as Row};
+ghost use Rattle.ice_graph.specs.declared.edge.Edge.{Edge as GraphEdge};
 ghost use Rattle.ice_base.specs.declared.number.WireNo.{WireNo as Wire};
 ghost use Rattle.ice_graph.specs.Network.{AreBetween};
 ghost use Rattle.ice_path.specs.Aims.{Fits, IsAim, bound_in, leads};
@@ -119,7 +119,7 @@ fn relax_one(
     requires room { queue_len queue.old < queue.old.room }
     requires touches { Touches labels.old touched.old.items }
     requires space { length labels.old ≤ vec_capacity touched.old }
-    ensures relaxes { (rows : List Row) (k : ℕ) (first : List (Option ℕ)) → slice_get rows k ≡ Some row → Relaxes rows (price prices.now) (leads aim.now) settled.now cost k first labels.old → Relaxes rows (price prices.now) (leads aim.now) settled.now cost (k + 1) first labels.new }
+    ensures relaxes { (rows : List GraphEdge) (k : ℕ) (first : List (Option ℕ)) → slice_get rows k ≡ Some row → Relaxes rows (price prices.now) (leads aim.now) settled.now cost k first labels.old → Relaxes rows (price prices.now) (leads aim.now) settled.now cost (k + 1) first labels.new }
     ensures waits { (now : List Bool) → Queues (bound_in graph.now aim.now) now labels.old queue.old → Queues (bound_in graph.now aim.now) now labels.new queue.new }
     ensures order { IsQueue queue.new }
     ensures len { queue_len queue.new ≤ queue_len queue.old + 1 }
@@ -162,7 +162,7 @@ fn relax(
 )
     requires wires { length labels.old ≡ graph.now.wires }
     requires fits { Fits graph.now aim.now }
-    requires rows { (k : ℕ) (e : Row) → slice_get rows.now k ≡ Some e → e.to.0 < length labels.old }
+    requires rows { (k : ℕ) (e : GraphEdge) → slice_get rows.now k ≡ Some e → e.to.0 < length labels.old }
     requires prices { ArePrices prices.now }
     requires lengths { (length prices.now.history.items ≡ length labels.old) × (length settled.now ≡ length labels.old) }
     requires cost { cost ≤ 1048575 * 17046213234436 }

@@ -10,7 +10,7 @@ use Rattle.ice_base.specs.declared.number.TileAt.{TileAt}
 use Rattle.ice_cells.specs.declared.cell.Control.{Control}
 use Rattle.ice_cells.specs.declared.cell.LogicCell.{LogicCell}
 use Rattle.ice_cells.specs.declared.cluster.Clusters.{Clusters}
-use Rattle.ice_cells.specs.declared.cluster.Group.{Group}
+use Rattle.ice_cells.specs.declared.cluster.TileCells.{TileCells}
 use Rattle.ice_cells.specs.declared.design.Design.{Design}
 use Rattle.ice_cells.specs.declared.design.Run.{Run}
 use Rattle.ice_cells.specs.Clusters.{run_piece, run_pieces, runs_pieces, set_piece, set_pieces, sets_pieces, plain_piece, plain_pieces, filled, left, room, with_slots}
@@ -52,7 +52,7 @@ no_at (x ∷ xs) zero rk none e = let h = none.0 in cc
 no_at (x ∷ xs) (suc c) rk none e = no_at xs c rk none.1 e
 
 -- ---- groups
-abbrev group_run : Group → Chunk
+abbrev group_run : TileCells → Chunk
 group_run g = g.run
 
 run_of_pieces : (cells : List LogicCell) (r : ℕ) (members ks : List ℕ) → map group_run (map (run_piece cells r members) ks) ≡ map (chunk_in r) ks
@@ -84,14 +84,14 @@ unfolding NoChunks
 no_plain members [] = tt
 no_plain members (k ∷ ks) = (refl, no_plain members ks)
 
-run_of_filled : (groups : List Group) (plains : List ℕ) → map group_run (filled groups plains) ≡ map group_run groups
+run_of_filled : (groups : List TileCells) (plains : List ℕ) → map group_run (filled groups plains) ≡ map group_run groups
 run_of_filled [] plains = refl
 run_of_filled (g ∷ groups) plains = ap (λ xs. g.run ∷ xs) (run_of_filled groups (drop_room g plains))
   where
-    drop_room : Group → List ℕ → List ℕ
+    drop_room : TileCells → List ℕ → List ℕ
     drop_room g plains = drop (room g) plains
 
-run_of_slots : (groups : List Group) → chunks_of (map with_slots groups) ≡ map group_run groups
+run_of_slots : (groups : List TileCells) → chunks_of (map with_slots groups) ≡ map group_run groups
 run_of_slots [] = refl
 run_of_slots (g ∷ groups) = ap (λ xs. g.run ∷ xs) (run_of_slots groups)
 

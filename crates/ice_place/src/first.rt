@@ -11,8 +11,8 @@ ghost use Rattle.ice_place.specs.Answers.{Answers};
 use crate::fit::{Fits, begin, fit_runs, order};
 use crate::refusal::{longest, refused};
 use crate::{PlaceFault, Placement};
-use ice_base::{NoMemory, TileAt};
-use ice_cells::{Clusters, Design, Run, short};
+use ice_base::{NoMemory, TileAt, to_u32};
+use ice_cells::{Clusters, Design, Run};
 use ice_sites::{Sites, Stretch};
 use std::alloc::Global;
 
@@ -22,7 +22,7 @@ fn lengths(alloc: Global, runs: &[Run]) -> Result<Vec<u32>, NoMemory>
 {
     let mut made = Vec::new(alloc);
     for run in runs {
-        made.push(short(run.cells.as_slice().len())?)?;
+        made.push(to_u32(run.cells.as_slice().len())?)?;
     }
     Ok(made)
 }
@@ -96,6 +96,6 @@ pub fn first_place(
     ensures legal { IfOk result (λ placement. IsLegal sites.now (chunks_of clusters.now.list) placement) }
 {
     let runs = lengths(alloc, design.runs())?;
-    let need = short(clusters.list().len())?;
+    let need = to_u32(clusters.list().len())?;
     place(alloc, sites.stretches(), runs.as_slice(), need)
 }

@@ -4,7 +4,7 @@ use Rattle.std.specs.List.{find}
 use Rattle.std.proofs.lemmas.Bool.Decides.{nat_tests}
 use Rattle.ice_base.specs.declared.number.WireNo.{WireNo}
 use Rattle.ice_core.specs.Moves.{holds}
-use Rattle.ice_negotiate.specs.Logs.{beyond}
+use Rattle.ice_negotiate_defs.specs.Logs.{beyond}
 use Rattle.ice_report_laws.specs.Told.{told_of, PricesAreTold}
 
 -- what is told by what is found

@@ -6,8 +6,8 @@ use Rattle.ice_core.specs.declared.log.RoundLog.{RoundLog}
 use Rattle.ice_core.specs.declared.prices.Prices.{Prices}
 use Rattle.ice_core.specs.Congestion.{price}
 use Rattle.ice_core.specs.Moves.{IsOccupancy, occupancy, holds}
-use Rattle.ice_negotiate.specs.Rounds.{Past, ArePricesOf}
-use Rattle.ice_negotiate.specs.Logs.{IsLog}
+use Rattle.ice_negotiate_defs.specs.Rounds.{Past, ArePricesOf}
+use Rattle.ice_negotiate_defs.specs.Logs.{IsLog}
 
 -- the number of a wire in a list of wires with numbers; 0 where it is not in the list
 abbrev pub told_of : List (WireNo × ℕ) → ℕ → ℕ

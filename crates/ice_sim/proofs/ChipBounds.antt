@@ -6,7 +6,7 @@ use Rattle.ice_base.specs.declared.number.TileAt.{TileAt}
 use Rattle.ice_chip.specs.Database.{Parts}
 use Rattle.ice_chip.specs.declared.rows.Pad.{Pad}
 use Rattle.ice_bits.specs.Configuration.{Bits}
-use Rattle.ice_value.specs.Inputs.{reading}
+use Rattle.ice_base_values.specs.Inputs.{reading}
 use Rattle.ice_decode.specs.declared.point.Point.{Point}
 use Rattle.ice_chip.specs.WireNames.{pad_output_name, output_enable_name}
 use Rattle.ice_decode.specs.Cells.{cells, has_flop}

@@ -7,11 +7,11 @@ use Rattle.std.proofs.lemmas.List.FromFn.{length-range_with_len}
 use Rattle.std.proofs.lemmas.List.Elements.{All-map, All-filter}
 use Rattle.std.proofs.lemmas.Option.{same_Some, slice_get_within}
 use Rattle.ice_base.specs.declared.number.TileAt.{TileAt}
-use Rattle.ice_value.specs.System.{System, MeetsEquation}
-use Rattle.ice_value.specs.Inputs.{reading}
-use Rattle.ice_value.specs.Order.{At, Has}
-use Rattle.ice_value.proofs.Values.{value_ranked}
-use Rattle.ice_value.proofs.Gaps.{local_gapped}
+use Rattle.ice_base_values.specs.System.{System, MeetsEquation}
+use Rattle.ice_base_values.specs.Inputs.{reading}
+use Rattle.ice_base_values.specs.Order.{At, Has}
+use Rattle.ice_base_values.proofs.Values.{value_ranked}
+use Rattle.ice_base_values.proofs.Gaps.{local_gapped}
 use Rattle.ice_base.proofs.Entries.{lookup_all}
 use Rattle.ice_chip.specs.Database.{Parts, WireName}
 use Rattle.ice_chip.specs.IsRead.{IsRead}

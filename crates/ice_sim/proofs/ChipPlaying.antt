@@ -1,9 +1,9 @@
 -- Steps of a configured chip in a row, as a text.
 use Rattle.std.proofs.Common.{◌≡◌, ℕ, Bool, List, [], ◌∷◌, ◌++◌, ap, sym, ◌∙◌, append_assoc, append-nil}
-use Rattle.ice_value.specs.Machine as machine
+use Rattle.ice_base_values.specs.Machine as machine
 use Rattle.ice_bits.specs.Configuration.{bits_of}
 use Rattle.ice_decode.specs.Meaning.{step}
-use Rattle.ice_levels.specs.DriveTexts.{drives_line, drives_text}
+use Rattle.ice_sim_levels.specs.DriveTexts.{drives_line, drives_text}
 use Rattle.ice_sim.specs.ChipRuns.{ChipRunData, with_state}
 
 -- what is still to be told, from a run on

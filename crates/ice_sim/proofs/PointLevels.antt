@@ -3,7 +3,7 @@ use Rattle.std.proofs.Common.{◌≡◌, ℕ, suc, ◌+◌, ◌*◌, Bool, true,
 use Rattle.std.specs.Prelude.{◌==◌, ◌&&◌, codes, option_map, slice_index_or}
 use Rattle.std.specs.Option.{option_map_or}
 use Rattle.ice_base.specs.declared.number.TileAt.{TileAt}
-use Rattle.ice_value.specs.Inputs.{reading}
+use Rattle.ice_base_values.specs.Inputs.{reading}
 use Rattle.ice_chip.specs.Database.{Parts}
 use Rattle.ice_chip.specs.Places.{same_pad}
 use Rattle.ice_chip.specs.declared.rows.Pad.{Pad}

@@ -4,8 +4,8 @@ use Rattle.std.specs.Prelude.{option_map, unwrap_or}
 use Rattle.std.specs.List.{flat_map}
 use Rattle.std.proofs.lemmas.Option.{same_Some, slice_get_within}
 use Rattle.ice_base.specs.declared.number.TileAt.{TileAt}
-use Rattle.ice_value.specs.Order.{At, Has}
-use Rattle.ice_value.proofs.Places.{At_same}
+use Rattle.ice_base_values.specs.Order.{At, Has}
+use Rattle.ice_base_values.proofs.Places.{At_same}
 use Rattle.ice_chip.specs.Database.{Parts}
 use Rattle.ice_chip.specs.Places.{same_tile}
 use Rattle.ice_decode.specs.declared.point.Point.{Point}

@@ -20,7 +20,7 @@ use Rattle.ice_decode.specs.Refusals.{AreDrivers}
 use Rattle.ice_base.proofs.Keys.{tile_same}
 use Rattle.ice_decode.proofs.Switches.{driver_between}
 use Rattle.ice_sim.specs.ChipSlots.{pad_place}
-use Rattle.ice_sim.specs.Sites.{ComesFrom, put_place, with_place, with_places}
+use Rattle.ice_sim.specs.ConfiguredChips.{ComesFrom, put_place, with_place, with_places}
 use Rattle.ice_sim_sweep.proofs.Feeding.{position_cons}
 
 -- ---- tests are the same both ways

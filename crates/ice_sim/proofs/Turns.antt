@@ -10,7 +10,7 @@ use Rattle.ice_decode.specs.declared.point.Point.{Point}
 use Rattle.ice_sim_sweep.proofs.Turns.{joined}
 use Rattle.ice_sim.specs.ChipSlots.{number, point_slot}
 use Rattle.ice_sim.specs.Layouts.{Layout, placed, laid}
-use Rattle.ice_sim.specs.Sites.{with_place, with_places}
+use Rattle.ice_sim.specs.ConfiguredChips.{with_place, with_places}
 
 pub flat_joined : {X A : Type 0} (f : X → List A) (d : X) (all old new : List A) (xs : List X) (i : ℕ) → i < length xs → all ≡ old ++ flat_map f (drop i xs)
     → new ≡ old ++ f (get_or xs i d) → all ≡ new ++ flat_map f (drop (i + 1) xs)

@@ -3,7 +3,7 @@
 use Rattle.std.specs.Prelude.{ℕ, ◌+◌, ◌*◌, ◌==◌, Option, None, Some, List, [], ◌∷◌, map, option_map, if◌then◌else◌, codes, slice_index_or, unwrap_or}
 use Rattle.std.proofs.Common.{suc}
 use Rattle.ice_base.specs.declared.number.TileAt.{TileAt}
-use Rattle.ice_value.specs.Inputs.{reading}
+use Rattle.ice_base_values.specs.Inputs.{reading}
 use Rattle.ice_chip.specs.Database.{Parts}
 use Rattle.ice_chip.specs.Places.{same_pad}
 use Rattle.ice_chip.specs.declared.rows.Pad.{Pad}

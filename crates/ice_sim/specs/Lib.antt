@@ -1,5 +1,5 @@
 pub mod ChipSlots
 pub mod Layouts
 pub mod ChipRuns
-pub mod Sites
+pub mod ConfiguredChips
 pub mod ChipViews

@@ -6,7 +6,7 @@ ghost use Rattle.ice_decode.specs.Cells.{cells, cells_in, reset_by, reset_of};
 ghost use Rattle.ice_sim.specs.Layouts.{keeper_of, flops_from, tables_from};
 
 use crate::gates::{cell_gate, table};
-use crate::site::{Site, small};
+use crate::configured::{ConfiguredChip, small};
 use ice_base::{NoMemory, TileAt};
 use ice_chip::Chip;
 use ice_decode::{cell_bit, has_flop, logic_tiles, setting};
@@ -64,68 +64,68 @@ fn reset_by(set: bool, at_once: bool) -> Reset
 }
 
 // Which way the flip-flop of a cell is set or reset.
-fn reset(site: &Site<'_>, tile: TileAt, cell: u8) -> Reset
-    ensures { result ≡ reset_of site.now.parts (bits_of site.now.configuration) tile cell }
+fn reset(configured: &ConfiguredChip<'_>, tile: TileAt, cell: u8) -> Reset
+    ensures { result ≡ reset_of configured.now.parts (bits_of configured.now.configuration) tile cell }
 {
-    let set = cell_bit(site.chip(), site.bits(), tile, cell, 18);
-    let at_once = cell_bit(site.chip(), site.bits(), tile, cell, 19);
+    let set = cell_bit(configured.chip(), configured.bits(), tile, cell, 18);
+    let at_once = cell_bit(configured.chip(), configured.bits(), tile, cell, 19);
     reset_by(set, at_once)
 }
 
 // The flip-flop of a cell of a tile, which is the cell of this place, and whose table has the slot `datum`.
-fn keeper(site: &Site<'_>, slots: &[u32], place: u32, datum: u32, tile: TileAt, cell: u8) -> Keeper
-    ensures { result ≡ keeper_of site.now.parts (bits_of site.now.configuration) slots.now place datum (tile, cell) }
+fn keeper(configured: &ConfiguredChip<'_>, slots: &[u32], place: u32, datum: u32, tile: TileAt, cell: u8) -> Keeper
+    ensures { result ≡ keeper_of configured.now.parts (bits_of configured.now.configuration) slots.now place datum (tile, cell) }
 {
     Keeper {
         cell: place,
-        clock: site.pin_slot(0, slots, tile, b"lutff_global/clk"),
+        clock: configured.pin_slot(0, slots, tile, b"lutff_global/clk"),
         datum,
-        enable: site.pin_slot(1, slots, tile, b"lutff_global/cen"),
-        set: site.pin_slot(0, slots, tile, b"lutff_global/s_r"),
-        falling: setting(site.chip(), site.bits(), tile, b"NegClk", 0),
-        reset: reset(site, tile, cell),
+        enable: configured.pin_slot(1, slots, tile, b"lutff_global/cen"),
+        set: configured.pin_slot(0, slots, tile, b"lutff_global/s_r"),
+        falling: setting(configured.chip(), configured.bits(), tile, b"NegClk", 0),
+        reset: reset(configured, tile, cell),
     }
 }
 
 // Adds the flip-flop of the cell of a place, if it has one.
 fn add_flop(
-    site: &Site<'_>,
+    configured: &ConfiguredChip<'_>,
     slots: &[u32],
     place: usize,
     cell: (TileAt, u8),
     feeds: &mut Vec<Feed>,
     keepers: &mut Vec<Keeper>,
 ) -> Result<(), NoMemory>
-    ensures feeds { OnOk result (feeds.new.items ≡ feeds.old.items ++ tables_from site.now.parts (bits_of site.now.configuration) slots.now (length feeds.old.items) (cell ∷ [])) }
-    ensures keepers { OnOk result (keepers.new.items ≡ keepers.old.items ++ flops_from site.now.parts (bits_of site.now.configuration) slots.now place (length feeds.old.items) (cell ∷ [])) }
+    ensures feeds { OnOk result (feeds.new.items ≡ feeds.old.items ++ tables_from configured.now.parts (bits_of configured.now.configuration) slots.now (length feeds.old.items) (cell ∷ [])) }
+    ensures keepers { OnOk result (keepers.new.items ≡ keepers.old.items ++ flops_from configured.now.parts (bits_of configured.now.configuration) slots.now place (length feeds.old.items) (cell ∷ [])) }
 {
     let (tile, number) = cell;
-    if !has_flop(site.chip(), site.bits(), tile, number) {
+    if !has_flop(configured.chip(), configured.bits(), tile, number) {
         return Ok(());
     }
     let next = small(feeds.len())?;
     let place = small(place)?;
-    let table = table(site, tile, number);
-    feeds.push(Feed::Made(cell_gate(site, slots, table, tile, number, next)))?;
-    keepers.push(keeper(site, slots, place, next, tile, number))?;
+    let table = table(configured, tile, number);
+    feeds.push(Feed::Made(cell_gate(configured, slots, table, tile, number, next)))?;
+    keepers.push(keeper(configured, slots, place, next, tile, number))?;
     Ok(())
 }
 
 /// Adds the flip-flops of these cells, and what feeds the slots of their tables. It fails for want of memory alone; more than 2^32
 /// slots or cells count as that.
 pub(crate) fn add_flops(
-    site: &Site<'_>,
+    configured: &ConfiguredChip<'_>,
     slots: &[u32],
     cells: &[(TileAt, u8)],
     feeds: &mut Vec<Feed>,
     keepers: &mut Vec<Keeper>,
 ) -> Result<(), NoMemory>
     requires { keepers.old.items ≡ [] }
-    ensures feeds { OnOk result (feeds.new.items ≡ feeds.old.items ++ tables_from site.now.parts (bits_of site.now.configuration) slots.now (length feeds.old.items) cells.now) }
-    ensures keepers { OnOk result (keepers.new.items ≡ flops_from site.now.parts (bits_of site.now.configuration) slots.now 0 (length feeds.old.items) cells.now) }
+    ensures feeds { OnOk result (feeds.new.items ≡ feeds.old.items ++ tables_from configured.now.parts (bits_of configured.now.configuration) slots.now (length feeds.old.items) cells.now) }
+    ensures keepers { OnOk result (keepers.new.items ≡ flops_from configured.now.parts (bits_of configured.now.configuration) slots.now 0 (length feeds.old.items) cells.now) }
 {
     for (place, cell) in cells.iter().enumerate() {
-        add_flop(site, slots, place, *cell, feeds, keepers)?;
+        add_flop(configured, slots, place, *cell, feeds, keepers)?;
     }
     Ok(())
 }

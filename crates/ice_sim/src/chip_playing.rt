@@ -3,15 +3,15 @@ ghost use Rattle.std.specs.Prelude.{◌≡◌, ◌++◌, length, All, IfOk, OnOk
 ghost use Rattle.ice_bits.specs.Configuration.{bits_of};
 ghost use Rattle.ice_decode.specs.Meaning.{shows, step};
 ghost use Rattle.ice_decode.specs.Refusals.{IsCircuitOf};
-ghost use Rattle.ice_levels.specs.LevelTexts.{HasWidth};
-ghost use Rattle.ice_levels.specs.DriveTexts.{drives_line, drives_text};
+ghost use Rattle.ice_sim_levels.specs.LevelTexts.{HasWidth};
+ghost use Rattle.ice_sim_levels.specs.DriveTexts.{drives_line, drives_text};
 ghost use Rattle.ice_sim.specs.ChipRuns.{with_state};
 
 use crate::ChipRun;
 use ice_base::NoMemory;
 use ice_chip::{Chip, Package};
 use ice_decode::Circuit;
-use ice_levels::{Levels, put_drives};
+use ice_sim_levels::{Levels, put_drives};
 use ice_net::Drive;
 use std::alloc::Global;
 

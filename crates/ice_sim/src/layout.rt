@@ -7,7 +7,7 @@ ghost use Rattle.ice_sim.specs.Layouts.{layout_of, placed, laid, constant_feeds,
 
 use crate::point_slots::point_slot;
 use crate::points::PointSlot;
-use crate::site::{Site, small};
+use crate::configured::{ConfiguredChip, small};
 use ice_base::NoMemory;
 use ice_decode::Point;
 use ice_sim_sweep::{Feed, Gate};
@@ -57,31 +57,31 @@ fn place(
 
 // Gives one more point its slot.
 fn lay_point(
-    site: &Site<'_>,
+    configured: &ConfiguredChip<'_>,
     point: Point,
     slots: &mut [u32],
     feeds: &mut Vec<Feed>,
 ) -> Result<(), NoMemory>
-    requires { IsPointBelow site.now.parts (length slots.old) point }
-    ensures { OnOk result (layout_of slots.new feeds.new.items ≡ placed (point_slot site.now.parts (bits_of site.now.configuration) site.now.bonded slots.old (length feeds.old.items) point) (number site.now.parts point) (layout_of slots.old feeds.old.items)) }
+    requires { IsPointBelow configured.now.parts (length slots.old) point }
+    ensures { OnOk result (layout_of slots.new feeds.new.items ≡ placed (point_slot configured.now.parts (bits_of configured.now.configuration) configured.now.bonded slots.old (length feeds.old.items) point) (number configured.now.parts point) (layout_of slots.old feeds.old.items)) }
 {
     let next = small(feeds.len())?;
-    let slot = point_slot(site, slots, next, point);
-    place(slot, site.number(point), next, slots, feeds)
+    let slot = point_slot(configured, slots, next, point);
+    place(slot, configured.number(point), next, slots, feeds)
 }
 
 /// Gives these points their slots, one after another. It fails for want of memory alone; more than 2^32 slots count as that.
 pub(crate) fn lay(
-    site: &Site<'_>,
+    configured: &ConfiguredChip<'_>,
     order: &[Point],
     slots: &mut [u32],
     feeds: &mut Vec<Feed>,
 ) -> Result<(), NoMemory>
-    requires { All (IsPointBelow site.now.parts (length slots.old)) order.now }
-    ensures { OnOk result (layout_of slots.new feeds.new.items ≡ laid site.now.parts (bits_of site.now.configuration) site.now.bonded order.now (layout_of slots.old feeds.old.items)) }
+    requires { All (IsPointBelow configured.now.parts (length slots.old)) order.now }
+    ensures { OnOk result (layout_of slots.new feeds.new.items ≡ laid configured.now.parts (bits_of configured.now.configuration) configured.now.bonded order.now (layout_of slots.old feeds.old.items)) }
 {
     for point in order {
-        lay_point(site, *point, slots, feeds)?;
+        lay_point(configured, *point, slots, feeds)?;
     }
     Ok(())
 }

@@ -10,7 +10,7 @@ mod gates;
 mod layout;
 mod point_slots;
 mod points;
-mod site;
+mod configured;
 
 pub use chip_playing::play_chip;
 pub use chip_run::ChipRun;

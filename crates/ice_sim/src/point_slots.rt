@@ -1,6 +1,6 @@
 //! What gives each point of a configured chip its level.
 ghost use Rattle.std.specs.Prelude.{◌≡◌, ◌<◌, codes, if◌then◌else◌};
-ghost use Rattle.ice_value.specs.Inputs.{reading};
+ghost use Rattle.ice_base_values.specs.Inputs.{reading};
 ghost use Rattle.ice_bits.specs.Configuration.{bits_of};
 ghost use Rattle.ice_decode.specs.Drivers.{driver};
 ghost use Rattle.ice_decode.specs.Roles.{role_of};
@@ -14,7 +14,7 @@ ghost use Rattle.ice_sim.specs.ChipSlots.{slot_in, kept_slot, table_slot, level_
 
 use crate::gates::{carry_gate, cell_gate, table};
 use crate::points::PointSlot;
-use crate::site::Site;
+use crate::configured::ConfiguredChip;
 use ice_base::{TileAt, WireNo};
 use ice_chip::Pad;
 use ice_decode::{
@@ -23,14 +23,14 @@ use ice_decode::{
 use ice_sim_sweep::Feed;
 
 // The slot of a table, which has none of its own where it is always 0.
-fn table_slot(site: &Site<'_>, slots: &[u32], next: u32, tile: TileAt, cell: u8) -> PointSlot
-    ensures { result ≡ table_slot site.now.parts (bits_of site.now.configuration) slots.now next tile cell }
+fn table_slot(configured: &ConfiguredChip<'_>, slots: &[u32], next: u32, tile: TileAt, cell: u8) -> PointSlot
+    ensures { result ≡ table_slot configured.now.parts (bits_of configured.now.configuration) slots.now next tile cell }
 {
-    let table = table(site, tile, cell);
+    let table = table(configured, tile, cell);
     if table == 0 {
         return PointSlot::Shared(0);
     }
-    PointSlot::Own(Feed::Made(cell_gate(site, slots, table, tile, cell, next)))
+    PointSlot::Own(Feed::Made(cell_gate(configured, slots, table, tile, cell, next)))
 }
 
 // The slot of what the cell at a place keeps.
@@ -54,94 +54,94 @@ fn level_slot(place: Option<usize>) -> PointSlot
 }
 
 // The slot of the input of a pad.
-fn pad_slot(site: &Site<'_>, pad: Pad) -> PointSlot
-    ensures { result ≡ pad_slot site.now.parts (bits_of site.now.configuration) site.now.bonded pad }
+fn pad_slot(configured: &ConfiguredChip<'_>, pad: Pad) -> PointSlot
+    ensures { result ≡ pad_slot configured.now.parts (bits_of configured.now.configuration) configured.now.bonded pad }
 {
-    if !is_enabled(site.chip(), site.bits(), pad) {
+    if !is_enabled(configured.chip(), configured.bits(), pad) {
         return PointSlot::Shared(0);
     }
-    level_slot(site.pad_place(pad))
+    level_slot(configured.pad_place(pad))
 }
 
 // The slot of the output of a cell.
-fn output_slot(site: &Site<'_>, slots: &[u32], next: u32, tile: TileAt, cell: u8) -> PointSlot
-    ensures { result ≡ role_slot site.now.parts (bits_of site.now.configuration) site.now.bonded slots.now next (Output tile cell) }
+fn output_slot(configured: &ConfiguredChip<'_>, slots: &[u32], next: u32, tile: TileAt, cell: u8) -> PointSlot
+    ensures { result ≡ role_slot configured.now.parts (bits_of configured.now.configuration) configured.now.bonded slots.now next (Output tile cell) }
 {
-    if has_flop(site.chip(), site.bits(), tile, cell) {
-        return kept_slot(site.cell_place(tile, cell));
+    if has_flop(configured.chip(), configured.bits(), tile, cell) {
+        return kept_slot(configured.cell_place(tile, cell));
     }
-    table_slot(site, slots, next, tile, cell)
+    table_slot(configured, slots, next, tile, cell)
 }
 
 // The slot of what feeds a global.
-fn global_slot(site: &Site<'_>, slots: &[u32], global: u8) -> u32
-    ensures { result ≡ reading 0 (slot_in site.now.parts slots.now) (global_feed site.now.parts global) }
+fn global_slot(configured: &ConfiguredChip<'_>, slots: &[u32], global: u8) -> u32
+    ensures { result ≡ reading 0 (slot_in configured.now.parts slots.now) (global_feed configured.now.parts global) }
 {
-    match site.chip().global_of(global) {
+    match configured.chip().global_of(global) {
         None => 0,
-        Some(tile) => site.pin_slot(0, slots, tile, b"fabout"),
+        Some(tile) => configured.pin_slot(0, slots, tile, b"fabout"),
     }
 }
 
 // The slot of the carry into a tile where no row that is on leads there.
-fn carry_in_slot(site: &Site<'_>, tile: TileAt) -> u32
-    ensures { result ≡ (if set_at site.now.parts (bits_of site.now.configuration) tile (codes "CarryInSet") 0 then 1 else 0) }
+fn carry_in_slot(configured: &ConfiguredChip<'_>, tile: TileAt) -> u32
+    ensures { result ≡ (if set_at configured.now.parts (bits_of configured.now.configuration) tile (codes "CarryInSet") 0 then 1 else 0) }
 {
-    u32::from(setting(site.chip(), site.bits(), tile, b"CarryInSet", 0))
+    u32::from(setting(configured.chip(), configured.bits(), tile, b"CarryInSet", 0))
 }
 
 // The slot of a wire without a row that is on.
-fn role_slot(site: &Site<'_>, slots: &[u32], next: u32, role: Role) -> PointSlot
-    ensures { result ≡ role_slot site.now.parts (bits_of site.now.configuration) site.now.bonded slots.now next role }
+fn role_slot(configured: &ConfiguredChip<'_>, slots: &[u32], next: u32, role: Role) -> PointSlot
+    ensures { result ≡ role_slot configured.now.parts (bits_of configured.now.configuration) configured.now.bonded slots.now next role }
 {
     match role {
         Role::Plain => PointSlot::Shared(0),
-        Role::Output { tile, cell } => output_slot(site, slots, next, tile, cell),
-        Role::LookUp { tile, cell } => table_slot(site, slots, next, tile, cell),
+        Role::Output { tile, cell } => output_slot(configured, slots, next, tile, cell),
+        Role::LookUp { tile, cell } => table_slot(configured, slots, next, tile, cell),
         Role::CarryOut { tile, cell } => {
-            PointSlot::Shared(site.slot_in(slots, Point::Carry { tile, cell }))
+            PointSlot::Shared(configured.slot_in(slots, Point::Carry { tile, cell }))
         }
-        Role::PadInput(pad) => pad_slot(site, pad),
-        Role::Global(global) => PointSlot::Shared(global_slot(site, slots, global)),
-        Role::CarryIn(tile) => PointSlot::Shared(carry_in_slot(site, tile)),
+        Role::PadInput(pad) => pad_slot(configured, pad),
+        Role::Global(global) => PointSlot::Shared(global_slot(configured, slots, global)),
+        Role::CarryIn(tile) => PointSlot::Shared(carry_in_slot(configured, tile)),
         Role::ClockEnable => PointSlot::Shared(1),
     }
 }
 
 // The slot of what a row of switches that is on gives.
-fn switch_slot(site: &Site<'_>, slots: &[u32], switch: Switch) -> u32
-    requires { switch.source.0 < site.now.parts.wires }
-    ensures { result ≡ (if passes site.now.parts (bits_of site.now.configuration) switch then slot_in site.now.parts slots.now (Wire switch.source) else 0) }
+fn switch_slot(configured: &ConfiguredChip<'_>, slots: &[u32], switch: Switch) -> u32
+    requires { switch.source.0 < configured.now.parts.wires }
+    ensures { result ≡ (if passes configured.now.parts (bits_of configured.now.configuration) switch then slot_in configured.now.parts slots.now (Wire switch.source) else 0) }
 {
-    if passes(site.chip(), site.bits(), &switch) {
-        site.slot_in(slots, Point::Wire(switch.source))
+    if passes(configured.chip(), configured.bits(), &switch) {
+        configured.slot_in(slots, Point::Wire(switch.source))
     } else {
         0
     }
 }
 
 // The slot of a wire of the chip.
-fn wire_slot(site: &Site<'_>, slots: &[u32], next: u32, wire: WireNo) -> PointSlot
-    requires { wire.0 < site.now.parts.wires }
-    ensures { result ≡ driven_slot site.now.parts (bits_of site.now.configuration) site.now.bonded slots.now next (role_of site.now.parts wire.0) (driver site.now.parts (bits_of site.now.configuration) wire.0) }
+fn wire_slot(configured: &ConfiguredChip<'_>, slots: &[u32], next: u32, wire: WireNo) -> PointSlot
+    requires { wire.0 < configured.now.parts.wires }
+    ensures { result ≡ driven_slot configured.now.parts (bits_of configured.now.configuration) configured.now.bonded slots.now next (role_of configured.now.parts wire.0) (driver configured.now.parts (bits_of configured.now.configuration) wire.0) }
 {
-    match site.driver(wire) {
-        Driver::Nothing => role_slot(site, slots, next, role_of(site.chip(), wire)),
-        Driver::By(switch) => PointSlot::Shared(switch_slot(site, slots, switch)),
+    match configured.driver(wire) {
+        Driver::Nothing => role_slot(configured, slots, next, role_of(configured.chip(), wire)),
+        Driver::By(switch) => PointSlot::Shared(switch_slot(configured, slots, switch)),
         Driver::Several(_, _) => PointSlot::Shared(0),
     }
 }
 
 /// What gives a point of the chip its level, where `slots` has the slots of the points that it reads, and `next` is the next slot.
-pub(crate) fn point_slot(site: &Site<'_>, slots: &[u32], next: u32, point: Point) -> PointSlot
-    requires { HasWire site.now.parts point }
-    ensures { result ≡ point_slot site.now.parts (bits_of site.now.configuration) site.now.bonded slots.now next point }
+pub(crate) fn point_slot(configured: &ConfiguredChip<'_>, slots: &[u32], next: u32, point: Point) -> PointSlot
+    requires { HasWire configured.now.parts point }
+    ensures { result ≡ point_slot configured.now.parts (bits_of configured.now.configuration) configured.now.bonded slots.now next point }
 {
     match point {
-        Point::Wire(wire) => wire_slot(site, slots, next, wire),
+        Point::Wire(wire) => wire_slot(configured, slots, next, wire),
         Point::Carry { tile, cell } => {
-            if has_carry(site.chip(), site.bits(), tile, cell) {
-                PointSlot::Own(Feed::Made(carry_gate(site, slots, tile, cell, next)))
+            if has_carry(configured.chip(), configured.bits(), tile, cell) {
+                PointSlot::Own(Feed::Made(carry_gate(configured, slots, tile, cell, next)))
             } else {
                 PointSlot::Shared(0)
             }

@@ -3,8 +3,8 @@ use Rattle.std.proofs.Common.{◌≡◌, ℕ, ◌+◌, ◌<◌, ◌≤◌, Bool,
 use Rattle.std.specs.List.{flat_map}
 use Rattle.std.proofs.lemmas.List.{get_or-replicate, get_or_append_left, length-replicate, length-map, take_all}
 use Rattle.std.proofs.Math.Seq.{get_or-append_seam}
-use Rattle.ice_value.specs.Order.{At}
-use Rattle.ice_value.specs.Machine as machine
+use Rattle.ice_base_values.specs.Order.{At}
+use Rattle.ice_base_values.specs.Machine as machine
 use Rattle.ice_net.specs.declared.cell.Cell.{Cell}
 use Rattle.ice_net.specs.declared.drive.Drive.{Drive}
 use Rattle.ice_net.specs.NetlistData.{NetlistData}
@@ -14,7 +14,7 @@ use Rattle.ice_sim_sweep.specs.declared.parts.Memory.{Memory}
 use Rattle.ice_sim_sweep.specs.declared.parts.Feed.{Feed}
 use Rattle.ice_sim_sweep.specs.declared.parts.Feed.TheVariants.{Nothing, Port as FromPort, Kept, Made}
 use Rattle.ice_sim_sweep.specs.declared.plan.Plan.{Plan}
-use Rattle.ice_levels.specs.DriveTexts.{drives_line, drives_text}
+use Rattle.ice_sim_levels.specs.DriveTexts.{drives_line, drives_text}
 use Rattle.ice_sim_sweep.specs.Slots.{level_at}
 use Rattle.ice_sim_sweep.specs.Feeds.{feed_of, port_in, kept_in, linked, gate_in, tap_of}
 use Rattle.ice_sim_sweep.specs.Sweeps.{blank, kept_levels, copied, made, tap_drive, remembered}

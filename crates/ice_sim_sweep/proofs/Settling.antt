@@ -4,12 +4,12 @@ use Rattle.std.specs.Prelude.{slice_get, unwrap_or}
 use Rattle.std.specs.List.{flat_map}
 use Rattle.std.proofs.lemmas.List.{length-set, set-get_or, drop_more, length-drop}
 use Rattle.std.proofs.lemmas.Bool.{cases_lt}
-use Rattle.ice_value.specs.System.{System, value}
-use Rattle.ice_value.specs.Order.{At, IsOrder}
-use Rattle.ice_value.proofs.Places.{At_same, At_drop}
-use Rattle.ice_value.proofs.Values.{value_step, value_at_more}
-use Rattle.ice_value.proofs.Gaps.{local_gapped}
-use Rattle.ice_value.proofs.FillingSteps.{Filled, filled_all}
+use Rattle.ice_base_values.specs.System.{System, value}
+use Rattle.ice_base_values.specs.Order.{At, IsOrder}
+use Rattle.ice_base_values.proofs.Places.{At_same, At_drop}
+use Rattle.ice_base_values.proofs.Values.{value_step, value_at_more}
+use Rattle.ice_base_values.proofs.Gaps.{local_gapped}
+use Rattle.ice_base_values.proofs.FillingSteps.{Filled, filled_all}
 use Rattle.ice_net.specs.NetlistData.{NetlistData}
 use Rattle.ice_net.specs.Formed.{IsFormed}
 use Rattle.ice_net.specs.Drivers.{driver_of}

@@ -5,8 +5,8 @@ use Rattle.std.specs.Prelude.{◌==◌, slice_get}
 use Rattle.std.proofs.lemmas.Bool.{cases_lt}
 use Rattle.std.proofs.lemmas.Option.{slice_get_within, get_or_from_slice_get}
 use Rattle.ice_base.specs.declared.number.SignalNo.{SignalNo}
-use Rattle.ice_value.specs.Order.{At}
-use Rattle.ice_value.specs.Inputs.{reading}
+use Rattle.ice_base_values.specs.Order.{At}
+use Rattle.ice_base_values.specs.Inputs.{reading}
 use Rattle.ice_net.specs.declared.cell.Cell.{Cell}
 use Rattle.ice_net.specs.declared.drive.Drive.TheVariants.{Off}
 use Rattle.ice_net.specs.declared.kind.CellKind.{CellKind}

@@ -1,7 +1,7 @@
 -- What a run holds beside its netlist.
 use Rattle.std.specs.Prelude.{◌≡◌, ℕ, ◌+◌, ◌<◌, Bool, true, false, List, [], ◌∷◌, length, map, All}
 use Rattle.std.specs.List.{flat_map}
-use Rattle.ice_value.specs.Order.{IsOrder}
+use Rattle.ice_base_values.specs.Order.{IsOrder}
 use Rattle.ice_net.specs.declared.cell.Cell.{Cell}
 use Rattle.ice_net.specs.declared.kind.CellKind.{CellKind}
 use Rattle.ice_net.specs.declared.kind.CellKind.TheVariants.{Lut, Cover, Carry, Flop, PadCell, Global}

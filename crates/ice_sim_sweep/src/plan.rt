@@ -1,6 +1,6 @@
 //! Netlists, compiled.
 ghost use Rattle.std.specs.Prelude.{◌≡◌, ◌<◌, ◌^◌, ◌++◌, [], length, map, OnOk, IfOk};
-ghost use Rattle.ice_value.specs.Order.{IsOrder};
+ghost use Rattle.ice_base_values.specs.Order.{IsOrder};
 ghost use Rattle.ice_net.specs.Drivers.{pin_of};
 ghost use Rattle.ice_net.specs.Meaning.{depends_on};
 ghost use Rattle.ice_check.specs.Tables.{AreDrivers, ArePlaces};

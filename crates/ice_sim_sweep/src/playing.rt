@@ -1,13 +1,13 @@
 //! What a netlist shows for a list of levels, as a text.
 ghost use Rattle.std.specs.Prelude.{◌≡◌, ◌++◌, length, All, IfOk, OnOk};
 ghost use Rattle.ice_net.specs.Meaning.{shows, step};
-ghost use Rattle.ice_levels.specs.LevelTexts.{HasWidth};
-ghost use Rattle.ice_levels.specs.DriveTexts.{drives_line, drives_text};
+ghost use Rattle.ice_sim_levels.specs.LevelTexts.{HasWidth};
+ghost use Rattle.ice_sim_levels.specs.DriveTexts.{drives_line, drives_text};
 
 use crate::NetRun;
 use ice_base::NoMemory;
 use ice_check::Sound;
-use ice_levels::{Levels, put_drives};
+use ice_sim_levels::{Levels, put_drives};
 use ice_net::Drive;
 use std::alloc::Global;
 

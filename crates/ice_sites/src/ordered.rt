@@ -1,13 +1,13 @@
 //! The sites of a chip in order.
 ghost use Rattle.std.specs.Prelude.{◌≡◌, ◌++◌, filter, IfOk, OnOk};
-ghost use Rattle.ice_rows.specs.Index.{IsIndexOf};
+ghost use Rattle.ice_bits_rows.specs.Index.{IsIndexOf};
 ghost use Rattle.ice_sites.specs.Site.{is_site};
 ghost use Rattle.ice_sites.specs.Stretches.{column, sites_in_order};
 
 use crate::site::is_site;
 use ice_base::{NoMemory, TileAt};
 use ice_chip::Chip;
-use ice_rows::Index;
+use ice_bits_rows::Index;
 use std::alloc::Global;
 
 // Adds the sites of a column, from below.

@@ -2,7 +2,7 @@
 ghost use Rattle.std.specs.Prelude.{◌≡◌, ◌<◌, option_map};
 ghost use Rattle.ice_chip.specs.Lookups.{wire_named};
 ghost use Rattle.ice_chip.specs.WireNames.{input_name, output_name, carry_out_name, first_carry_name};
-ghost use Rattle.ice_rows.specs.Index.{IsIndexOf};
+ghost use Rattle.ice_bits_rows.specs.Index.{IsIndexOf};
 ghost use Rattle.ice_sites.specs.Site.{has_wire, leads, is_same_wire, is_logic, all_below, has_cell, has_chain, has_controls, has_entry, is_site, is_above, is_link};
 
 use ice_base::{TileAt, WireNo};
@@ -10,7 +10,7 @@ use ice_chip::{
     Chip, TileKind, carry_in_name, carry_out_name, clock_enable_name, clock_name, first_carry_name,
     input_name, output_name, set_reset_name,
 };
-use ice_rows::{Index, first_sound};
+use ice_bits_rows::{Index, first_sound};
 
 // Whether a wire has the name in a tile.
 fn has_wire(chip: &Chip, tile: TileAt, name: &[u8]) -> bool

@@ -1,13 +1,13 @@
 //! The sites of a chip, stretch by stretch.
 ghost use Rattle.std.specs.Prelude.{◌≡◌, IfOk};
-ghost use Rattle.ice_rows.specs.Index.{IsIndexOf};
+ghost use Rattle.ice_bits_rows.specs.Index.{IsIndexOf};
 ghost use Rattle.ice_sites.specs.Stretches.{stretches_of};
 
 use crate::ordered::sites_in_order;
 use crate::stretches::stretches_in;
 use ice_base::{NoMemory, TileAt};
 use ice_chip::Chip;
-use ice_rows::{Index, index_of};
+use ice_bits_rows::{Index, index_of};
 use std::alloc::Global;
 use std::marker::Model;
 

@@ -1,6 +1,6 @@
 //! The stretches of a list of sites.
 ghost use Rattle.std.specs.Prelude.{◌≡◌, ◌<◌, ◌+◌, [], length, drop, slice_index_or, IfOk};
-ghost use Rattle.ice_rows.specs.Index.{IsIndexOf};
+ghost use Rattle.ice_bits_rows.specs.Index.{IsIndexOf};
 ghost use Rattle.ice_sites.specs.Site.{is_link};
 ghost use Rattle.ice_sites.specs.Stretches.{goes_on, cut};
 
@@ -8,7 +8,7 @@ use crate::Stretch;
 use crate::site::is_link;
 use ice_base::{NoMemory, TileAt};
 use ice_chip::Chip;
-use ice_rows::Index;
+use ice_bits_rows::Index;
 use std::alloc::Global;
 
 // Whether the next site is linked to this one.

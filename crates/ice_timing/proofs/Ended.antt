@@ -1,7 +1,7 @@
 -- The longest path, by the latest of all entries.
 use Rattle.std.proofs.Common.{◌≡◌, ℕ, ◌+◌, ◌≤◌, All, List, [], get_or, refl, sym, ap, ◌∙◌, subst, arith}
-use Rattle.ice_value.specs.Order.{Has}
-use Rattle.ice_value.proofs.Members.{Has_none, Has_read}
+use Rattle.ice_base_values.specs.Order.{Has}
+use Rattle.ice_base_values.proofs.Members.{Has_none, Has_read}
 use Rattle.ice_chip.specs.Database.{Parts}
 use Rattle.ice_chip.specs.IsRead.{IsRead}
 use Rattle.ice_bits.specs.Configuration.{Bits}

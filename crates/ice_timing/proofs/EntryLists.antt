@@ -4,8 +4,8 @@ use Rattle.std.specs.List.{flat_map}
 use Rattle.std.proofs.lemmas.List.{take_more, take_all, map-append, flat_map_more}
 use Rattle.std.proofs.lemmas.List.Concat.{flat_map-append}
 use Rattle.ice_base.specs.declared.number.TileAt.{TileAt}
-use Rattle.ice_value.specs.Inputs.{present}
-use Rattle.ice_value.proofs.Gaps.{present_more}
+use Rattle.ice_base_values.specs.Inputs.{present}
+use Rattle.ice_base_values.proofs.Gaps.{present_more}
 use Rattle.ice_chip.specs.Database.{Parts}
 use Rattle.ice_chip.specs.Lookups.{tile_of, is_io_kind}
 use Rattle.ice_chip.specs.declared.parts.TileLine.{TileLine}

@@ -1,8 +1,8 @@
 -- Arrivals by those of the points that a point depends on.
 use Rattle.std.proofs.Common.{◌≡◌, ◌⊎◌, ℕ, zero, suc, ◌+◌, ◌-◌, ◌<◌, ◌≤◌, List, [], ◌∷◌, ◌++◌, length, Some, inl, inr, refl, sym, ap, ◌∙◌, subst, arith, length-append}
 use Rattle.std.proofs.lemmas.Option.{same_Some}
-use Rattle.ice_value.specs.Order.{At, Has}
-use Rattle.ice_value.proofs.Members.{Has_none}
+use Rattle.ice_base_values.specs.Order.{At, Has}
+use Rattle.ice_base_values.proofs.Members.{Has_none}
 use Rattle.ice_decode.specs.declared.point.Point.{Point}
 use Rattle.ice_timing.specs.Paths.{IsPath, IsPathTo, IsArrival, length_of}
 use Rattle.ice_timing.proofs.PathEnds.{IsOne, IsMore, cut, longer, length_longer}

@@ -2,9 +2,9 @@
 use Rattle.std.proofs.Common.{◌≡◌, ◌⊎◌, ℕ, zero, suc, ◌+◌, ◌<◌, ◌≤◌, List, [], ◌∷◌, length, get_or, Some, inl, inr, refl, sym, ap, ◌∙◌, subst, arith}
 use Rattle.std.proofs.lemmas.Bool.{cases_eq}
 use Rattle.std.proofs.lemmas.Option.{slice_get-get_or}
-use Rattle.ice_value.specs.Order.{At, Has}
-use Rattle.ice_value.proofs.Members.{At_within, Has_read}
-use Rattle.ice_value.proofs.Places.{At_same}
+use Rattle.ice_base_values.specs.Order.{At, Has}
+use Rattle.ice_base_values.proofs.Members.{At_within, Has_read}
+use Rattle.ice_base_values.proofs.Places.{At_same}
 use Rattle.ice_chip.specs.Database.{Parts}
 use Rattle.ice_bits.specs.Configuration.{Bits}
 use Rattle.ice_timing_delays.specs.declared.delays.Delays.{Delays}

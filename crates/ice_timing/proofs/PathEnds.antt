@@ -3,9 +3,9 @@ use Rattle.std.proofs.Common.{◌≡◌, ◌⊎◌, ℕ, zero, suc, ◌+◌, ◌
 use Rattle.std.specs.Prelude.{sum_by}
 use Rattle.std.proofs.lemmas.Option.{same_Some}
 use Rattle.std.proofs.lemmas.List.Sums.{sum_by-append}
-use Rattle.ice_value.specs.Order.{At, Has}
-use Rattle.ice_value.proofs.Members.{At_left, At_right, At_parts, At_within}
-use Rattle.ice_value.proofs.Places.{At_same}
+use Rattle.ice_base_values.specs.Order.{At, Has}
+use Rattle.ice_base_values.proofs.Members.{At_left, At_right, At_parts, At_within}
+use Rattle.ice_base_values.proofs.Places.{At_same}
 use Rattle.ice_timing.specs.Paths.{IsPath, IsPathTo, length_of}
 
 -- ---- the last item of a list

@@ -2,7 +2,7 @@
 use Rattle.std.specs.Prelude.{ℕ, ◌+◌, ◌/◌, ◌==◌, List, [], ◌∷◌, ◌++◌, Option, map, if◌then◌else◌}
 use Rattle.std.specs.List.{flat_map}
 use Rattle.ice_base.specs.declared.number.TileAt.{TileAt}
-use Rattle.ice_value.specs.Inputs.{present}
+use Rattle.ice_base_values.specs.Inputs.{present}
 use Rattle.ice_chip.specs.Database.{Parts}
 use Rattle.ice_chip.specs.Lookups.{is_io_kind}
 use Rattle.ice_chip.specs.declared.tile.Tile.{Tile}

@@ -1,6 +1,6 @@
 -- The latest of some points, by a table of when a signal is at each of the numbered points.
 use Rattle.std.specs.Prelude.{◌≡◌, ℕ, ◌≤◌, List, [], Option, None, Some, slice_index_or}
-use Rattle.ice_value.specs.Order.{At, Has}
+use Rattle.ice_base_values.specs.Order.{At, Has}
 use Rattle.ice_decode.specs.declared.point.Point.{Point}
 
 -- the number of the entry that is the greatest of those with these numbers

@@ -1,6 +1,6 @@
 -- Paths of points, and how long they are. Nothing of a chip stands in these.
 use Rattle.std.specs.Prelude.{◌≡◌, ℕ, ◌+◌, ◌-◌, ◌<◌, ◌≤◌, List, [], ◌∷◌, length, sum_by}
-use Rattle.ice_value.specs.Order.{At, Has}
+use Rattle.ice_base_values.specs.Order.{At, Has}
 use Rattle.ice_decode.specs.declared.point.Point.{Point}
 
 -- the first point depends on nothing, and each later one depends on the one before

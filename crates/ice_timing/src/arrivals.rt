@@ -1,7 +1,7 @@
 //! When a signal arrives at each point.
 ghost use Rattle.std.specs.Prelude.{◌≡◌, ◌<◌, ◌≤◌, ◌^◌, length, replicate, slice_set, IfOk};
 ghost use Rattle.ice_bits.specs.Configuration.{Bits, bits_of};
-ghost use Rattle.ice_value.specs.Order.{Has};
+ghost use Rattle.ice_base_values.specs.Order.{Has};
 ghost use Rattle.ice_chip.specs.Database.{Parts};
 ghost use Rattle.ice_decode.specs.Points.{AreAllPoints};
 ghost use Rattle.ice_decode.specs.Reads.{depends_on};

@@ -1,7 +1,7 @@
 //! The latest of the points on which a point depends.
 ghost use Rattle.std.specs.Prelude.{◌≡◌, ◌⊎◌, ◌<◌, ◌≤◌, [], Some, All, length, map, slice_get, slice_index_or, IfOk, IfNone, IfSome};
 ghost use Rattle.ice_bits.specs.Configuration.{bits_of};
-ghost use Rattle.ice_value.specs.Order.{Has};
+ghost use Rattle.ice_base_values.specs.Order.{Has};
 ghost use Rattle.ice_decode.specs.Points.{AreAllPoints};
 ghost use Rattle.ice_decode.specs.Reads.{depends_on};
 ghost use Rattle.ice_decode.specs.Refusals.{IsCircuitOf};

@@ -1,6 +1,6 @@
 //! The end that a signal reaches last.
 ghost use Rattle.std.specs.Prelude.{◌≡◌, ◌⊎◌, ◌≤◌, ◌^◌, ◌*◌, [], All, IfNone, IfSome};
-ghost use Rattle.ice_value.specs.Order.{Has};
+ghost use Rattle.ice_base_values.specs.Order.{Has};
 ghost use Rattle.ice_chip.specs.Database.{Parts};
 ghost use Rattle.ice_bits.specs.Configuration.{Bits};
 ghost use Rattle.ice_timing.specs.Arriving.{AreArrivalsOf};

@@ -1,7 +1,7 @@
 //! The longest path of a configured chip.
 ghost use Rattle.std.specs.Prelude.{IfOk, reverse};
 ghost use Rattle.ice_bits.specs.Configuration.{bits_of};
-ghost use Rattle.ice_value.specs.Order.{Has};
+ghost use Rattle.ice_base_values.specs.Order.{Has};
 ghost use Rattle.ice_decode.specs.Refusals.{IsCircuitOf};
 ghost use Rattle.ice_timing.specs.Arriving.{AreArrivalsOf};
 ghost use Rattle.ice_timing.specs.Timed.{IsTimedTo, IsFound};

@@ -6,7 +6,7 @@ use Rattle.std.proofs.lemmas.Grind.{same_number_lists}
 use Rattle.ice_base.specs.declared.number.WireNo.{WireNo}
 use Rattle.ice_core.specs.Moves.{stands_in}
 use Rattle.ice_core.proofs.Moving.{wire_at, stands_other, stands_same}
-use Rattle.ice_negotiate.proofs.Leaving.{LeftOut}
+use Rattle.ice_negotiate_defs.proofs.Leaving.{LeftOut}
 use Rattle.ice_worker.specs.Tasks.{AreLeft}
 
 less_none : (b : Bool) (n : ℕ) → b ≡ false → n - cond b 1 0 ≡ n

@@ -6,8 +6,8 @@ use Rattle.ice_base.specs.declared.number.WireNo.{WireNo}
 use Rattle.ice_core.specs.Routes.{numbers, times}
 use Rattle.ice_core.proofs.Sums.{is_at, at_itself, at_other, times_cons}
 use Rattle.ice_path.specs.Room.{AreWires}
-use Rattle.ice_negotiate.specs.Trees.{AreOnce}
-use Rattle.ice_negotiate.proofs.Leaving.{once_rest}
+use Rattle.ice_negotiate_defs.specs.Trees.{AreOnce}
+use Rattle.ice_negotiate_defs.proofs.Leaving.{once_rest}
 
 pub numbers_long : (wires : List WireNo) → length (numbers wires) ≡ length wires
 numbers_long [] = refl

@@ -15,9 +15,9 @@ use Rattle.ice_graph.specs.Network.{Network}
 use Rattle.ice_path.specs.Room.{AreWires}
 use Rattle.ice_words.specs.Views.{with_own, own_changed, own, first_part, claim_of, claiming, ending, posted}
 use Rattle.ice_words.specs.Rule.{IsNewestReleased}
-use Rattle.ice_negotiate.specs.declared.stop.TreeStop.{TreeStop}
-use Rattle.ice_negotiate.specs.declared.stop.TreeStop.TheVariants.{Unreachable, NoMemory}
-use Rattle.ice_negotiate.specs.Trees.{IsCause}
+use Rattle.ice_negotiate_defs.specs.declared.stop.TreeStop.{TreeStop}
+use Rattle.ice_negotiate_defs.specs.declared.stop.TreeStop.TheVariants.{Unreachable, NoMemory}
+use Rattle.ice_negotiate_defs.specs.Trees.{IsCause}
 use Rattle.ice_worker.proofs.Wires.{wires_within}
 use Rattle.ice_worker.specs.Work.{changing, finished_as}
 use Rattle.ice_worker.proofs.Stepping.{with_list}

@@ -7,10 +7,10 @@ use Rattle.ice_core.specs.declared.round_prices.RoundPrices.{RoundPrices}
 use Rattle.ice_core.specs.declared.task.Task.{Task}
 use Rattle.ice_core.specs.Routes.{numbers, wires_of}
 use Rattle.ice_path.specs.Room.{IsFor}
-use Rattle.ice_negotiate.specs.Rounds.{AreOpen}
-use Rattle.ice_negotiate.specs.Trees.{IsCause}
-use Rattle.ice_negotiate.specs.declared.stop.TreeStop.{TreeStop}
-use Rattle.ice_negotiate.specs.declared.stop.TreeStop.TheVariants.{Unreachable as Cut, NoMemory as Memory}
+use Rattle.ice_negotiate_defs.specs.Rounds.{AreOpen}
+use Rattle.ice_negotiate_defs.specs.Trees.{IsCause}
+use Rattle.ice_negotiate_defs.specs.declared.stop.TreeStop.{TreeStop}
+use Rattle.ice_negotiate_defs.specs.declared.stop.TreeStop.TheVariants.{Unreachable as Cut, NoMemory as Memory}
 use Rattle.ice_words.specs.declared.view.Claim.{Claim}
 use Rattle.ice_words.specs.declared.view.Part.{Part}
 use Rattle.ice_words.specs.declared.view.View.{View}

@@ -8,7 +8,7 @@ use Rattle.ice_core.specs.declared.round_prices.RoundPrices.{RoundPrices}
 use Rattle.ice_core.specs.declared.task.Task.{Task}
 use Rattle.ice_core.specs.Congestion.{ArePrices, price}
 use Rattle.ice_core.specs.Moves.{stands_in}
-use Rattle.ice_negotiate.specs.Trees.{AreOnce, AreReached, AreSinks, IsRooted, IsTree, route_of}
+use Rattle.ice_negotiate_defs.specs.Trees.{AreOnce, AreReached, AreSinks, IsRooted, IsTree, route_of}
 
 -- the others are those that hold a wire, less the net with these wires itself
 pub record AreLeft (counts : List ℕ) (old : List WireNo) (others : List ℕ) : Type 0 where

@@ -1,14 +1,14 @@
 //! A task's prices: those of the round, with its own net left out while its tree is made.
 ghost use Rattle.std.specs.Prelude.{◌≡◌, ◌<◌, ℕ, length, IfOk, IfErr, OnOk};
 ghost use Rattle.ice_path.specs.Room.{IsFor, AreWires};
-ghost use Rattle.ice_negotiate.specs.Rounds.{AreOpen};
-ghost use Rattle.ice_negotiate.specs.Trees.{AreOnce, AreReached, IsCause, IsRooted};
+ghost use Rattle.ice_negotiate_defs.specs.Rounds.{AreOpen};
+ghost use Rattle.ice_negotiate_defs.specs.Trees.{AreOnce, AreReached, IsCause, IsRooted};
 ghost use Rattle.ice_worker.specs.Tasks.{AreLeft, AreFor, AreTaskPrices, IsNewTree, IsTaskOf, KeepsBounds};
 
 use ice_base::WireNo;
 use ice_core::{Prices, RoundPrices, Task};
 use ice_graph::{Graph, Tree};
-use ice_negotiate::{TreeStop, tree_of};
+use ice_negotiate_defs::{TreeStop, tree_of};
 use ice_path::Scratch;
 use std::alloc::Global;
 

@@ -8,7 +8,7 @@ mod steps;
 mod stop;
 mod worker;
 
-pub use ice_raise::raise_blocks;
+pub use ice_worker_raise::raise_blocks;
 pub use kit::Kit;
 pub use stop::WorkStop;
 pub use worker::work;

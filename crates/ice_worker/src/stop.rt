@@ -4,7 +4,7 @@ ghost use Rattle.ice_worker.specs.Kits.{stop_as};
 ghost use Rattle.ice_worker.specs.declared.stop.WorkStop.TheVariants.{NoMemory};
 
 use ice_base::WireNo;
-use ice_negotiate::TreeStop;
+use ice_negotiate_defs::TreeStop;
 use std::alloc::{AllocError, AllocFailed};
 use thiserror::Error;
 

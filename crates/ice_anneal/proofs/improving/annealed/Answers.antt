@@ -3,9 +3,9 @@ use Rattle.std.specs.List.{All}
 use Rattle.std.specs.List.Sorted.{IsPermutation}
 use Rattle.std.proofs.lemmas.List.Sorted.{IsPermutation-trans}
 use Rattle.ice_base.specs.declared.number.TileAt.{TileAt}
-use Rattle.ice_board.specs.declared.board.Board.{Board}
-use Rattle.ice_board.specs.Length.{wire_length}
-use Rattle.ice_board.proofs.Boards.{total_is}
+use Rattle.ice_anneal_board.specs.declared.board.Board.{Board}
+use Rattle.ice_anneal_board.specs.Length.{wire_length}
+use Rattle.ice_anneal_board.proofs.Boards.{total_is}
 use Rattle.ice_anneal.specs.declared.units.MoveUnit.{MoveUnit}
 use Rattle.ice_anneal.specs.Seating.{IsUnit}
 use Rattle.ice_anneal.proofs.Seatings.{wider_units}

@@ -1,6 +1,6 @@
 use Rattle.std.proofs.Common.{◌-◌, List, Bool, length, take, sym, subst, arith}
 use Rattle.ice_base.specs.declared.number.TileAt.{TileAt}
-use Rattle.ice_board.specs.Board.{Keeps}
+use Rattle.ice_anneal_board.specs.Board.{Keeps}
 use Rattle.ice_sites.specs.Legal.{IsLegal}
 use Rattle.ice_anneal.proofs.Finish.{legal_kept, free_places}
 use Rattle.ice_anneal.proofs.improving.descended.Goals as goal

@@ -2,8 +2,8 @@ use Rattle.std.proofs.Common.{◌-◌, List, Bool, length, take, sym, subst, ap,
 use Rattle.std.proofs.lemmas.List.{get_or-take}
 use Rattle.std.proofs.lemmas.List.Sorted.{length_permutation}
 use Rattle.ice_base.specs.declared.number.TileAt.{TileAt}
-use Rattle.ice_board.specs.Length.{wire_length, origin}
-use Rattle.ice_board.specs.Board.{IsLeast}
+use Rattle.ice_anneal_board.specs.Length.{wire_length, origin}
+use Rattle.ice_anneal_board.specs.Board.{IsLeast}
 use Rattle.ice_sites.specs.Legal.{IsLegal}
 use Rattle.ice_anneal.specs.Least.{IsSwapLeast}
 use Rattle.ice_anneal.proofs.Finish.{agree, full_kept, swap_least, length_free}

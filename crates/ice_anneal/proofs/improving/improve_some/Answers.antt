@@ -2,8 +2,8 @@ use Rattle.std.proofs.Common.{◌≡◌, List, length, take, sym, ap, ◌∙◌,
 use Rattle.std.specs.List.{All}
 use Rattle.ice_base.specs.declared.number.TileAt.{TileAt}
 use Rattle.ice_sites.specs.Legal.{IsLegal}
-use Rattle.ice_board.specs.declared.net.Net.{Net}
-use Rattle.ice_board.specs.Length.{wire_length, IsNet}
+use Rattle.ice_anneal_board.specs.declared.net.NetNodes.{NetNodes}
+use Rattle.ice_anneal_board.specs.Length.{wire_length, IsNet}
 use Rattle.ice_anneal.specs.Full.{full_of}
 use Rattle.ice_anneal.specs.Least.{IsFull, IsSwapLeast}
 use Rattle.ice_anneal.specs.Order.{IsOrder}
@@ -11,7 +11,7 @@ use Rattle.ice_anneal.proofs.Fullness.{full, full_first, full_count}
 use Rattle.ice_anneal.proofs.improving.improve_some.Goals as goal
 
 pub improve_full-requires-clause-nets : goal.improve_full-requires-clause-nets
-improve_full-requires-clause-nets c = subst (λ (l : List Net). All (IsNet (length c.args.chunks.now)) l) (sym c.in_ok-wiring.ensures.nets) c.requires.nets
+improve_full-requires-clause-nets c = subst (λ (l : List NetNodes). All (IsNet (length c.args.chunks.now)) l) (sym c.in_ok-wiring.ensures.nets) c.requires.nets
 
 pub improve_full-requires-clause-count : goal.improve_full-requires-clause-count
 improve_full-requires-clause-count c =
@@ -29,8 +29,8 @@ returns-clause-falls c =
     let at = c.args.at.now in
     let p : c.as_slice.result.now ≡ full_of sites at = c.as_slice.ensures.value ∙ c.in_ok-place.ensures ∙ ap (λ (s : List (List TileAt)). full_of s at) c.stretches-stretches.ensures in
     let nets = c.in_ok-wiring.ensures.nets in
-    let found = ap (λ (l : List Net). wire_length l c.in_ok-found.found.items) nets in
-    let start = ap (λ (l : List Net). wire_length l (take (length chunks) c.as_slice.result.now)) nets in
+    let found = ap (λ (l : List NetNodes). wire_length l c.in_ok-found.found.items) nets in
+    let start = ap (λ (l : List NetNodes). wire_length l (take (length chunks) c.as_slice.result.now)) nets in
     let first = ap (wire_length c.args.nets.items) (ap (take (length chunks)) p ∙ full_first sites (length chunks) at c.requires.legal.counts) in
     let le = c.in_ok-found.ensures.falls in
     omega arith
@@ -50,5 +50,5 @@ returns-clause-least c =
     let chunks = c.args.chunks.now in
     let at = c.args.at.now in
     let p : c.as_slice.result.now ≡ full_of sites at = c.as_slice.ensures.value ∙ c.in_ok-place.ensures ∙ ap (λ (s : List (List TileAt)). full_of s at) c.stretches-stretches.ensures in
-    subst (λ (l : List Net). IsSwapLeast (wire_length l) chunks sites c.in_ok-found.found.items) c.in_ok-wiring.ensures.nets
+    subst (λ (l : List NetNodes). IsSwapLeast (wire_length l) chunks sites c.in_ok-found.found.items) c.in_ok-wiring.ensures.nets
     (c.in_ok-found.ensures.least sites (subst (λ (l : List TileAt). IsFull sites l) (sym p) (full sites chunks at c.requires.sites c.requires.legal)))

@@ -1,6 +1,6 @@
 use Rattle.std.proofs.Common.{ap, ◌∙◌, arith}
-use Rattle.ice_board.specs.Length.{wire_length}
-use Rattle.ice_board.proofs.Boards.{total_is}
+use Rattle.ice_anneal_board.specs.Length.{wire_length}
+use Rattle.ice_anneal_board.proofs.Boards.{total_is}
 use Rattle.ice_anneal.proofs.improving.lowered.Goals as goal
 
 pub returns-clause-falls : goal.returns-clause-falls

@@ -1,8 +1,8 @@
 use Rattle.std.proofs.Common.{◌-◌, List, length, take, sym, subst, ap, arith}
 use Rattle.std.proofs.lemmas.List.Sorted.{length_permutation}
 use Rattle.ice_base.specs.declared.number.TileAt.{TileAt}
-use Rattle.ice_board.specs.Length.{wire_length}
-use Rattle.ice_board.proofs.Boards.{total_is}
+use Rattle.ice_anneal_board.specs.Length.{wire_length}
+use Rattle.ice_anneal_board.proofs.Boards.{total_is}
 use Rattle.ice_sites.specs.Legal.{IsLegal}
 use Rattle.ice_anneal.specs.Order.{IsLinked}
 use Rattle.ice_anneal.proofs.Finish.{legal_linked, free_places}

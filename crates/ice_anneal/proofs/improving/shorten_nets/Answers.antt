@@ -2,8 +2,8 @@ use Rattle.std.proofs.Common.{◌≡◌, ℕ, List, Option, length, sym, refl, s
 use Rattle.std.specs.List.{All}
 use Rattle.ice_base.specs.declared.number.TileAt.{TileAt}
 use Rattle.ice_place.specs.Place.{chunks_of}
-use Rattle.ice_board.specs.declared.net.Net.{Net}
-use Rattle.ice_board.specs.Length.{wire_length, IsNet}
+use Rattle.ice_anneal_board.specs.declared.net.NetNodes.{NetNodes}
+use Rattle.ice_anneal_board.specs.Length.{wire_length, IsNet}
 use Rattle.ice_anneal.specs.Least.{IsSwapLeast}
 use Rattle.ice_anneal.proofs.Measured.{measured}
 use Rattle.ice_anneal.proofs.improving.shorten_nets.Goals as goal
@@ -13,13 +13,13 @@ same_chunks : (c : After-as_slice-2) → c.as_slice-2.result.now ≡ chunks_of c
 same_chunks c = c.as_slice-2.ensures.value ∙ (c.in_ok-chunks.ensures ∙ ap chunks_of c.list.ensures)
 
 same_lengths : (c : After-as_slice-2) (at : List TileAt) → wire_length c.in_ok-once.once.items at ≡ wire_length c.args.nets.items at
-same_lengths c at = c.in_ok-once.ensures.lengths at ∙ ap (λ (nets : List Net). wire_length nets at) c.as_slice.ensures.value
+same_lengths c at = c.in_ok-once.ensures.lengths at ∙ ap (λ (nets : List NetNodes). wire_length nets at) c.as_slice.ensures.value
 
 pub improve_some-requires-clause-nets : goal.improve_some-requires-clause-nets
 improve_some-requires-clause-nets c =
     let count = length c.as_slice-2.result.now in
     let e = same_chunks (goal.at.improve_some-requires-clause-nets c).After-as_slice-2 in
-    c.in_ok-once.ensures.nets count (subst (λ (nets : List Net). All (IsNet count) nets) (sym c.as_slice.ensures.value)
+    c.in_ok-once.ensures.nets count (subst (λ (nets : List NetNodes). All (IsNet count) nets) (sym c.as_slice.ensures.value)
     (subst (λ (n : ℕ). All (IsNet n) c.args.nets.items) (sym (ap length e)) c.requires.nets))
 
 pub returns-clause-falls : goal.returns-clause-falls

@@ -1,7 +1,7 @@
 use Rattle.std.proofs.Common.{◌≡◌, ℕ, List, take, length}
 use Rattle.std.specs.List.{All}
 use Rattle.ice_base.specs.declared.number.TileAt.{TileAt}
-use Rattle.ice_board.specs.Length.{IsNet, wire_length}
+use Rattle.ice_anneal_board.specs.Length.{IsNet, wire_length}
 use Rattle.ice_anneal.proofs.once.nets_once.Given as goal
 
 abbrev pub invariant-loop-net : goal.invariant-loop-net

@@ -2,9 +2,9 @@ use Rattle.std.proofs.Common.{◌≡◌, ◌+◌, ◌++◌, ◌∷◌, [], List,
 use Rattle.std.specs.List.{All, Contains}
 use Rattle.std.proofs.lemmas.List.{take_more, take_all}
 use Rattle.std.proofs.lemmas.List.Elements.{All-push}
-use Rattle.ice_board.specs.declared.net.Node.{Node}
-use Rattle.ice_board.specs.declared.net.Node.TheVariants.{Cluster as of_cluster}
-use Rattle.ice_board.specs.Length.{IsNode, net_length}
+use Rattle.ice_anneal_board.specs.declared.net.Node.{Node}
+use Rattle.ice_anneal_board.specs.declared.net.Node.TheVariants.{Cluster as of_cluster}
+use Rattle.ice_anneal_board.specs.Length.{IsNode, net_length}
 use Rattle.ice_anneal.proofs.Repeats.{Same, same_push, same_skip, same_length}
 use Rattle.ice_anneal.proofs.once.once.Goals as goal
 use Rattle.ice_anneal.proofs.once.once.Goals.{then-not-is_at_end+in_ok-push, else-not-is_at_end}

@@ -1,6 +1,6 @@
 use Rattle.std.proofs.Common.{ℕ, take}
 use Rattle.std.specs.List.{All}
-use Rattle.ice_board.specs.Length.{IsNode}
+use Rattle.ice_anneal_board.specs.Length.{IsNode}
 use Rattle.ice_anneal.proofs.Repeats.{Same}
 use Rattle.ice_anneal.proofs.once.once.Given as goal
 

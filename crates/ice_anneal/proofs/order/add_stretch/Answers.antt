@@ -1,7 +1,7 @@
 use Rattle.std.proofs.Common.{◌+◌, ◌++◌, ◌∷◌, [], ℕ, List, take, drop, get_or, sym, ap, ◌∙◌, append_assoc}
 use Rattle.std.proofs.lemmas.List.{take_more}
 use Rattle.ice_base.specs.declared.number.TileAt.{TileAt}
-use Rattle.ice_board.specs.Length.{origin}
+use Rattle.ice_anneal_board.specs.Length.{origin}
 use Rattle.ice_anneal.specs.Order.{rooms}
 use Rattle.ice_anneal.proofs.Orders.{rooms_drop}
 use Rattle.ice_anneal.proofs.order.add_stretch.Goals as goal

@@ -2,8 +2,8 @@ use Rattle.std.proofs.Common.{ℕ, List, length, sym, ap, ◌∙◌, subst}
 use Rattle.std.specs.List.{All}
 use Rattle.ice_chip.specs.declared.rows.Pad.{Pad}
 use Rattle.ice_cells.specs.declared.cluster.Cluster.{Cluster}
-use Rattle.ice_plan.specs.Length.{length_of}
-use Rattle.ice_board.specs.Length.{IsNet}
+use Rattle.ice_place_defs.specs.Length.{length_of}
+use Rattle.ice_anneal_board.specs.Length.{IsNet}
 use Rattle.ice_anneal.proofs.placing.nets_in.Goals as goal
 
 pub returns-clause-nets : goal.returns-clause-nets

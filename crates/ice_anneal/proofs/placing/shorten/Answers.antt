@@ -3,10 +3,10 @@ use Rattle.std.specs.List.{All}
 use Rattle.std.proofs.lemmas.List.{length-map}
 use Rattle.ice_base.specs.declared.number.TileAt.{TileAt}
 use Rattle.ice_cells.specs.declared.cluster.Cluster.{Cluster}
-use Rattle.ice_plan.specs.Length.{length_of}
-use Rattle.ice_length.specs.Plans.{plan_of}
+use Rattle.ice_place_defs.specs.Length.{length_of}
+use Rattle.ice_place_length.specs.Plans.{plan_of}
 use Rattle.ice_place.specs.Place.{chunks_of}
-use Rattle.ice_board.specs.Length.{IsNet, wire_length}
+use Rattle.ice_anneal_board.specs.Length.{IsNet, wire_length}
 use Rattle.ice_anneal.proofs.Measured.{measured}
 use Rattle.ice_anneal.proofs.placing.shorten.Goals as goal
 

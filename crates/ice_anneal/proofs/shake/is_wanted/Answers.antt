@@ -1,10 +1,10 @@
 use Rattle.std.proofs.Common.{◌≡◌, ◌<◌, ℕ, List, length, get_or, sym, subst, ap, ◌∙◌, arith}
 use Rattle.std.specs.List.{swap}
 use Rattle.ice_base.specs.declared.number.TileAt.{TileAt}
-use Rattle.ice_board.specs.declared.net.Net.{Net}
-use Rattle.ice_board.specs.Length.{net_length}
-use Rattle.ice_board.specs.Wiring.{At, IsWiring}
-use Rattle.ice_board.proofs.Sweeps.{swap_swap}
+use Rattle.ice_anneal_board.specs.declared.net.NetNodes.{NetNodes}
+use Rattle.ice_anneal_board.specs.Length.{net_length}
+use Rattle.ice_anneal_board.specs.Wiring.{At, IsWiring}
+use Rattle.ice_anneal_board.proofs.Sweeps.{swap_swap}
 use Rattle.ice_anneal.proofs.shake.is_wanted.Goals as goal
 use Rattle.ice_anneal.proofs.shake.is_wanted.Goals.{After-swap-2}
 
@@ -31,7 +31,7 @@ returns-clause-seating c =
         counts = h.board.counts;
         bound = h.board.bound;
         total = h.board.total;
-        right = subst (λ (p : List TileAt). (k : ℕ) (m : Net) → At w.nets.items k m → get_or c.args.seating.now.board.lengths.items k 0 ≡ net_length p m.nodes.items) same h.board.right;
+        right = subst (λ (p : List TileAt). (k : ℕ) (m : NetNodes) → At w.nets.items k m → get_or c.args.seating.now.board.lengths.items k 0 ≡ net_length p m.nodes.items) same h.board.right;
       };
       counts = h.counts;
       sites = h.sites;

@@ -3,10 +3,10 @@ use Rattle.std.proofs.lemmas.List.{length-replicate}
 use Rattle.ice_bits.specs.Configuration.{bits_of}
 use Rattle.ice_decode.specs.declared.point.Point.{Point}
 use Rattle.ice_decode.specs.Points.{HasWire}
-use Rattle.ice_back_laws.specs.declared.root.Root.{Root}
-use Rattle.ice_back_laws.specs.declared.root.Root.TheVariants.{Fixed}
+use Rattle.ice_back_laws.specs.declared.root.LevelRoot.{LevelRoot}
+use Rattle.ice_back_laws.specs.declared.root.LevelRoot.TheVariants.{Fixed}
 use Rattle.ice_back.specs.Filling.{filled, AreRoots}
-use Rattle.ice_back.proofs.SiteFacts.{order_wires, written}
+use Rattle.ice_back.proofs.ConfiguredFacts.{order_wires, written}
 use Rattle.ice_back.proofs.Filled.{all_filled}
 use Rattle.ice_back.proofs.filling.all_roots.Goals as goal
 use Rattle.ice_back.proofs.filling.all_roots.Goals.{After-deref_mut}
@@ -17,7 +17,7 @@ fill-requires-clause-order c =
 
 pub returns : goal.returns
 returns c =
-    subst (λ (roots : List Root). AreRoots c.args.chip.now (bits_of c.args.circuit.now.configuration) c.args.pads.now.keys roots)
+    subst (λ (roots : List LevelRoot). AreRoots c.args.chip.now (bits_of c.args.circuit.now.configuration) c.args.pads.now.keys roots)
     (sym (written c.in_ok-roots.roots.len c.in_ok-roots.roots.items c.fill.new.roots (c.fill.auto.roots ∙ ap length c.deref_mut.ensures.value) c.in_ok-roots.roots.ok.0
     ∙ c.fill.ensures
     ∙ ap (λ (order : List Point). filled c.args.chip.now (bits_of c.args.circuit.now.configuration) c.args.pads.now.keys order c.deref_mut.result.now) c.order.ensures))

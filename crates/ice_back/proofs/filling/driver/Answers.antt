@@ -2,7 +2,7 @@ use Rattle.std.proofs.Common.{◌<◌, ◌∙◌, List, length, get_or, ap, sym,
 use Rattle.ice_bits.specs.Configuration.{bits_of}
 use Rattle.ice_decode.specs.declared.driver.Driver.{Driver}
 use Rattle.ice_decode.specs.declared.driver.Driver.TheVariants.{Nothing}
-use Rattle.ice_back.proofs.SiteFacts.{driver_within, driver_found, comes_from}
+use Rattle.ice_back.proofs.ConfiguredFacts.{driver_within, driver_found, comes_from}
 use Rattle.ice_back.proofs.filling.driver.Goals as goal
 
 pub bounds-drivers-wire : goal.bounds-drivers-wire

@@ -1,5 +1,5 @@
 use Rattle.std.proofs.Common.{if◌then◌else◌, false, sym, ap, ◌∙◌}
-use Rattle.ice_back_laws.specs.declared.root.Root.TheVariants.{Fixed}
+use Rattle.ice_back_laws.specs.declared.root.LevelRoot.TheVariants.{Fixed}
 use Rattle.ice_back_laws.specs.Roots.{pad_number, bonded_root}
 use Rattle.ice_back.proofs.Turned.{pad_found}
 use Rattle.ice_back.proofs.roots.pad_root.Goals as goal

@@ -1,5 +1,5 @@
 use Rattle.std.proofs.Common.{◌≡◌, None, length, subst, rules}
-use Rattle.ice_value.specs.Order.{IsOrder}
+use Rattle.ice_base_values.specs.Order.{IsOrder}
 use Rattle.ice_net.specs.Meaning.{depends_on}
 use Rattle.ice_check.specs.Faults.{undriven, driven_twice}
 use Rattle.ice_check.specs.Loops.{IsLoop, IsSearched}

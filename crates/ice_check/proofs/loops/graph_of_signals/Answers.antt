@@ -1,5 +1,5 @@
 use Rattle.std.proofs.Common.{◌≡◌, List, ℕ, length, map, subst, sym, ◌∙◌, arith}
-use Rattle.ice_value.specs.Inputs.{present}
+use Rattle.ice_base_values.specs.Inputs.{present}
 use Rattle.ice_net.specs.declared.driver.Driver.{Driver}
 use Rattle.ice_net.specs.Meaning.{reads, depends_on}
 use Rattle.ice_check.specs.Loops.{IsGraphOf}

@@ -1,7 +1,7 @@
 use Rattle.std.proofs.Common.{◌≡◌, take}
 use Rattle.std.specs.Prelude.{map}
 use Rattle.ice_net.specs.declared.driver.Driver.{Driver}
-use Rattle.ice_value.specs.Inputs.{present}
+use Rattle.ice_base_values.specs.Inputs.{present}
 use Rattle.ice_net.specs.Meaning.{reads}
 use Rattle.ice_check.proofs.loops.graph_of_signals.Given as goal
 

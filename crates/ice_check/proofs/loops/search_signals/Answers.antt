@@ -1,7 +1,7 @@
 use Rattle.std.proofs.Common.{◌≡◌, ℕ, List, length, sym, subst}
-use Rattle.ice_value.specs.Order.{IsSimpleCycle}
-use Rattle.ice_value.specs.Graph.{depends_of}
-use Rattle.ice_value.specs.Outcome.{IsOutcome}
+use Rattle.ice_base_values.specs.Order.{IsSimpleCycle}
+use Rattle.ice_base_values.specs.Graph.{depends_of}
+use Rattle.ice_base_values.specs.Outcome.{IsOutcome}
 use Rattle.ice_net.specs.Meaning.{depends_on}
 use Rattle.ice_check.proofs.Graphs.{order_of_graph, cycle_of_graph}
 use Rattle.ice_check.proofs.loops.search_signals.Goals as goal

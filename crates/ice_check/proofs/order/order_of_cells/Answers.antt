@@ -1,7 +1,7 @@
 use Rattle.std.proofs.Common.{◌≡◌, ◌∙◌, ◌≤◌, ℕ, List, length, sym, subst}
-use Rattle.ice_value.specs.Order.{IsOrder, IsSimpleCycle}
-use Rattle.ice_value.specs.Graph.{depends_of}
-use Rattle.ice_value.specs.Outcome.{IsOutcome}
+use Rattle.ice_base_values.specs.Order.{IsOrder, IsSimpleCycle}
+use Rattle.ice_base_values.specs.Graph.{depends_of}
+use Rattle.ice_base_values.specs.Outcome.{IsOutcome}
 use Rattle.ice_check.specs.Loops.{cells_before}
 use Rattle.ice_check.proofs.Graphs.{order_of_graph, cycle_of_graph}
 use Rattle.ice_check.proofs.CellOrders.{no_cell_cycle, order_small}

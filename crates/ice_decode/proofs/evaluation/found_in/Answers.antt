@@ -1,7 +1,7 @@
 use Rattle.std.proofs.Common.{ℕ, List, length, sym, subst}
-use Rattle.ice_value.specs.Order.{IsOrder, IsSimpleCycle}
-use Rattle.ice_value.specs.Graph.{depends_of}
-use Rattle.ice_value.specs.Outcome.{IsOutcome}
+use Rattle.ice_base_values.specs.Order.{IsOrder, IsSimpleCycle}
+use Rattle.ice_base_values.specs.Graph.{depends_of}
+use Rattle.ice_base_values.specs.Outcome.{IsOutcome}
 use Rattle.ice_bits.specs.Configuration.{bits_of}
 use Rattle.ice_decode.specs.Reads.{depends_on}
 use Rattle.ice_decode.proofs.Graphs.{within}

@@ -1,6 +1,6 @@
 use Rattle.std.proofs.Common.{length, ap, sym, ◌∙◌, subst}
-use Rattle.ice_value.specs.Order.{IsCycleBelow, IsSimpleCycle}
-use Rattle.ice_value.specs.Graph.{depends_of}
+use Rattle.ice_base_values.specs.Order.{IsCycleBelow, IsSimpleCycle}
+use Rattle.ice_base_values.specs.Graph.{depends_of}
 use Rattle.ice_bits.specs.Configuration.{bits_of}
 use Rattle.ice_decode.specs.Faults.{wires_among}
 use Rattle.ice_decode.proofs.Graphs.{cycle_below}

@@ -1,5 +1,5 @@
 use Rattle.std.proofs.Common.{length}
-use Rattle.ice_value.specs.Graph.{depends_of}
+use Rattle.ice_base_values.specs.Graph.{depends_of}
 use Rattle.ice_decode.proofs.Graphs.{order_below}
 use Rattle.ice_decode.proofs.Evaluated.{order_of}
 use Rattle.ice_bits.specs.Configuration.{bits_of}

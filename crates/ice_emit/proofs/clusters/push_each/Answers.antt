@@ -1,7 +1,7 @@
 use Rattle.std.proofs.Common.{arith}
-use Rattle.ice_nets.proofs.Siding.{sides_step, sides_end}
+use Rattle.ice_emit_nets.proofs.Siding.{sides_step, sides_end}
 use Rattle.ice_emit.specs.Routed.{cluster_gives}
-use Rattle.ice_settings.specs.Views.{views}
+use Rattle.ice_emit_settings.specs.Views.{views}
 use Rattle.ice_emit.proofs.Beside.{clusters_are}
 use Rattle.ice_emit.proofs.clusters.push_each.Goals as goal
 

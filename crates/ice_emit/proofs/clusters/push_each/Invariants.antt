@@ -1,7 +1,7 @@
 use Rattle.std.proofs.Common.{◌≡◌, ◌++◌, drop}
-use Rattle.ice_nets.specs.Sides.{sides}
+use Rattle.ice_emit_nets.specs.Sides.{sides}
 use Rattle.ice_emit.specs.Routed.{cluster_gives}
-use Rattle.ice_settings.specs.Views.{views}
+use Rattle.ice_emit_settings.specs.Views.{views}
 use Rattle.ice_emit.proofs.clusters.push_each.Given as goal
 
 abbrev pub invariant-loop-k : goal.invariant-loop-k

@@ -1,8 +1,8 @@
 use Rattle.std.proofs.Common.{◌≡◌, ◌++◌, drop}
-use Rattle.ice_plan.specs.Loads.{slots_give}
-use Rattle.ice_written.specs.Functions.{cell_settings}
+use Rattle.ice_place_defs.specs.Loads.{slots_give}
+use Rattle.ice_emit_defs.specs.Functions.{cell_settings}
 use Rattle.ice_emit.specs.Routed.{held_in}
-use Rattle.ice_settings.specs.Views.{views}
+use Rattle.ice_emit_settings.specs.Views.{views}
 use Rattle.ice_emit.proofs.clusters.push_slots.Given as goal
 
 abbrev pub invariant-loop-i : goal.invariant-loop-i

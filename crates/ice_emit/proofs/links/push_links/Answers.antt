@@ -1,7 +1,7 @@
 use Rattle.std.proofs.Common.{arith}
-use Rattle.ice_nets.proofs.Siding.{sides_step, sides_end}
+use Rattle.ice_emit_nets.proofs.Siding.{sides_step, sides_end}
 use Rattle.ice_emit.specs.Links.{cluster_link}
-use Rattle.ice_settings.specs.Views.{switches}
+use Rattle.ice_emit_settings.specs.Views.{switches}
 use Rattle.ice_emit.proofs.Beside.{links_are}
 use Rattle.ice_emit.proofs.links.push_links.Goals as goal
 

@@ -1,7 +1,7 @@
 use Rattle.std.proofs.Common.{◌≡◌, ◌++◌, drop}
-use Rattle.ice_nets.specs.Sides.{sides}
+use Rattle.ice_emit_nets.specs.Sides.{sides}
 use Rattle.ice_emit.specs.Links.{cluster_link}
-use Rattle.ice_settings.specs.Views.{switches}
+use Rattle.ice_emit_settings.specs.Views.{switches}
 use Rattle.ice_emit.proofs.links.push_links.Given as goal
 
 abbrev pub invariant-loop-k : goal.invariant-loop-k

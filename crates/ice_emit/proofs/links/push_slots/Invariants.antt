@@ -1,7 +1,7 @@
 use Rattle.std.proofs.Common.{◌≡◌, ◌++◌, drop}
-use Rattle.ice_plan.specs.Loads.{slots_give}
-use Rattle.ice_written.specs.Links.{cell_links}
-use Rattle.ice_settings.specs.Views.{switches}
+use Rattle.ice_place_defs.specs.Loads.{slots_give}
+use Rattle.ice_emit_defs.specs.Links.{cell_links}
+use Rattle.ice_emit_settings.specs.Views.{switches}
 use Rattle.ice_emit.proofs.links.push_slots.Given as goal
 
 abbrev pub invariant-loop-i : goal.invariant-loop-i

@@ -1,5 +1,5 @@
 use Rattle.std.proofs.Common.{map}
-use Rattle.ice_nets.specs.Plans.{plan_in, plan_of}
+use Rattle.ice_emit_nets.specs.Plans.{plan_in, plan_of}
 use Rattle.ice_graph.specs.Leading.{route_of}
 use Rattle.ice_emit.proofs.Meant.{are_wired, are_meant, have_no_loop}
 use Rattle.ice_emit.proofs.Ready.{written_for}

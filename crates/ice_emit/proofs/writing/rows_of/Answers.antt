@@ -2,10 +2,10 @@ use Rattle.std.proofs.Common.{List, ap, ◌++◌, ◌∙◌}
 use Rattle.std.specs.Prelude.{flat_map}
 use Rattle.ice_base.specs.declared.number.RowNo.{RowNo}
 use Rattle.ice_cells.specs.declared.cell.LogicCell.{LogicCell}
-use Rattle.ice_nets.specs.Plans.{plan_in}
+use Rattle.ice_emit_nets.specs.Plans.{plan_in}
 use Rattle.ice_emit.specs.Views.{rows_in}
-use Rattle.ice_settings.specs.Views.{switches}
-use Rattle.ice_written.specs.Links.{all_links}
+use Rattle.ice_emit_settings.specs.Views.{switches}
+use Rattle.ice_emit_defs.specs.Links.{all_links}
 use Rattle.ice_emit.proofs.Wanting.{wanted_are}
 use Rattle.ice_emit.proofs.writing.rows_of.Goals as goal
 

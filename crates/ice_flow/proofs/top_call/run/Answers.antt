@@ -1,6 +1,6 @@
 use Rattle.std.proofs.Common.{map, string_bytes}
 use Rattle.std.specs.declared.alloc.Global.{Global}
-use Rattle.ice_request.specs.Views.{request_view}
+use Rattle.ice_flow_words.specs.Views.{request_view}
 use Rattle.ice_flow.proofs.RowLaws.{done_so}
 use Rattle.ice_flow.proofs.top_call.run.Goals as goal
 

@@ -1,6 +1,6 @@
 use Rattle.std.proofs.Common.{◌∷◌}
-use Rattle.ice_answer.specs.Texts.{text_at}
-use Rattle.ice_bits_files.proofs.Looks.{asc_refused}
+use Rattle.ice_flow_frame.specs.Texts.{text_at}
+use Rattle.ice_flow_chip_frame.proofs.Looks.{asc_refused}
 use Rattle.ice_flow_time_cmd.specs.Timings.{DelaysStand}
 use Rattle.ice_flow_time_cmd.proofs.timing.time_on.Goals as goal
 

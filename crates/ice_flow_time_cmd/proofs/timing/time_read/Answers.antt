@@ -1,9 +1,9 @@
 use Rattle.std.proofs.Common.{◌≡◌, ◌∷◌, Some, sym}
 use Rattle.ice_chip.specs.Views.{package_view}
 use Rattle.ice_chip.specs.Lookups.{package_of}
-use Rattle.ice_answer.specs.Texts.{text_at}
-use Rattle.ice_bits_files.proofs.Looks.{bits_refused}
-use Rattle.ice_bits_files.proofs.OneText.{one_is, none_refused}
+use Rattle.ice_flow_frame.specs.Texts.{text_at}
+use Rattle.ice_flow_chip_frame.proofs.Looks.{bits_refused}
+use Rattle.ice_flow_chip_frame.proofs.OneText.{one_is, none_refused}
 use Rattle.ice_flow_time_cmd.specs.Timings.{DelaysStand, IsTimed, Stands}
 use Rattle.ice_flow_time_cmd.proofs.Standing.{timed_is, delays_refused}
 use Rattle.ice_flow_time_cmd.proofs.timing.time_read.Goals as goal

@@ -1,5 +1,5 @@
 use Rattle.std.proofs.Common.{◌≡◌, ◌++◌, drop}
-use Rattle.ice_sinks.specs.Plans.{plan}
+use Rattle.ice_pack_sinks.specs.Plans.{plan}
 use Rattle.ice_pack.specs.Buffered.{pads_by}
 use Rattle.ice_pack.proofs.pads.pads_by.Given as goal
 

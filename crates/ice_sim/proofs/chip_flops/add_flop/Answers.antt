@@ -7,7 +7,7 @@ use Rattle.ice_sim.proofs.FlopSteps.{table_pushed, flop_pushed}
 use Rattle.ice_sim.proofs.chip_flops.add_flop.Goals as goal
 use Rattle.ice_sim.proofs.chip_flops.add_flop.Goals.{In_ok-push-2}
 
-has : (c : In_ok-push-2) → has_flop c.args.site.now.parts (bits_of c.args.site.now.configuration) c.args.cell.0 c.args.cell.1 ≡ true
+has : (c : In_ok-push-2) → has_flop c.args.configured.now.parts (bits_of c.args.configured.now.configuration) c.args.cell.0 c.args.cell.1 ≡ true
 has c = search rules
 
 next_is : (c : In_ok-push-2) → c.in_ok-next.next ≡ length c.args.feeds.now.items
@@ -15,16 +15,16 @@ next_is c = c.in_ok-next.ensures ∙ c.len.ensures ∙ c.args.feeds.now.ok.0
 
 pub returns-clause-feeds : goal.returns-clause-feeds
 returns-clause-feeds c =
-    table_pushed c.args.site.now.parts (bits_of c.args.site.now.configuration) c.args.slots.now (length c.args.feeds.now.items) c.args.cell c.cell_gate.result c.args.feeds.now.items
+    table_pushed c.args.configured.now.parts (bits_of c.args.configured.now.configuration) c.args.slots.now (length c.args.feeds.now.items) c.args.cell c.cell_gate.result c.args.feeds.now.items
     c.push.new.self.items (has c)
-    (c.cell_gate.ensures ∙ ap (λ n. cell_gate c.args.site.now.parts (bits_of c.args.site.now.configuration) c.args.slots.now n c.args.cell.0 c.args.cell.1) (next_is c))
+    (c.cell_gate.ensures ∙ ap (λ n. cell_gate c.args.configured.now.parts (bits_of c.args.configured.now.configuration) c.args.slots.now n c.args.cell.0 c.args.cell.1) (next_is c))
     c.in_ok-push.ensures.items
 
 pub returns-clause-keepers : goal.returns-clause-keepers
 returns-clause-keepers c =
-    flop_pushed c.args.site.now.parts (bits_of c.args.site.now.configuration) c.args.slots.now c.args.place (length c.args.feeds.now.items) c.args.cell c.keeper.result c.args.keepers.now.items
+    flop_pushed c.args.configured.now.parts (bits_of c.args.configured.now.configuration) c.args.slots.now c.args.place (length c.args.feeds.now.items) c.args.cell c.keeper.result c.args.keepers.now.items
     c.push-2.new.self.items (has c)
     (c.keeper.ensures
-    ∙ ap (λ place. keeper_of c.args.site.now.parts (bits_of c.args.site.now.configuration) c.args.slots.now place c.in_ok-next.next c.args.cell) c.in_ok-place.ensures
-    ∙ ap (λ n. keeper_of c.args.site.now.parts (bits_of c.args.site.now.configuration) c.args.slots.now c.args.place n c.args.cell) (next_is c))
+    ∙ ap (λ place. keeper_of c.args.configured.now.parts (bits_of c.args.configured.now.configuration) c.args.slots.now place c.in_ok-next.next c.args.cell) c.in_ok-place.ensures
+    ∙ ap (λ n. keeper_of c.args.configured.now.parts (bits_of c.args.configured.now.configuration) c.args.slots.now c.args.place n c.args.cell) (next_is c))
     c.in_ok-push-2.ensures.items

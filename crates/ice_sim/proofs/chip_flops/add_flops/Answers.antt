@@ -5,8 +5,8 @@ use Rattle.ice_sim.proofs.chip_flops.add_flops.Goals as goal
 
 pub loop-place-preserved : goal.loop-place-preserved
 loop-place-preserved c = (
-  tables_more c.args.site.now.parts (bits_of c.args.site.now.configuration) c.args.slots.now _ _ c.loop-place.feeds.items c.add_flop.new.feeds.items c.args.cells.now c.loop-place.place
+  tables_more c.args.configured.now.parts (bits_of c.args.configured.now.configuration) c.args.slots.now _ _ c.loop-place.feeds.items c.add_flop.new.feeds.items c.args.cells.now c.loop-place.place
       (omega arith) c.loop-place.invariant.0 c.in_ok-add_flop.ensures.feeds,
-  flops_more c.args.site.now.parts (bits_of c.args.site.now.configuration) c.args.slots.now _ _ c.loop-place.keepers.items c.add_flop.new.keepers.items c.loop-place.feeds.items
+  flops_more c.args.configured.now.parts (bits_of c.args.configured.now.configuration) c.args.slots.now _ _ c.loop-place.keepers.items c.add_flop.new.keepers.items c.loop-place.feeds.items
       c.add_flop.new.feeds.items c.args.cells.now c.loop-place.place (omega arith) c.loop-place.invariant.1 c.in_ok-add_flop.ensures.feeds c.in_ok-add_flop.ensures.keepers,
 )

@@ -1,8 +1,8 @@
 use Rattle.std.proofs.Common.{◌∙◌, ap, length, All, List, Bool, subst}
 use Rattle.ice_bits.specs.Configuration.{bits_of}
 use Rattle.ice_decode.specs.Meaning.{shows}
-use Rattle.ice_levels.specs.LevelTexts.{HasWidth}
-use Rattle.ice_levels.specs.DriveTexts.{drives_text}
+use Rattle.ice_sim_levels.specs.LevelTexts.{HasWidth}
+use Rattle.ice_sim_levels.specs.DriveTexts.{drives_text}
 use Rattle.ice_sim.specs.ChipRuns.{ChipRunData}
 use Rattle.ice_sim_sweep.proofs.Showing.{tail_all}
 use Rattle.ice_sim_sweep.proofs.Running.{written}

@@ -1,8 +1,8 @@
 use Rattle.std.proofs.Common.{◌≡◌, ◌++◌, length, All}
 use Rattle.ice_bits.specs.Configuration.{bits_of}
 use Rattle.ice_decode.specs.Meaning.{shows}
-use Rattle.ice_levels.specs.LevelTexts.{HasWidth}
-use Rattle.ice_levels.specs.DriveTexts.{drives_text}
+use Rattle.ice_sim_levels.specs.LevelTexts.{HasWidth}
+use Rattle.ice_sim_levels.specs.DriveTexts.{drives_text}
 use Rattle.ice_sim.proofs.ChipPlaying.{told_from}
 use Rattle.ice_sim.proofs.chip_playing.play_chip.Given as goal
 

@@ -6,4 +6,4 @@ use Rattle.ice_sim.proofs.chip_taps.pad_taps.Given as goal
 abbrev pub invariant-loop-pad : goal.invariant-loop-pad
 invariant-loop-pad l =
     (goal.iterator-loop-pad).can_next l.pad-iterator × (goal.iterator-loop-pad).is_finite l.pad-iterator
-    × (map (pad_tap l.site.parts (bits_of l.site.configuration) l.slots) l.site.bonded ≡ l.taps.items ++ map (pad_tap l.site.parts (bits_of l.site.configuration) l.slots) l.pad-iterator)
+    × (map (pad_tap l.configured.parts (bits_of l.configured.configuration) l.slots) l.configured.bonded ≡ l.taps.items ++ map (pad_tap l.configured.parts (bits_of l.configured.configuration) l.slots) l.pad-iterator)

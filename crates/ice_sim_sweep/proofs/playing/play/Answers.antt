@@ -1,8 +1,8 @@
 use Rattle.std.proofs.Common.{◌∙◌, ap, length, All, List, Bool, subst}
 use Rattle.ice_net.specs.NetlistData.{NetlistData}
 use Rattle.ice_net.specs.Meaning.{State, shows}
-use Rattle.ice_levels.specs.LevelTexts.{HasWidth}
-use Rattle.ice_levels.specs.DriveTexts.{drives_text}
+use Rattle.ice_sim_levels.specs.LevelTexts.{HasWidth}
+use Rattle.ice_sim_levels.specs.DriveTexts.{drives_text}
 use Rattle.ice_sim_sweep.proofs.Showing.{tail_all}
 use Rattle.ice_sim_sweep.proofs.Running.{written, told_more, told_all}
 use Rattle.ice_sim_sweep.proofs.playing.play.Goals as goal

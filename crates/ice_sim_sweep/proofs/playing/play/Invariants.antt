@@ -1,8 +1,8 @@
 use Rattle.std.proofs.Common.{◌≡◌, ◌++◌, length, All}
-use Rattle.ice_value.specs.Machine as machine
+use Rattle.ice_base_values.specs.Machine as machine
 use Rattle.ice_net.specs.Meaning.{step, shows}
-use Rattle.ice_levels.specs.LevelTexts.{HasWidth}
-use Rattle.ice_levels.specs.DriveTexts.{drives_text}
+use Rattle.ice_sim_levels.specs.LevelTexts.{HasWidth}
+use Rattle.ice_sim_levels.specs.DriveTexts.{drives_text}
 use Rattle.ice_sim_sweep.proofs.playing.play.Given as goal
 
 abbrev pub invariant-loop-step : goal.invariant-loop-step

@@ -1,7 +1,7 @@
 use Rattle.std.proofs.Common.{◌≡◌, ◌∙◌, ◌<◌, ◌^◌, List, ℕ, length, get_or, ap, sym, subst, arith}
 use Rattle.std.proofs.lemmas.Option.{slice_get-get_or}
 use Rattle.ice_bits.specs.Configuration.{bits_of}
-use Rattle.ice_value.proofs.Members.{At_within}
+use Rattle.ice_base_values.proofs.Members.{At_within}
 use Rattle.ice_decode.specs.declared.point.Point.{Point}
 use Rattle.ice_decode.specs.declared.point.Point.TheVariants.{Wire}
 use Rattle.ice_decode.specs.Faults.{IsOrderOf}

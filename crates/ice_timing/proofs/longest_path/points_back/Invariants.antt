@@ -1,6 +1,6 @@
 use Rattle.std.proofs.Common.{ℕ}
 use Rattle.std.specs.Prelude.{reverse}
-use Rattle.ice_value.specs.Order.{Has}
+use Rattle.ice_base_values.specs.Order.{Has}
 use Rattle.ice_bits.specs.Configuration.{bits_of}
 use Rattle.ice_timing.specs.PointDelays.{IsArrivalAt}
 use Rattle.ice_timing.proofs.Walked.{IsWalked}

@@ -1,6 +1,6 @@
 use Rattle.std.proofs.Common.{◌<◌, length, get_or, sym, subst}
 use Rattle.ice_base.specs.declared.number.WireNo.{WireNo}
-use Rattle.ice_negotiate.proofs.Leaving.{wire_below}
+use Rattle.ice_negotiate_defs.proofs.Leaving.{wire_below}
 use Rattle.ice_worker.proofs.Leaving.{back_none, back_more, back_all}
 use Rattle.ice_worker.proofs.lending.bring_back.Goals as goal
 

@@ -1,6 +1,6 @@
 use Rattle.std.proofs.Common.{◌<◌, ◌+◌, ℕ, length, get_or, slice_set, sym, subst}
 use Rattle.ice_base.specs.declared.number.WireNo.{WireNo}
-use Rattle.ice_negotiate.proofs.Leaving.{LeftOut, wire_below}
+use Rattle.ice_negotiate_defs.proofs.Leaving.{LeftOut, wire_below}
 use Rattle.ice_worker.proofs.Leaving.{out_none, out_more, out_all}
 use Rattle.ice_worker.proofs.lending.leave_out.Goals as goal
 

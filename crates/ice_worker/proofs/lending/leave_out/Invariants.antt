@@ -1,4 +1,4 @@
-use Rattle.ice_negotiate.proofs.Leaving.{LeftOut}
+use Rattle.ice_negotiate_defs.proofs.Leaving.{LeftOut}
 use Rattle.ice_worker.proofs.lending.leave_out.Given as goal
 
 abbrev pub invariant-loop-wire : goal.invariant-loop-wire

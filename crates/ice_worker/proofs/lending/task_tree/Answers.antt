@@ -5,7 +5,7 @@ use Rattle.ice_graph.specs.declared.tree.Tree.{Tree}
 use Rattle.ice_core.specs.declared.prices.Prices.{Prices}
 use Rattle.ice_core.specs.Congestion.{price}
 use Rattle.ice_path.specs.Room.{AreWires}
-use Rattle.ice_negotiate.specs.Trees.{AreReached, AreSinks, IsCause, IsTree, route_of}
+use Rattle.ice_negotiate_defs.specs.Trees.{AreReached, AreSinks, IsCause, IsTree, route_of}
 use Rattle.ice_worker.specs.Tasks.{AreTaskPrices, IsNewTree}
 use Rattle.ice_worker.proofs.lending.task_tree.Goals as goal
 

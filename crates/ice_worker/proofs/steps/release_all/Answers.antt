@@ -1,7 +1,7 @@
 use Rattle.std.proofs.Common.{◌<◌, length, false, take, get_or, sym, ap, subst, arith, ◌∙◌}
 use Rattle.ice_base.specs.declared.number.WireNo.{WireNo}
 use Rattle.ice_core.specs.Routes.{numbers}
-use Rattle.ice_negotiate.proofs.Leaving.{wire_below}
+use Rattle.ice_negotiate_defs.proofs.Leaving.{wire_below}
 use Rattle.ice_words.specs.declared.view.View.{View}
 use Rattle.ice_words.specs.Views.{own, with_own, posted}
 use Rattle.ice_words.specs.Rule.{MayRelease}

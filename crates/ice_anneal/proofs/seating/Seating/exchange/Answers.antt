@@ -1,6 +1,6 @@
 use Rattle.std.proofs.Common.{◌<◌, length, sym, subst, ◌∙◌, arith}
 use Rattle.std.specs.List.{All}
-use Rattle.ice_board.specs.Wiring.{IsWiring}
+use Rattle.ice_anneal_board.specs.Wiring.{IsWiring}
 use Rattle.ice_anneal.proofs.Seatings.{all_swapped, length_swapped}
 use Rattle.ice_anneal.proofs.seating.Seating.exchange.Goals as goal
 

@@ -1,0 +1,20 @@
+use Rattle.std.proofs.Common.{refl, ◌++◌, drop, ◌+◌, arith}
+use Rattle.ice_anneal_nets.specs.Reads.{globals_reads}
+use Rattle.ice_anneal_nets.proofs.Joining.{globals_more, globals_end, step_joined, end_joined}
+use Rattle.ice_anneal_nets.proofs.reading.add_globals.Goals as goal
+
+pub loop-k-preserved : goal.loop-k-preserved
+loop-k-preserved c =
+    let parts = c.args.chip.now in
+    let ns = c.args.numbers.now in
+    let roots = c.args.roots.now in
+    let k = c.loop-k.k in
+    step_joined c.loop-k.reads.items c.add_global.new.reads.items _ (globals_reads parts (drop (k + 1) ns) (drop (k + 1) roots)) (globals_reads parts (drop k ns) (drop k roots)) (c.args.reads.now.items ++ globals_reads parts ns roots)
+    (globals_more parts ns roots k _ _ _ _ (omega arith) (omega arith) refl refl) c.in_ok-add_global.ensures c.loop-k.invariant
+
+pub returns : goal.returns
+returns c =
+    let parts = c.args.chip.now in
+    let ns = c.args.numbers.now in
+    let roots = c.args.roots.now in
+    end_joined c.loop-k.reads.items (globals_reads parts (drop c.loop-k.k ns) (drop c.loop-k.k roots)) (c.args.reads.now.items ++ globals_reads parts ns roots) (globals_end parts ns roots c.loop-k.k (omega arith)) c.loop-k.invariant

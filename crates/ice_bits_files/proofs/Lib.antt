@@ -1,4 +1,0 @@
-pub mod Looks
-pub mod Told
-pub mod RowLaws
-pub mod OneText

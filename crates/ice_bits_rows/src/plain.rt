@@ -1,0 +1,92 @@
+//! Groups whose rows are all alone, which one look at the group shows.
+ghost use Rattle.std.specs.Prelude.{◌≡◌, [], map, true, false};
+ghost use Rattle.std.specs.List.{Contains};
+ghost use Rattle.ice_chip.specs.Views.{row_view, group_view};
+ghost use Rattle.ice_bits_rows.specs.Index.{IsIndexOf};
+ghost use Rattle.ice_bits_rows.specs.Lists.{views};
+ghost use Rattle.ice_bits_rows.specs.Plain.{is_above, do_rise, is_meeting, meets_one, is_plain, AreAlone};
+
+use crate::bundle::has_bit;
+use crate::index::{Index, groups_into};
+use crate::rows::{are_rising, has_one};
+use ice_chip::{Chip, Group, Row};
+
+// Whether values stand above others: where they first differ, theirs is 1. Values that are missing are 0.
+#[tactic(auto, using(crate::proofs::Ascent::above_next, crate::proofs::Ascent::above_end))]
+fn is_above(values: &[bool], others: &[bool]) -> bool
+    ensures { result ≡ is_above values.now others.now }
+{
+    let shared = values.len().min(others.len());
+    for k in 0..shared {
+        if values[k] != others[k] {
+            return values[k];
+        }
+    }
+    has_one(&values[shared..])
+}
+
+// Whether the rows have this many values each, and the values of each stand above those of the row before it; those of
+// the first aren't all 0.
+fn do_rise(rows: &[Row], count: usize) -> bool
+    ensures { result ≡ do_rise count [] (map row_view rows.now) }
+{
+    let mut low: &[bool] = &[];
+    for row in rows {
+        if row.values.len() != count || !is_above(&row.values, low) {
+            return false;
+        }
+        low = row.values.as_slice();
+    }
+    true
+}
+
+// Whether another group is of the group's tile and has a bit of it.
+fn is_meeting(group: &Group, other: &Group) -> bool
+    ensures { result ≡ is_meeting (group_view group.now) (group_view other.now) }
+{
+    if other.tile != group.tile {
+        return false;
+    }
+    for bit in other.bits.as_slice() {
+        if has_bit(&group.bits, *bit) {
+            return true;
+        }
+    }
+    false
+}
+
+// Whether one group of a list, and no second one, is of the group's tile and has a bit of it.
+fn meets_one(groups: &[&Group], group: &Group) -> bool
+    ensures { result ≡ meets_one (group_view group.now) false (views groups.now) }
+{
+    let mut met = false;
+    for other in groups {
+        let here = is_meeting(group, other);
+        if here && met {
+            return false;
+        }
+        met = met || here;
+    }
+    met
+}
+
+// Whether the bits of a group and the values of its rows rise, and no other group of its bundle has a bit of it.
+fn looks_plain(chip: &Chip, index: &Index, group: &Group) -> bool
+    requires { IsIndexOf chip.now index.now }
+    ensures { result ≡ is_plain chip.now.groups (group_view group.now) }
+{
+    are_rising(&group.bits)
+        && do_rise(&group.rows, group.bits.len())
+        && meets_one(groups_into(chip, index, group.wire), group)
+}
+
+/// Whether each row of a group of the chip is plainly the one row of its bundle that is on under its values: the group's
+/// bits and the values of its rows rise, and no other group of the bundle has a bit of it. Rows may be alone also where
+/// this is false.
+pub fn is_plain(chip: &Chip, index: &Index, group: &Group) -> bool
+    requires index { IsIndexOf chip.now index.now }
+    requires member { Contains chip.now.groups (group_view group.now) }
+    ensures { result ≡ true → AreAlone chip.now.groups (group_view group.now) }
+{
+    looks_plain(chip, index, group)
+}

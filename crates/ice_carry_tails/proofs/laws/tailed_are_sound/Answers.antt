@@ -1,0 +1,6 @@
+use Rattle.ice_carry_tails.specs.Ends.{tables_of}
+use Rattle.ice_carry_tails.proofs.Ended.{can_take}
+use Rattle.ice_carry_tails.proofs.laws.tailed_are_sound.Goals as goal
+
+pub returns : goal.returns
+returns c n formed sound = c.tails_are_sound.ensures n (tables_of n) formed (can_take n) sound

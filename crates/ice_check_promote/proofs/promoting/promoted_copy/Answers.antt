@@ -1,0 +1,28 @@
+use Rattle.std.proofs.Common.{rules, ◌≡◌, ◌∙◌, length, ap, subst}
+use Rattle.std.proofs.lemmas.List.{nil_from_length}
+use Rattle.ice_net.specs.Formed.{IsFormed, IsSingle}
+use Rattle.ice_check_promote.specs.Promoted.{promoted_clocks}
+use Rattle.ice_check_promote.proofs.NewNames.{can_take}
+use Rattle.ice_check_promote.proofs.Unpromoted.{unpromoted}
+use Rattle.ice_check_promote.proofs.promoting.promoted_copy.Goals as goal
+
+pub returns-then-is_empty-clause-netlist : goal.returns-then-is_empty-clause-netlist
+returns-then-is_empty-clause-netlist c =
+    let n = c.args.sound.now in
+    let same = c.netlist-netlist.ensures.netlist in
+    let zero : length c.in_ok-clocks.clocks.items ≡ 0 = search rules in
+    unpromoted n c.args.free c.in_ok-clocks.clocks.items (c.in_ok-clocks.ensures ∙ ap (λ m. promoted_clocks m c.args.free) same) (nil_from_length c.in_ok-clocks.clocks.items zero)
+
+pub with_buffers-requires : goal.with_buffers-requires
+with_buffers-requires c =
+    let n = c.args.sound.now in
+    let same = c.netlist-netlist.ensures.netlist in
+    let formed : IsFormed n = subst IsFormed same c.cells-cells.ensures.formed in
+    let single : IsSingle n = subst IsSingle same c.ports-ports.ensures.single in
+    let clocks = c.in_ok-clocks.ensures ∙ ap (λ m. promoted_clocks m c.args.free) same in
+    rw (same, clocks) (can_take n c.args.free formed single c.requires)
+
+pub returns-clause-shows : goal.returns-clause-shows
+returns-clause-shows c levels =
+    let n = c.args.sound.now in
+    c.promoted_show_the_same.ensures n c.args.free (subst IsFormed c.netlist-netlist.ensures.netlist c.cells-cells.ensures.formed) levels

@@ -1,5 +1,0 @@
-use Rattle.ice_chunks.proofs.ChunkLaws.{are_chunks}
-use Rattle.ice_chunks.proofs.laws.runs_stand_in_chunks.Goals as goal
-
-pub returns : goal.returns
-returns c d clusters formed of_cells = are_chunks d clusters of_cells

@@ -1,0 +1,50 @@
+-- The bits of a placed and routed design.
+use Rattle.std.specs.Prelude.{◌≡◌, ℕ, nat_eq, Bool, false, Option, None, Some, List, [], ◌∷◌, map, if◌then◌else◌}
+use Rattle.ice_base.specs.declared.number.BitAt.{BitAt}
+use Rattle.ice_base.specs.declared.number.RowNo.{RowNo}
+use Rattle.ice_base.specs.declared.number.TileAt.{TileAt}
+use Rattle.ice_base.specs.declared.number.WireNo.{WireNo}
+use Rattle.ice_chip.specs.Database.{Parts}
+use Rattle.ice_decode.specs.declared.driver.Switch.{Switch}
+use Rattle.ice_bits.specs.Configuration.{Configuration, Bits, bits_of, IsOf}
+use Rattle.ice_emit_rows_laws.specs.Wanted.{set_bits}
+use Rattle.ice_emit_rows_laws.specs.Settings.{function_bits}
+use Rattle.ice_place_defs.specs.Plan.{Plan}
+use Rattle.ice_emit_nets.specs.Nets.{root_wire}
+use Rattle.ice_graph.specs.Leading.{Route}
+use Rattle.ice_emit_defs.specs.Arrivals.{Held}
+use Rattle.ice_emit_defs.specs.Links.{wanted}
+use Rattle.ice_emit_defs.specs.Functions.{settings}
+
+abbrev pub starts_at : List WireNo → ℕ → Bool
+starts_at [] w = false
+starts_at (first ∷ wires) w = nat_eq first.0 w
+
+-- the wires of the tree that begins at a wire
+abbrev pub tree_from : List Route → ℕ → List WireNo
+tree_from [] w = []
+tree_from (route ∷ routes) w = if starts_at route.wires w then route.wires else tree_from routes w
+
+abbrev pub held_from : List Route → Option ℕ → List WireNo
+held_from routes None = []
+held_from routes (Some w) = tree_from routes w
+
+abbrev pub held_by : Parts → Plan → List Route → Held
+held_by parts plan routes root = held_from routes (root_wire parts plan root)
+
+abbrev pub route_rows : Route → List RowNo
+route_rows route = route.rows
+
+-- the rows that are turned on
+abbrev pub wanted_rows : Parts → Plan → List Route → List Switch
+wanted_rows parts plan routes = wanted parts plan (map route_rows routes)
+
+-- the bits that are set, of rows and of functions, and no others
+abbrev pub written_bits : Parts → Plan → List Bool → List Route → Bits
+written_bits parts plan pullups routes =
+    set_bits parts (wanted_rows parts plan routes) (function_bits parts (settings parts plan pullups (held_by parts plan routes) (wanted_rows parts plan routes)))
+
+pub record IsWritten (parts : Parts) (plan : Plan) (pullups : List Bool) (routes : List Route) (k : Configuration) : Type 0 where
+  pub form : IsOf parts k
+  pub extras : k.extras ≡ []
+  pub bits : (t : TileAt) (b : BitAt) → bits_of k t b ≡ written_bits parts plan pullups routes t b

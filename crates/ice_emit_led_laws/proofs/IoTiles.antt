@@ -1,0 +1,39 @@
+-- The pads of a chip stand in IO tiles.
+use Rattle.std.proofs.Common.{◌≡◌, ◌⊎◌, true, Some, [], ◌∷◌, inl, inr, refl, sym, ap, ◌∙◌, true≢false}
+use Rattle.std.specs.List.{filter}
+use Rattle.ice_base.specs.declared.number.TileAt.{TileAt}
+use Rattle.ice_base_values.specs.Order.{Has}
+use Rattle.ice_base_values.proofs.Members.{Has_none, Has_cases, filter_Has}
+use Rattle.ice_chip.specs.Database.{Parts}
+use Rattle.ice_chip.specs.Lookups.{kind_at, is_io_kind}
+use Rattle.ice_chip.specs.declared.parts.TileLine.{TileLine}
+use Rattle.ice_chip.specs.declared.rows.Pad.{Pad}
+use Rattle.ice_chip.specs.declared.rows.TileKind.{TileKind}
+use Rattle.ice_chip.specs.declared.rows.TileKind.TheVariants.{Io, Logic, RamBottom, RamTop}
+use Rattle.ice_chip_laws.specs.Laws.{IsLawful}
+use Rattle.ice_decode.specs.Pads.{pads, pads_in, is_io_tile}
+use Rattle.ice_emit_led_laws.proofs.Lists.{flat_Has}
+
+io_kind : (kind : TileKind) → is_io_kind kind ≡ true → kind ≡ Io
+io_kind Io e = refl
+io_kind Logic e = absurd (true≢false (sym e))
+io_kind RamBottom e = absurd (true≢false (sym e))
+io_kind RamTop e = absurd (true≢false (sym e))
+
+-- the tile of a pad
+pad_in : (t : TileAt) (pad : Pad) → Has (pads_in t) pad → t ≡ pad.tile
+pad_in t pad has = by (Has_cases (record { tile = t; pio = 0 }) pad ((record { tile = t; pio = 1 }) ∷ []) has)
+  where
+    last : ((record { tile = t; pio = 1 }) ≡ pad) ⊎ Has [] pad → t ≡ pad.tile
+    last (inl same) = ap (λ (p : Pad). p.tile) same
+    last (inr none) = absurd (Has_none pad none)
+
+    by : ((record { tile = t; pio = 0 }) ≡ pad) ⊎ Has ((record { tile = t; pio = 1 }) ∷ []) pad → t ≡ pad.tile
+    by (inl same) = ap (λ (p : Pad). p.tile) same
+    by (inr more) = last (Has_cases (record { tile = t; pio = 1 }) pad [] more)
+
+pub io_pad : (parts : Parts) (law : IsLawful parts) (pad : Pad) → Has (pads parts) pad → kind_at parts pad.tile ≡ Some Io
+io_pad parts law pad has =
+    let got = flat_Has (λ (tile : TileAt × TileLine). pads_in tile.0) (filter is_io_tile parts.tiles) pad has in
+    let tile = filter_Has is_io_tile parts.tiles got.1 (got.0, got.2) in
+    ap (kind_at parts) (sym (pad_in got.1.0 pad got.3)) ∙ law.tiles.kinds got.1.0 got.1.1 tile.0 ∙ ap Some (io_kind got.1.1.kind tile.1)

@@ -1,0 +1,5 @@
+pub mod Pins
+pub mod Reads
+pub mod Trees
+pub mod RowsLed
+pub mod PinsLed

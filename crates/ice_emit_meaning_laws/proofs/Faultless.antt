@@ -1,0 +1,141 @@
+-- The bits of a placed and routed design have no fault, but for loops.
+use Rattle.std.proofs.Common.{◌≡◌, ◌⊎◌, ℕ, zero, suc, ◌+◌, ◌/◌, ◌%◌, Bool, true, false, cond, Option, None, Some, List, [], ◌∷◌, ◌++◌, length, take, find, inl, inr, refl, sym, ap, ◌∙◌, subst, true≢false, eqb-true}
+use Rattle.std.specs.Prelude.{◌&&◌, ◌||◌, ◌==◌, not, nat_eq, option_map, codes}
+use Rattle.std.specs.Cmp.Lexicographic.{pointwise}
+use Rattle.std.specs.List.{list_any}
+use Rattle.std.proofs.lemmas.Bool.{and_parts, and_from, and_right, false_from_ne_true}
+use Rattle.ice_base.proofs.Booleans.{not_true}
+use Rattle.ice_base_values.specs.Order.{At, Has}
+use Rattle.ice_base_values.proofs.Members.{Has_any, any_Has}
+use Rattle.ice_base_values.proofs.Together.{Has_head, Has_tail}
+use Rattle.ice_chip.specs.Database.{SwitchGroup, SwitchRow}
+use Rattle.ice_chip.specs.Lookups.{names_of, wire_named}
+use Rattle.ice_chip.specs.Places.{same_pad, same_tile}
+use Rattle.ice_chip.specs.PinNames.{is_memory_name}
+use Rattle.ice_chip.specs.WireNames.{pad_input_name}
+use Rattle.ice_chip.specs.declared.rows.Pad.{Pad}
+use Rattle.ice_chip.specs.declared.placed.PlacedName.{PlacedName}
+use Rattle.ice_chip.proofs.Keys.{pad_same}
+use Rattle.ice_base.proofs.Keys.{tile_self, nat_self}
+use Rattle.ice_decode.specs.declared.driver.Switch.{Switch}
+use Rattle.ice_decode.specs.Drivers.{driver, switches_on}
+use Rattle.ice_decode.specs.Faults.{or_else, first_of, contended_by, contention, is_memory_output, is_foreign_wire, foreign_source, is_output_part, is_read, is_input_read, has_wrong_type, HasNoLoop}
+use Rattle.ice_decode.specs.Pads.{pads, pin_type}
+use Rattle.ice_decode.specs.Refusals.{IsFaultless}
+use Rattle.ice_cells.specs.declared.design.DesignPad.{DesignPad}
+use Rattle.ice_cells.specs.Formed.{IsPad}
+use Rattle.ice_bits_rows.specs.Bundles.{is_private}
+use Rattle.ice_bits_rows.specs.Sound.{is_alone, is_sound}
+use Rattle.ice_bits_rows.specs.WireNames.{has_memory_name}
+use Rattle.ice_emit_rows_laws.specs.Wanted.{IsRowOf}
+use Rattle.ice_emit_defs.specs.Led.{IsBare}
+use Rattle.ice_emit_meaning_laws.proofs.Premises.{Premises}
+use Rattle.ice_emit_meaning_laws.proofs.AllWires.{entered_or_bare}
+use Rattle.ice_emit_meaning_laws.proofs.Read.{item_beside}
+
+-- ---- lists
+first_of_none : {A : Type 0} (f : ℕ → Option A) → ((k : ℕ) → f k ≡ None) → (k more : ℕ) → first_of f k more ≡ None
+first_of_none f none k zero = refl
+first_of_none f none k (suc more) = ap (λ o. or_else o (first_of f (k + 1) more)) (none k) ∙ first_of_none f none (k + 1) more
+
+find_none : {X : Type 0} (test : X → Bool) (xs : List X) → ((x : X) → Has xs x → test x ≡ false) → find test xs ≡ None
+find_none test [] none = refl
+find_none test (x ∷ xs) none = ap (λ b. cond b (Some x) (find test xs)) (none x (Has_head x xs)) ∙ find_none test xs (λ y has. none y (Has_tail x y xs has))
+
+-- what begins with two texts begins with the first
+begins : (first second name : List ℕ) → pointwise nat_eq (first ++ second) (take (length (first ++ second)) name) ≡ true → pointwise nat_eq first (take (length first) name) ≡ true
+begins [] second name e = refl
+begins (a ∷ first) second [] e = absurd (true≢false (sym e))
+begins (a ∷ first) second (b ∷ name) e =
+    let both = and_parts (nat_eq a b) (pointwise nat_eq (first ++ second) (take (length (first ++ second)) name)) e in
+    and_from (nat_eq a b) (pointwise nat_eq first (take (length first) name)) both.0 (begins first second name both.1)
+
+memory_named : (name : List ℕ) → is_memory_output name ≡ true → is_memory_name name ≡ true
+memory_named name e = begins (codes "ram/") (codes "RDATA_") name e
+
+pad_self : (pad : Pad) → same_pad pad pad ≡ true
+pad_self pad = and_from (same_tile pad.tile pad.tile) (pad.pio == pad.pio) (tile_self pad.tile) (nat_self pad.pio)
+
+module _ (g : Premises) where
+  -- a pad is that of a port, or of none
+  pub port_or_none : (pad : Pad) → ((k : ℕ) × At g.plan.ports k pad) ⊎ (Has g.plan.ports pad → ⊥)
+  port_or_none pad = by (list_any (same_pad pad) g.plan.ports) refl
+    where
+      by : (b : Bool) → list_any (same_pad pad) g.plan.ports ≡ b → ((k : ℕ) × At g.plan.ports k pad) ⊎ (Has g.plan.ports pad → ⊥)
+      by true e = let found = any_Has (same_pad pad) g.plan.ports e in inl (subst (λ (p : Pad). Has g.plan.ports p) (sym (pad_same pad found.0 found.2)) found.1)
+      by false e = inr (λ has. true≢false (sym (Has_any (same_pad pad) g.plan.ports pad has.0 has.1 (pad_self pad)) ∙ e))
+
+  -- ---- contention
+  uncontended_at : (w : ℕ) → contended_by w (driver g.parts g.bits w) ≡ None
+  uncontended_at w = by (entered_or_bare g.wanted w)
+    where
+      by : ((s : Switch) × Has g.wanted s × (s.target.0 ≡ w)) ⊎ IsBare g.wanted w → contended_by w (driver g.parts g.bits w) ≡ None
+      by (inl (s, has, e)) = ap (λ x. contended_by w (driver g.parts g.bits x)) (sym e) ∙ ap (contended_by w) (g.wired.entered s has)
+      by (inr bare) = ap (contended_by w) (g.wired.bare w bare)
+
+  uncontended : contention g.parts g.bits ≡ None
+  uncontended = first_of_none (λ w. contended_by w (driver g.parts g.bits w)) uncontended_at 0 g.parts.wires
+
+  -- ---- sources of memories
+  no_memory : (s : Switch) → Has g.wanted s → has_memory_name g.parts s.source.0 ≡ false
+  no_memory s has = by (g.led.rows.rows s has)
+    where
+      by : (h : SwitchGroup) × (r : SwitchRow) × IsRowOf g.parts s h r × (is_sound g.parts h s.row.0 r ≡ true) → has_memory_name g.parts s.source.0 ≡ false
+      by (h, r, row, sound) =
+          let one = and_parts (is_private g.parts h.tile h.wire && not (has_memory_name g.parts r.source)) (is_alone g.parts.groups h s.row.0 r) sound in
+          let two = and_parts (is_private g.parts h.tile h.wire) (not (has_memory_name g.parts r.source)) one.0 in
+          ap (has_memory_name g.parts) row.source ∙ not_true (has_memory_name g.parts r.source) two.1
+
+  not_foreign : (s : Switch) → Has (switches_on g.bits g.parts.groups) s → is_foreign_wire g.parts s.source.0 ≡ false
+  not_foreign s on =
+      let none = no_memory s (g.wired.on s on) in
+      false_from_ne_true (is_foreign_wire g.parts s.source.0)
+      (λ e. let found = any_Has (λ (n : PlacedName). is_memory_output n.name) (names_of g.parts s.source.0) e in
+      true≢false (sym (Has_any (λ (n : PlacedName). is_memory_name n.name) (names_of g.parts s.source.0) found.0 found.1.0 found.1.1 (memory_named found.0.name found.2)) ∙ none))
+
+  sourced : foreign_source g.parts g.bits ≡ None
+  sourced =
+      ap (option_map (λ (s : Switch). s.source.0)) (find_none (λ (s : Switch). is_foreign_wire g.parts s.source.0) (switches_on g.bits g.parts.groups) not_foreign)
+
+  -- ---- types of pins
+  of_type : (pad : Pad) (n : ℕ) → pin_type g.parts g.bits pad ≡ n → is_output_part (n / 4) ≡ true → (n % 4 == 1) ≡ true → has_wrong_type g.parts g.bits pad ≡ false
+  of_type pad n is part low =
+      ap (λ m. not (is_output_part (m / 4)) || (is_input_read g.parts g.bits pad && not (m % 4 == 1))) is
+      ∙ (λ i. not (part i) || (is_input_read g.parts g.bits pad && not (low i))) ∙ and_right (is_input_read g.parts g.bits pad) false refl
+
+  ported : (port : DesignPad) (pad : Pad) → IsPad port → pin_type g.parts g.bits pad ≡ port.pin_type → has_wrong_type g.parts g.bits pad ≡ false
+  ported port pad (inl one) e = of_type pad 1 (e ∙ one.0) refl refl
+  ported port pad (inr (inl two)) e = of_type pad 25 (e ∙ two.0) refl refl
+  ported port pad (inr (inr three)) e = of_type pad 41 (e ∙ three) refl refl
+
+  -- no row leaves the input of a pad of no port
+  unread : (pad : Pad) → Has (pads g.parts) pad → (Has g.plan.ports pad → ⊥) → is_input_read g.parts g.bits pad ≡ false
+  unread pad there none = by (wire_named g.parts pad.tile (pad_input_name pad.pio)) refl
+    where
+      by : (o : Option ℕ) → wire_named g.parts pad.tile (pad_input_name pad.pio) ≡ o → is_read g.parts g.bits o ≡ false
+      by None e = refl
+      by (Some w) e =
+          false_from_ne_true (list_any (λ (s : Switch). s.source.0 == w) (switches_on g.bits g.parts.groups))
+          (λ f. let found = any_Has (λ (s : Switch). s.source.0 == w) (switches_on g.bits g.parts.groups) f in
+          let named : wire_named g.parts pad.tile (pad_input_name pad.pio) ≡ Some found.0.source.0 = e ∙ ap (λ (x : ℕ). Some x) (sym (eqb-true found.0.source.0 w found.2)) in
+          let got = g.led.inputs found.0 pad (g.wired.on found.0 found.1) there named in
+          none (got.0, got.2))
+
+  typed : (pad : Pad) → Has (pads g.parts) pad → has_wrong_type g.parts g.bits pad ≡ false
+  typed pad there = by (port_or_none pad)
+    where
+      by : ((k : ℕ) × At g.plan.ports k pad) ⊎ (Has g.plan.ports pad → ⊥) → has_wrong_type g.parts g.bits pad ≡ false
+      by (inl (k, at)) =
+          let port = item_beside g.plan.ports g.plan.design.pads k pad g.placed.pads.ports at in
+          ported port.0 pad (g.placed.formed.pads k port.0 port.1) (g.are_set.types k pad port.0 at port.1 there)
+      by (inr none) =
+          let zero_type = g.are_set.untyped pad there none in
+          let off = unread pad there none in
+          ap (λ m. not (is_output_part (m / 4)) || (is_input_read g.parts g.bits pad && not (m % 4 == 1))) zero_type ∙ ap (λ b. false || (b && true)) off
+
+  pub faultless : HasNoLoop g.parts g.bits → IsFaultless g.parts g.bits []
+  faultless loopless = record {
+    of_chip = record { uncontended = uncontended; sources = sourced; functions = g.are_set.own; no_extras = refl };
+    loopless = loopless;
+    types = find_none (has_wrong_type g.parts g.bits) (pads g.parts) typed;
+  }

@@ -1,0 +1,60 @@
+-- The bits of a placed and routed design realise it.
+use Rattle.std.proofs.Common.{Bool, List}
+use Rattle.ice_chip.specs.Database.{Parts, PackageRows}
+use Rattle.ice_chip.specs.IsRead.{IsRead}
+use Rattle.ice_chip_laws.specs.Laws.{IsLawful}
+use Rattle.ice_bits.specs.Configuration.{Bits}
+use Rattle.ice_decode.specs.Faults.{HasNoLoop}
+use Rattle.ice_decode.specs.declared.driver.Switch.{Switch}
+use Rattle.ice_cluster.specs.Chunks.{RunsStandInChunks}
+use Rattle.ice_cluster.specs.Slots.{CellsStandInOneSlot, FlopsAreDrivenAsTheirCluster}
+use Rattle.ice_emit_rows_laws.specs.Wanted.{IsWired}
+use Rattle.ice_place_defs.specs.Plan.{Plan, listed}
+use Rattle.ice_emit_defs.specs.Arrivals.{Held}
+use Rattle.ice_emit_defs.specs.Led.{AreLed}
+use Rattle.ice_emit_defs.specs.Realised.{Realises}
+use Rattle.ice_emit_defs.specs.Routed.{IsPlaced}
+use Rattle.ice_emit_defs.specs.Set.{AreSet}
+use Rattle.ice_emit_meaning_laws.specs.Feeds.{FeedsNoGlobal}
+use Rattle.ice_emit_meaning_laws.proofs.AllWires.{unfed_loopless}
+use Rattle.ice_emit_meaning_laws.proofs.Premises.{Premises}
+use Rattle.ice_emit_meaning_laws.proofs.Faultless.{faultless}
+use Rattle.ice_emit_meaning_laws.proofs.Steps.{shows_same, off_elsewhere}
+
+realised : (g : Premises) → HasNoLoop g.parts g.bits → Realises g.parts g.plan g.wanted g.bits
+realised g loopless = record {
+  faultless = faultless g loopless;
+  wired = g.wired;
+  shows = λ bonded steps. shows_same g loopless bonded steps;
+  elsewhere = λ bonded steps pad there none. off_elsewhere g loopless bonded steps pad there none;
+  disabled = g.are_set.disabled;
+}
+
+module _ (parts : Parts) (read : IsRead parts) (lawful : IsLawful parts) (slots : CellsStandInOneSlot) (driven : FlopsAreDrivenAsTheirCluster) (chunks : RunsStandInChunks) (bonded : PackageRows) (plan : Plan) (pullups : List Bool)
+    (wanted : List Switch) (held : Held) (bits : Bits) where
+  abbrev premises : IsPlaced parts bonded plan pullups → AreLed parts plan wanted held → AreSet parts plan wanted held bits → IsWired parts bits wanted → Premises
+  premises placed led are_set wired =
+      record {
+        parts = parts;
+        bonded = bonded;
+        plan = plan;
+        pullups = pullups;
+        wanted = wanted;
+        held = held;
+        bits = bits;
+        chip_read = read;
+        lawful = lawful;
+        placed = placed;
+        led = led;
+        are_set = are_set;
+        wired = wired;
+        slots = slots plan.design (listed plan) placed.formed placed.clusters;
+        driven = driven plan.design (listed plan) placed.formed placed.clusters;
+        chunks = chunks plan.design (listed plan) placed.formed placed.clusters;
+      }
+
+  pub realise : HasNoLoop parts bits → IsPlaced parts bonded plan pullups → AreLed parts plan wanted held → AreSet parts plan wanted held bits → IsWired parts bits wanted → Realises parts plan wanted bits
+  realise loopless placed led are_set wired = realised (premises placed led are_set wired) loopless
+
+  pub have_no_loop : FeedsNoGlobal parts → IsPlaced parts bonded plan pullups → AreLed parts plan wanted held → AreSet parts plan wanted held bits → IsWired parts bits wanted → HasNoLoop parts bits
+  have_no_loop unfed placed led are_set wired = unfed_loopless (premises placed led are_set wired) unfed

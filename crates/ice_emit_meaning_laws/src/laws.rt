@@ -1,0 +1,51 @@
+//! Laws of the bits of placed and routed designs. The functions do nothing: their contracts are the laws.
+ghost use Rattle.std.specs.Prelude.{Bool, List};
+ghost use Rattle.ice_chip.specs.Database.{PackageRows};
+ghost use Rattle.ice_bits.specs.Configuration.{Bits};
+ghost use Rattle.ice_decode.specs.Faults.{HasNoLoop};
+ghost use Rattle.ice_decode.specs.declared.driver.Switch.{Switch};
+ghost use Rattle.ice_emit_rows_laws.specs.Wanted.{IsWired};
+ghost use Rattle.ice_place_defs.specs.Plan.{Plan};
+ghost use Rattle.ice_emit_defs.specs.Arrivals.{Held};
+ghost use Rattle.ice_emit_defs.specs.Led.{AreLed};
+ghost use Rattle.ice_emit_defs.specs.Realised.{Realises};
+ghost use Rattle.ice_emit_defs.specs.Routed.{IsPlaced};
+ghost use Rattle.ice_emit_defs.specs.Set.{AreSet};
+ghost use Rattle.ice_emit_meaning_laws.specs.Feeds.{AreFedByIo, FeedsNoGlobal};
+
+use ice_chip::Chip;
+use ice_chip_laws::chip_is_lawful;
+use ice_cluster::laws::runs_stand_in_chunks;
+use ice_cluster::laws::{cells_stand_in_one_slot, flops_are_driven_as_their_cluster};
+
+/// The bits of a placed and routed design realise it, unless they have a loop: they have no fault, and for every list of levels of the
+/// pads of a package the ports' pads show step by step what the design shows, while every other pad is off. It is so where wanted rows
+/// drive their wires and no others, lead the roots of the design to the pins that read them, and nothing else to a pin; and where the
+/// bits of functions say what the slots, tiles and pads of the design are.
+pub fn bits_realise_their_design(chip: &Chip)
+    ensures { (package_rows : PackageRows) (plan : Plan) (pullups : List Bool) (wanted : List Switch) (held : Held) (bits : Bits) → HasNoLoop chip.now bits → IsPlaced chip.now package_rows plan pullups → AreLed chip.now plan wanted held → AreSet chip.now plan wanted held bits → IsWired chip.now bits wanted → Realises chip.now plan wanted bits }
+{
+    chip.wires();
+    chip_is_lawful(chip);
+    cells_stand_in_one_slot();
+    flops_are_driven_as_their_cluster();
+    runs_stand_in_chunks();
+}
+
+/// The bits of a placed and routed design have no loop where no global of the chip is fed by a global.
+pub fn bits_have_no_loop(chip: &Chip)
+    ensures { (package_rows : PackageRows) (plan : Plan) (pullups : List Bool) (wanted : List Switch) (held : Held) (bits : Bits) → FeedsNoGlobal chip.now → IsPlaced chip.now package_rows plan pullups → AreLed chip.now plan wanted held → AreSet chip.now plan wanted held bits → IsWired chip.now bits wanted → HasNoLoop chip.now bits }
+{
+    chip.wires();
+    chip_is_lawful(chip);
+    cells_stand_in_one_slot();
+    flops_are_driven_as_their_cluster();
+    runs_stand_in_chunks();
+}
+
+/// Where each global is fed by an IO tile, none is fed by a global: there what feeds it is an input pin.
+pub fn io_tiles_feed_no_global(chip: &Chip)
+    ensures { AreFedByIo chip.now → FeedsNoGlobal chip.now }
+{
+    chip_is_lawful(chip);
+}

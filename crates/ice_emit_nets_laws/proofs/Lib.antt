@@ -1,0 +1,3 @@
+mod Routing
+mod Targets
+mod Routable

@@ -1,0 +1,127 @@
+//! Going back: two texts are read, and the text of the netlist of the bits is written.
+ghost use Rattle.std.specs.Prelude.{◌≡◌, ◌∷◌, ℕ, List, true, None, Ok, IfOk, IfErr};
+ghost use Rattle.ice_flow_frame.specs.Causes.{status_of};
+ghost use Rattle.ice_flow_frame.specs.Commands.{InFiles, IsRefusal, IsTrueOf};
+ghost use Rattle.ice_flow_frame.specs.Reading.{TellsLong};
+ghost use Rattle.ice_flow_frame.specs.Rows.{SaidBy, KeptRow, MadeRow, SilentRow};
+ghost use Rattle.ice_chip_read.specs.Whole.{chip_says};
+ghost use Rattle.ice_flow_chip_frame.specs.Standing.{IsRead};
+ghost use Rattle.ice_flow_back_cmd.specs.Asked.{outputs_of};
+ghost use Rattle.ice_flow_back_cmd.specs.BackRows.{IsBackAnswer};
+ghost use Rattle.ice_flow_back_cmd.specs.Command.{Stands, back_files};
+ghost use Rattle.ice_flow_back_cmd.specs.Made.{IsMade};
+ghost use Rattle.ice_flow_back_cmd.specs.Requests.{request_view};
+
+use crate::netlist_text::back_text;
+use ice_flow_frame::{
+    Cause, CommandFile, Done, FileRole, Made, Texts, asc_refusal, bits_refusal, chip_refusal,
+    made_text,
+};
+use ice_asc::read_asc;
+use ice_base::NoMemory;
+use ice_bits::Bits;
+use ice_chip::Chip;
+use ice_chip_read_pieces::ChipReader;
+use ice_flow_chip_frame::{ChipMaking, write_made_on_chip};
+use ice_decode::decode;
+use ice_desk::Desk;
+use ice_pads::PinFault;
+use ice_chip_read_laws::pins_are_words;
+use std::alloc::Global;
+
+/// To write the netlist of the bits of one file on the chip of another, with a port for each pad of the package.
+#[derive(Clone, Copy)]
+pub struct BackRequest<'a> {
+    /// The name of the file of the chip database.
+    pub chip: &'a str,
+    /// The name of the package.
+    pub package_name: &'a str,
+    /// The name of the file of bits.
+    pub asc: &'a str,
+    /// The name of the file that the netlist is written to.
+    pub blif: &'a str,
+}
+
+// The text of the netlist of bits on a chip, which a chip text and the texts behind it say.
+fn back_read(
+    alloc: Global,
+    package_name: &str,
+    texts: &Texts,
+    chip: &Chip,
+    bits: &Bits,
+) -> Result<Made, Cause>
+    requires { (chip_text : List ℕ) × (chip_says chip_text ≡ Ok chip.now) }
+    ensures made { (chip_text : List ℕ) → IsRead (chip_text ∷ texts.now) chip.now bits.now → IfOk result (λ made. IsMade package_name.now (chip_text ∷ texts.now) made.texts made.arrangement made.tallies.items) }
+    ensures refused { (chip_text : List ℕ) → IsRead (chip_text ∷ texts.now) chip.now bits.now → IfErr result (λ cause. IsRefusal (Stands package_name.now (chip_text ∷ texts.now)) cause) }
+{
+    pins_are_words();
+    let Some(bonded) = chip.package(package_name.as_bytes()) else {
+        return Err(Cause::BadPin(PinFault::NoPackage));
+    };
+    let circuit = match decode(alloc, chip, bits) {
+        Ok(circuit) => circuit,
+        Err(fault) => return Err(bits_refusal(fault)),
+    };
+    match back_text(alloc, chip, &circuit, bonded) {
+        Ok(text) => made_text(alloc, text),
+        Err(NoMemory) => Err(Cause::NoMemory),
+    }
+}
+
+// The text of the netlist of the bits of the text behind the chip's on the chip.
+fn back_on(alloc: Global, package_name: &str, texts: &Texts, chip: &Chip) -> Result<Made, Cause>
+    requires { (chip_text : List ℕ) × (chip_says chip_text ≡ Ok chip.now) }
+    ensures made { (chip_text : List ℕ) → chip_says chip_text ≡ Ok chip.now → IfOk result (λ made. IsMade package_name.now (chip_text ∷ texts.now) made.texts made.arrangement made.tallies.items) }
+    ensures refused { (chip_text : List ℕ) → chip_says chip_text ≡ Ok chip.now → IfErr result (λ cause. IsRefusal (Stands package_name.now (chip_text ∷ texts.now)) cause) }
+{
+    match read_asc(alloc, texts.at(1), chip) {
+        Ok(bits) => back_read(alloc, package_name, texts, chip, &bits),
+        Err(fault) => Err(asc_refusal(fault)),
+    }
+}
+
+impl<'a> ChipMaking for BackRequest<'a> {
+    ghost stands = { λ request texts cause. Stands request.package_name.now texts cause };
+
+    ghost gives = { λ request texts made arrangement tallies. IsMade request.package_name.now texts made arrangement tallies };
+
+    fn make(&self, alloc: Global, reader: ChipReader, texts: &Texts) -> Result<Made, Cause> {
+        match reader.finish() {
+            Ok(chip) => {
+                let made = back_on(alloc, self.package_name, texts, &chip);
+                drop(chip);
+                made
+            }
+            Err(fault) => Err(chip_refusal(fault)),
+        }
+    }
+}
+
+/// Writes the netlist of the bits of one file on the chip of another: reads the texts, makes the text of the netlist, and only then
+/// writes it to its file. A refusal says its line, and writes nothing. The chip's file is read piece by piece, and its text isn't held.
+///
+/// Where it is done and the desk tells its contents, the text that was written says a sound netlist, of any size. It has a port for each
+/// pad of the package in order, and for every list of levels it shows there step by step what the configured chip shows at the pads.
+pub fn back_files<D: Desk>(alloc: Global, desk: &mut D, request: &BackRequest<'_>) -> Done
+    requires chip { D.may_read desk.old request.now.chip.now }
+    requires asc { D.may_read desk.old request.now.asc.now }
+    requires blif { D.may_write desk.old request.now.blif.now }
+    ensures status { result.status ≡ status_of result.cause }
+    ensures cause { IsTrueOf (back_files (request_view request.now)) (D.seen desk.old) (D.seen desk.new) result.cause }
+    ensures rows { IsBackAnswer (request_view request.now) (D.seen desk.old) (D.seen desk.new) result }
+    ensures said { (D.seen desk.old).tells ≡ true → SaidBy (InFiles (outputs_of (request_view request.now))) (D.seen desk.old) (D.seen desk.new) result.cause }
+    ensures kept { (D.seen desk.old).tells ≡ true → KeptRow (InFiles (outputs_of (request_view request.now))) None (D.seen desk.old) (D.seen desk.new) result.cause }
+    ensures made { MadeRow (InFiles (outputs_of (request_view request.now))) None (D.seen desk.old) (D.seen desk.new) result.cause }
+    ensures silent { SilentRow (InFiles (outputs_of (request_view request.now))) (D.seen desk.old) (D.seen desk.new) result.cause }
+    ensures given { TellsLong (D.seen desk.new) result.cause }
+{
+    let files = [CommandFile {
+        role: FileRole::Asc,
+        name: request.asc,
+    }];
+    let outputs = [CommandFile {
+        role: FileRole::Blif,
+        name: request.blif,
+    }];
+    write_made_on_chip(alloc, desk, request.chip, &files, request, &outputs)
+}

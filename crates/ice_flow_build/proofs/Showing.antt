@@ -1,0 +1,46 @@
+-- The bits of a placed and routed design show what its netlist shows.
+use Rattle.std.proofs.Common.{◌≡◌, ℕ, suc, ◌+◌, List, [], ◌∷◌, length, map, refl, sym, ap, ◌∙◌, subst}
+use Rattle.std.proofs.lemmas.List.{length-map}
+use Rattle.ice_net.specs.NetlistData.{NetlistData}
+use Rattle.ice_net.specs.declared.cell.Cell.{Cell}
+use Rattle.ice_net.specs.declared.port.Port.{Port}
+use Rattle.ice_pcf.specs.declared.constraint.Constraint.{Constraint}
+use Rattle.ice_chip.specs.Database.{Parts}
+use Rattle.ice_bits.specs.Configuration.{Configuration, bits_of}
+use Rattle.ice_decode.specs.Refusals.{IsFaultless}
+use Rattle.ice_cells.specs.Meaning as design
+use Rattle.ice_cells.specs.Packed.{Plan, plan_of, packed, pads_from, unread_by, read_pad}
+use Rattle.ice_cells.specs.Runs.{design_of, renamed_pad, moved_numbers, fed_numbers}
+use Rattle.ice_cells.specs.declared.design.Design.{Design}
+use Rattle.ice_negotiate_defs.specs.Trees.{Route}
+use Rattle.ice_carry_form_laws.specs.FormLaws.{DesignsShowTheSame}
+use Rattle.ice_pack_laws.specs.PackLaws.{IsSoundInOrder}
+use Rattle.ice_emit_defs.specs.Realised.{Realises, port_levels}
+use Rattle.ice_emit_defs.specs.Written.{IsWritten, wanted_rows}
+use Rattle.ice_flow_build.specs.Laid.{IsLaidOut, StandsOn, plan_in, task_of}
+use Rattle.ice_flow_build.specs.Shown.{IsCircuitOf}
+use Rattle.ice_flow_build.specs.declared.answer.Layout.{Layout}
+
+-- the design has a pad for each port
+pads_long : (p : Plan) (cells : List Cell) (k : ℕ) (ports : List Port) → length (pads_from p cells k ports) ≡ length ports
+pads_long p cells k [] = refl
+pads_long p cells k (port ∷ ports) = ap suc (pads_long p cells (k + 1) ports)
+
+design_long : (n : NetlistData) → length (design_of n).pads ≡ length n.ports
+design_long n =
+    length-map (packed n).pads (renamed_pad (moved_numbers (packed n)) (fed_numbers (packed n)))
+    ∙ length-map (unread_by n (plan_of n)).pads (read_pad (unread_by n (plan_of n)))
+    ∙ pads_long (plan_of n) n.cells 0 n.ports
+
+pub shows : (n : NetlistData) (order : List ℕ) → IsSoundInOrder n order → DesignsShowTheSame → (parts : Parts) (name : List ℕ) (constraints : List Constraint) (layout : Layout) (routes : List Route) (k : Configuration)
+    → IsLaidOut (task_of parts name constraints n) layout → StandsOn parts name layout → IsWritten parts (plan_in layout) layout.pads.pullups routes k
+    → Realises parts (plan_in layout) (wanted_rows parts (plan_in layout) routes) (bits_of k) → IsCircuitOf n layout.pads.ports parts k
+shows n order sound same parts name constraints layout routes k laid stands written real = record {
+  form = written.form;
+  faultless = subst (IsFaultless parts (bits_of k)) (sym written.extras) real.faultless;
+  shows_same = λ bonded. record {
+    pad_each = stands.2.pads.ports ∙ ap (λ (d : Design). length d.pads) laid.design ∙ design_long n;
+    at_ports = λ steps. real.shows bonded steps ∙ ap (λ (d : Design). design.shows d (map (port_levels bonded layout.pads.ports) steps)) laid.design ∙ same n order sound (map (port_levels bonded layout.pads.ports) steps);
+    elsewhere = λ steps pad. real.elsewhere bonded steps pad;
+  };
+}

@@ -1,0 +1,88 @@
+//! From a netlist to the bits of a chip.
+ghost use Rattle.std.specs.Prelude.{IfOk, IfErr};
+ghost use Rattle.ice_bits_rows.specs.Index.{IsIndexOf};
+ghost use Rattle.ice_flow_build.specs.Answers.{IsBuilt, IsComplete, IsFault};
+ghost use Rattle.ice_flow_build.specs.Laid.{task_of};
+ghost use Rattle.ice_flow_build.specs.Shown.{IsCircuitOf};
+ghost use Rattle.ice_flow_build.specs.Stages.{IsPermitted};
+
+use crate::answer::{BuildFault, Built, Effort};
+use crate::checking::check_loops;
+use crate::laws::{layouts_stand_on_their_chip, realised_layouts_show_their_netlist};
+use crate::laying::indexed_lay_out;
+use crate::routing::finish;
+use ice_base::NoMemory;
+use ice_check::Sound;
+use ice_chip::Chip;
+use ice_desk::Gate;
+use ice_pcf::Pcf;
+use ice_bits_rows::{Index, index_of};
+use std::alloc::Global;
+use std::thread::Threads;
+
+// Builds a netlist on a chip by the index of its groups.
+fn indexed_build<G: Gate + Sync, R: Threads + Sync>(
+    rt: &R,
+    alloc: Global,
+    chip: &Chip,
+    index: &Index<'_>,
+    name: &[u8],
+    pcf: &Pcf,
+    sound: &Sound,
+    effort: Effort,
+    gate: &G,
+) -> Result<Built, BuildFault>
+    requires index { IsIndexOf chip.now index.now }
+    requires effort { IsPermitted effort }
+    ensures built { IfOk result (IsBuilt (task_of chip.now name.now pcf.now sound.now) effort.rounds) }
+    ensures circuit { IfOk result (λ built. IsCircuitOf sound.now built.layout.pads.ports chip.now built.bits) }
+    ensures fault { IfErr result (IsFault (task_of chip.now name.now pcf.now sound.now) effort.rounds) }
+    ensures complete { IsComplete (task_of chip.now name.now pcf.now sound.now) result }
+{
+    layouts_stand_on_their_chip(chip, sound);
+    realised_layouts_show_their_netlist(sound);
+    let layout = indexed_lay_out(alloc, chip, index, name, pcf, sound, effort.seed)?;
+    let built = finish(rt, alloc, chip, index, layout, effort, gate)?;
+    match check_loops(alloc, chip, &built.bits) {
+        Ok(()) => Ok(built),
+        Err(fault) => {
+            drop(built);
+            Err(fault)
+        }
+    }
+}
+
+/// Builds a netlist on a chip, in the package of that name: the bits, with the placed design and its trees. The netlist is packed, the
+/// runs of its carries are made, its cells are put into clusters, its ports get pads, its clusters get places, first by first fit and
+/// then improved from a seed; its nets are routed over the usable rows of the chip in at most so many rounds, from 1 to 64, by 1 to 8
+/// workers, each in a thread, on whom nothing depends; and the bits of all that are set, and no others.
+///
+/// The bits are a circuit without a fault, which for every list of levels shows at the ports' pads, step by step, what the netlist
+/// shows, and drives no other pad. On a chip on which a global is fed by a global the decoder is asked for it.
+///
+/// # Errors
+/// In this order: the fault of the pins exactly where `assign` has one; that of the places exactly where the first placement has one;
+/// the first sink to which no walk leads, and permitted rounds that all end with an overused wire, each with the placed design of
+/// which it is true; the decoder's fault of the bits, only where a global of the chip is fed by a global. Want of memory may come at
+/// any time; more than 65,536 nets count as such.
+pub fn build<G: Gate + Sync, R: Threads + Sync>(
+    rt: &R,
+    alloc: Global,
+    chip: &Chip,
+    name: &[u8],
+    pcf: &Pcf,
+    sound: &Sound,
+    effort: Effort,
+    gate: &G,
+) -> Result<Built, BuildFault>
+    requires { IsPermitted effort }
+    ensures built { IfOk result (IsBuilt (task_of chip.now name.now pcf.now sound.now) effort.rounds) }
+    ensures circuit { IfOk result (λ built. IsCircuitOf sound.now built.layout.pads.ports chip.now built.bits) }
+    ensures fault { IfErr result (IsFault (task_of chip.now name.now pcf.now sound.now) effort.rounds) }
+    ensures complete { IsComplete (task_of chip.now name.now pcf.now sound.now) result }
+{
+    match index_of(alloc, chip) {
+        Ok(index) => indexed_build(rt, alloc, chip, &index, name, pcf, sound, effort, gate),
+        Err(NoMemory) => Err(BuildFault::NoMemory),
+    }
+}

@@ -1,0 +1,363 @@
+-- When each answer of `build` comes, from how its texts stand.
+use Rattle.std.proofs.Common.{◌≡◌, ◌≢◌, ◌∙◌, ℕ, true, List, Result, Err, inl, inr, refl, sym, ap, subst}
+use Rattle.std.specs.Global.{Vec}
+use Rattle.ice_base.specs.declared.number.NetNo.{NetNo}
+use Rattle.ice_place.specs.declared.arrangement.Arrangement.{Arrangement}
+use Rattle.ice_base.specs.declared.number.WireNo.{WireNo}
+use Rattle.ice_asc.specs.Text.{asc_text}
+use Rattle.ice_desk.specs.Desk.{Meaning, SameButReading}
+use Rattle.ice_net.specs.NetlistData.{NetlistData}
+use Rattle.ice_blif.specs.Grammar.{netlist_of}
+use Rattle.ice_check.proofs.Faulty.{faulty}
+use Rattle.ice_check.specs.Refusals.{IsFaultOf}
+use Rattle.ice_check.specs.Sound.{IsSound}
+use Rattle.ice_check.specs.declared.fault.NetFault.{NetFault}
+use Rattle.ice_check.specs.declared.fault.NetFault.TheVariants as net_fault
+use Rattle.ice_chip.specs.Database.{Parts}
+use Rattle.ice_chip_read.specs.Whole.{chip_says}
+use Rattle.ice_core.specs.declared.log.RoundLog.{RoundLog}
+use Rattle.ice_pcf.specs.Grammar.{text_says}
+use Rattle.ice_pcf.specs.declared.constraint.Constraint.{Constraint}
+use Rattle.ice_report.specs.PinReport.{pin_text}
+use Rattle.ice_words.specs.Grips.{Shut}
+use Rattle.ice_flow_build.specs.Answers.{pins_said, places_said}
+use Rattle.ice_flow_build.specs.Laid.{Task, IsLaidOut}
+use Rattle.ice_flow_build.specs.declared.answer.Layout.{Layout}
+use Rattle.ice_flow_build.proofs.Answering.{pins_good, places_good}
+use Rattle.ice_flow_frame.specs.declared.cause.Cause.{Cause}
+use Rattle.ice_flow_frame.specs.declared.cause.Cause.TheVariants.{Good, Usage, BadBlif, BadPcf, BadChip, BadNet, BadPin, Overfull, Unreachable, GaveUp, BadBits}
+use Rattle.ice_flow_frame.specs.declared.cause.Done.{Done}
+use Rattle.ice_flow_frame.specs.declared.cause.FileRole.TheVariants.{Report}
+use Rattle.ice_flow_frame.specs.declared.giving.Made.{Made}
+use Rattle.ice_flow_frame.specs.declared.giving.Refused.{Refused}
+use Rattle.ice_flow_frame.specs.Causes.{status_of}
+use Rattle.ice_flow_frame.specs.Commands.{IsDone, IsTrueOf}
+use Rattle.ice_flow_frame.specs.Ends.{IsEndInFiles, IsMadeOf, IsEndOf, IsReported, unreported}
+use Rattle.ice_flow_frame.specs.Reading.{File, TellsLong}
+use Rattle.ice_flow_frame.specs.Rows.{IsHeld, GoodRow, IsParted, PartingRow}
+use Rattle.ice_flow_frame.specs.Texts.{OfTexts, HoldsTexts, text_at}
+use Rattle.ice_flow_frame.specs.Writing.{HoldFrom}
+use Rattle.ice_flow_frame.proofs.CommandRows.{Lawful, comes, good_row, read_fault_row, write_fault_row, too_long_row}
+use Rattle.ice_flow_frame.proofs.Ended.{end_is_in_files}
+use Rattle.ice_flow_frame.proofs.Standings.{fault_alone, of_done}
+use Rattle.ice_flow_frame.proofs.TextFacts.{at_files, of_weaker, holds_read}
+use Rattle.ice_flow_build_cmd.specs.Asked.{Build, files_of, file_asked, outputs_of, parting_of, IsAsked, Asks}
+use Rattle.ice_flow_build_cmd.specs.BuildRows.{ChipRow, HasChipFault, PcfRow, HasPcfFault, BlifRow, HasBlifFault, SaysNetlist, IsNetFault, NetRow, PinRow, PlaceRow, HasPlaceFault, IsPlaceable, IsTried, TriedRow, IsAbout, IsGood, BuiltRow, IsUnreachable, UnreachableRow, HasGivenUp, GaveUpRow, BitsRow, HeadlineRow, IsWritten, WrittenRow, HoldsReport, ReportedRow, IsBuildAnswer}
+use Rattle.ice_flow_build_cmd.specs.Command.{build_files}
+use Rattle.ice_flow_build_cmd.specs.Headline.{IsShown}
+use Rattle.ice_flow_build_cmd.specs.Made.{IsMade, IsBuiltOn, IsTalliedOn, IsStuckOn, IsGivenUpOn, HasBadBits}
+use Rattle.ice_flow_build_cmd.specs.Reports.{routes_text}
+use Rattle.ice_flow_build_cmd.specs.Standing.{IsEnd, PlacesStand, NetStands, BlifStands, PcfStands, Stands}
+use Rattle.ice_flow_build_cmd.proofs.Excluding.{built_not_stuck, built_not_given_up, given_up_not_stuck_on, stuck_on_one}
+use Rattle.ice_flow_build_cmd.proofs.Holding.{held_bits, held_pins, held_report}
+use Rattle.ice_flow_build_cmd.proofs.Standing.{pcf_stands, blif_stands, net_stands, task_stands, places_stand, end_stands, end_so, one_task}
+use Rattle.ice_flow_build_cmd.proofs.Telling.{of_end, of_tried, of_about, Told, told}
+
+done_end : (task : Task) (rounds : ℕ) (cause : Cause) → IsDone cause → IsEnd task rounds cause
+done_end task rounds cause done = of_done (IsEnd task rounds) (λ arrangement tallies. tt) (λ role put. tt) cause done
+
+pub lawful : (b : Build) → Lawful (build_files b)
+lawful b = record {
+  done = λ t made on counted cause g done.
+      let layout = g.built.layout in
+      let laid = g.is_built.laid in
+      end_so b.package_name b.effort.rounds t g.task layout.pads laid.placed.first cause g.is_asked (pins_good g.task layout laid) (places_good g.task layout laid) (done_end g.task b.effort.rounds cause done);
+  never = λ t m. told b.package_name b.effort.rounds t Usage m;
+}
+
+-- what a refusal by this cause tells of the texts that were read
+told_of : (b : Build) (old new : Meaning) (cause : Cause) (fault : Cause) (AreSo : List (List ℕ) → Type 0) → IsTrueOf (build_files b) old new cause → cause ≡ fault
+    → (IsTrueOf (build_files b) old new fault → OfTexts (files_of b) old (λ t. Stands b.package_name b.effort.rounds t fault))
+    → ((t : List (List ℕ)) → Told b.package_name b.effort.rounds t fault → AreSo t) → OfTexts (files_of b) old AreSo
+told_of b old new cause fault AreSo is e stands so =
+    of_weaker (files_of b) old (λ t. Stands b.package_name b.effort.rounds t fault) AreSo (λ t m. so t (told b.package_name b.effort.rounds t fault m))
+    (stands (subst (λ (x : Cause). IsTrueOf (build_files b) old new x) e is))
+
+-- ---- the texts
+chip_row : (b : Build) (old new : Meaning) (cause : Cause) → IsTrueOf (build_files b) old new cause → ChipRow b old cause
+chip_row b old new cause is fault =
+    comes (build_files b) old new cause (λ c. c ≡ BadChip fault) (HasChipFault fault) (lawful b) is
+    (λ e. told_of b old new cause (BadChip fault) (HasChipFault fault) is e (λ i. i.0) (λ t h. h))
+    (λ t h m. fault_alone (chip_says (text_at t 1)) BadChip (PcfStands b.package_name b.effort.rounds (text_at t 2) (text_at t 3)) fault cause h m)
+
+pcf_row : (b : Build) (old new : Meaning) (cause : Cause) → IsTrueOf (build_files b) old new cause → PcfRow b old cause
+pcf_row b old new cause is fault =
+    comes (build_files b) old new cause (λ c. c ≡ BadPcf fault) (HasPcfFault fault) (lawful b) is
+    (λ e. told_of b old new cause (BadPcf fault) (HasPcfFault fault) is e (λ i. i.0) (λ t h. h))
+    (λ t h m. fault_alone (text_says (text_at t 2)) BadPcf (BlifStands b.package_name b.effort.rounds (text_at t 3) h.0) fault cause h.2
+    (pcf_stands b.package_name b.effort.rounds t h.0 cause h.1 m))
+
+blif_row : (b : Build) (old new : Meaning) (cause : Cause) → IsTrueOf (build_files b) old new cause → BlifRow b old cause
+blif_row b old new cause is fault =
+    comes (build_files b) old new cause (λ c. c ≡ BadBlif fault) (HasBlifFault fault) (lawful b) is
+    (λ e. told_of b old new cause (BadBlif fault) (HasBlifFault fault) is e (λ i. i.0) (λ t h. h))
+    (λ t h m. fault_alone (netlist_of (text_at t 3)) BadBlif (NetStands b.package_name b.effort.rounds h.0 h.1) fault cause h.3
+    (blif_stands b.package_name b.effort.rounds t h.0 h.1 cause h.2 m))
+
+-- ---- the netlist
+unsound_alone : (name : List ℕ) (rounds : ℕ) (parts : Parts) (constraints : List Constraint) (circuit : NetlistData) (cause : Cause) → (IsSound circuit → ⊥)
+    → NetStands name rounds parts constraints circuit cause → IsNetFault cause
+unsound_alone name rounds parts constraints circuit cause unsound (inl bad) = (bad.0, bad.1)
+unsound_alone name rounds parts constraints circuit cause unsound (inr good) = absurd (unsound good.0)
+
+abbrev IsFaulty : NetFault → NetlistData → Type 0
+IsFaulty fault circuit = IsFaultOf circuit fault × (fault ≢ net_fault.NoMemory)
+
+netlist_weaker : (P Q : NetlistData → Type 0) (t : List (List ℕ)) → ((circuit : NetlistData) → P circuit → Q circuit) → SaysNetlist P t → SaysNetlist Q t
+netlist_weaker P Q t weaker h = record { parts = h.parts; constraints = h.constraints; circuit = h.circuit; is_read = h.is_read; is_circuit = h.is_circuit; is_so = weaker h.circuit h.is_so }
+
+net_row : (b : Build) (old new : Meaning) (cause : Cause) → IsTrueOf (build_files b) old new cause → NetRow b old cause
+net_row b old new cause is = record {
+  comes = comes (build_files b) old new cause IsNetFault (SaysNetlist (λ circuit. IsSound circuit → ⊥)) (lawful b) is
+      (λ f. told_of b old new cause (BadNet f.0) (SaysNetlist (λ circuit. IsSound circuit → ⊥)) is f.1 (λ i. i.0)
+      (λ t h. netlist_weaker (IsFaulty f.0) (λ circuit. IsSound circuit → ⊥) t (λ circuit bad. faulty circuit f.0 bad.1 bad.0) h))
+      (λ t h m. unsound_alone b.package_name b.effort.rounds h.parts h.constraints h.circuit cause h.is_so
+      (net_stands b.package_name b.effort.rounds t h.parts h.constraints h.circuit cause h.is_read h.is_circuit m));
+  fault_is = λ fault e.
+      told_of b old new cause (BadNet fault) (SaysNetlist (λ circuit. IsFaultOf circuit fault)) is e (λ i. i.0)
+      (λ t h. netlist_weaker (IsFaulty fault) (λ circuit. IsFaultOf circuit fault) t (λ circuit bad. bad.0) h);
+}
+
+-- ---- pins and places
+pin_row : (b : Build) (old new : Meaning) (cause : Cause) → IsTrueOf (build_files b) old new cause → PinRow b old cause
+pin_row b old new cause is fault =
+    comes (build_files b) old new cause (λ c. c ≡ BadPin fault) (Asks b.package_name (λ task. pins_said task ≡ Err fault)) (lawful b) is
+    (λ e. told_of b old new cause (BadPin fault) (Asks b.package_name (λ task. pins_said task ≡ Err fault)) is e (λ i. i.0) (λ t h. h))
+    (λ t h m. fault_alone (pins_said h.task) BadPin (λ pads. PlacesStand h.task b.effort.rounds) fault cause h.is_so
+    (task_stands b.package_name b.effort.rounds t h.task cause h.is_asked m))
+
+place_row : (b : Build) (old new : Meaning) (cause : Cause) → IsTrueOf (build_files b) old new cause → PlaceRow b old cause
+place_row b old new cause is fault =
+    comes (build_files b) old new cause (λ c. c ≡ Overfull fault) (Asks b.package_name (HasPlaceFault fault)) (lawful b) is
+    (λ e. told_of b old new cause (Overfull fault) (Asks b.package_name (HasPlaceFault fault)) is e (λ i. i.0) (λ t h. h))
+    (λ t h m. fault_alone (places_said h.task) Overfull (λ first. IsEnd h.task b.effort.rounds) fault cause h.is_so.2
+    (places_stand b.package_name b.effort.rounds t h.task h.is_so.0 cause h.is_asked h.is_so.1 m))
+
+-- ---- what is built
+laid_placeable : (task : Task) (layout : Layout) → IsLaidOut task layout → IsPlaceable task
+laid_placeable task layout laid = (layout.pads, laid.placed.first, pins_good task layout laid, places_good task layout laid)
+
+asks_weaker : (name : List ℕ) (P Q : Task → Type 0) (t : List (List ℕ)) → ((task : Task) → P task → Q task) → Asks name P t → Asks name Q t
+asks_weaker name P Q t weaker h = record { task = h.task; is_asked = h.is_asked; is_so = weaker h.task h.is_so }
+
+made_placeable : (b : Build) (t made : List (List ℕ)) (on : Arrangement) (counted : List Shut) → IsMade b t made on counted → Asks b.package_name IsPlaceable t
+made_placeable b t made on counted g = record { task = g.task; is_asked = g.is_asked; is_so = laid_placeable g.task g.built.layout g.is_built.laid }
+
+end_tried : (task : Task) (rounds : ℕ) (cause : Cause) → IsEnd task rounds cause → IsTried cause
+end_tried task rounds cause is = of_end IsTried task rounds (λ arrangement tallies. tt) (λ role put. tt) (λ arrangement net sink stuck. tt) (λ arrangement logs tallies given. tt) (λ fault bits. tt) cause is
+
+tried_only : (b : Build) (old new : Meaning) (cause : Cause) → IsTrueOf (build_files b) old new cause → IsTried cause → OfTexts (files_of b) old (Asks b.package_name IsPlaceable)
+tried_only b old new cause is tried =
+    of_tried (λ c. IsTrueOf (build_files b) old new c → OfTexts (files_of b) old (Asks b.package_name IsPlaceable))
+    (λ arrangement tallies i. of_weaker (files_of b) old (λ t. IsMade b t i.made arrangement tallies.items) (Asks b.package_name IsPlaceable) (λ t g. made_placeable b t i.made arrangement tallies.items g) i.texts)
+    (λ role put i. of_weaker (files_of b) old (λ t. IsMade b t i.made i.arrangement i.tallies) (Asks b.package_name IsPlaceable) (λ t g. made_placeable b t i.made i.arrangement i.tallies g) i.texts)
+    (λ arrangement net sink i. told_of b old new (Unreachable arrangement net sink) (Unreachable arrangement net sink) (Asks b.package_name IsPlaceable) i refl (λ j. j.0)
+    (λ t h. asks_weaker b.package_name (λ task. IsStuckOn task arrangement net sink) IsPlaceable t (λ task stuck. laid_placeable task stuck.0 stuck.1) h))
+    (λ arrangement logs tallies i. told_of b old new (GaveUp arrangement logs tallies) (GaveUp arrangement logs tallies) (Asks b.package_name IsPlaceable) i refl (λ j. j.0)
+    (λ t h. asks_weaker b.package_name (λ task. IsGivenUpOn task b.effort.rounds arrangement logs.items tallies.items) IsPlaceable t (λ task given. laid_placeable task given.0 given.1) h))
+    (λ fault i. told_of b old new (BadBits fault) (BadBits fault) (Asks b.package_name IsPlaceable) i refl (λ j. j.0)
+    (λ t h. asks_weaker b.package_name (λ task. HasBadBits task b.effort.rounds fault) IsPlaceable t (λ task bits. laid_placeable task bits.0.layout bits.1.laid) h))
+    cause tried is
+
+tried_row : (b : Build) (old new : Meaning) (cause : Cause) → IsTrueOf (build_files b) old new cause → TriedRow b old cause
+tried_row b old new cause is =
+    comes (build_files b) old new cause IsTried (Asks b.package_name IsPlaceable) (lawful b) is (tried_only b old new cause is)
+    (λ t h m. end_tried h.task b.effort.rounds cause (end_stands b.package_name b.effort.rounds t h.task h.is_so.0 h.is_so.1 cause h.is_asked h.is_so.2 h.is_so.3 m))
+
+-- ---- the arrangement that is told
+-- what the answer says of the task that the files hold
+held_built : (b : Build) (old new : Meaning) (arrangement : Arrangement) (tallies : Vec Shut) (t : List (List ℕ)) (task : Task) → HoldsTexts (files_of b) old t
+    → IsAsked b.package_name t task → IsTrueOf (build_files b) old new (Good arrangement tallies) → IsBuiltOn task b.effort.rounds arrangement
+held_built b old new arrangement tallies t task holds asked is =
+    let g = at_files (files_of b) old (λ texts. IsMade b texts is.made arrangement tallies.items) t holds is.texts in
+    subst (λ (x : Task). IsBuiltOn x b.effort.rounds arrangement) (one_task b.package_name t g.task task g.is_asked asked) (g.built, g.is_built, sym g.is_arrangement)
+
+held_stuck : (b : Build) (old new : Meaning) (arrangement : Arrangement) (net : NetNo) (sink : WireNo) (t : List (List ℕ)) (task : Task) → HoldsTexts (files_of b) old t
+    → IsAsked b.package_name t task → IsTrueOf (build_files b) old new (Unreachable arrangement net sink) → IsStuckOn task arrangement net sink
+held_stuck b old new arrangement net sink t task holds asked is =
+    let h = told b.package_name b.effort.rounds t (Unreachable arrangement net sink) (at_files (files_of b) old (λ texts. Stands b.package_name b.effort.rounds texts (Unreachable arrangement net sink)) t holds is.0) in
+    subst (λ (x : Task). IsStuckOn x arrangement net sink) (one_task b.package_name t h.task task h.is_asked asked) h.is_so
+
+held_given_up : (b : Build) (old new : Meaning) (arrangement : Arrangement) (logs : Vec RoundLog) (tallies : Vec Shut) (t : List (List ℕ)) (task : Task) → HoldsTexts (files_of b) old t
+    → IsAsked b.package_name t task → IsTrueOf (build_files b) old new (GaveUp arrangement logs tallies) → IsGivenUpOn task b.effort.rounds arrangement logs.items tallies.items
+held_given_up b old new arrangement logs tallies t task holds asked is =
+    let h = told b.package_name b.effort.rounds t (GaveUp arrangement logs tallies) (at_files (files_of b) old (λ texts. Stands b.package_name b.effort.rounds texts (GaveUp arrangement logs tallies)) t holds is.0) in
+    subst (λ (x : Task). IsGivenUpOn x b.effort.rounds arrangement logs.items tallies.items) (one_task b.package_name t h.task task h.is_asked asked) h.is_so
+
+tallied_at : (b : Build) (old new : Meaning) (cause : Cause) (arrangement : Arrangement) (tallies : Vec Shut) → IsTrueOf (build_files b) old new cause → cause ≡ Good arrangement tallies
+    → OfTexts (files_of b) old (Asks b.package_name (λ task. IsTalliedOn task b.effort.rounds arrangement tallies.items))
+tallied_at b old new cause arrangement tallies is e =
+    let i = subst (λ (x : Cause). IsTrueOf (build_files b) old new x) e is in
+    of_weaker (files_of b) old (λ t. IsMade b t i.made arrangement tallies.items) (Asks b.package_name (λ task. IsTalliedOn task b.effort.rounds arrangement tallies.items))
+    (λ t g. record { task = g.task; is_asked = g.is_asked; is_so = (g.built, g.is_built, sym g.is_arrangement, sym g.are_tallies) }) i.texts
+
+built_row : (b : Build) (old new : Meaning) (cause : Cause) → IsTrueOf (build_files b) old new cause → BuiltRow b old cause
+built_row b old new cause is = record {
+  comes = record {
+    only = λ arrangement about good. only arrangement good.0 good.1 good.2 (about_good arrangement good.0 good.1 good.2 about);
+    always = λ arrangement t about holds h.
+        of_about (λ c. IsTrueOf (build_files b) old new c → IsGood c) arrangement (λ tallies i. (arrangement, tallies, refl))
+        (λ net sink i. absurd (built_not_stuck h.task b.effort.rounds arrangement net sink h.is_so (held_stuck b old new arrangement net sink t h.task holds h.is_asked i)))
+        (λ logs tallies i. absurd (built_not_given_up h.task b.effort.rounds arrangement logs.items tallies.items h.is_so (held_given_up b old new arrangement logs tallies t h.task holds h.is_asked i)))
+        cause about is;
+  };
+  tallies_are = λ arrangement tallies e. tallied_at b old new cause arrangement tallies is e;
+}
+  where
+    about_good : (arrangement on : Arrangement) (tallies : Vec Shut) → cause ≡ Good on tallies → IsAbout arrangement cause → on ≡ arrangement
+    about_good arrangement on tallies e about = subst (IsAbout arrangement) e about
+
+    only : (arrangement on : Arrangement) (tallies : Vec Shut) → cause ≡ Good on tallies → on ≡ arrangement
+        → OfTexts (files_of b) old (Asks b.package_name (λ task. IsBuiltOn task b.effort.rounds arrangement))
+    only arrangement on tallies e same =
+        of_weaker (files_of b) old (Asks b.package_name (λ task. IsTalliedOn task b.effort.rounds arrangement tallies.items))
+        (Asks b.package_name (λ task. IsBuiltOn task b.effort.rounds arrangement))
+        (λ t h. record { task = h.task; is_asked = h.is_asked; is_so = (h.is_so.0, h.is_so.1, h.is_so.2) })
+        (tallied_at b old new cause arrangement tallies is (e ∙ ap (λ (x : Arrangement). Good x tallies) same))
+
+unreachable_row : (b : Build) (old new : Meaning) (cause : Cause) → IsTrueOf (build_files b) old new cause → UnreachableRow b old cause
+unreachable_row b old new cause is net sink = record {
+  only = λ arrangement about stuck. only arrangement stuck.0 stuck.1 (about_stuck arrangement stuck.0 stuck.1 about);
+  always = λ arrangement t about holds h.
+      of_about (λ c. IsTrueOf (build_files b) old new c → IsUnreachable net sink c) arrangement
+      (λ tallies i. absurd (built_not_stuck h.task b.effort.rounds arrangement net sink (held_built b old new arrangement tallies t h.task holds h.is_asked i) h.is_so))
+      (λ other last i. let same = stuck_on_one h.task arrangement other net last sink (held_stuck b old new arrangement other last t h.task holds h.is_asked i) h.is_so in (arrangement, told_same arrangement other last same.0 same.1))
+      (λ logs tallies i. absurd (given_up_not_stuck_on h.task b.effort.rounds arrangement logs.items tallies.items net sink (held_given_up b old new arrangement logs tallies t h.task holds h.is_asked i) h.is_so))
+      cause about is;
+}
+  where
+    about_stuck : (arrangement on : Arrangement) → cause ≡ Unreachable on net sink → IsAbout arrangement cause → on ≡ arrangement
+    about_stuck arrangement on e about = subst (IsAbout arrangement) e about
+
+    told_same : (arrangement : Arrangement) (other : NetNo) (last : WireNo) → other ≡ net → last ≡ sink → Unreachable arrangement other last ≡ Unreachable arrangement net sink
+    told_same arrangement other last e f = ap (λ (n : NetNo). Unreachable arrangement n last) e ∙ ap (λ (w : WireNo). Unreachable arrangement net w) f
+
+    only : (arrangement on : Arrangement) → cause ≡ Unreachable on net sink → on ≡ arrangement → OfTexts (files_of b) old (Asks b.package_name (λ task. IsStuckOn task arrangement net sink))
+    only arrangement on e same =
+        told_of b old new cause (Unreachable arrangement net sink) (Asks b.package_name (λ task. IsStuckOn task arrangement net sink)) is
+        (e ∙ ap (λ (x : Arrangement). Unreachable x net sink) same) (λ i. i.0) (λ t h. h)
+
+given_up_at : (b : Build) (old new : Meaning) (cause : Cause) (arrangement : Arrangement) (logs : Vec RoundLog) (tallies : Vec Shut) → IsTrueOf (build_files b) old new cause
+    → cause ≡ GaveUp arrangement logs tallies → OfTexts (files_of b) old (Asks b.package_name (λ task. IsGivenUpOn task b.effort.rounds arrangement logs.items tallies.items))
+given_up_at b old new cause arrangement logs tallies is e =
+    told_of b old new cause (GaveUp arrangement logs tallies) (Asks b.package_name (λ task. IsGivenUpOn task b.effort.rounds arrangement logs.items tallies.items)) is e (λ i. i.0) (λ t h. h)
+
+gave_up_row : (b : Build) (old new : Meaning) (cause : Cause) → IsTrueOf (build_files b) old new cause → GaveUpRow b old cause
+gave_up_row b old new cause is = record {
+  comes = record {
+    only = λ arrangement about gave. only arrangement gave.0 gave.1 gave.2 gave.3 (about_gave arrangement gave.0 gave.1 gave.2 gave.3 about);
+    always = λ arrangement t about holds h.
+        of_about (λ c. IsTrueOf (build_files b) old new c → HasGivenUp c) arrangement
+        (λ tallies i. absurd (built_not_given_up h.task b.effort.rounds arrangement h.is_so.0 h.is_so.1 (held_built b old new arrangement tallies t h.task holds h.is_asked i) h.is_so.2))
+        (λ net sink i. absurd (given_up_not_stuck_on h.task b.effort.rounds arrangement h.is_so.0 h.is_so.1 net sink h.is_so.2 (held_stuck b old new arrangement net sink t h.task holds h.is_asked i)))
+        (λ logs tallies i. (arrangement, logs, tallies, refl)) cause about is;
+  };
+  logs_are = λ arrangement logs tallies e. given_up_at b old new cause arrangement logs tallies is e;
+}
+  where
+    about_gave : (arrangement on : Arrangement) (logs : Vec RoundLog) (tallies : Vec Shut) → cause ≡ GaveUp on logs tallies → IsAbout arrangement cause → on ≡ arrangement
+    about_gave arrangement on logs tallies e about = subst (IsAbout arrangement) e about
+
+    only : (arrangement on : Arrangement) (logs : Vec RoundLog) (tallies : Vec Shut) → cause ≡ GaveUp on logs tallies → on ≡ arrangement
+        → OfTexts (files_of b) old (Asks b.package_name (λ task. (all : List RoundLog) × (shuts : List Shut) × IsGivenUpOn task b.effort.rounds arrangement all shuts))
+    only arrangement on logs tallies e same =
+        of_weaker (files_of b) old (Asks b.package_name (λ task. IsGivenUpOn task b.effort.rounds arrangement logs.items tallies.items))
+        (Asks b.package_name (λ task. (all : List RoundLog) × (shuts : List Shut) × IsGivenUpOn task b.effort.rounds arrangement all shuts))
+        (λ t h. record { task = h.task; is_asked = h.is_asked; is_so = (logs.items, tallies.items, h.is_so) })
+        (given_up_at b old new cause arrangement logs tallies is (e ∙ ap (λ (x : Arrangement). GaveUp x logs tallies) same))
+
+bits_row : (b : Build) (old new : Meaning) (cause : Cause) → IsTrueOf (build_files b) old new cause → BitsRow b old cause
+bits_row b old new cause is fault e =
+    told_of b old new cause (BadBits fault) (Asks b.package_name (λ task. HasBadBits task b.effort.rounds fault)) is e (λ i. i.0) (λ t h. h)
+
+-- ---- what is written
+made_shown : (b : Build) (t made : List (List ℕ)) (on : Arrangement) (counted : List Shut) (g : IsMade b t made on counted) → IsShown b.package_name t (asc_text g.task.parts g.built.bits)
+made_shown b t made on counted g = record {
+  parts = g.task.parts;
+  constraints = g.task.constraints;
+  circuit = g.is_asked.circuit;
+  pads = record { ports = g.built.layout.pads.ports; pullups = g.built.layout.pads.pullups; globals = g.are_pads.0 };
+  configuration = g.built.bits;
+  is_chip = g.is_asked.is_chip;
+  are_constraints = g.is_asked.are_constraints;
+  is_circuit = g.is_asked.is_circuit;
+  is_sound = g.is_asked.is_sound;
+  are_pads = g.are_pads.1;
+  decodes = g.is_read_back;
+  shows = g.is_shown;
+}
+
+-- what was made is on file
+held_written : (b : Build) (old new : Meaning) (on : Arrangement) (counted : List Shut) → IsHeld (build_files b) old new on counted → IsWritten b old new on counted
+held_written b old new on counted held =
+    let g = held.gives in
+    let bits = asc_text g.task.parts g.built.bits in
+    let pad_lines = pin_text g.is_asked.circuit g.bonded g.built.layout.pads.ports in
+    let route_lines = routes_text g.task.parts g.built.layout g.built.routed.logs.items true in
+    let hold = subst (λ (made : List (List ℕ)). HoldFrom 1 (outputs_of b) made new) g.are_texts held.there in
+    record {
+      texts = held.texts;
+      made = held.made;
+      hold = held.hold;
+      of = g;
+      bits = λ apart. held_bits b.asc bits pad_lines route_lines new b.pins b.report hold apart.0 apart.1;
+      pins = λ name e apart. held_pins b.asc bits pad_lines route_lines new b.pins b.report name hold e apart;
+      report = λ name e. held_report b.asc bits pad_lines route_lines new b.pins b.report name hold e;
+    }
+
+written_row : (b : Build) (old new : Meaning) (cause : Cause) (status : ℕ) → GoodRow (build_files b) old new cause status → WrittenRow b old new cause
+written_row b old new cause status good arrangement tallies e tells = held_written b old new arrangement tallies.items (good.held arrangement tallies e tells)
+
+headline_row : (b : Build) (old new : Meaning) (cause : Cause) (status : ℕ) → GoodRow (build_files b) old new cause status → HeadlineRow b old new status
+headline_row b old new cause status good zero_status tells =
+    let done = good.done zero_status in
+    let is = written_row b old new cause status good done.0 done.1 done.2 tells in
+    (is.texts, asc_text is.of.task.parts is.of.built.bits, is.hold, is.bits, made_shown b is.texts is.made done.0 done.1.items is.of)
+
+-- ---- the report on rounds that gave up
+parted_reported : (b : Build) (old new : Meaning) (arrangement : Arrangement) (logs : Vec RoundLog) (tallies : Vec Shut) (file : File) → old.tells ≡ true
+    → IsParted (build_files b) file old new (GaveUp arrangement logs tallies) → HoldsReport b old new file.name arrangement logs.items tallies.items
+parted_reported b old new arrangement logs tallies file tells is = record {
+  texts = is.texts.0;
+  report = is.text;
+  hold = holds_read (files_of b) old is.texts.0 tells is.texts.1;
+  tells = is.texts.2;
+  left = is.left tells;
+}
+
+reported_row : (b : Build) (old new : Meaning) (cause : Cause) → PartingRow (build_files b) old new cause → ReportedRow b old new cause
+reported_row b old new cause row arrangement logs tallies name e asked tells =
+    parted_reported b old new arrangement logs tallies (record { role = Report; name = name }) tells
+    (subst (λ (c : Cause). PartingRow (build_files b) old new c) e row (record { role = Report; name = name }) (ap (file_asked Report) asked) tt)
+
+-- ---- all of them
+pub answers : (b : Build) (old new : Meaning) (end : Done) → IsTrueOf (build_files b) old new end.cause → end.status ≡ status_of end.cause → TellsLong new end.cause
+    → PartingRow (build_files b) old new end.cause → IsBuildAnswer b old new end
+answers b old new end is status told_long parted =
+    let good = good_row (build_files b) old new end.cause end.status is status in
+    record {
+      headline = headline_row b old new end.cause end.status good;
+      good = good;
+      written = written_row b old new end.cause end.status good;
+      built = built_row b old new end.cause is;
+      bad_blif = blif_row b old new end.cause is;
+      bad_pcf = pcf_row b old new end.cause is;
+      bad_chip = chip_row b old new end.cause is;
+      bad_net = net_row b old new end.cause is;
+      bad_pin = pin_row b old new end.cause is;
+      overfull = place_row b old new end.cause is;
+      tried = tried_row b old new end.cause is;
+      unreachable = unreachable_row b old new end.cause is;
+      gave_up = gave_up_row b old new end.cause is;
+      parted = parted;
+      reported = reported_row b old new end.cause parted;
+      bad_bits = bits_row b old new end.cause is;
+      read_fault = read_fault_row (build_files b) old new end.cause is;
+      write_fault = write_fault_row (build_files b) old new end.cause is;
+      too_long = too_long_row (build_files b) old new end.cause is told_long;
+    }
+
+-- how the command ended
+pub ends : (b : Build) (old mid new : Meaning) (result : Result Made Refused) (cause : Cause) → SameButReading old mid → IsMadeOf (build_files b) old mid (unreported result)
+    → IsReported (build_files b) old result → IsEndInFiles (outputs_of b) (parting_of b) result mid new cause → IsEndOf (build_files b) old new cause
+ends b old mid new result cause read made left end = end_is_in_files (build_files b) (outputs_of b) old mid new result cause read made left end

@@ -1,0 +1,5 @@
+pub mod Looks
+pub mod Told
+pub mod RowLaws
+pub mod OneText
+pub mod Places

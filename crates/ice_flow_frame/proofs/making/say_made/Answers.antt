@@ -1,0 +1,18 @@
+use Rattle.ice_flow_frame.specs.Commands.{Aloud, command_of}
+use Rattle.ice_flow_frame.specs.Texts.{files_view}
+use Rattle.ice_flow_frame.proofs.Ended.{end_is_aloud}
+use Rattle.ice_flow_frame.proofs.making.say_made.Goals as goal
+
+pub returns-clause-cause : goal.returns-clause-cause
+returns-clause-cause g c =
+    let D = g.D.Desk in
+    let made = c.make_of-made in
+    let k = command_of (files_view c.args.files.now) (g.M.Making.stands c.args.making.now) (g.M.Making.gives c.args.making.now) Aloud in
+    (end_is_aloud k (D.seen c.args.desk.now) (D.seen made.new.desk) (D.seen c.end_aloud.new.desk) made.result c.end_aloud.result.cause made.ensures.same (made.ensures.made Aloud) c.end_aloud.ensures.end).is_true
+
+pub returns-clause-said : goal.returns-clause-said
+returns-clause-said g c =
+    let D = g.D.Desk in
+    let made = c.make_of-made in
+    let k = command_of (files_view c.args.files.now) (g.M.Making.stands c.args.making.now) (g.M.Making.gives c.args.making.now) Aloud in
+    (end_is_aloud k (D.seen c.args.desk.now) (D.seen made.new.desk) (D.seen c.end_aloud.new.desk) made.result c.end_aloud.result.cause made.ensures.same (made.ensures.made Aloud) c.end_aloud.ensures.end).said

@@ -1,0 +1,65 @@
+-- How the three texts of `play-bits` stand, and what it makes of them: of the chip text, which is the first, of the text of bits, which is
+-- the second, and of the text of levels, which is the third.
+use Rattle.std.specs.Prelude.{◌≡◌, ℕ, Bool, List, [], ◌∷◌, length, Ok, Err}
+use Rattle.ice_place.specs.declared.arrangement.Arrangement.{Arrangement}
+use Rattle.ice_chip.specs.Database.{Parts, PackageRows}
+use Rattle.ice_bits.specs.Configuration.{Configuration, bits_of}
+use Rattle.ice_decode.specs.Meaning.{shows}
+use Rattle.ice_sim_levels.specs.LevelTexts.{levels_of}
+use Rattle.ice_sim_levels.specs.DriveTexts.{drives_text}
+use Rattle.ice_flow_frame.specs.declared.cause.Cause.{Cause}
+use Rattle.ice_flow_frame.specs.declared.cause.Cause.TheVariants.{BadLevels}
+use Rattle.ice_flow_frame.specs.declared.cause.FileRole.TheVariants.{Chip, Asc, Levels}
+use Rattle.ice_flow_frame.specs.Causes.{no_arrangement}
+use Rattle.ice_flow_frame.specs.Commands.{Command, command_of, Aloud, IsDone, stands_by}
+use Rattle.ice_flow_frame.specs.Reading.{Files}
+use Rattle.ice_flow_frame.specs.Texts.{text_at}
+use Rattle.ice_flow_chip_frame.specs.Standing as bits
+use Rattle.ice_flow_chip_frame.specs.Standing.{IsConfigured}
+use Rattle.ice_words.specs.Grips.{Shut}
+
+-- the words of `play-bits CHIP PACKAGE ASC LEVELS`: names of files, and the name of a package
+pub record PlayBits : Type 0 where
+  pub chip : List ℕ
+  pub package_name : List ℕ
+  pub asc : List ℕ
+  pub levels : List ℕ
+
+-- its files, in the order of reading
+abbrev pub files_of : PlayBits → Files
+files_of p = record { role = Chip; name = p.chip } ∷ record { role = Asc; name = p.asc } ∷ record { role = Levels; name = p.levels } ∷ []
+
+-- ---- how the texts stand
+
+-- the levels, one for each pad of the package in each line
+abbrev pub LevelsStand : List ℕ → PackageRows → Cause → Type 0
+LevelsStand levels_text bonded = stands_by (levels_of (length bonded.pads) levels_text) BadLevels (λ levels. IsDone)
+
+-- first the chip text is looked at, then the text of bits, then the package, then the bits, and then the levels
+abbrev pub Stands : List ℕ → List (List ℕ) → Cause → Type 0
+Stands name texts = bits.Stands (LevelsStand (text_at texts 3)) name texts
+
+-- the bits have no fault, and this line of the level text is the first that isn't one level for each pad of the package
+pub record HasBadLine (name : List ℕ) (line : ℕ) (texts : List (List ℕ)) : Type 0 where
+  pub parts : Parts
+  pub configuration : Configuration
+  pub bonded : PackageRows
+  pub is_configured : IsConfigured name texts parts configuration bonded
+  pub is_line : levels_of (length bonded.pads) (text_at texts 3) ≡ Err line
+
+-- the bits have no fault, and this is the text of what they show at the pads of the package for the levels of these pads
+pub record IsPlayed (name : List ℕ) (texts : List (List ℕ)) (text : List ℕ) : Type 0 where
+  pub parts : Parts
+  pub configuration : Configuration
+  pub bonded : PackageRows
+  pub levels : List (List Bool)
+  pub is_configured : IsConfigured name texts parts configuration bonded
+  pub levels_are : levels_of (length bonded.pads) (text_at texts 3) ≡ Ok levels
+  pub is_text : text ≡ drives_text (shows parts (bits_of configuration) bonded.pads bonded.pads levels)
+
+-- what is made of the texts; nothing is placed or routed
+abbrev pub IsMade : List ℕ → List (List ℕ) → List (List ℕ) → Arrangement → List Shut → Type 0
+IsMade name texts made arrangement tallies = IsPlayed name texts (text_at made 1) × (arrangement ≡ no_arrangement) × (tallies ≡ [])
+
+abbrev pub play_bits : PlayBits → Command
+play_bits p = command_of (files_of p) (Stands p.package_name) (IsMade p.package_name) Aloud

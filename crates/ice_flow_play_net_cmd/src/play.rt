@@ -1,0 +1,80 @@
+//! Playing a netlist: two texts are read, and the text of drives is said.
+ghost use Rattle.std.specs.Prelude.{◌≡◌, true, None};
+ghost use Rattle.ice_flow_frame.specs.Causes.{status_of};
+ghost use Rattle.ice_flow_frame.specs.Commands.{Aloud, IsTrueOf};
+ghost use Rattle.ice_flow_frame.specs.Reading.{TellsLong};
+ghost use Rattle.ice_flow_frame.specs.Rows.{SaidBy, KeptRow};
+ghost use Rattle.ice_flow_play_net_cmd.specs.Played.{Stands, IsMade, play_net};
+ghost use Rattle.ice_flow_play_net_cmd.specs.Requests.{request_view};
+
+use ice_flow_frame::{
+    Cause, CommandFile, Done, FileRole, Made, Making, Texts, blif_refusal, made_text, net_refusal,
+    say_made,
+};
+use ice_base::NoMemory;
+use ice_blif::read_blif;
+use ice_check::check;
+use ice_desk::Desk;
+use ice_sim_levels::{LevelFault, read_levels};
+use ice_sim::play;
+use std::alloc::Global;
+
+/// To play the netlist of one file with the levels of another.
+#[derive(Clone, Copy)]
+pub struct NetRequest<'a> {
+    /// The name of the netlist's file.
+    pub blif: &'a str,
+    /// The name of the file of levels.
+    pub levels: &'a str,
+}
+
+impl<'a> Making for NetRequest<'a> {
+    ghost stands = { λ request texts cause. Stands texts cause };
+
+    ghost gives = { λ request texts made arrangement tallies. IsMade texts made arrangement tallies };
+
+    fn make(&self, alloc: Global, texts: &Texts) -> Result<Made, Cause> {
+        let netlist = match read_blif(alloc, texts.at(1)) {
+            Ok(netlist) => netlist,
+            Err(fault) => return Err(blif_refusal(fault)),
+        };
+        let sound = match check(alloc, netlist) {
+            Ok(sound) => sound,
+            Err(fault) => return Err(net_refusal(fault)),
+        };
+        let levels = match read_levels(alloc, texts.at(2), sound.netlist().ports().len()) {
+            Ok(levels) => levels,
+            Err(LevelFault::BadLine { line }) => return Err(Cause::BadLevels { line }),
+            Err(LevelFault::NoMemory) => return Err(Cause::NoMemory),
+        };
+        match play(alloc, &sound, &levels) {
+            Ok(text) => made_text(alloc, text),
+            Err(NoMemory) => Err(Cause::NoMemory),
+        }
+    }
+}
+
+/// Plays the netlist of one file with the levels of another: says what the ports drive, step by step, or the line of a
+/// refusal. After a failed say nothing more is said. No file is made.
+pub fn play_net<D: Desk>(alloc: Global, desk: &mut D, request: &NetRequest<'_>) -> Done
+    requires blif { D.may_read desk.old request.now.blif.now }
+    requires levels { D.may_read desk.old request.now.levels.now }
+    ensures status { result.status ≡ status_of result.cause }
+    ensures cause { IsTrueOf (play_net (request_view request.now)) (D.seen desk.old) (D.seen desk.new) result.cause }
+    ensures said { (D.seen desk.old).tells ≡ true → SaidBy Aloud (D.seen desk.old) (D.seen desk.new) result.cause }
+    ensures kept { (D.seen desk.old).tells ≡ true → KeptRow Aloud None (D.seen desk.old) (D.seen desk.new) result.cause }
+    ensures made { (D.seen desk.new).makes ≡ (D.seen desk.old).makes }
+    ensures given { TellsLong (D.seen desk.new) result.cause }
+{
+    let files = [
+        CommandFile {
+            role: FileRole::Blif,
+            name: request.blif,
+        },
+        CommandFile {
+            role: FileRole::Levels,
+            name: request.levels,
+        },
+    ];
+    say_made(alloc, desk, &files, request)
+}

@@ -1,0 +1,92 @@
+-- From what the stages answer to what is made of the sample texts, or why they are refused.
+use Rattle.std.proofs.Common.{◌≡◌, ℕ, Result, Ok, Err, IfOk, IfErr, refl, sym, subst}
+use Rattle.ice_flow_frame.proofs.Standings.{at_fault, behind, pin_refused, place_refused}
+use Rattle.ice_flow_frame.specs.Commands.{IsRefusal}
+use Rattle.ice_flow_frame.specs.Texts.{text_at}
+use Rattle.ice_flow_frame.specs.declared.cause.Cause.{Cause}
+use Rattle.ice_flow_frame.specs.declared.cause.Cause.TheVariants.{Good, Usage, BadBlif, BadPcf, BadChip, BadNet, BadPin, Overfull, Unreachable, GaveUp, ReadFault, WriteFault, NoMemory, BadAsc, BadBits, TooLong, BadLevels, BadDelays}
+use Rattle.ice_flow_frame.specs.declared.giving.Made.{Made}
+use Rattle.ice_flow_build.proofs.Answering.{pins_good, places_good}
+use Rattle.ice_flow_build.specs.Answers.{IsRouted, pins_said, places_said}
+use Rattle.ice_flow_build.specs.Laid.{Task, IsLaidOut, arrangement_in, plan_in}
+use Rattle.ice_flow_build.specs.Stages.{IsLayFault, IsRouteFault}
+use Rattle.ice_flow_build.specs.declared.answer.BuildFault.{BuildFault}
+use Rattle.ice_flow_build.specs.declared.answer.BuildFault.TheVariants as build
+use Rattle.ice_flow_build.specs.declared.answer.Layout.{Layout}
+use Rattle.ice_negotiate_defs.specs.declared.fault.RouteFault.{RouteFault}
+use Rattle.ice_negotiate_defs.specs.declared.fault.RouteFault.TheVariants as route
+use Rattle.ice_negotiate_defs.specs.declared.fault.Routed.{Routed}
+use Rattle.ice_report.specs.Summary.{summary_text}
+use Rattle.ice_flow_sample_cmd.specs.Laying.{IsLayRefusal, route_cause}
+use Rattle.ice_flow_sample_cmd.specs.Made.{IsSampled, summary_of}
+use Rattle.ice_flow_sample_cmd.specs.Samples.{most_rounds, IsAsked}
+use Rattle.ice_flow_sample_cmd.specs.Standing.{IsEnd, PlacesStand, TaskStands}
+use Rattle.ice_flow_sample_cmd.proofs.Standing.{end_so}
+
+-- ---- a refusal of what was read behind others
+refusal_behind : (Before Behind : Cause → Type 0) (cause : Cause) → ((c : Cause) → Behind c → Before c) → IsRefusal Behind cause → IsRefusal Before cause
+refusal_behind Before Behind (Good arrangement tallies) so is = absurd is
+refusal_behind Before Behind Usage so is = (so Usage is.0, is.1)
+refusal_behind Before Behind (BadBlif fault) so is = (so (BadBlif fault) is.0, is.1)
+refusal_behind Before Behind (BadPcf fault) so is = (so (BadPcf fault) is.0, is.1)
+refusal_behind Before Behind (BadChip fault) so is = (so (BadChip fault) is.0, is.1)
+refusal_behind Before Behind (BadNet fault) so is = (so (BadNet fault) is.0, is.1)
+refusal_behind Before Behind (BadPin fault) so is = (so (BadPin fault) is.0, is.1)
+refusal_behind Before Behind (Overfull fault) so is = (so (Overfull fault) is.0, is.1)
+refusal_behind Before Behind (Unreachable arrangement net sink) so is = (so (Unreachable arrangement net sink) is.0, is.1)
+refusal_behind Before Behind (GaveUp arrangement logs tallies) so is = (so (GaveUp arrangement logs tallies) is.0, is.1)
+refusal_behind Before Behind (ReadFault role) so is = absurd is
+refusal_behind Before Behind (WriteFault role put) so is = absurd is
+refusal_behind Before Behind NoMemory so is = tt
+refusal_behind Before Behind (BadAsc fault) so is = (so (BadAsc fault) is.0, is.1)
+refusal_behind Before Behind (BadBits fault) so is = (so (BadBits fault) is.0, is.1)
+refusal_behind Before Behind (TooLong role limit) so is = absurd is
+refusal_behind Before Behind (BadLevels line) so is = (so (BadLevels line) is.0, is.1)
+refusal_behind Before Behind (BadDelays line) so is = (so (BadDelays line) is.0, is.1)
+
+pub refused_behind : {V : Type 0} (Before Behind : Cause → Type 0) (result : Result V Cause) → ((c : Cause) → Behind c → Before c) → IfErr result (λ cause. IsRefusal Behind cause)
+    → IfErr result (λ cause. IsRefusal Before cause)
+refused_behind Before Behind (Ok value) so is = tt
+refused_behind Before Behind (Err cause) so is = refusal_behind Before Behind cause so is
+
+-- want of memory is a refusal, however the texts stand
+pub memory_refused : {V : Type 0} (Stands : Cause → Type 0) (result : Result V Cause) → IfErr result (λ cause. cause ≡ NoMemory) → IfErr result (λ cause. IsRefusal Stands cause)
+memory_refused Stands (Ok value) is = tt
+memory_refused Stands (Err cause) is = subst (IsRefusal Stands) (sym is) tt
+
+-- ---- the stages
+pub lay_refused : (task : Task) (fault : BuildFault) (cause : Cause) → IsLayFault task fault → IsLayRefusal fault cause → IsRefusal (TaskStands task) cause
+lay_refused task (build.Pins fault) cause said is = pin_refused (TaskStands task) fault cause (λ known. at_fault (pins_said task) BadPin (λ pads. PlacesStand task) fault said) is
+lay_refused task (build.Places fault) cause (pads, pins, said) is =
+    place_refused (TaskStands task) fault cause
+    (λ known. behind (pins_said task) BadPin (λ found. PlacesStand task) pads (Overfull fault) pins (at_fault (places_said task) Overfull (λ first. IsEnd task) fault said)) is
+lay_refused task (build.Unreachable layout net sink) cause never is = absurd never
+lay_refused task (build.GaveUp layout nets logs tallies) cause never is = absurd never
+lay_refused task (build.Bits fault) cause never is = absurd never
+lay_refused task build.NoMemory cause free is = subst (IsRefusal (TaskStands task)) (sym is) tt
+
+pub route_refused : (task : Task) (layout : Layout) (fault : RouteFault) → IsLaidOut task layout → IsRouteFault task.parts (plan_in layout) most_rounds fault
+    → IsRefusal (TaskStands task) (route_cause layout fault)
+route_refused task layout (route.Unreachable net sink) laid stuck =
+    (end_so task layout.pads laid.placed.first (Unreachable (arrangement_in layout) net sink) (pins_good task layout laid) (places_good task layout laid) (layout, laid, refl, stuck), tt)
+route_refused task layout (route.GaveUp logs tallies) laid given =
+    (end_so task layout.pads laid.placed.first (GaveUp (arrangement_in layout) logs tallies) (pins_good task layout laid) (places_good task layout laid) (layout, laid, refl, given), tt)
+route_refused task layout route.NoMemory laid free = tt
+
+-- ---- what is made
+pub sampled : (number : ℕ) (task : Task) (layout : Layout) (routed : Routed) (result : Result Made Cause) → IsAsked number task → IsLaidOut task layout
+    → IsRouted task.parts (plan_in layout) most_rounds routed → IfOk result (λ made. text_at made.texts 1 ≡ summary_text (summary_of number task.parts layout routed))
+    → IfOk result (λ made. made.arrangement ≡ arrangement_in layout) → IfOk result (λ made. made.tallies.items ≡ routed.tallies.items)
+    → IfOk result (λ made. IsSampled number (text_at made.texts 1) made.arrangement made.tallies.items)
+sampled number task layout routed (Ok made) asked laid is text here tallied = record {
+  task = task;
+  layout = layout;
+  routed = routed;
+  is_asked = asked;
+  is_laid = laid;
+  is_routed = is;
+  is_arrangement = here;
+  are_tallies = tallied;
+  is_text = text;
+}
+sampled number task layout routed (Err cause) asked laid is text here tallied = tt

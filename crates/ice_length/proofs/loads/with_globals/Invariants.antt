@@ -1,7 +1,0 @@
-use Rattle.std.proofs.Common.{◌≡◌, drop}
-use Rattle.ice_plan.specs.Loads.{globals_loads}
-use Rattle.ice_length.specs.Grown.{box_in, grown}
-use Rattle.ice_length.proofs.loads.with_globals.Given as goal
-
-abbrev pub invariant-loop-k : goal.invariant-loop-k
-invariant-loop-k l = grown l.root (box_in l.wide) (globals_loads l.chip (drop l.k l.numbers) (drop l.k l.reads)) ≡ grown l.root (box_in l.fn.span) (globals_loads l.chip l.numbers l.reads)

@@ -1,5 +1,0 @@
-use Rattle.ice_negotiate.proofs.Repeating.{rounds_same}
-use Rattle.ice_negotiate.proofs.laws.rounds_are_unique.Goals as goal
-
-pub returns : goal.returns
-returns c graph nets rounds others h g = rounds_same graph nets rounds others h g

@@ -1,0 +1,6 @@
+pub mod Trees
+pub mod Rounds
+pub mod Tallies
+pub mod Logs
+pub mod Determined
+pub mod Leading

@@ -1,6 +1,0 @@
-use Rattle.std.proofs.Common.{◌≡◌, drop}
-use Rattle.ice_nodes.specs.Holders.{noted, clusters_held}
-use Rattle.ice_nodes.proofs.holders.note_clusters.Given as goal
-
-abbrev pub invariant-loop-k : goal.invariant-loop-k
-invariant-loop-k l = noted l.nodes.items (clusters_held l.k (drop l.k l.clusters)) ≡ noted l.initial.nodes.items (clusters_held 0 l.clusters)

@@ -1,6 +1,0 @@
-use Rattle.std.proofs.Common.{◌≡◌, ◌++◌, drop}
-use Rattle.ice_nodes.specs.Reads.{clusters_reads}
-use Rattle.ice_nodes.proofs.reading.add_clusters.Given as goal
-
-abbrev pub invariant-loop-k : goal.invariant-loop-k
-invariant-loop-k l = l.reads.items ++ clusters_reads l.cells l.k (drop l.k l.clusters) ≡ l.fn.reads.items ++ clusters_reads l.cells 0 l.clusters

@@ -1,6 +1,0 @@
-use Rattle.std.proofs.Common.{◌≡◌, ◌++◌, drop}
-use Rattle.ice_nodes.specs.Reads.{globals_reads}
-use Rattle.ice_nodes.proofs.reading.add_globals.Given as goal
-
-abbrev pub invariant-loop-k : goal.invariant-loop-k
-invariant-loop-k l = l.reads.items ++ globals_reads l.chip (drop l.k l.numbers) (drop l.k l.roots) ≡ l.fn.reads.items ++ globals_reads l.chip l.numbers l.roots

@@ -1,6 +1,0 @@
-use Rattle.std.proofs.Common.{◌≡◌, ◌++◌, drop}
-use Rattle.ice_nodes.specs.Reads.{slots_reads}
-use Rattle.ice_nodes.proofs.reading.add_slots.Given as goal
-
-abbrev pub invariant-loop-slot : goal.invariant-loop-slot
-invariant-loop-slot l = l.reads.items ++ slots_reads l.cells l.node (drop l.slot-index l.slots) ≡ l.fn.reads.items ++ slots_reads l.cells l.node l.slots

@@ -1,6 +1,0 @@
-use Rattle.ice_cells.specs.Packed.{packed}
-use Rattle.ice_pack_form.proofs.Forming.{is_before, reads_within}
-use Rattle.ice_pack_form.proofs.laws.designs_have_values.Goals as goal
-
-pub returns : goal.returns
-returns c n order sound = c.runs_have_values.ensures (packed n) (is_before n (c.packed_netlists_have_values.ensures n order sound)) (reads_within n)

@@ -1,5 +1,0 @@
-use Rattle.ice_pack_form.proofs.Forming.{is_formed}
-use Rattle.ice_pack_form.proofs.laws.packed_are_formed.Goals as goal
-
-pub returns : goal.returns
-returns c n formed sound = is_formed n formed sound

@@ -1,0 +1,12 @@
+use Rattle.std.proofs.Common.{◌∙◌, ap, map, arith}
+use Rattle.std.proofs.lemmas.List.{take_all}
+use Rattle.ice_cells.specs.Homes.{part_of}
+use Rattle.ice_base.proofs.Pushed.{mapped_push}
+use Rattle.ice_pack_share.proofs.known.find_parts.Goals as goal
+
+pub loop-cell-preserved : goal.loop-cell-preserved
+loop-cell-preserved c =
+    mapped_push (part_of c.args.origins.now) c.args.cells.now c.loop-cell.cell-index _ _ _ _ (omega arith) c.loop-cell.invariant c.in_ok-push.ensures.items (c.part_of.ensures ∙ ap (part_of c.args.origins.now) c.cell-item.is)
+
+pub returns : goal.returns
+returns c = c.loop-cell.invariant ∙ ap (map (part_of c.args.origins.now)) (take_all c.loop-cell.cell-index c.args.cells.now (omega arith))

@@ -1,0 +1,5 @@
+use Rattle.ice_pads_promote_laws.proofs.Wanted.{wants_same}
+use Rattle.ice_pads_promote_laws.proofs.laws.pads_are_wanted_alike.Goals as goal
+
+pub returns : goal.returns
+returns c n free formed few = wants_same n free formed (c.promoted_are_formed.ensures n free formed few)

@@ -1,0 +1,20 @@
+-- What the ports of a netlist with promoted clocks want of their pads, and the pads that they get.
+use Rattle.std.specs.Prelude.{◌≡◌, ℕ, ◌<◌, List, length, Ok}
+use Rattle.ice_net.specs.Formed.{IsFormed}
+use Rattle.ice_net.specs.NetlistData.{NetlistData}
+use Rattle.ice_chip.specs.Database.{Parts}
+use Rattle.ice_pcf.specs.declared.constraint.Constraint.{Constraint}
+use Rattle.ice_cells.specs.Runs.{design_of}
+use Rattle.ice_pads.specs.Wants.{wants}
+use Rattle.ice_pads.specs.Assign.{IsGivenAlike, PadsData, assign_of}
+use Rattle.ice_check_promote.specs.Promoted.{promoted}
+use Rattle.ice_check_promote.specs.PromotionLaws.{most_cells_before}
+
+-- by the design of the netlist with promoted clocks each port wants of its pad what it wants by the design of the netlist itself
+abbrev pub PadsAreWantedAlike : Type 0
+PadsAreWantedAlike = (n : NetlistData) (free : ℕ) → IsFormed n → length n.cells < most_cells_before → wants (design_of (promoted n free)) ≡ wants (design_of n)
+
+-- where the constraints give ports pads by the design of the netlist with promoted clocks, they give the same pads by that of the netlist itself
+abbrev pub PadsAreGivenAlike : Type 0
+PadsAreGivenAlike = (n : NetlistData) (free : ℕ) (parts : Parts) (name : List ℕ) (constraints : List Constraint) (pads : PadsData) → IsFormed n → length n.cells < most_cells_before
+    → assign_of parts name constraints n (design_of (promoted n free)) ≡ Ok pads → IsGivenAlike parts name constraints n pads

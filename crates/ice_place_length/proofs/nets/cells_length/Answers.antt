@@ -1,0 +1,11 @@
+use Rattle.std.proofs.Common.{arith}
+use Rattle.ice_place_defs.specs.Length.{cell_root, net_length}
+use Rattle.ice_place_length.specs.Grown.{plan_in, loads_in}
+use Rattle.ice_place_length.proofs.Summing.{sum_more}
+use Rattle.ice_place_length.proofs.nets.cells_length.Goals as goal
+
+pub loop-c-preserved : goal.loop-c-preserved
+loop-c-preserved c = record {
+  so_far = sum_more (λ k. net_length (plan_in c.args.placed.now) (loads_in c.args.placed.now) (cell_root k)) c.loop-c.c c.loop-c.total c.net_length-total.result c.loop-c.invariant.so_far c.net_length-total.ensures.value;
+  bound = (let few = c.net_length-total.ensures.bound in let before = c.loop-c.invariant.bound in omega arith);
+}

@@ -1,6 +1,0 @@
-use Rattle.ice_prepare.proofs.Composed.{given}
-use Rattle.ice_prepare.proofs.laws.prepared_are_given_alike.Goals as goal
-
-pub returns : goal.returns
-returns c parts n name constraints pads formed room e =
-    given c.promoted_are_formed.ensures c.pads_are_given_alike.ensures c.pads_are_given_alike-2.ensures parts n name constraints pads formed room e

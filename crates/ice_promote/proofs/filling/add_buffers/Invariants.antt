@@ -1,7 +1,0 @@
-use Rattle.std.proofs.Common.{◌≡◌, take}
-use Rattle.ice_promote.specs.Promoted.{buffers}
-use Rattle.ice_added.specs.Adding.{with_cells}
-use Rattle.ice_promote.proofs.filling.add_buffers.Given as goal
-
-abbrev pub invariant-loop-place : goal.invariant-loop-place
-invariant-loop-place l = l.made ≡ with_cells l.fn.made (take l.place (buffers l.count l.clocks))

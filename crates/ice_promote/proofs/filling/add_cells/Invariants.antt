@@ -1,7 +1,0 @@
-use Rattle.std.proofs.Common.{◌≡◌, map, take}
-use Rattle.ice_promote.specs.Promoted.{buffered_cell}
-use Rattle.ice_added.specs.Adding.{with_cells}
-use Rattle.ice_promote.proofs.filling.add_cells.Given as goal
-
-abbrev pub invariant-loop-cell : goal.invariant-loop-cell
-invariant-loop-cell l = l.made ≡ with_cells l.fn.made (take l.cell-index (map (buffered_cell l.targets.count l.targets.clocks.items) l.cells))

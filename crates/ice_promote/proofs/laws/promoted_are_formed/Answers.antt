@@ -1,5 +1,0 @@
-use Rattle.ice_promote.proofs.NewFormed.{promoted_formed}
-use Rattle.ice_promote.proofs.laws.promoted_are_formed.Goals as goal
-
-pub returns : goal.returns
-returns c n free formed room = promoted_formed n free formed room

@@ -1,5 +1,0 @@
-use Rattle.ice_promote.proofs.NewSound.{promoted_sound}
-use Rattle.ice_promote.proofs.laws.promoted_are_sound.Goals as goal
-
-pub returns : goal.returns
-returns c n free formed sound = promoted_sound n free formed sound

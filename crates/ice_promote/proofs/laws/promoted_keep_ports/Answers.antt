@@ -1,5 +1,0 @@
-use Rattle.std.proofs.Common.{refl}
-use Rattle.ice_promote.proofs.laws.promoted_keep_ports.Goals as goal
-
-pub returns : goal.returns
-returns c n free = refl

@@ -1,5 +1,0 @@
-use Rattle.ice_promote_laws.proofs.Given.{given_same}
-use Rattle.ice_promote_laws.proofs.laws.pads_are_given_alike.Goals as goal
-
-pub returns : goal.returns
-returns c n free parts name constraints pads formed few is = given_same n free parts name constraints pads formed (c.promoted_are_formed.ensures n free formed few) is

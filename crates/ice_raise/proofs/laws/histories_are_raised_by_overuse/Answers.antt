@@ -1,5 +1,0 @@
-use Rattle.ice_raise.proofs.Summing.{raising_law}
-use Rattle.ice_raise.proofs.laws.histories_are_raised_by_overuse.Goals as goal
-
-pub returns : goal.returns
-returns c = raising_law

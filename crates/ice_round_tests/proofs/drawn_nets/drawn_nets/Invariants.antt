@@ -1,5 +1,0 @@
-use Rattle.ice_negotiate.specs.Rounds.{AreNets}
-use Rattle.ice_round_tests.proofs.drawn_nets.drawn_nets.Given as goal
-
-abbrev pub invariant-loop-number : goal.invariant-loop-number
-invariant-loop-number g l = AreNets l.graph l.nets.items

@@ -1,5 +1,0 @@
-use Rattle.ice_path.specs.Room.{AreWires}
-use Rattle.ice_round_tests.proofs.drawn_nets.drawn_targets.Given as goal
-
-abbrev pub invariant-loop-turn : goal.invariant-loop-turn
-invariant-loop-turn g l = AreWires l.graph.wires l.targets.items

@@ -1,5 +1,0 @@
-pub mod Listing
-pub mod Beginning
-pub mod Rounding
-pub mod Verdict
-pub mod Stating

@@ -1,5 +1,0 @@
-use Rattle.ice_negotiate.specs.Rounds.{AreAll}
-use Rattle.ice_rounds.proofs.start.all_nets.Given as goal
-
-abbrev pub invariant-loop-net : goal.invariant-loop-net
-invariant-loop-net l = AreAll l.net l.list.items

@@ -1,2 +1,0 @@
-mod Targets
-mod Routable

@@ -1,8 +1,0 @@
-use Rattle.std.proofs.Common.{◌≡◌, drop}
-use Rattle.std.specs.List.{list_any}
-use Rattle.ice_chip.specs.Views.{group_view}
-use Rattle.ice_rows.specs.Bundles.{is_shared, shares_bit}
-use Rattle.ice_rows.proofs.bundle.shares_bit.Given as goal
-
-abbrev pub invariant-loop-bit : goal.invariant-loop-bit
-invariant-loop-bit l = shares_bit l.chip (group_view l.group) ≡ list_any (is_shared l.chip l.group.tile l.group.wire.0) (drop l.bit-index l.group.bits.items)

@@ -1,7 +1,0 @@
-use Rattle.std.proofs.Common.{◌≡◌, drop}
-use Rattle.ice_rows.specs.FirstSound.{first_among, first_sound}
-use Rattle.ice_rows.specs.Lists.{views}
-use Rattle.ice_rows.proofs.first.first_sound.Given as goal
-
-abbrev pub invariant-loop-group : goal.invariant-loop-group
-invariant-loop-group l = first_sound l.chip l.source.0 l.fn.target.0 ≡ first_among l.chip l.source.0 (views (drop l.group-index l.group-items))

@@ -1,9 +1,0 @@
-use Rattle.std.proofs.Common.{◌≡◌, drop}
-use Rattle.indexmap.specs.IndexSet.{insert_all}
-use Rattle.ice_chip.specs.Places.{same_pad}
-use Rattle.ice_nets.specs.Sides.{sides}
-use Rattle.ice_settings.specs.Enables.{read_pads_at}
-use Rattle.ice_settings.proofs.enables.add_all_read.Given as goal
-
-abbrev pub invariant-loop-k : goal.invariant-loop-k
-invariant-loop-k l = insert_all same_pad l.found.keys (sides read_pads_at l.pads l.k (drop l.k l.ports)) ≡ insert_all same_pad l.initial.found.keys (sides read_pads_at l.pads 0 l.ports)

@@ -1,6 +1,0 @@
-use Rattle.std.proofs.Common.{◌≡◌, [], drop}
-use Rattle.ice_sim.specs.Sites.{with_places}
-use Rattle.ice_sim.proofs.site.tile_places.Given as goal
-
-abbrev pub invariant-loop-k : goal.invariant-loop-k
-invariant-loop-k l = with_places 0 l.tiles [] ≡ with_places l.k (drop l.k l.tiles) l.places.entries

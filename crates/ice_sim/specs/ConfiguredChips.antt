@@ -1,0 +1,50 @@
+-- A configured chip while it is compiled, seen at the pads of a package.
+use Rattle.std.specs.Prelude.{◌≡◌, ℕ, ◌<◌, Option, None, Some, List, [], ◌∷◌, ◌++◌}
+use Rattle.std.specs.Map.{lookup}
+use Rattle.std.proofs.Common.{suc}
+use Rattle.ice_base.specs.declared.number.TileAt.{TileAt}
+use Rattle.ice_chip.specs.Database.{Parts}
+use Rattle.ice_chip.specs.IsRead.{IsChip}
+use Rattle.ice_chip.specs.Places.{same_tile}
+use Rattle.ice_chip.specs.declared.rows.Pad.{Pad}
+use Rattle.ice_bits.specs.Configuration.{Configuration, bits_of}
+use Rattle.ice_decode.specs.declared.driver.Driver.{Driver}
+use Rattle.ice_decode.specs.declared.driver.Driver.TheVariants.{Nothing, By, Several}
+use Rattle.ice_decode.specs.Cells.{logic_tiles}
+use Rattle.ice_decode.specs.Refusals.{AreDrivers}
+use Rattle.ice_sim.specs.declared.configured.ConfiguredChip.TheInside.{Inside}
+
+-- the chip, its bits, and the pads of the package
+pub record ConfiguredData : Type 0 where
+  pub parts : Parts
+  pub configuration : Configuration
+  pub bonded : List Pad
+
+abbrev pub configured_view : Inside → ConfiguredData
+configured_view s = record { parts = s.chip.now; configuration = s.circuit.now.configuration; bonded = s.«package».now.pads.keys }
+
+-- a row that drives a wire leads from one of so many wires
+abbrev pub ComesFrom : ℕ → Driver → Type 0
+ComesFrom wires Nothing = Unit {0}
+ComesFrom wires (By s) = s.source.0 < wires
+ComesFrom wires (Several first second) = Unit {0}
+
+-- ---- places of tiles
+-- the entries with the place of a tile, if it has none yet
+abbrev pub put_place : TileAt → ℕ → List (TileAt × ℕ) → Option ℕ → List (TileAt × ℕ)
+put_place tile place entries None = entries ++ (tile, place) ∷ []
+put_place tile place entries (Some old) = entries
+
+abbrev pub with_place : TileAt → ℕ → List (TileAt × ℕ) → List (TileAt × ℕ)
+with_place tile place entries = put_place tile place entries (lookup (same_tile tile) entries)
+
+-- the entries with the places of these tiles, of which the first is at place k
+abbrev pub with_places : ℕ → List TileAt → List (TileAt × ℕ) → List (TileAt × ℕ)
+with_places k [] entries = entries
+with_places k (tile ∷ tiles) entries = with_places (suc k) tiles (with_place tile k entries)
+
+pub record IsConfiguredChip (s : Inside) : Type 0 where
+  pub chip : IsChip s.chip.now
+  pub wires : s.wires ≡ s.chip.now.wires
+  pub drivers : AreDrivers s.chip.now (bits_of s.circuit.now.configuration) s.circuit.now.drivers
+  pub places : s.places.entries ≡ with_places 0 (logic_tiles s.chip.now) []

@@ -1,0 +1,183 @@
+//! Configured chips, as they are compiled.
+ghost use Rattle.std.specs.Prelude.{◌≡◌, ◌<◌, ◌^◌, [], IfOk, IfSome, OnOk};
+ghost use Rattle.ice_bits.specs.Configuration.{bits_of};
+ghost use Rattle.ice_decode.specs.Drivers.{driver};
+ghost use Rattle.ice_decode.specs.Refusals.{AreDrivers};
+ghost use Rattle.ice_decode.specs.Cells.{logic_tiles};
+ghost use Rattle.ice_decode.specs.Meaning.{tile_place};
+ghost use Rattle.ice_sim.specs.ChipSlots.{pad_place, cell_place, number, slot_in, pin_slot};
+ghost use Rattle.ice_sim.specs.ConfiguredChips.{ComesFrom, with_place, with_places};
+
+use ice_base::{NoMemory, TileAt, WireNo};
+use ice_bits::Bits;
+use ice_chip::{Chip, Package, Pad};
+use ice_decode::{Circuit, Driver, Point, at_pin, logic_tiles};
+use indexmap::{IndexMap, IndexSet};
+use std::alloc::Global;
+use std::marker::Model;
+
+/// A configured chip, seen at the pads of a package. Contracts see the chip, its bits and those pads.
+#[derive(Drop)]
+pub struct ConfiguredChip<'a> {
+    chip: &'a Chip,
+    circuit: &'a Circuit,
+    package: &'a Package,
+    // The number of the wires.
+    wires: u32,
+    // The place of each logic tile among them.
+    places: IndexMap<TileAt, u32>,
+}
+
+impl<'a> Model for ConfiguredChip<'a> {
+    ghost use Rattle.ice_sim.specs.ConfiguredChips.{ConfiguredData, configured_view, IsConfiguredChip};
+
+    ghost Value = { ConfiguredData };
+
+    ghost view = { configured_view };
+
+    ghost invariant = { IsConfiguredChip };
+}
+
+// Notes the place of a tile that has none yet.
+fn note_place(places: &mut IndexMap<TileAt, u32>, tile: TileAt, place: u32) -> Result<(), NoMemory>
+    ensures { OnOk result (places.new.entries ≡ with_place tile place places.old.entries) }
+{
+    if places.get(&tile).is_none() {
+        places.insert(tile, place)?;
+    }
+    Ok(())
+}
+
+/// A number as a slot or a place; more than 2^32 places count as want of memory.
+pub(crate) fn small(number: usize) -> Result<u32, NoMemory>
+    ensures { IfOk result (λ small. small ≡ number) }
+{
+    match u32::try_from(number) {
+        Ok(small) => Ok(small),
+        Err(_) => Err(NoMemory),
+    }
+}
+
+// The place of each logic tile among them.
+fn tile_places(alloc: Global, tiles: &[TileAt]) -> Result<IndexMap<TileAt, u32>, NoMemory>
+    ensures { IfOk result (λ places. places.entries ≡ with_places 0 tiles.now []) }
+{
+    let mut places = IndexMap::new(alloc);
+    for (k, tile) in tiles.iter().enumerate() {
+        note_place(&mut places, *tile, small(k)?)?;
+    }
+    Ok(places)
+}
+
+impl<'a> ConfiguredChip<'a> {
+    /// The chip of a circuit. It fails for want of memory alone; more than 2^32 logic tiles count as that.
+    pub(crate) fn new(
+        alloc: Global,
+        chip: &'a Chip,
+        circuit: &'a Circuit,
+        package: &'a Package,
+    ) -> Result<ConfiguredChip<'a>, NoMemory>
+        requires { AreDrivers chip.now (bits_of circuit.now.configuration) circuit.now.drivers }
+        ensures { IfOk result (λ configured. configured ≡ record { parts = chip.now; configuration = circuit.now.configuration; bonded = «package».now.pads.keys }) }
+    {
+        let tiles = logic_tiles(alloc, chip)?;
+        let places = tile_places(alloc, &tiles)?;
+        Ok(ConfiguredChip {
+            chip,
+            circuit,
+            package,
+            wires: chip.wires(),
+            places,
+        })
+    }
+
+    /// The chip.
+    pub(crate) fn chip(&self) -> &Chip
+        ensures { result.now ≡ self.now.parts }
+    {
+        self.chip
+    }
+
+    /// The bits.
+    pub(crate) fn bits(&self) -> &Bits
+        ensures { result.now ≡ self.now.configuration }
+    {
+        self.circuit.bits()
+    }
+
+    /// The pads of the package.
+    pub(crate) fn pads(&self) -> &IndexSet<Pad>
+        ensures { result.now.keys ≡ self.now.bonded }
+    {
+        &self.package.pads
+    }
+
+    /// What drives a wire of the chip.
+    #[tactic(auto, using(crate::proofs::TilePlaces::driver_within, crate::proofs::TilePlaces::driver_found, crate::proofs::TilePlaces::comes_from))]
+    pub(crate) fn driver(&self, wire: WireNo) -> Driver
+        requires { wire.0 < self.now.parts.wires }
+        ensures driver { result ≡ driver self.now.parts (bits_of self.now.configuration) wire.0 }
+        ensures source { ComesFrom self.now.parts.wires result }
+    {
+        self.circuit.drivers()[wire.0 as usize]
+    }
+
+    /// The place of a pad among those of the package; None where it is none of them.
+    #[tactic(auto, using(crate::proofs::TilePlaces::pad_found))]
+    pub(crate) fn pad_place(&self, pad: Pad) -> Option<usize>
+        ensures { result ≡ pad_place self.now.bonded pad }
+    {
+        self.package.pads.get_index_of(&pad)
+    }
+
+    // The place of a tile among the logic tiles.
+    #[tactic(auto, using(crate::proofs::TilePlaces::tile_found))]
+    fn tile_place(&self, tile: TileAt) -> Option<u32>
+        ensures { result ≡ tile_place tile (logic_tiles self.now.parts) }
+    {
+        self.places.get(&tile).copied()
+    }
+
+    /// The place of a cell among the logic cells; None where its tile is no logic tile.
+    pub(crate) fn cell_place(&self, tile: TileAt, cell: u8) -> Option<usize>
+        ensures place { result ≡ cell_place self.now.parts tile cell }
+        ensures small { IfSome result (λ place. place < 2 ^ 36) }
+    {
+        match self.tile_place(tile) {
+            Some(place) => Some(8 * place as usize + cell as usize),
+            None => None,
+        }
+    }
+
+    /// The number of a point: wires have theirs, and behind them stand the carries of the logic cells.
+    pub(crate) fn number(&self, point: Point) -> usize
+        ensures { result ≡ number self.now.parts point }
+    {
+        match point {
+            Point::Wire(wire) => wire.0 as usize,
+            Point::Carry { tile, cell } => {
+                self.wires as usize + self.cell_place(tile, cell).unwrap_or(0)
+            }
+        }
+    }
+
+    /// The slot of a point, where `slots` has those of all points by their numbers.
+    pub(crate) fn slot_in(&self, slots: &[u32], point: Point) -> u32
+        ensures { result ≡ slot_in self.now.parts slots.now point }
+    {
+        match slots.get(self.number(point)) {
+            Some(slot) => *slot,
+            None => 0,
+        }
+    }
+
+    /// The slot of the wire of a name in a tile, or `bare` where none has it.
+    pub(crate) fn pin_slot(&self, bare: u32, slots: &[u32], tile: TileAt, name: &[u8]) -> u32
+        ensures { result ≡ pin_slot bare self.now.parts slots.now tile name.now }
+    {
+        match at_pin(self.chip, tile, name) {
+            Some(point) => self.slot_in(slots, point),
+            None => bare,
+        }
+    }
+}

@@ -1,5 +1,0 @@
-use Rattle.ice_negotiate.specs.Rounds.{AreNets}
-use Rattle.ice_small_graphs.proofs.built.nets_of.Given as goal
-
-abbrev pub invariant-loop-lines : goal.invariant-loop-lines
-invariant-loop-lines l = AreNets l.graph l.list.items

@@ -1,6 +1,0 @@
-use Rattle.ice_tails.specs.Ends.{tables_of}
-use Rattle.ice_tails.proofs.Ended.{can_take}
-use Rattle.ice_tails.proofs.laws.tailed_are_sound.Goals as goal
-
-pub returns : goal.returns
-returns c n formed sound = c.tails_are_sound.ensures n (tables_of n) formed (can_take n) sound

@@ -1,4 +1,0 @@
-pub mod Pins
-pub mod Reads
-pub mod Trees
-pub mod RowsLed

@@ -1,7 +1,0 @@
-use Rattle.std.proofs.Common.{ℕ, ◌<◌}
-use Rattle.ice_value.specs.Order.{Has}
-use Rattle.ice_value.specs.Graph.{depends_of}
-use Rattle.ice_value.proofs.graph.Graph.is_within.Given as goal
-
-abbrev pub invariant-loop-point : goal.invariant-loop-point
-invariant-loop-point l = (p q : ℕ) → p < l.point → Has (depends_of l.self p) q → q < l.points

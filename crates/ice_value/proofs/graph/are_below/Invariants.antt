@@ -1,6 +1,0 @@
-use Rattle.std.proofs.Common.{ℕ, ◌<◌}
-use Rattle.ice_value.specs.Order.{At}
-use Rattle.ice_value.proofs.graph.are_below.Given as goal
-
-abbrev pub invariant-loop-point : goal.invariant-loop-point
-invariant-loop-point l = (k point : ℕ) → k < l.point-index → At l.row k point → point < l.points

@@ -1,5 +1,0 @@
-use Rattle.ice_value.proofs.Cycles.{value_in_cycle}
-use Rattle.ice_value.proofs.laws.cycles_have_no_value.Goals as goal
-
-pub returns : goal.returns
-returns g c = value_in_cycle

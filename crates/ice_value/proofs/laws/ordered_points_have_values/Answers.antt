@@ -1,5 +1,0 @@
-use Rattle.ice_value.proofs.Values.{value_ordered}
-use Rattle.ice_value.proofs.laws.ordered_points_have_values.Goals as goal
-
-pub returns : goal.returns
-returns g c = value_ordered

@@ -1,5 +1,0 @@
-use Rattle.ice_wiring.proofs.Wired.{wired}
-use Rattle.ice_wiring.proofs.laws.wanted_rows_drive.Goals as goal
-
-pub returns : goal.returns
-returns c wanted more are low = wired c.args.chip.now c.chip_is_lawful.ensures.rows c.wires.ensures.chip.read.numbered wanted are more low

@@ -1,0 +1,12 @@
+use Rattle.std.proofs.Common.{◌≡◌, ◌+◌, List, ℕ, slice_index, sym, ap, subst, arith, ◌∙◌}
+use Rattle.std.proofs.lemmas.List.{get_or-drop}
+use Rattle.std.specs.Mem.Slots.{slots_items}
+use Rattle.ice_core.proofs.Sums.{read_at}
+use Rattle.ice_words_histories.proofs.histories.Histories.of.Goals as goal
+
+pub returns : goal.returns
+returns c =
+    let words = slots_items c.self.inside.closed.words in
+    let e = read_at words (c.args.wire.0 + 1) c.word.result c.word.ensures in
+    let same : 1 + c.args.wire.0 ≡ c.args.wire.0 + 1 = omega arith in
+    subst (λ (t : List ℕ). c.word.result ≡ slice_index t c.args.wire.0) c.self.view_is (e ∙ sym (get_or-drop 1 words c.args.wire.0 0 ∙ ap (λ k. slice_index words k) same))

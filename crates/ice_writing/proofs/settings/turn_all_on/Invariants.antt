@@ -1,7 +1,0 @@
-use Rattle.std.proofs.Common.{◌≡◌, drop}
-use Rattle.ice_writing.specs.Adds.{AreLeft}
-use Rattle.ice_writing.specs.Lists.{all_rows}
-use Rattle.ice_writing.proofs.settings.turn_all_on.Given as goal
-
-abbrev pub invariant-loop-row : goal.invariant-loop-row
-invariant-loop-row l = AreLeft l.chip l.fn.bits l.bits (all_rows l.chip l.rows) (all_rows l.chip (drop l.row-index l.rows))
