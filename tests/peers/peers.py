@@ -113,15 +113,14 @@ def without_memories(file):
 
 def bench(blif, steps, verilog, out):
     ports, inputs = ports_of(blif)
-    both = {word for line in open(blif, encoding="ascii") if "PACKAGE_PIN=" in line for word in line.split() if word.startswith("PACKAGE_PIN=")}
     without_memories(verilog)
     source = random.Random(7)
     chance = {"en": 0.9, "rst": 0.02}
     lines = ["module bench;", f"  reg [{len(ports) - 1}:0] level = 0;", "  integer faults = 0, unknown = 0;"]
     for k, port in enumerate(ports):
         lines += [f"  wire n{k}, c{k};"]
-        if port in inputs or f"PACKAGE_PIN={port}" in both:
-            # (what a module drives is stronger than this)
+        if port in inputs:
+            # (what a module drives is stronger than this; a pad that is read and driven is an input too)
             lines += [f"  assign (pull1, pull0) n{k} = level[{k}];", f"  assign (pull1, pull0) c{k} = level[{k}];"]
     for module, name in (("top", "n"), ("chip", "c")):
         lines += [f"  {module} the_{module} (" + ", ".join(f".\\{port} ({name}{k})" for k, port in enumerate(ports)) + ");"]

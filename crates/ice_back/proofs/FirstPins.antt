@@ -10,9 +10,9 @@ use Rattle.ice_chip.specs.Lookups.{first_pin}
 use Rattle.ice_chip.specs.Places.{same_pad}
 use Rattle.ice_chip.specs.Within.{different_pads}
 use Rattle.ice_chip.specs.declared.rows.Pad.{Pad}
-use Rattle.ice_back_laws.specs.Numbers.{pad_names}
-use Rattle.ice_back_laws.proofs.Bounds.{pad_same, pad_self}
-use Rattle.ice_back.specs.Naming.{pin_names, names_of_pins}
+use Rattle.ice_back_laws.specs.Numbers.{pin_names, pad_names}
+use Rattle.ice_back_laws.proofs.PadNumbers.{pad_same, pad_self}
+use Rattle.ice_back.specs.Naming.{names_of_pins}
 
 abbrev leads : Pad → List ℕ × Pad → Bool
 leads pad pin = same_pad pad pin.1

@@ -1,8 +1,6 @@
-mod Turned
 mod Rooms
 mod FirstPins
-mod Filled
-mod ConfiguredFacts
+mod Fits
 mod Ports
 mod PadCells
 mod Named

@@ -1,6 +1,6 @@
--- The SB_IO cells of pads, one after another.
-use Rattle.std.proofs.Common.{◌≡◌, ℕ, ◌+◌, ◌<◌, List, [], ◌∷◌, length, drop, map, zip, get_or, sym, ap, ◌∙◌, subst}
-use Rattle.std.specs.List.{range_with_len}
+-- The cells of pads, one pad after another.
+use Rattle.std.proofs.Common.{◌≡◌, ℕ, ◌+◌, ◌<◌, List, [], ◌∷◌, ◌++◌, length, drop, map, zip, get_or, sym, ap, ◌∙◌, subst}
+use Rattle.std.specs.List.{flat_map, range_with_len}
 use Rattle.std.proofs.lemmas.List.{drop_more}
 use Rattle.ice_chip.specs.declared.rows.Pad.{Pad}
 use Rattle.ice_net.specs.declared.cell.Cell.{Cell}
@@ -25,3 +25,21 @@ module _ (f : ℕ × Pad → Cell) (pads : List Pad) (k : ℕ) (d : Pad) (lt : k
     cells_rest n m (f (k, get_or pads k d) ∷ []) (map f (from (k + 1) pads)) (subst (HasRoomForCells n) split room) is,
     e ∙ ap (with_cells n) split ∙ sym (cells_both n m (f (k, get_or pads k d) ∷ []) (map f (from (k + 1) pads)) is),
   )
+
+-- the same for pads that have several cells each, or none
+module _ (f : ℕ × Pad → List Cell) (pads : List Pad) (k : ℕ) (d : Pad) (lt : k < length pads) where
+  abbrev here : List Cell
+  here = f (k, get_or pads k d)
+
+  abbrev later : List Cell
+  later = flat_map f (from (k + 1) pads)
+
+  side_split : flat_map f (from k pads) ≡ here ++ later
+  side_split = ap (λ (xs : List Pad). flat_map f (zip (range_with_len k (length xs)) xs)) (drop_more pads k d lt)
+
+  pub side_here : (n : NetlistData) → HasRoomForCells n (flat_map f (from k pads)) → HasRoomForCells n (f (k, get_or pads k d))
+  side_here n room = cells_first n here later (subst (HasRoomForCells n) side_split room)
+
+  pub side_next : (n m whole : NetlistData) → HasRoomForCells n (flat_map f (from k pads)) → whole ≡ with_cells n (flat_map f (from k pads)) → m ≡ with_cells n (f (k, get_or pads k d))
+      → HasRoomForCells m (flat_map f (from (k + 1) pads)) × (whole ≡ with_cells m (flat_map f (from (k + 1) pads)))
+  side_next n m whole room e is = (cells_rest n m here later (subst (HasRoomForCells n) side_split room) is, e ∙ ap (with_cells n) side_split ∙ sym (cells_both n m here later is))

@@ -1,49 +1,17 @@
 -- Room for names and cells, as they are added in parts.
-use Rattle.std.proofs.Common.{◌≡◌, ℕ, ◌+◌, ◌<◌, Bool, false, List, [], ◌∷◌, ◌++◌, length, drop, get_or, refl, sym, ap, ◌∙◌, subst, arith, append_assoc, length-append, bytes_eq}
-use Rattle.std.specs.Prelude.{All, ◌||◌, ◌==◌, if◌then◌else◌}
-use Rattle.std.specs.Cmp.{IsEquivalence}
-use Rattle.std.specs.List.{IsDistinct, AllByRecursion, flat_map, list_any}
+use Rattle.std.proofs.Common.{◌≡◌, ℕ, ◌+◌, ◌<◌, Bool, true, false, List, [], ◌∷◌, ◌++◌, length, drop, get_or, sym, ap, ◌∙◌, subst, arith, append_assoc, length-append, bytes_eq}
+use Rattle.std.specs.Prelude.{◌==◌, if◌then◌else◌}
+use Rattle.std.specs.List.{IsDistinct, flat_map, list_any}
 use Rattle.std.proofs.lemmas.Cmp.{nat_list_eq_equiv}
 use Rattle.std.proofs.lemmas.List.{drop_more}
-use Rattle.std.proofs.lemmas.List.Elements.{All-from_recursion, recursion_from_All}
-use Rattle.std.proofs.lemmas.Map.Keys.{IsDistinct-head, IsDistinct-tail, IsDistinct-cons}
 use Rattle.ice_net.specs.declared.cell.Cell.{Cell}
 use Rattle.ice_net.specs.Formed.{IsFormedCell}
 use Rattle.ice_net.specs.NetlistData.{NetlistData}
+use Rattle.ice_net_additions.proofs.Added.{all_left, all_right}
+use Rattle.ice_back_points.proofs.Distinct.{distinct_left, last_new}
 use Rattle.ice_back.specs.Adding.{with_names, HasRoomForNames, with_cells, HasRoomForCells}
 
 -- ---- lists
-rec_left : {X : Type 0} (P : X → Type 0) (xs ys : List X) → AllByRecursion P (xs ++ ys) → AllByRecursion P xs
-rec_left P [] ys all = tt
-rec_left P (x ∷ xs) ys all = (all.0, rec_left P xs ys all.1)
-
-rec_right : {X : Type 0} (P : X → Type 0) (xs ys : List X) → AllByRecursion P (xs ++ ys) → AllByRecursion P ys
-rec_right P [] ys all = all
-rec_right P (x ∷ xs) ys all = rec_right P xs ys all.1
-
-pub all_left : {X : Type 0} (P : X → Type 0) (xs ys : List X) → All P (xs ++ ys) → All P xs
-all_left P xs ys all = All-from_recursion P xs (rec_left P xs ys (recursion_from_All P (xs ++ ys) all))
-
-pub all_right : {X : Type 0} (P : X → Type 0) (xs ys : List X) → All P (xs ++ ys) → All P ys
-all_right P xs ys all = All-from_recursion P ys (rec_right P xs ys (recursion_from_All P (xs ++ ys) all))
-
-none_distinct : {X : Type 0} (e : X → X → Bool) → IsDistinct e []
-unfolding IsDistinct
-none_distinct e = tt
-
-pub distinct_left : {X : Type 0} (e : X → X → Bool) (xs ys : List X) → IsDistinct e (xs ++ ys) → IsDistinct e xs
-distinct_left e [] ys once = none_distinct e
-distinct_left e (x ∷ xs) ys once =
-    IsDistinct-cons e x xs (rec_left (λ y. e x y ≡ false) xs ys (IsDistinct-head e x (xs ++ ys) once)) (distinct_left e xs ys (IsDistinct-tail e x (xs ++ ys) once))
-
--- the last of items that differ is none of the others
-pub last_new : {X : Type 0} (e : X → X → Bool) → IsEquivalence e → (xs : List X) (x : X) → IsDistinct e (xs ++ x ∷ []) → list_any (e x) xs ≡ false
-last_new e laws [] x once = refl
-last_new e laws (y ∷ xs) x once =
-    let head : e y x ≡ false = (rec_right (λ z. e y z ≡ false) xs (x ∷ []) (IsDistinct-head e y (xs ++ x ∷ []) once)).0 in
-    let rest = last_new e laws xs x (IsDistinct-tail e y (xs ++ x ∷ []) once) in
-    ap (λ b. b || list_any (e x) xs) (laws.symm x y ∙ head) ∙ rest
-
 -- what one item more gives, behind what those before it give
 pub listed_next : {X A : Type 0} (f : X → List A) (xs : List X) (i : ℕ) (d : X) (whole done more : List A) → i < length xs → whole ≡ done ++ flat_map f (drop i xs) → more ≡ done ++ f (get_or xs i d)
     → whole ≡ more ++ flat_map f (drop (i + 1) xs)
@@ -120,3 +88,7 @@ pub table_made : (table number : ℕ) (one made : Cell) → table ≡ number →
 table_made table number one made is bit same =
     let some : (number == 0) ≡ false = grind arith in
     ap (λ b. if b then [] else one ∷ []) some ∙ ap (λ (c : Cell). c ∷ []) (sym same)
+
+-- a cell that is made where a test says so
+pub one_made : (test : Bool) (one made : Cell) → test ≡ true → made ≡ one → (if test then one ∷ [] else []) ≡ made ∷ []
+one_made test one made hit same = ap (λ b. if b then one ∷ [] else []) hit ∙ ap (λ (c : Cell). c ∷ []) (sym same)

@@ -1,4 +1,2 @@
-pub mod Filling
-pub mod ConfiguredChips
 pub mod Adding
 pub mod Naming

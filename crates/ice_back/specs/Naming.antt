@@ -1,13 +1,10 @@
 -- The names of the signals of pads, pin by pin.
-use Rattle.std.specs.Prelude.{ℕ, List, [], ◌∷◌, ◌++◌, codes, if◌then◌else◌}
+use Rattle.std.specs.Prelude.{ℕ, List, [], ◌∷◌, ◌++◌, if◌then◌else◌}
 use Rattle.std.specs.List.{list_any}
 use Rattle.indexmap.specs.IndexSet.{insert_key}
 use Rattle.ice_chip.specs.Places.{same_pad}
 use Rattle.ice_chip.specs.declared.rows.Pad.{Pad}
-
--- the names of the two signals of the pad of a pin
-abbrev pub pin_names : List ℕ → List (List ℕ)
-pin_names pin = (codes "p_" ++ pin) ∷ (codes "in_" ++ pin) ∷ []
+use Rattle.ice_back_laws.specs.Numbers.{pin_names}
 
 -- nothing, where an earlier pin leads to the pad
 abbrev pub new_names : List Pad → List ℕ × Pad → List (List ℕ)

@@ -1,20 +1,19 @@
 //! The cells of the netlist of a configured chip.
-ghost use Rattle.std.specs.Prelude.{◌≡◌, ◌<◌, ◌^◌, ◌∷◌, [], true, false, codes, if◌then◌else◌, IfOk};
+ghost use Rattle.std.specs.Prelude.{◌≡◌, ◌∷◌, [], true, false, codes, if◌then◌else◌, IfOk};
 ghost use Rattle.ice_bits.specs.Configuration.{bits_of};
 ghost use Rattle.ice_bits.specs.Settings.{set_at};
 ghost use Rattle.ice_chip.specs.WireNames.{input_name};
 ghost use Rattle.ice_net.specs.declared.kind.CellKind.TheVariants.{Cover, Flop};
 ghost use Rattle.ice_decode.specs.Cells.{reset_by, reset_of};
 ghost use Rattle.ice_decode.specs.Reads.{carry_into};
-ghost use Rattle.ice_back_laws.specs.Back.{reader, pin_reader, buffer_type, cell, signal_at, pad_cell, table_cell, carry_cell, flop_cell};
+ghost use Rattle.ice_back_laws.specs.Back.{reader, pin_reader, cell, signal_at, table_cell, carry_cell, flop_cell};
 ghost use Rattle.ice_back_laws.specs.Numbers.{reader_of};
 ghost use Rattle.ice_back_laws.specs.Roots.{StandsAt, cell_table, table_root};
 
-use crate::roots::table_root;
-use crate::configured::ConfiguredChip;
+use ice_back_points::{ConfiguredChip, table_root};
 use ice_base::{NoMemory, SignalNo, TileAt};
-use ice_chip::{Pad, input_name, output_enable_name, pad_output_name};
-use ice_decode::{cell_bit, pin_type, setting};
+use ice_chip::input_name;
+use ice_decode::{cell_bit, setting};
 use ice_net::{Cell, CellKind, Reset, Signals};
 use std::alloc::Global;
 
@@ -27,8 +26,8 @@ fn signals(alloc: Global, list: &[Option<SignalNo>]) -> Result<Signals, NoMemory
     Ok(Signals::from_vec(items))
 }
 
-// A cell without a line.
-fn made(
+/// A cell without a line.
+pub(crate) fn made(
     alloc: Global,
     kind: CellKind,
     ins: &[Option<SignalNo>],
@@ -58,37 +57,9 @@ pub(crate) fn fixed_cell(alloc: Global, level: bool) -> Result<Cell, NoMemory>
     made(alloc, kind, &[], &[Some(SignalNo(u32::from(number)))])
 }
 
-// The PIN_TYPE of a pad's SB_IO: the pad's output part, and the input part of a plain input.
-fn buffer_type(configured: &ConfiguredChip<'_>, pad: Pad) -> u8
-    ensures { result ≡ buffer_type configured.now.parts (bits_of configured.now.configuration) pad }
-{
-    4 * (pin_type(configured.chip(), configured.bits(), pad) / 4) + 1
-}
-
-/// The SB_IO of the pad of a number.
-pub(crate) fn pad_cell(
-    alloc: Global,
-    configured: &ConfiguredChip<'_>,
-    number: u32,
-    pad: Pad,
-) -> Result<Cell, NoMemory>
-    requires { number < 2 ^ 30 }
-    ensures { IfOk result (λ made. made ≡ pad_cell configured.now.parts (bits_of configured.now.configuration) configured.now.bonded.pads (number, pad)) }
-{
-    let kind = CellKind::PadCell {
-        pin_type: buffer_type(configured, pad),
-        pullup: false,
-    };
-    let port = Some(SignalNo(2 + 2 * number));
-    let level = configured.pin_reader(false, pad.tile, &pad_output_name(pad.pio));
-    let enable = configured.pin_reader(false, pad.tile, &output_enable_name(pad.pio));
-    let ins = [port, level, enable, None, None, None, None, None];
-    made(alloc, kind, &ins, &[Some(SignalNo(3 + 2 * number)), None])
-}
-
 // What reads an input of a cell.
 fn input(configured: &ConfiguredChip<'_>, tile: TileAt, cell: u8, number: u8) -> Option<SignalNo>
-    ensures { result ≡ pin_reader configured.now.parts (bits_of configured.now.configuration) configured.now.bonded.pads false tile (input_name cell number) }
+    ensures { result ≡ pin_reader configured.now.parts (bits_of configured.now.configuration) configured.now.configuration.extras configured.now.bonded.pads false tile (input_name cell number) }
 {
     configured.pin_reader(false, tile, &input_name(cell, number))
 }
@@ -103,7 +74,7 @@ pub(crate) fn table_cell(
 ) -> Result<Cell, NoMemory>
     requires stands { StandsAt configured.now.parts tile cell }
     requires table { table ≡ cell_table configured.now.parts (bits_of configured.now.configuration) tile cell }
-    ensures { IfOk result (λ made. made ≡ table_cell configured.now.parts (bits_of configured.now.configuration) configured.now.bonded.pads (tile, cell)) }
+    ensures { IfOk result (λ made. made ≡ table_cell configured.now.parts (bits_of configured.now.configuration) configured.now.configuration.extras configured.now.bonded.pads (tile, cell)) }
 {
     let ins = [
         input(configured, tile, cell, 0),
@@ -118,7 +89,7 @@ pub(crate) fn table_cell(
 // What reads the carry into a cell.
 fn carry_into(configured: &ConfiguredChip<'_>, tile: TileAt, cell: u8) -> Option<SignalNo>
     requires { StandsAt configured.now.parts tile cell }
-    ensures { result ≡ reader configured.now.parts (bits_of configured.now.configuration) configured.now.bonded.pads false (carry_into configured.now.parts tile cell) }
+    ensures { result ≡ reader configured.now.parts (bits_of configured.now.configuration) configured.now.configuration.extras configured.now.bonded.pads false (carry_into configured.now.parts tile cell) }
 {
     if cell == 0 {
         return configured.pin_reader(false, tile, b"carry_in_mux");
@@ -134,7 +105,7 @@ pub(crate) fn carry_cell(
     cell: u8,
 ) -> Result<Cell, NoMemory>
     requires { StandsAt configured.now.parts tile cell }
-    ensures { IfOk result (λ made. made ≡ carry_cell configured.now.parts (bits_of configured.now.configuration) configured.now.bonded.pads (tile, cell)) }
+    ensures { IfOk result (λ made. made ≡ carry_cell configured.now.parts (bits_of configured.now.configuration) configured.now.configuration.extras configured.now.bonded.pads (tile, cell)) }
 {
     let ins = [
         input(configured, tile, cell, 1),
@@ -176,7 +147,10 @@ fn datum(configured: &ConfiguredChip<'_>, tile: TileAt, cell: u8) -> Option<Sign
     requires { StandsAt configured.now.parts tile cell }
     ensures { result ≡ reader_of configured.now.parts configured.now.bonded.pads false (table_root configured.now.parts (bits_of configured.now.configuration) tile cell) }
 {
-    configured.reader_of(false, table_root(configured.chip(), configured.bits(), tile, cell))
+    configured.reader_of(
+        false,
+        table_root(configured.chip(), configured.bits(), tile, cell),
+    )
 }
 
 /// The flip-flop of a cell.
@@ -187,7 +161,7 @@ pub(crate) fn flop_cell(
     cell: u8,
 ) -> Result<Cell, NoMemory>
     requires { StandsAt configured.now.parts tile cell }
-    ensures { IfOk result (λ made. made ≡ flop_cell configured.now.parts (bits_of configured.now.configuration) configured.now.bonded.pads (tile, cell)) }
+    ensures { IfOk result (λ made. made ≡ flop_cell configured.now.parts (bits_of configured.now.configuration) configured.now.configuration.extras configured.now.bonded.pads (tile, cell)) }
 {
     let ins = [
         configured.pin_reader(false, tile, b"lutff_global/clk"),

@@ -11,10 +11,10 @@ ghost use Rattle.ice_decode.specs.Meaning as chips;
 ghost use Rattle.ice_decode.specs.Refusals.{IsCircuitOf};
 ghost use Rattle.ice_back_laws.specs.Back.{back_netlist};
 
-use crate::logic::{add_all_logic, add_fixed, add_pads, add_ports, cells_of};
+use crate::logic::{add_all_logic, add_fixed, add_pads, add_ports, add_sides, cells_of};
 use crate::names::{add_cell_names, add_name, add_pad_names};
-use crate::configured::ConfiguredChip;
 use ice_back_laws::{netlist_is_sound, netlist_shows_what_bits_show};
+use ice_back_points::ConfiguredChip;
 use ice_base::{NoMemory, TileAt};
 use ice_chip::{Chip, Package};
 use ice_decode::Circuit;
@@ -30,7 +30,7 @@ fn add_signals(
 ) -> Result<(), NoMemory>
     requires cells { all_cells.now ≡ cells configured.now.parts }
     requires empty { netlist.old ≡ empty_netlist }
-    ensures { OnOk result (netlist.new ≡ record (back_netlist configured.now.parts (bits_of configured.now.configuration) configured.now.bonded) { cells = [] }) }
+    ensures { OnOk result (netlist.new ≡ record (back_netlist configured.now.parts (bits_of configured.now.configuration) configured.now.configuration.extras configured.now.bonded) { cells = [] }) }
 {
     let pads = configured.pads();
     add_name(netlist, b"zero")?;
@@ -49,12 +49,13 @@ fn add_cells(
     all_cells: &[(TileAt, u8)],
 ) -> Result<(), NoMemory>
     requires cells { all_cells.now ≡ cells configured.now.parts }
-    requires named { netlist.old ≡ record (back_netlist configured.now.parts (bits_of configured.now.configuration) configured.now.bonded) { cells = [] } }
-    ensures { OnOk result (netlist.new ≡ back_netlist configured.now.parts (bits_of configured.now.configuration) configured.now.bonded) }
+    requires named { netlist.old ≡ record (back_netlist configured.now.parts (bits_of configured.now.configuration) configured.now.configuration.extras configured.now.bonded) { cells = [] } }
+    ensures { OnOk result (netlist.new ≡ back_netlist configured.now.parts (bits_of configured.now.configuration) configured.now.configuration.extras configured.now.bonded) }
 {
     let pads = configured.pads();
     add_fixed(alloc, netlist)?;
     add_pads(alloc, configured, netlist, pads)?;
+    add_sides(alloc, configured, netlist, pads)?;
     add_all_logic(alloc, configured, netlist, all_cells)?;
     Ok(())
 }
@@ -68,24 +69,28 @@ fn add_all(
 ) -> Result<(), NoMemory>
     requires cells { all_cells.now ≡ cells configured.now.parts }
     requires empty { netlist.old ≡ empty_netlist }
-    ensures { OnOk result (netlist.new ≡ back_netlist configured.now.parts (bits_of configured.now.configuration) configured.now.bonded) }
+    ensures { OnOk result (netlist.new ≡ back_netlist configured.now.parts (bits_of configured.now.configuration) configured.now.configuration.extras configured.now.bonded) }
 {
     add_signals(alloc, configured, netlist, all_cells)?;
     add_cells(alloc, configured, netlist, all_cells)
 }
 
 // The whole netlist.
-fn filled(alloc: Global, configured: &ConfiguredChip<'_>, all_cells: &[(TileAt, u8)]) -> Result<Netlist, NoMemory>
+fn filled(
+    alloc: Global,
+    configured: &ConfiguredChip<'_>,
+    all_cells: &[(TileAt, u8)],
+) -> Result<Netlist, NoMemory>
     requires { all_cells.now ≡ cells configured.now.parts }
-    ensures { IfOk result (λ netlist. netlist ≡ back_netlist configured.now.parts (bits_of configured.now.configuration) configured.now.bonded) }
+    ensures { IfOk result (λ netlist. netlist ≡ back_netlist configured.now.parts (bits_of configured.now.configuration) configured.now.configuration.extras configured.now.bonded) }
 {
     let mut netlist = Netlist::new(alloc);
     add_all(alloc, configured, &mut netlist, all_cells).and(Ok(netlist))
 }
 
-/// The netlist of a configured chip in a package of it: a port and an SB_IO for each pad of the package in order, and cell by cell a
-/// look-up table, a carry and a flip-flop, where the bits make them. It is sound, and for every list of levels it shows at its ports what
-/// the chip shows at the pads. Each wire is passed once.
+/// The netlist of a configured chip in a package of it: a port and an SB_IO for each pad of the package in order, pad by pad its registers
+/// and its SB_GB, and cell by cell a look-up table, a carry and a flip-flop, where the bits make them. It is sound, and for every list of
+/// levels it shows at its ports what the chip shows at the pads. Each wire is passed once.
 ///
 /// # Errors
 /// Want of memory alone.
@@ -97,9 +102,9 @@ pub fn back(
 ) -> Result<Netlist, NoMemory>
     requires circuit { IsCircuitOf chip.now circuit.now.configuration circuit.now }
     requires listed { Has chip.now.packages (package_view «package».now) }
-    ensures netlist { IfOk result (λ netlist. netlist ≡ back_netlist chip.now (bits_of circuit.now.configuration) (package_view «package».now)) }
+    ensures netlist { IfOk result (λ netlist. netlist ≡ back_netlist chip.now (bits_of circuit.now.configuration) circuit.now.configuration.extras (package_view «package».now)) }
     ensures sound { IfOk result (λ netlist. IsSound netlist) }
-    ensures shows { IfOk result (λ netlist. (levels : List (List Bool)) → nets.shows netlist levels ≡ chips.shows chip.now (bits_of circuit.now.configuration) «package».now.pads.keys «package».now.pads.keys levels) }
+    ensures shows { IfOk result (λ netlist. (levels : List (List Bool)) → nets.shows netlist levels ≡ chips.shows chip.now (bits_of circuit.now.configuration) circuit.now.configuration.extras «package».now.pads.keys «package».now.pads.keys levels) }
 {
     netlist_is_sound();
     netlist_shows_what_bits_show();

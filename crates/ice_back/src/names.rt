@@ -5,9 +5,9 @@ ghost use Rattle.indexmap.specs.IndexSet.{insert_key};
 ghost use Rattle.ice_chip.specs.Places.{same_pad};
 ghost use Rattle.ice_chip.specs.Views.{package_view};
 ghost use Rattle.ice_chip.specs.Within.{different_pads};
-ghost use Rattle.ice_back_laws.specs.Numbers.{pad_names, cell_name, cell_names};
+ghost use Rattle.ice_back_laws.specs.Numbers.{pin_names, pad_names, cell_name, cell_names};
 ghost use Rattle.ice_back.specs.Adding.{with_names, HasRoomForNames};
-ghost use Rattle.ice_back.specs.Naming.{pin_names, new_names};
+ghost use Rattle.ice_back.specs.Naming.{new_names};
 
 use ice_base::{NoMemory, TileAt};
 use ice_chip::{Package, Pad};
@@ -42,13 +42,33 @@ fn add_pin_name(
     add_name(netlist, &name)
 }
 
-// Adds the names of the two signals of a pad, by its first pin.
+// Adds the name of a signal of a pad's register: that of the pin behind `h_`, with an ending.
+fn add_kept_name(
+    alloc: Global,
+    netlist: &mut Netlist,
+    pin: &[u8],
+    ending: &[u8],
+) -> Result<(), NoMemory>
+    requires { HasRoomForNames netlist.old ((codes "h_" ++ pin.now ++ ending.now) ∷ []) }
+    ensures { OnOk result (netlist.new ≡ with_names netlist.old ((codes "h_" ++ pin.now ++ ending.now) ∷ [])) }
+{
+    let mut name = Vec::new(alloc);
+    name.extend_from_slice(b"h_")?;
+    name.extend_from_slice(pin)?;
+    name.extend_from_slice(ending)?;
+    add_name(netlist, &name)
+}
+
+// Adds the names of the five signals of a pad, by its first pin.
 fn add_pin_names(alloc: Global, netlist: &mut Netlist, pin: &[u8]) -> Result<(), NoMemory>
     requires { HasRoomForNames netlist.old (pin_names pin.now) }
     ensures { OnOk result (netlist.new ≡ with_names netlist.old (pin_names pin.now)) }
 {
     add_pin_name(alloc, netlist, b"p_", pin)?;
     add_pin_name(alloc, netlist, b"in_", pin)?;
+    add_kept_name(alloc, netlist, pin, b"_in")?;
+    add_kept_name(alloc, netlist, pin, b"_out")?;
+    add_pin_name(alloc, netlist, b"g_", pin)?;
     Ok(())
 }
 

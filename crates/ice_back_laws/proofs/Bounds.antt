@@ -1,9 +1,8 @@
 -- How many logic tiles a chip has at most, and how many pads a package.
-use Rattle.std.proofs.Common.{◌≡◌, ℕ, ◌+◌, ◌*◌, ◌<◌, ◌≤◌, ◌==◌, Bool, true, false, cond, List, [], ◌∷◌, ◌++◌, length, map, refl, sym, ap, ◌∙◌, subst, arith}
+use Rattle.std.proofs.Common.{◌≡◌, ℕ, ◌+◌, ◌*◌, ◌<◌, ◌≤◌, Bool, true, false, cond, List, [], ◌∷◌, ◌++◌, length, map, refl, sym, ap, ◌∙◌, subst, arith}
 use Rattle.std.specs.Cmp.{IsEquivalence}
 use Rattle.std.specs.List.{IsDistinct, flat_map, list_any, range_with_len}
 use Rattle.std.specs.Map.{keys_of}
-use Rattle.std.proofs.lemmas.Bool.{and_parts}
 use Rattle.std.proofs.lemmas.Cmp.{nat_eq_equiv, on_equiv, and_equiv}
 use Rattle.std.proofs.lemmas.List.{length-map}
 use Rattle.std.proofs.lemmas.List.FromFn.{length-range_with_len}
@@ -11,7 +10,7 @@ use Rattle.std.proofs.lemmas.Map.Keys.{IsDistinct-push}
 use Rattle.std.proofs.lemmas.Map.Made.{IsDistinct-keys_filter, length-le_from_is_member}
 use Rattle.indexmap.specs.IndexSet.{insert_key, insert_all}
 use Rattle.ice_base.specs.declared.number.TileAt.{TileAt}
-use Rattle.ice_base.proofs.Keys.{nat_same, nat_self, tile_same, tile_self, tiles_equal}
+use Rattle.ice_base.proofs.Keys.{tiles_equal}
 use Rattle.ice_base_values.specs.Order.{At, Has}
 use Rattle.ice_base_values.proofs.Members.{Has_all, Has_any, Has_map, any_Has, map_Has, filter_Has}
 use Rattle.ice_chip.specs.Database.{Parts, PackageRows}
@@ -72,16 +71,6 @@ pad_there : (p : Pad) → p.tile.x < 256 → p.tile.y < 256 → p.pio < 2 → Ha
 pad_there p x y pio =
     let place = place_there p.tile x y in
     flat_on pads_in all_places place.0 p.tile p place.1 (each_two (λ n. Has (pads_in p.tile) (record { tile = p.tile; pio = n })) (0, refl) (1, refl) p.pio pio)
-
-pub pad_same : (a b : Pad) → same_pad a b ≡ true → a ≡ b
-pad_same a b e =
-    let both = and_parts (same_tile a.tile b.tile) (a.pio == b.pio) e in
-    let tile = tile_same a.tile b.tile both.0 in
-    let pio = nat_same a.pio b.pio both.1 in
-    λ i. record { tile = tile i; pio = pio i }
-
-pub pad_self : (a : Pad) → same_pad a a ≡ true
-pad_self a = rw (tile_self a.tile, nat_self a.pio) refl
 
 -- ---- the bounds
 pub logic_within : (parts : Parts) → IsRead parts → (t : TileAt) → Has (logic_tiles parts) t → IsPlace parts.width parts.height t

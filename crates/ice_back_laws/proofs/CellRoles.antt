@@ -1,11 +1,14 @@
--- The cells whose outputs wires are, are cells of the chip.
-use Rattle.std.proofs.Common.{◌≡◌, ◌⊎◌, ℕ, ◌-◌, ◌<◌, ◌≤◌, Bool, true, false, cond, List, [], ◌∷◌, Some, None, Option, inl, inr, refl, sym, subst, eqb, leb, arith}
+-- The cells, pads and globals that wires are of, are those of the chip.
+use Rattle.std.proofs.Common.{◌≡◌, ◌⊎◌, ℕ, zero, suc, ◌-◌, ◌<◌, ◌≤◌, Bool, true, false, cond, List, [], ◌∷◌, Some, None, Option, inl, inr, refl, sym, subst, eqb, leb, arith}
 use Rattle.std.specs.Prelude.{◌&&◌, codes, bytes_eq}
 use Rattle.std.proofs.lemmas.Bool.{leb-true, cond_both}
 use Rattle.ice_base.specs.declared.number.TileAt.{TileAt}
 use Rattle.ice_chip.specs.Database.{Parts}
 use Rattle.ice_chip.specs.Lookups.{kind_at, names_of}
 use Rattle.ice_chip.specs.PinNames.{cell_pin, is_global_name}
+use Rattle.ice_chip.specs.WireNames.{global_name, in_out_enable_name}
+use Rattle.ice_chip.specs.declared.rows.Pad.{Pad}
+use Rattle.ice_chip.proofs.Prefixes.{set_number}
 use Rattle.ice_chip.specs.declared.rows.TileKind.{TileKind}
 use Rattle.ice_chip.specs.declared.rows.TileKind.TheVariants.{Io, Logic, RamBottom, RamTop}
 use Rattle.ice_chip.specs.declared.placed.PlacedName.{PlacedName}
@@ -14,15 +17,20 @@ use Rattle.ice_decode.specs.declared.role.Role.TheVariants.{Plain, Output, LookU
 use Rattle.ice_decode.specs.Roles.{number_at, global_role, output_role, or_global, logic_role, io_role, role_in, role_or, first_role, role_of}
 use Rattle.ice_decode.proofs.RolePlaces.{IsCell}
 
+-- a pad of an IO tile
+pub record IsIoPad (parts : Parts) (pad : Pad) : Type 0 where
+  pub io : kind_at parts pad.tile ≡ Some Io
+  pub pio : pad.pio < 2
+
 module _ (parts : Parts) where
-  -- the cell that a role names is one of the chip
+  -- the cell that a role names is one of the chip, and so is the pad or the global
   abbrev pub IsOfCell : Role → Type 0
   IsOfCell Plain = Unit {0}
   IsOfCell (Output t i) = IsCell parts t i
   IsOfCell (LookUp t i) = IsCell parts t i
   IsOfCell (CarryOut t i) = IsCell parts t i
-  IsOfCell (PadInput pad) = Unit {0}
-  IsOfCell (Global n) = Unit {0}
+  IsOfCell (PadInput pad) = IsIoPad parts pad
+  IsOfCell (Global n) = n < 8
   IsOfCell (CarryIn t) = Unit {0}
   IsOfCell ClockEnable = Unit {0}
 
@@ -48,8 +56,26 @@ digit_small (a ∷ b ∷ c ∷ d ∷ e ∷ f ∷ i ∷ g ∷ pin) =
     by true false z e = inr refl
     by false false z e = inr refl
 
+-- a global has one of eight numbers
+global_digit : (n : ℕ) → n < 8 → number_at (global_name n) 10 ≡ n
+global_digit zero lt = refl
+global_digit (suc zero) lt = refl
+global_digit (suc (suc zero)) lt = refl
+global_digit (suc (suc (suc zero))) lt = refl
+global_digit (suc (suc (suc (suc zero)))) lt = refl
+global_digit (suc (suc (suc (suc (suc zero))))) lt = refl
+global_digit (suc (suc (suc (suc (suc (suc zero)))))) lt = refl
+global_digit (suc (suc (suc (suc (suc (suc (suc zero))))))) lt = refl
+global_digit (suc (suc (suc (suc (suc (suc (suc (suc n)))))))) lt = absurd (omega arith)
+
+global_below : (name : List ℕ) → is_global_name name ≡ true → number_at name 10 < 8
+global_below name e =
+    let which = set_number 8 (codes "glb_netwk_") name (omega arith) e in
+    let digit = global_digit which.0 which.1 in
+    subst (λ (k : List ℕ). number_at k 10 < 8) (sym which.2) (subst (λ n. n < 8) (sym digit) which.1)
+
 global_of_cell : (parts : Parts) (name : List ℕ) → IsOfCellIf parts (global_role name)
-global_of_cell parts name = cond_both (is_global_name name) (Some (Global (number_at name 10))) None (IsOfCellIf parts) (λ e. tt) (λ e. tt)
+global_of_cell parts name = cond_both (is_global_name name) (Some (Global (number_at name 10))) None (IsOfCellIf parts) (λ e. global_below name e) (λ e. tt)
 
 output_of_cell : (parts : Parts) (t : TileAt) (i : ℕ) (pin : List ℕ) → kind_at parts t ≡ Some Logic → (i < 8) ⊎ (pin ≡ []) → IsOfCellIf parts (output_role t i pin)
 output_of_cell parts t i pin logic (inr e) = subst (λ (p : List ℕ). IsOfCellIf parts (output_role t i p)) (sym e) tt
@@ -68,14 +94,15 @@ logic_of_cell parts t name logic =
     (λ e. cond_both (bytes_eq name (codes "lutff_global/cen")) (Some ClockEnable) _ (IsOfCellIf parts) (λ f. tt)
     (λ f. or_of_cell parts (output_role t (number_at name 6) (cell_pin name)) name (output_of_cell parts t (number_at name 6) (cell_pin name) logic (digit_small name))))
 
-io_of_cell : (parts : Parts) (t : TileAt) (name : List ℕ) → IsOfCellIf parts (io_role t name)
-io_of_cell parts t name =
-    cond_both (bytes_eq name (codes "io_0/D_IN_0")) (Some (PadInput (record { tile = t; pio = 0 }))) _ (IsOfCellIf parts) (λ e. tt)
-    (λ e. cond_both (bytes_eq name (codes "io_1/D_IN_0")) (Some (PadInput (record { tile = t; pio = 1 }))) _ (IsOfCellIf parts) (λ f. tt) (λ f. global_of_cell parts name))
+io_of_cell : (parts : Parts) (t : TileAt) (name : List ℕ) → kind_at parts t ≡ Some Io → IsOfCellIf parts (io_role t name)
+io_of_cell parts t name io =
+    cond_both (bytes_eq name (codes "io_0/D_IN_0")) (Some (PadInput (record { tile = t; pio = 0 }))) _ (IsOfCellIf parts) (λ e. record { io = io; pio = omega arith })
+    (λ e. cond_both (bytes_eq name (codes "io_1/D_IN_0")) (Some (PadInput (record { tile = t; pio = 1 }))) _ (IsOfCellIf parts) (λ f. record { io = io; pio = omega arith })
+    (λ f. cond_both (bytes_eq name in_out_enable_name) (Some ClockEnable) _ (IsOfCellIf parts) (λ g. tt) (λ g. global_of_cell parts name)))
 
 in_of_cell : (parts : Parts) (t : TileAt) (kind : Option TileKind) (name : List ℕ) → kind_at parts t ≡ kind → IsOfCellIf parts (role_in t kind name)
 in_of_cell parts t None name e = tt
-in_of_cell parts t (Some Io) name e = io_of_cell parts t name
+in_of_cell parts t (Some Io) name e = io_of_cell parts t name e
 in_of_cell parts t (Some Logic) name e = logic_of_cell parts t name e
 in_of_cell parts t (Some RamBottom) name e = global_of_cell parts name
 in_of_cell parts t (Some RamTop) name e = global_of_cell parts name

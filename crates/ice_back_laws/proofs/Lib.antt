@@ -1,7 +1,10 @@
 pub mod RootLevels
 pub mod CellRoles
+pub mod PadNumbers
+pub mod Heard
 pub mod Ranks
 pub mod Inputs
+pub mod RootNumbers
 pub mod Standing
 pub mod Levels
 pub mod Steps

@@ -1,5 +1,5 @@
 -- The names of the signals of a circuit differ, and where those of the pins are words all are words that begin no comment.
-use Rattle.std.proofs.Common.{◌≡◌, ◌⊎◌, ℕ, zero, suc, ◌+◌, ◌*◌, ◌^◌, ◌<◌, ◌==◌, true, false, Option, List, [], ◌∷◌, ◌++◌, drop, inl, inr, refl, sym, ap, ◌∙◌, subst, true≢false, append_assoc, arith, rules}
+use Rattle.std.proofs.Common.{◌≡◌, ◌⊎◌, ℕ, zero, suc, ◌+◌, ◌*◌, ◌^◌, ◌<◌, ◌==◌, true, false, Option, List, [], ◌∷◌, ◌++◌, length, drop, length-append, inl, inr, refl, sym, ap, ◌∙◌, subst, true≢false, append_assoc, if◌then◌else◌, arith, rules}
 use Rattle.std.specs.Char.{is_ascii_digit}
 use Rattle.std.specs.List.{AllByRecursion, IsDistinct, flat_map}
 use Rattle.std.specs.Map.{keys_of}
@@ -27,15 +27,76 @@ use Rattle.ice_chip.specs.declared.rows.Pad.{Pad}
 use Rattle.ice_decode.specs.Cells.{cells, logic_tiles}
 use Rattle.ice_decode.proofs.Members.{Has_append_cases}
 use Rattle.ice_decode.proofs.PointPlaces.{cell_cases}
-use Rattle.ice_back_laws.specs.Numbers.{pad_names, cell_name, cell_names, back_names}
-use Rattle.ice_back_laws.proofs.Bounds.{pads_once, pad_same, pad_self, logic_within}
+use Rattle.ice_back_laws.specs.Numbers.{pin_names, pad_names, cell_name, cell_names, back_names}
+use Rattle.ice_back_laws.proofs.Bounds.{pads_once, logic_within}
 use Rattle.ice_back_laws.proofs.Once.{once_append, once_flat, distinct_from_once}
+use Rattle.ice_back_laws.proofs.PadNumbers.{pad_same, pad_self}
 use Rattle.ice_back_laws.proofs.PinTypes.{pinned}
 use Rattle.ice_back_laws.proofs.Standing.{flat_back}
 use Rattle.ice_back_laws.proofs.TilesOnce.{distinct_once, logic_once}
 
 abbrev head : List ℕ → ℕ
 head name = slice_index_or name 0 0
+
+-- ---- names of one pin
+-- the last byte
+abbrev end : List ℕ → ℕ
+end [] = 0
+end (x ∷ []) = x
+end (x ∷ y ∷ xs) = end (y ∷ xs)
+
+end_is : (xs : List ℕ) (y : ℕ) (ys : List ℕ) → end (xs ++ y ∷ ys) ≡ end (y ∷ ys)
+end_is [] y ys = refl
+end_is (x ∷ []) y ys = refl
+end_is (x ∷ z ∷ xs) y ys = end_is (z ∷ xs) y ys
+
+cut : (w xs ys : List ℕ) → xs ++ w ≡ ys ++ w → xs ≡ ys
+cut w [] [] e = refl
+cut w [] (y ∷ ys) e = let long = ap length e in let more = length-append (y ∷ ys) w in absurd (omega (arith, long, more))
+cut w (x ∷ xs) [] e = let long = ap length e in let more = length-append (x ∷ xs) w in absurd (omega (arith, long, more))
+cut w (x ∷ xs) (y ∷ ys) e =
+    let first : x ≡ y = ap head e in
+    let rest = cut w xs ys (ap (λ (zs : List ℕ). drop 1 zs) e) in
+    λ i. first i ∷ rest i
+
+-- which of a pin's five names a name is
+abbrev mark : List ℕ → ℕ
+mark z = if head z == 112 then 0 else (if head z == 105 then 1 else (if head z == 103 then 4 else (if end z == 110 then 2 else 3)))
+
+marked : (pin : List ℕ) (i : ℕ) (z : List ℕ) → At (pin_names pin) i z → mark z ≡ i
+marked pin zero z at = sym (ap mark (same_Some _ z at))
+marked pin (suc zero) z at = sym (ap mark (same_Some _ z at))
+marked pin (suc (suc zero)) z at = sym (ap mark (same_Some _ z at)) ∙ ap (λ e. if e == 110 then 2 else 3) (end_is (104 ∷ 95 ∷ pin) 95 (105 ∷ 110 ∷ []))
+marked pin (suc (suc (suc zero))) z at = sym (ap mark (same_Some _ z at)) ∙ ap (λ e. if e == 110 then 2 else 3) (end_is (104 ∷ 95 ∷ pin) 95 (111 ∷ 117 ∷ 116 ∷ []))
+marked pin (suc (suc (suc (suc zero)))) z at = sym (ap mark (same_Some _ z at))
+marked pin (suc (suc (suc (suc (suc i))))) z at = absurd (none-some z at)
+
+-- and the name tells the pin
+same_pin : (p q : List ℕ) (i : ℕ) (z : List ℕ) → At (pin_names p) i z → At (pin_names q) i z → p ≡ q
+same_pin p q zero z a b = ap (λ (name : List ℕ). drop 2 name) (same_Some _ z a ∙ sym (same_Some _ z b))
+same_pin p q (suc zero) z a b = ap (λ (name : List ℕ). drop 3 name) (same_Some _ z a ∙ sym (same_Some _ z b))
+same_pin p q (suc (suc zero)) z a b = cut (codes "_in") p q (ap (λ (name : List ℕ). drop 2 name) (same_Some _ z a ∙ sym (same_Some _ z b)))
+same_pin p q (suc (suc (suc zero))) z a b = cut (codes "_out") p q (ap (λ (name : List ℕ). drop 2 name) (same_Some _ z a ∙ sym (same_Some _ z b)))
+same_pin p q (suc (suc (suc (suc zero)))) z a b = ap (λ (name : List ℕ). drop 2 name) (same_Some _ z a ∙ sym (same_Some _ z b))
+same_pin p q (suc (suc (suc (suc (suc i))))) z a b = absurd (none-some z a)
+
+-- the first byte of such a name
+abbrev IsPinHead : ℕ → Type 0
+IsPinHead b = (b ≡ 112) ⊎ ((b ≡ 105) ⊎ ((b ≡ 104) ⊎ (b ≡ 103)))
+
+pin_head : (pin : List ℕ) (i : ℕ) (z : List ℕ) → At (pin_names pin) i z → IsPinHead (head z)
+pin_head pin zero z at = inl (sym (ap head (same_Some _ z at)))
+pin_head pin (suc zero) z at = inr (inl (sym (ap head (same_Some _ z at))))
+pin_head pin (suc (suc zero)) z at = inr (inr (inl (sym (ap head (same_Some _ z at)))))
+pin_head pin (suc (suc (suc zero))) z at = inr (inr (inl (sym (ap head (same_Some _ z at)))))
+pin_head pin (suc (suc (suc (suc zero)))) z at = inr (inr (inr (sym (ap head (same_Some _ z at)))))
+pin_head pin (suc (suc (suc (suc (suc i))))) z at = absurd (none-some z at)
+
+pin_head_low : (b : ℕ) → IsPinHead b → (b ≡ 112) ⊎ (b < 111)
+pin_head_low b (inl e) = inl e
+pin_head_low b (inr (inl e)) = inr (omega (arith, e))
+pin_head_low b (inr (inr (inl e))) = inr (omega (arith, e))
+pin_head_low b (inr (inr (inr e))) = inr (omega (arith, e))
 
 -- ---- pins
 module _ (width height : ℕ) (rows : PackageRows) (form : IsPackage width height rows) where
@@ -60,34 +121,23 @@ module _ (width height : ℕ) (rows : PackageRows) (form : IsPackage width heigh
       distinct_once same_pad pad_self rows.pads (pads_once width height rows form) i j y (subst (At rows.pads i) pad a) b
 
   -- ---- names of pads
-  pad_name_is : (pad : Pad) (z : List ℕ) → Has (pad_names rows pad) z → (codes "p_" ++ first_pin rows pad ≡ z) ⊎ (codes "in_" ++ first_pin rows pad ≡ z)
-  pad_name_is pad z (zero, at) = inl (same_Some _ z at)
-  pad_name_is pad z (suc zero, at) = inr (same_Some _ z at)
-  pad_name_is pad z (suc (suc k), at) = absurd (none-some z at)
-
-  pad_heads : (z : List ℕ) → Has (flat_map (pad_names rows) rows.pads) z → (head z ≡ 112) ⊎ (head z ≡ 105)
+  pad_heads : (z : List ℕ) → Has (flat_map (pad_names rows) rows.pads) z → IsPinHead (head z)
   pad_heads z has =
       let found = flat_back (pad_names rows) rows.pads z has in
-      elim (pad_name_is found.0 z found.2) [ inl e ↦ inl (sym (ap head e)) | inr e ↦ inr (sym (ap head e)) ]
+      pin_head (first_pin rows found.0) found.2.0 z found.2.1
 
-  two_once : (pad : Pad) → StandOnce (pad_names rows pad)
-  two_once pad zero zero z a b = refl
-  two_once pad (suc zero) (suc zero) z a b = refl
-  two_once pad zero (suc zero) z a b = let e : 112 ≡ 105 = ap head (same_Some _ z a) ∙ sym (ap head (same_Some _ z b)) in absurd (omega (arith, e))
-  two_once pad (suc zero) zero z a b = let e : 105 ≡ 112 = ap head (same_Some _ z a) ∙ sym (ap head (same_Some _ z b)) in absurd (omega (arith, e))
-  two_once pad (suc (suc i)) j z a b = absurd (none-some z a)
-  two_once pad zero (suc (suc j)) z a b = absurd (none-some z b)
-  two_once pad (suc zero) (suc (suc j)) z a b = absurd (none-some z b)
+  pad_heads_low : (z : List ℕ) → Has (flat_map (pad_names rows) rows.pads) z → (head z ≡ 112) ⊎ (head z < 111)
+  pad_heads_low z has = pin_head_low (head z) (pad_heads z has)
+
+  five_once : (pad : Pad) → StandOnce (pad_names rows pad)
+  five_once pad i j z a b = sym (marked (first_pin rows pad) i z a) ∙ marked (first_pin rows pad) j z b
 
   pub pad_names_once : StandOnce (flat_map (pad_names rows) rows.pads)
-  pad_names_once = once_flat (pad_names rows) rows.pads (λ i x at. two_once x) (λ i j x y z a b here there. by i j x y z a b (pad_name_is x z here) (pad_name_is y z there))
-    where
-      by : (i j : ℕ) (x y : Pad) (z : List ℕ) → At rows.pads i x → At rows.pads j y → (codes "p_" ++ first_pin rows x ≡ z) ⊎ (codes "in_" ++ first_pin rows x ≡ z)
-          → (codes "p_" ++ first_pin rows y ≡ z) ⊎ (codes "in_" ++ first_pin rows y ≡ z) → i ≡ j
-      by i j x y z a b (inl e) (inl f) = pins_differ i j x y a b (ap (λ (name : List ℕ). drop 2 name) (e ∙ sym f))
-      by i j x y z a b (inr e) (inr f) = pins_differ i j x y a b (ap (λ (name : List ℕ). drop 3 name) (e ∙ sym f))
-      by i j x y z a b (inl e) (inr f) = let g : 112 ≡ 105 = ap head (e ∙ sym f) in absurd (omega (arith, g))
-      by i j x y z a b (inr e) (inl f) = let g : 105 ≡ 112 = ap head (e ∙ sym f) in absurd (omega (arith, g))
+  pad_names_once =
+      once_flat (pad_names rows) rows.pads (λ i x at. five_once x)
+      (λ i j x y z a b here there.
+      let same : here.0 ≡ there.0 = sym (marked (first_pin rows x) here.0 z here.1) ∙ marked (first_pin rows y) there.0 z there.1 in
+      pins_differ i j x y a b (same_pin (first_pin rows x) (first_pin rows y) there.0 z (subst (λ k. At (pin_names (first_pin rows x)) k z) same here.1) there.1))
 
 -- ---- digits
 model : IsNumeralModel (λ ds. all_ascii_digits ds ≡ true) (with_digits 0)
@@ -229,12 +279,12 @@ cell_is_word w c small word =
       ),
     )
 
--- the first byte of each name is a letter of five
+-- the first byte of each name is a letter of seven
 abbrev IsLetter : ℕ → Type 0
-IsLetter b = (b ≡ 122) ⊎ ((b ≡ 111) ⊎ ((b ≡ 112) ⊎ ((b ≡ 105) ⊎ (b ≡ 120))))
+IsLetter b = (b ≡ 122) ⊎ ((b ≡ 111) ⊎ ((b ≡ 120) ⊎ IsPinHead b))
 
 abbrev IsOther : ℕ → Type 0
-IsOther b = ((122 == b) ≡ false) × ((111 == b) ≡ false) × ((112 == b) ≡ false) × ((105 == b) ≡ false) × ((120 == b) ≡ false)
+IsOther b = ((122 == b) ≡ false) × ((111 == b) ≡ false) × ((120 == b) ≡ false) × ((112 == b) ≡ false) × ((105 == b) ≡ false) × ((104 == b) ≡ false) × ((103 == b) ≡ false)
 
 no_letter : (b : ℕ) (z : List ℕ) → IsOther b → IsLetter (head z) → begins_with b z ≡ false
 no_letter b [] other letter = refl
@@ -242,7 +292,9 @@ no_letter b (c ∷ z) other (inl e) = ap (λ n. n == b) e ∙ other.0
 no_letter b (c ∷ z) other (inr (inl e)) = ap (λ n. n == b) e ∙ other.1
 no_letter b (c ∷ z) other (inr (inr (inl e))) = ap (λ n. n == b) e ∙ other.2
 no_letter b (c ∷ z) other (inr (inr (inr (inl e)))) = ap (λ n. n == b) e ∙ other.3
-no_letter b (c ∷ z) other (inr (inr (inr (inr e)))) = ap (λ n. n == b) e ∙ other.4
+no_letter b (c ∷ z) other (inr (inr (inr (inr (inl e))))) = ap (λ n. n == b) e ∙ other.4
+no_letter b (c ∷ z) other (inr (inr (inr (inr (inr (inl e)))))) = ap (λ n. n == b) e ∙ other.5
+no_letter b (c ∷ z) other (inr (inr (inr (inr (inr (inr e)))))) = ap (λ n. n == b) e ∙ other.6
 
 module _ (parts : Parts) (read : IsRead parts) where
   cell_small : (i : ℕ) (c : TileAt × ℕ) → At (cells parts) i c → IsSmall c
@@ -300,7 +352,7 @@ module _ (parts : Parts) (read : IsRead parts) where
     pad_or_cell : (z : List ℕ) → Has of_pads z → Has of_cells z → ⊥
     pad_or_cell z pad cell =
         let e = cell_heads (cells parts) z cell in
-        elim (pad_heads parts.width parts.height rows form z pad) [ inl f ↦ omega (arith, e, f) | inr f ↦ omega (arith, e, f) ]
+        elim (pad_heads_low parts.width parts.height rows form z pad) [ inl f ↦ omega (arith, e, f) | inr f ↦ omega (arith, e, f) ]
 
     level_or_other : (z : List ℕ) → Has levels z → Has (of_pads ++ of_cells) z → ⊥
     level_or_other z level other = by (level_heads z level) (Has_append_cases of_pads of_cells z other)
@@ -308,8 +360,8 @@ module _ (parts : Parts) (read : IsRead parts) where
         by : (head z ≡ 122) ⊎ (head z ≡ 111) → Has of_pads z ⊎ Has of_cells z → ⊥
         by (inl e) (inr cell) = let f = cell_heads (cells parts) z cell in omega (arith, e, f)
         by (inr e) (inr cell) = let f = cell_heads (cells parts) z cell in omega (arith, e, f)
-        by (inl e) (inl pad) = elim (pad_heads parts.width parts.height rows form z pad) [ inl f ↦ omega (arith, e, f) | inr f ↦ omega (arith, e, f) ]
-        by (inr e) (inl pad) = elim (pad_heads parts.width parts.height rows form z pad) [ inl f ↦ omega (arith, e, f) | inr f ↦ omega (arith, e, f) ]
+        by (inl e) (inl pad) = elim (pad_heads_low parts.width parts.height rows form z pad) [ inl f ↦ omega (arith, e, f) | inr f ↦ omega (arith, e, f) ]
+        by (inr e) (inl pad) = elim (pad_heads_low parts.width parts.height rows form z pad) [ inl f ↦ omega (arith, e, f) | inr f ↦ omega (arith, e, f) ]
 
     names_once : StandOnce (back_names parts rows)
     names_once = once_append levels (of_pads ++ of_cells) levels_once (once_append of_pads of_cells (pad_names_once parts.width parts.height rows form) cell_names_once pad_or_cell) level_or_other
@@ -323,16 +375,16 @@ module _ (parts : Parts) (read : IsRead parts) where
     name_heads z has = elim (Has_append_cases levels (of_pads ++ of_cells) z has) [
       | inl level ↦ elim (level_heads z level) [ inl e ↦ inl e | inr e ↦ inr (inl e) ]
       | inr other ↦ elim (Has_append_cases of_pads of_cells z other) [
-        | inl pad ↦ elim (pad_heads parts.width parts.height rows form z pad) [ inl e ↦ inr (inr (inl e)) | inr e ↦ inr (inr (inr (inl e))) ]
-        | inr cell ↦ inr (inr (inr (inr (cell_heads (cells parts) z cell))))
+        | inl pad ↦ inr (inr (inr (pad_heads parts.width parts.height rows form z pad)))
+        | inr cell ↦ inr (inr (inl (cell_heads (cells parts) z cell)))
       ]
     ]
 
     pub none_begins_comment : (z : List ℕ) → Has (back_names parts rows) z → begins_with 35 z ≡ false
-    none_begins_comment z has = no_letter 35 z (refl, refl, refl, refl, refl) (name_heads z has)
+    none_begins_comment z has = no_letter 35 z (refl, refl, refl, refl, refl, refl, refl) (name_heads z has)
 
     pub none_begins_dollar : (z : List ℕ) → Has (back_names parts rows) z → begins_with 36 z ≡ false
-    none_begins_dollar z has = no_letter 36 z (refl, refl, refl, refl, refl) (name_heads z has)
+    none_begins_dollar z has = no_letter 36 z (refl, refl, refl, refl, refl, refl, refl) (name_heads z has)
 
     module _ (pins : All (λ (pin : List ℕ × Pad). IsWord pin.0) rows.pins) where
       level_word : (z : List ℕ) → Has levels z → IsWord z
@@ -346,13 +398,20 @@ module _ (parts : Parts) (read : IsRead parts) where
           let word : IsWord pin.0.0 = Has_all (λ (p : List ℕ × Pad). IsWord p.0) rows.pins pin.0 pins pin.1 in
           subst (λ (name : List ℕ). GoesOn name) (sym pin.3) word.1
 
+      pin_word : (pin : List ℕ) → GoesOn pin → (i : ℕ) (z : List ℕ) → At (pin_names pin) i z → IsWord z
+      pin_word pin on zero z at = subst (λ (name : List ℕ). IsWord name) (same_Some _ z at) (omega arith, (refl, (refl, on)))
+      pin_word pin on (suc zero) z at = subst (λ (name : List ℕ). IsWord name) (same_Some _ z at) (omega arith, (refl, (refl, (refl, on))))
+      pin_word pin on (suc (suc zero)) z at =
+          subst (λ (name : List ℕ). IsWord name) (same_Some _ z at) (omega arith, (refl, (refl, go_on pin (codes "_in") on (refl, (refl, (refl, tt))))))
+      pin_word pin on (suc (suc (suc zero))) z at =
+          subst (λ (name : List ℕ). IsWord name) (same_Some _ z at) (omega arith, (refl, (refl, go_on pin (codes "_out") on (refl, (refl, (refl, (refl, tt)))))))
+      pin_word pin on (suc (suc (suc (suc zero)))) z at = subst (λ (name : List ℕ). IsWord name) (same_Some _ z at) (omega arith, (refl, (refl, on)))
+      pin_word pin on (suc (suc (suc (suc (suc i))))) z at = absurd (none-some z at)
+
       pad_word : (z : List ℕ) → Has of_pads z → IsWord z
       pad_word z there =
           let found = flat_back (pad_names rows) rows.pads z there in
-          elim (pad_name_is parts.width parts.height rows form found.0 z found.2) [
-            | inl e ↦ subst (λ (name : List ℕ). IsWord name) e (omega arith, (refl, (refl, pin_goes_on found.0 found.1)))
-            | inr e ↦ subst (λ (name : List ℕ). IsWord name) e (omega arith, (refl, (refl, (refl, pin_goes_on found.0 found.1))))
-          ]
+          pin_word (first_pin rows found.0) (pin_goes_on found.0 found.1) found.2.0 z found.2.1
 
       cell_word : (z : List ℕ) → Has of_cells z → IsWord z
       cell_word z there =

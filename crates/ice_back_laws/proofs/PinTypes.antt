@@ -1,4 +1,4 @@
--- The types of the pads of a package: the output part of each is one of the three.
+-- The types of the pads of a package: the output part of each is one of the four.
 use Rattle.std.proofs.Common.{◌≡◌, ◌⊎◌, ℕ, zero, suc, ◌+◌, ◌*◌, ◌/◌, ◌<◌, ◌==◌, Bool, true, false, cond, Option, None, Some, List, [], ◌∷◌, ◌++◌, map, inl, inr, refl, sym, ap, ◌∙◌, subst, true≢false, bytes_eq, eqb-true, arith}
 use Rattle.std.specs.Prelude.{◌||◌, not, slice_get}
 use Rattle.std.specs.List.{list_any}
@@ -26,10 +26,13 @@ use Rattle.ice_bits.specs.Configuration.{Bits}
 use Rattle.ice_net.specs.Drives.{is_type}
 use Rattle.ice_net.specs.Meaning.{number_of}
 use Rattle.ice_decode.specs.Faults.{is_output_part, has_wrong_type}
-use Rattle.ice_decode.specs.Pads.{pads_in, is_io_tile, pads, pin_type_digit, pin_type}
+use Rattle.ice_decode.specs.Cells.{tile_place}
+use Rattle.ice_decode.specs.Pads.{pads_in, is_io_tile, io_tiles, pads, pin_type_digit, pin_type}
 use Rattle.ice_decode.specs.Refusals.{IsFaultless}
 use Rattle.ice_decode.proofs.Members.{Has_append_cases}
-use Rattle.ice_back_laws.specs.Back.{buffer_type}
+use Rattle.ice_decode.specs.Registers.{has_output_register}
+use Rattle.ice_back_laws.specs.Back.{buffer_part, buffer_type}
+use Rattle.ice_back_laws.proofs.Ranks.{io_placed}
 use Rattle.ice_back_laws.proofs.Standing.{flat_on}
 
 pub each_two : (P : ℕ → Type 0) → P 0 → P 1 → (n : ℕ) → n < 2 → P n
@@ -102,20 +105,24 @@ unknown Logic other = each_two (λ pio. AreUnknown pio Logic) (refl, refl, refl,
 unknown RamBottom other = each_two (λ pio. AreUnknown pio RamBottom) (refl, refl, refl, refl, refl, refl) (refl, refl, refl, refl, refl, refl)
 unknown RamTop other = each_two (λ pio. AreUnknown pio RamTop) (refl, refl, refl, refl, refl, refl) (refl, refl, refl, refl, refl, refl)
 
--- ---- the three output parts
-part_cases : (part : ℕ) → is_output_part part ≡ true → (part ≡ 0) ⊎ ((part ≡ 6) ⊎ (part ≡ 10))
-part_cases part e = elim (or_cases (part == 0) ((part == 6) || (part == 10)) e) [
+-- ---- the four output parts
+part_cases : (part : ℕ) → is_output_part part ≡ true → (part ≡ 0) ⊎ ((part ≡ 5) ⊎ ((part ≡ 6) ⊎ (part ≡ 10)))
+part_cases part e = elim (or_cases (part == 0) ((part == 5) || ((part == 6) || (part == 10))) e) [
   | inl zero_is ↦ inl (eqb-true part 0 zero_is)
-  | inr other ↦ elim (or_cases (part == 6) (part == 10) other) [ inl six ↦ inr (inl (eqb-true part 6 six)) | inr ten ↦ inr (inr (eqb-true part 10 ten)) ]
+  | inr other ↦ elim (or_cases (part == 5) ((part == 6) || (part == 10)) other) [
+    | inl five ↦ inr (inl (eqb-true part 5 five))
+    | inr more ↦ elim (or_cases (part == 6) (part == 10) more) [ inl six ↦ inr (inr (inl (eqb-true part 6 six))) | inr ten ↦ inr (inr (inr (eqb-true part 10 ten))) ]
+  ]
 ]
 
-part_typed : (part : ℕ) → is_output_part part ≡ true → is_type (4 * part + 1) ≡ true
+part_typed : (part : ℕ) → is_output_part part ≡ true → is_type (4 * buffer_part part + 1) ≡ true
 part_typed part e = by (part_cases part e)
   where
-    by : (part ≡ 0) ⊎ ((part ≡ 6) ⊎ (part ≡ 10)) → is_type (4 * part + 1) ≡ true
-    by (inl f) = ap (λ m. is_type (4 * m + 1)) f
-    by (inr (inl f)) = ap (λ m. is_type (4 * m + 1)) f
-    by (inr (inr f)) = ap (λ m. is_type (4 * m + 1)) f
+    by : (part ≡ 0) ⊎ ((part ≡ 5) ⊎ ((part ≡ 6) ⊎ (part ≡ 10))) → is_type (4 * buffer_part part + 1) ≡ true
+    by (inl f) = ap (λ m. is_type (4 * buffer_part m + 1)) f
+    by (inr (inl f)) = ap (λ m. is_type (4 * buffer_part m + 1)) f
+    by (inr (inr (inl f))) = ap (λ m. is_type (4 * buffer_part m + 1)) f
+    by (inr (inr (inr f))) = ap (λ m. is_type (4 * buffer_part m + 1)) f
 
 module _ (parts : Parts) (bits : Bits) (read : IsRead parts) where
   lacks : (kind : TileKind) (name : List ℕ) → IsUnknown name kind → function_of parts kind name ≡ None
@@ -156,6 +163,20 @@ module _ (parts : Parts) (bits : Bits) (read : IsRead parts) where
       let d4 = unset pad 4 (λ kind e. (six kind e).4) in
       let d5 = unset pad 5 (λ kind e. (six kind e).5) in
       λ i. number_of (d0 i ∷ d1 i ∷ d2 i ∷ d3 i ∷ d4 i ∷ d5 i ∷ [])
+
+  -- a pad that is driven with what a register keeps is of an IO tile
+  pub output_placed : (pad : Pad) → pad.pio < 2 → has_output_register parts bits pad ≡ true → (k : ℕ) × (tile_place pad.tile (io_tiles parts) ≡ Some k)
+  output_placed pad lt has = by (kind_at parts pad.tile) refl
+    where
+      other : pin_type parts bits pad ≡ 0 → (k : ℕ) × (tile_place pad.tile (io_tiles parts) ≡ Some k)
+      other e = let never : (0 / 4 == 5) ≡ true = sym (ap (λ m. m / 4 == 5) e) ∙ has in cc never
+
+      by : (o : Option TileKind) → kind_at parts pad.tile ≡ o → (k : ℕ) × (tile_place pad.tile (io_tiles parts) ≡ Some k)
+      by None e = other (other_untyped pad (λ f. none-some Io (sym e ∙ f)) lt)
+      by (Some Io) e = io_placed parts pad.tile e
+      by (Some Logic) e = other (other_untyped pad (λ f. (let g : Some Logic ≡ Some Io = sym e ∙ f in cc g)) lt)
+      by (Some RamBottom) e = other (other_untyped pad (λ f. (let g : Some RamBottom ≡ Some Io = sym e ∙ f in cc g)) lt)
+      by (Some RamTop) e = other (other_untyped pad (λ f. (let g : Some RamTop ≡ Some Io = sym e ∙ f in cc g)) lt)
 
   io_there : (pad : Pad) → kind_at parts pad.tile ≡ Some Io → pad.pio < 2 → Has (pads parts) pad
   io_there pad io lt = by (tile_known parts.tiles pad.tile) refl io

@@ -13,9 +13,12 @@ use Rattle.ice_base_values.specs.Order.{At, Has}
 use Rattle.ice_base_values.proofs.Members.{Has_all}
 use Rattle.ice_chip.specs.Database.{Parts, PackageRows}
 use Rattle.ice_chip.specs.IsRead.{IsRead}
-use Rattle.ice_chip.specs.WireNames.{pad_output_name, output_enable_name}
+use Rattle.ice_chip.specs.Lookups.{placed_at}
+use Rattle.ice_chip.specs.WireNames.{pad_output_name, output_enable_name, input_clock_name, output_clock_name, in_out_enable_name}
 use Rattle.ice_chip.specs.Within.{IsPackage}
 use Rattle.ice_chip.specs.declared.rows.Pad.{Pad}
+use Rattle.ice_chip_laws.specs.Laws.{LookupsAreLawful}
+use Rattle.ice_chip_laws.specs.Names.{HasNames}
 use Rattle.ice_bits.specs.Configuration.{Bits}
 use Rattle.ice_net.specs.declared.cell.Cell.{Cell}
 use Rattle.ice_net.specs.Drives.{input_type, output_type, is_type}
@@ -23,23 +26,25 @@ use Rattle.ice_net.specs.Formed.{IsBelow, IsPresent, IsFormedCell, IsPortBelow, 
 use Rattle.ice_net.specs.Kinds.{reset_names}
 use Rattle.ice_net.specs.NetlistData.{NetlistData}
 use Rattle.ice_check.specs.Faults.{cell_is, is_type_out, pin_type_out}
+use Rattle.ice_check.specs.Sound.{IsSound}
 use Rattle.ice_decode.specs.declared.point.Point.{Point}
 use Rattle.ice_decode.specs.Cells.{cells, logic_tiles, has_carry, has_flop, cell_bit, reset_by}
-use Rattle.ice_decode.specs.Reads.{points, at_pin, cell_inputs, carry_inputs}
+use Rattle.ice_decode.specs.Reads.{at_pin, cell_inputs, carry_inputs}
 use Rattle.ice_decode.specs.Refusals.{IsFaultless}
+use Rattle.ice_decode.specs.Registers.{has_output_register}
 use Rattle.ice_decode.proofs.Members.{At_map_cases}
 use Rattle.ice_decode.proofs.PointPlaces.{cells_long}
-use Rattle.ice_back_laws.specs.Back.{signal_at, reader, pin_reader, buffer_type, pad_cell, table_cells, carry_cells, flop_cells, logic_cells, fixed_cells, numbered_pads}
+use Rattle.ice_back_laws.specs.Back.{signal_at, reader, pin_reader, buffer_type, buffer_cell, pad_cell, register_cell, input_cell, input_cells, output_cell, output_cells, level_cell, level_cells, side_cells, table_cells, carry_cells, flop_cells, logic_cells, fixed_cells, numbered_pads}
 use Rattle.ice_back_laws.specs.Law.{NetlistIsSound}
-use Rattle.ice_back_laws.specs.Numbers.{port_number, reader_of, root_number, signal}
-use Rattle.ice_back_laws.specs.Roots.{LevelRoot, Fixed, Input, Table, Register, Sum, cell_table, table_root, root_of}
+use Rattle.ice_back_laws.specs.Numbers.{port_number, input_number, given_number, kept_number, level_number, reader_of, root_number, signal}
+use Rattle.ice_back_laws.specs.Roots.{LevelRoot, Fixed, Input, Taken, Given, Kept, Level, Table, Register, Sum, is_registered, feeds_global, pad_at, cell_table, is_reading_name, table_root, root_of}
 use Rattle.ice_back_laws.proofs.Bounds.{few_tiles, few_pads}
 use Rattle.ice_back_laws.proofs.Driving.{first_none, connected}
-use Rattle.ice_back_laws.proofs.Inputs.{input_there, inputs_there, carry_input_there, below_some, point_good}
+use Rattle.ice_back_laws.proofs.Inputs.{output_reads, enable_reads, IsUsed, pin_used, input_used, inputs_there, carry_input_used, below_some, point_good}
 use Rattle.ice_back_laws.proofs.Loopless.{loopless}
 use Rattle.ice_back_laws.proofs.PinTypes.{pio_below, buffer_typed}
-use Rattle.ice_back_laws.proofs.Ranks.{IsThere, AreBelow, table_good, pin_there}
-use Rattle.ice_back_laws.proofs.Standing.{netlist, cell_of, cell_made, root_below, names_long, port_made, no_pad}
+use Rattle.ice_back_laws.proofs.Ranks.{IsThere, AreBelow, table_good}
+use Rattle.ice_back_laws.proofs.Standing.{netlist, cell_of, cell_made, root_below, names_long, port_made, pad_stands}
 use Rattle.ice_back_laws.proofs.Twice.{none_twice, none_shared}
 
 -- ---- lists
@@ -76,9 +81,9 @@ type_below t e = first (t == input_type) refl e
     first true f g = let h : t ≡ 1 = eqb-true t input_type f in omega (arith, h)
     first false f g = second (t == output_type) refl g
 
-module _ (parts : Parts) (bits : Bits) (extras : List (ℕ × ℕ × ℕ)) (read : IsRead parts) (faultless : IsFaultless parts bits extras) (package_rows : PackageRows) (has : Has parts.packages package_rows) where
+module _ (parts : Parts) (bits : Bits) (extras : List (ℕ × ℕ × ℕ)) (read : IsRead parts) (names : HasNames parts) (faultless : IsFaultless parts bits extras) (package_rows : PackageRows) (has : Has parts.packages package_rows) where
   abbrev n : NetlistData
-  n = netlist parts bits package_rows
+  n = netlist parts bits extras package_rows
 
   abbrev pads : List Pad
   pads = package_rows.pads
@@ -87,35 +92,43 @@ module _ (parts : Parts) (bits : Bits) (extras : List (ℕ × ℕ × ℕ)) (read
   signals = length n.names
 
   abbrev own : LevelRoot → Cell
-  own r = cell_of parts bits package_rows r
+  own r = cell_of parts bits extras package_rows r
 
   -- ---- signals of cells have names
-  reader_below : (bare : Bool) (q : LevelRoot) → IsThere parts bits pads q → IsBelow signals (reader_of parts pads bare q)
+  reader_below : (bare : Bool) (q : LevelRoot) → IsThere parts bits extras pads q → IsBelow signals (reader_of parts pads bare q)
   reader_below true (Fixed true) there = tt
-  reader_below true (Fixed false) there = root_below parts bits package_rows (Fixed false) there
-  reader_below false (Fixed true) there = root_below parts bits package_rows (Fixed true) there
+  reader_below true (Fixed false) there = root_below parts bits extras package_rows (Fixed false) there
+  reader_below false (Fixed true) there = root_below parts bits extras package_rows (Fixed true) there
   reader_below false (Fixed false) there = tt
-  reader_below true (Input k) there = root_below parts bits package_rows (Input k) there
-  reader_below true (Table t i) there = root_below parts bits package_rows (Table t i) there
-  reader_below true (Register t i) there = root_below parts bits package_rows (Register t i) there
-  reader_below true (Sum t i) there = root_below parts bits package_rows (Sum t i) there
-  reader_below false (Input k) there = root_below parts bits package_rows (Input k) there
-  reader_below false (Table t i) there = root_below parts bits package_rows (Table t i) there
-  reader_below false (Register t i) there = root_below parts bits package_rows (Register t i) there
-  reader_below false (Sum t i) there = root_below parts bits package_rows (Sum t i) there
+  reader_below true (Input k) there = root_below parts bits extras package_rows (Input k) there
+  reader_below true (Taken k) there = root_below parts bits extras package_rows (Taken k) there
+  reader_below true (Given k) there = root_below parts bits extras package_rows (Given k) there
+  reader_below true (Kept k) there = root_below parts bits extras package_rows (Kept k) there
+  reader_below true (Level k) there = root_below parts bits extras package_rows (Level k) there
+  reader_below true (Table t i) there = root_below parts bits extras package_rows (Table t i) there
+  reader_below true (Register t i) there = root_below parts bits extras package_rows (Register t i) there
+  reader_below true (Sum t i) there = root_below parts bits extras package_rows (Sum t i) there
+  reader_below false (Input k) there = root_below parts bits extras package_rows (Input k) there
+  reader_below false (Taken k) there = root_below parts bits extras package_rows (Taken k) there
+  reader_below false (Given k) there = root_below parts bits extras package_rows (Given k) there
+  reader_below false (Kept k) there = root_below parts bits extras package_rows (Kept k) there
+  reader_below false (Level k) there = root_below parts bits extras package_rows (Level k) there
+  reader_below false (Table t i) there = root_below parts bits extras package_rows (Table t i) there
+  reader_below false (Register t i) there = root_below parts bits extras package_rows (Register t i) there
+  reader_below false (Sum t i) there = root_below parts bits extras package_rows (Sum t i) there
 
-  point_below : (bare : Bool) (o : Option Point) → ((p : Point) → o ≡ Some p → Has (points parts) p) → IsBelow signals (reader parts bits pads bare o)
-  point_below bare None there = tt
-  point_below bare (Some p) there = reader_below bare (root_of parts bits pads p) (point_good parts read bits extras faultless pads p (there p refl))
+  point_below : (bare : Bool) (o : Option Point) → ((p : Point) → o ≡ Some p → IsUsed parts read bits names p) → IsBelow signals (reader parts bits extras pads bare o)
+  point_below bare None used = tt
+  point_below bare (Some p) used = reader_below bare (root_of parts bits extras pads p) (point_good parts read bits names extras faultless pads p (used p refl))
 
-  pin_below : (bare : Bool) (t : TileAt) (name : List ℕ) → IsBelow signals (pin_reader parts bits pads bare t name)
-  pin_below bare t name = point_below bare (at_pin parts t name) (λ p f. pin_there parts read t name p f)
+  pin_below : (bare : Bool) (t : TileAt) (name : List ℕ) → is_reading_name (placed_at t name) ≡ true → IsBelow signals (pin_reader parts bits extras pads bare t name)
+  pin_below bare t name reads = point_below bare (at_pin parts t name) (λ p f. pin_used parts read bits names t name reads p f)
 
-  all_below : (ps : List (Option Point)) → ((j : ℕ) (p : Point) → At ps j (Some p) → Has (points parts) p) → All (IsBelow signals) (map (reader parts bits pads false) ps)
-  all_below ps there =
-      all_at (IsBelow signals) (map (reader parts bits pads false) ps)
-      (λ j x at. let found = At_map_cases (reader parts bits pads false) ps j x at in
-      subst (IsBelow signals) found.2 (point_below false found.0 (λ p e. there j p (found.1 ∙ ap (λ (o : Option Point). Some o) e))))
+  all_below : (ps : List (Option Point)) → ((j : ℕ) (p : Point) → At ps j (Some p) → IsUsed parts read bits names p) → All (IsBelow signals) (map (reader parts bits extras pads false) ps)
+  all_below ps used =
+      all_at (IsBelow signals) (map (reader parts bits extras pads false) ps)
+      (λ j x at. let found = At_map_cases (reader parts bits extras pads false) ps j x at in
+      subst (IsBelow signals) found.2 (point_below false found.0 (λ p e. used j p (found.1 ∙ ap (λ (o : Option Point). Some o) e))))
 
   one_below : (s : Option SignalNo) → IsBelow signals s → All (IsBelow signals) (s ∷ [])
   one_below s below = All-cons (IsBelow signals) s [] below (All-nil (IsBelow signals))
@@ -126,106 +139,146 @@ module _ (parts : Parts) (bits : Bits) (extras : List (ℕ × ℕ × ℕ)) (read
     ins_long = refl;
     outs_long = refl;
     ins_below = All-nil (IsBelow signals);
-    outs_below = one_below (Some (signal 1)) (root_below parts bits package_rows (Fixed true) tt);
+    outs_below = one_below (Some (signal 1)) (root_below parts bits extras package_rows (Fixed true) tt);
     kind = record {
       narrow = omega arith;
       fits = omega arith;
       ins_present = All-nil (IsPresent signals);
-      outs_present = All-cons (IsPresent signals) (Some (signal 1)) [] (root_below parts bits package_rows (Fixed true) tt) (All-nil (IsPresent signals));
+      outs_present = All-cons (IsPresent signals) (Some (signal 1)) [] (root_below parts bits extras package_rows (Fixed true) tt) (All-nil (IsPresent signals));
     };
   }
   fixed_formed false = record {
     ins_long = refl;
     outs_long = refl;
     ins_below = All-nil (IsBelow signals);
-    outs_below = one_below (Some (signal 0)) (root_below parts bits package_rows (Fixed false) tt);
+    outs_below = one_below (Some (signal 0)) (root_below parts bits extras package_rows (Fixed false) tt);
     kind = record {
       narrow = omega arith;
       fits = omega arith;
       ins_present = All-nil (IsPresent signals);
-      outs_present = All-cons (IsPresent signals) (Some (signal 0)) [] (root_below parts bits package_rows (Fixed false) tt) (All-nil (IsPresent signals));
+      outs_present = All-cons (IsPresent signals) (Some (signal 0)) [] (root_below parts bits extras package_rows (Fixed false) tt) (All-nil (IsPresent signals));
     };
   }
 
-  flop_formed : (t : TileAt) (i : ℕ) → IsThere parts bits pads (Register t i) → IsFormedCell signals (own (Register t i))
+  flop_formed : (t : TileAt) (i : ℕ) → IsThere parts bits extras pads (Register t i) → IsFormedCell signals (own (Register t i))
   flop_formed t i there = record {
     ins_long = (let e = reset_one (cell_bit parts bits t i 18) (cell_bit parts bits t i 19) in omega (arith, e));
     outs_long = refl;
     ins_below = All-from_recursion (IsBelow signals) (own (Register t i)).ins (
-      pin_below false t (codes "lutff_global/clk"),
+      pin_below false t (codes "lutff_global/clk") refl,
       (
-        reader_below false (table_root parts bits t i) (table_good parts bits extras read faultless pads below.0 t i there.0 below.1).0,
-        (pin_below true t (codes "lutff_global/cen"), (pin_below false t (codes "lutff_global/s_r"), tt)),
+        reader_below false (table_root parts bits t i) (table_good parts bits extras read names faultless pads below.0 t i there.0 below.1).0,
+        (pin_below true t (codes "lutff_global/cen") refl, (pin_below false t (codes "lutff_global/s_r") refl, tt)),
       ),
     );
-    outs_below = one_below (signal_at (root_number parts pads (Register t i))) (root_below parts bits package_rows (Register t i) there);
+    outs_below = one_below (signal_at (root_number parts pads (Register t i))) (root_below parts bits extras package_rows (Register t i) there);
     kind = tt;
   }
     where
-      below : (m : ℕ) × AreBelow parts bits extras read faultless pads m (cell_inputs parts t i)
-      below = below_some parts read bits extras faultless pads (cell_inputs parts t i) (inputs_there parts read t i)
+      below : (m : ℕ) × AreBelow parts bits extras read names faultless pads m (cell_inputs parts t i)
+      below = below_some parts read bits names extras faultless pads (cell_inputs parts t i) (inputs_there parts read bits names t i there.0.2)
 
-  abbrev pad_at : ℕ → Pad
-  pad_at k = get_or pads k no_pad
+  -- ---- cells of pads
+  abbrev pad : ℕ → Pad
+  pad k = pad_at pads k
 
-  pad_typed : (k : ℕ) → k < length pads → is_type (buffer_type parts bits (pad_at k)) ≡ true
-  pad_typed k lt =
-      buffer_typed parts bits read extras faultless (pad_at k)
-      (pio_below parts.width parts.height package_rows (Has_all (IsPackage parts.width parts.height) parts.packages package_rows read.package_forms has) (pad_at k) (k, slice_get-get_or pads k no_pad lt))
+  pio : (k : ℕ) → k < length pads → (pad k).pio < 2
+  pio k lt =
+      pio_below parts.width parts.height package_rows (Has_all (IsPackage parts.width parts.height) parts.packages package_rows read.package_forms has) (pad k) (k, pad_stands pads k lt)
 
-  pad_formed : (k : ℕ) → k < length pads → IsFormedCell signals (own (Input k))
-  pad_formed k lt = record {
+  pad_typed : (k : ℕ) → k < length pads → is_type (buffer_type parts bits (pad k)) ≡ true
+  pad_typed k lt = buffer_typed parts bits read extras faultless (pad k) (pio k lt)
+
+  output_below : (k : ℕ) → k < length pads → IsBelow signals (pin_reader parts bits extras pads false (pad k).tile (pad_output_name (pad k).pio))
+  output_below k lt = pin_below false (pad k).tile (pad_output_name (pad k).pio) (output_reads (pad k).tile (pad k).pio (pio k lt))
+
+  port_below : (k : ℕ) → k < length pads → port_number k < signals
+  port_below k lt = omega (arith, names_long parts bits extras package_rows, lt)
+
+  -- what a pad is driven with
+  driven_below : (k : ℕ) → k < length pads → (b : Bool) → has_output_register parts bits (pad k) ≡ b
+      → IsBelow signals (if b then signal_at (kept_number k) else pin_reader parts bits extras pads false (pad k).tile (pad_output_name (pad k).pio))
+  driven_below k lt true e = root_below parts bits extras package_rows (Kept k) (lt, e)
+  driven_below k lt false e = output_below k lt
+
+  buffer_formed : (k given : ℕ) → k < length pads → given < signals → IsFormedCell signals (buffer_cell parts bits extras pads (k, pad k) given)
+  buffer_formed k given lt below = record {
     ins_long = refl;
     outs_long = refl;
-    ins_below = All-from_recursion (IsBelow signals) (own (Input k)).ins (
-      port_below,
+    ins_below = All-from_recursion (IsBelow signals) (buffer_cell parts bits extras pads (k, pad k) given).ins (
+      port_below k lt,
       (
-        pin_below false (pad_at k).tile (pad_output_name (pad_at k).pio),
-        (pin_below false (pad_at k).tile (output_enable_name (pad_at k).pio), (tt, (tt, (tt, (tt, (tt, tt)))))),
+        driven_below k lt (has_output_register parts bits (pad k)) refl,
+        (pin_below false (pad k).tile (output_enable_name (pad k).pio) (enable_reads (pad k).tile (pad k).pio (pio k lt)), (tt, (tt, (tt, (tt, (tt, tt)))))),
       ),
     );
-    outs_below = All-from_recursion (IsBelow signals) (own (Input k)).outs (root_below parts bits package_rows (Input k) lt, (tt, tt));
-    kind = type_below (buffer_type parts bits (pad_at k)) (pad_typed k lt);
+    outs_below = All-from_recursion (IsBelow signals) (buffer_cell parts bits extras pads (k, pad k) given).outs (below, (tt, tt));
+    kind = type_below (buffer_type parts bits (pad k)) (pad_typed k lt);
   }
-    where
-      port_below : port_number k < signals
-      port_below = omega (arith, names_long parts bits package_rows, lt)
 
-  root_formed : (r : LevelRoot) → IsThere parts bits pads r → IsFormedCell signals (own r)
+  register_formed : (t : TileAt) (clock_name : List ℕ) (datum : Option SignalNo) (output : ℕ) → is_reading_name (placed_at t clock_name) ≡ true → IsBelow signals datum → output < signals
+      → IsFormedCell signals (register_cell parts bits extras pads t clock_name datum output)
+  register_formed t clock_name datum output reads given below = record {
+    ins_long = refl;
+    outs_long = refl;
+    ins_below = All-from_recursion (IsBelow signals) (register_cell parts bits extras pads t clock_name datum output).ins
+        (pin_below false t clock_name reads, (given, (pin_below true t in_out_enable_name refl, tt)));
+    outs_below = one_below (signal_at output) below;
+    kind = tt;
+  }
+
+  level_formed : (k : ℕ) → k < length pads → level_number k < signals → IsFormedCell signals (own (Level k))
+  level_formed k lt below = record {
+    ins_long = refl;
+    outs_long = refl;
+    ins_below = one_below (signal_at (port_number k)) (port_below k lt);
+    outs_below = one_below (signal_at (level_number k)) below;
+    kind = tt;
+  }
+
+  root_formed : (r : LevelRoot) → IsThere parts bits extras pads r → IsFormedCell signals (own r)
   root_formed (Fixed level) there = fixed_formed level
-  root_formed (Input k) there = pad_formed k there
+  root_formed (Input k) there = buffer_formed k (input_number k) there.0 (root_below parts bits extras package_rows (Input k) there)
+  root_formed (Taken k) there =
+      register_formed (pad k).tile input_clock_name (signal_at (given_number k)) (input_number k) refl (root_below parts bits extras package_rows (Given k) there)
+      (root_below parts bits extras package_rows (Taken k) there)
+  root_formed (Given k) there = buffer_formed k (given_number k) there.0 (root_below parts bits extras package_rows (Given k) there)
+  root_formed (Kept k) there =
+      register_formed (pad k).tile output_clock_name (pin_reader parts bits extras pads false (pad k).tile (pad_output_name (pad k).pio)) (kept_number k) refl (output_below k there.0)
+      (root_below parts bits extras package_rows (Kept k) there)
+  root_formed (Level k) there = level_formed k there.0 (root_below parts bits extras package_rows (Level k) there)
   root_formed (Table t i) there = record {
     ins_long = refl;
     outs_long = refl;
-    ins_below = all_below (cell_inputs parts t i) (λ j p at. input_there parts read t i p j at);
-    outs_below = one_below (signal_at (root_number parts pads (Table t i))) (root_below parts bits package_rows (Table t i) there);
+    ins_below = all_below (cell_inputs parts t i) (λ j p at. input_used parts read bits names t i p there.0.2 j at);
+    outs_below = one_below (signal_at (root_number parts pads (Table t i))) (root_below parts bits extras package_rows (Table t i) there);
     kind = tt;
   }
   root_formed (Register t i) there = flop_formed t i there
   root_formed (Sum t i) there = record {
     ins_long = refl;
     outs_long = refl;
-    ins_below = all_below (carry_inputs parts t i) (λ j p at. carry_input_there parts read t i p there.0 j at);
-    outs_below = one_below (signal_at (root_number parts pads (Sum t i))) (root_below parts bits package_rows (Sum t i) there);
+    ins_below = all_below (carry_inputs parts t i) (λ j p at. carry_input_used parts read bits names t i p there.0 j at);
+    outs_below = one_below (signal_at (root_number parts pads (Sum t i))) (root_below parts bits extras package_rows (Sum t i) there);
     kind = tt;
   }
 
   pub cells_formed : All (IsFormedCell signals) n.cells
   cells_formed =
       all_at (IsFormedCell signals) n.cells
-      (λ j c at. let made = cell_made parts bits package_rows c (j, at) in subst (IsFormedCell signals) (sym made.2) (root_formed made.0 made.1))
+      (λ j c at. let made = cell_made parts bits extras package_rows c (j, at) in subst (IsFormedCell signals) (sym made.2) (root_formed made.0 made.1))
 
   -- ---- how many there are
-  pub few_names : signals ≤ 1835010
+  pub few_names : signals ≤ 2228226
   few_names =
       let tiles = few_tiles parts read in
       let bonded = few_pads parts package_rows read has in
-      omega (arith, names_long parts bits package_rows, tiles, bonded)
+      omega (arith, names_long parts bits extras package_rows, tiles, bonded)
 
-  three_at_most : (c : TileAt × ℕ) → length (logic_cells parts bits pads c) ≤ 3
+  three_at_most : (c : TileAt × ℕ) → length (logic_cells parts bits extras pads c) ≤ 3
   three_at_most (t, i) =
-      let a = length-append (table_cells parts bits pads (t, i)) (carry_cells parts bits pads (t, i) ++ flop_cells parts bits pads (t, i)) in
-      let b = length-append (carry_cells parts bits pads (t, i)) (flop_cells parts bits pads (t, i)) in
+      let a = length-append (table_cells parts bits extras pads (t, i)) (carry_cells parts bits extras pads (t, i) ++ flop_cells parts bits extras pads (t, i)) in
+      let b = length-append (carry_cells parts bits extras pads (t, i)) (flop_cells parts bits extras pads (t, i)) in
       let one = table (cell_table parts bits t i == 0) in
       let two = carry (has_carry parts bits t i) in
       let three = flop (has_flop parts bits t i) in
@@ -247,31 +300,60 @@ module _ (parts : Parts) (bits : Bits) (extras : List (ℕ × ℕ × ℕ)) (read
   numbered_few a [] = refl
   numbered_few a (x ∷ xs) = let rest = numbered_few (a + 1) xs in omega (arith, rest)
 
-  pub few_cells : length n.cells ≤ 1703938
+  three_beside : (x : ℕ × Pad) → length (side_cells parts bits extras pads x) ≤ 3
+  three_beside x =
+      let a = length-append (input_cells parts bits extras pads x) (output_cells parts bits extras pads x ++ level_cells parts bits extras x) in
+      let b = length-append (output_cells parts bits extras pads x) (level_cells parts bits extras x) in
+      let one = at_most (is_registered parts bits x.1) (input_cell parts bits extras pads x) in
+      let two = at_most (has_output_register parts bits x.1) (output_cell parts bits extras pads x) in
+      let three = at_most (feeds_global parts bits extras x.1) (level_cell x.0) in
+      omega (arith, a, b, one, two, three)
+    where
+      at_most : (b : Bool) (c : Cell) → length (if b then c ∷ [] else []) ≤ 1
+      at_most true c = omega arith
+      at_most false c = omega arith
+
+  abbrev buffers : List Cell
+  buffers = map (pad_cell parts bits extras pads) (numbered_pads pads)
+
+  abbrev sides : List Cell
+  sides = flat_map (side_cells parts bits extras pads) (numbered_pads pads)
+
+  abbrev logic : List Cell
+  logic = flat_map (logic_cells parts bits extras pads) (cells parts)
+
+  pub few_cells : length n.cells ≤ 2097154
   few_cells =
-      let a = length-append fixed_cells (map (pad_cell parts bits pads) (numbered_pads pads) ++ flat_map (logic_cells parts bits pads) (cells parts)) in
-      let b = length-append (map (pad_cell parts bits pads) (numbered_pads pads)) (flat_map (logic_cells parts bits pads) (cells parts)) in
-      let c : length (map (pad_cell parts bits pads) (numbered_pads pads)) ≡ length pads = length-map (numbered_pads pads) (pad_cell parts bits pads) ∙ numbered_few 0 pads in
-      let d = flat_few (logic_cells parts bits pads) 3 three_at_most (cells parts) in
-      let e : length (cells parts) ≡ 8 * length (logic_tiles parts) = cells_long (logic_tiles parts) in
+      let a = length-append fixed_cells (buffers ++ (sides ++ logic)) in
+      let b = length-append buffers (sides ++ logic) in
+      let c = length-append sides logic in
+      let pads_long = numbered_few 0 pads in
+      let d : length buffers ≡ length (numbered_pads pads) = length-map (numbered_pads pads) (pad_cell parts bits extras pads) in
+      let e = flat_few (side_cells parts bits extras pads) 3 three_beside (numbered_pads pads) in
+      let f = flat_few (logic_cells parts bits extras pads) 3 three_at_most (cells parts) in
+      let g : length (cells parts) ≡ 8 * length (logic_tiles parts) = cells_long (logic_tiles parts) in
       let tiles = few_tiles parts read in
       let bonded = few_pads parts package_rows read has in
-      omega (arith, a, b, c, d, e, tiles, bonded)
+      omega (arith, a, b, c, d, e, f, g, pads_long, tiles, bonded)
 
   pub ports_below : All (IsPortBelow signals) n.ports
   ports_below =
       all_at (IsPortBelow signals) n.ports
-      (λ j p at. let made = port_made parts bits package_rows p (j, at) in
-      subst (IsPortBelow signals) (sym made.2) (let lt = made.1 in omega (arith, names_long parts bits package_rows, lt)))
+      (λ j p at. let made = port_made parts bits extras package_rows p (j, at) in
+      subst (IsPortBelow signals) (sym made.2) (let lt = made.1 in omega (arith, names_long parts bits extras package_rows, lt)))
 
   pub formed : IsFormed n
   formed = record { few = (let few = few_names in omega (arith, few)); few_cells = (let few = few_cells in omega (arith, few)); ports = ports_below; cells = cells_formed }
 
   -- ---- types
-  root_typed : (r : LevelRoot) → IsThere parts bits pads r → is_type_out (own r).kind ≡ false
+  root_typed : (r : LevelRoot) → IsThere parts bits extras pads r → is_type_out (own r).kind ≡ false
   root_typed (Fixed true) there = refl
   root_typed (Fixed false) there = refl
-  root_typed (Input k) there = not_from_true (is_type (buffer_type parts bits (pad_at k))) (pad_typed k there)
+  root_typed (Input k) there = not_from_true (is_type (buffer_type parts bits (pad k))) (pad_typed k there.0)
+  root_typed (Taken k) there = refl
+  root_typed (Given k) there = not_from_true (is_type (buffer_type parts bits (pad k))) (pad_typed k there.0)
+  root_typed (Kept k) there = refl
+  root_typed (Level k) there = refl
   root_typed (Table t i) there = refl
   root_typed (Register t i) there = refl
   root_typed (Sum t i) there = refl
@@ -282,18 +364,22 @@ module _ (parts : Parts) (bits : Bits) (extras : List (ℕ × ℕ × ℕ)) (read
       by : (i : ℕ) (o : Option Cell) → slice_get n.cells i ≡ o → option_map_or (λ (c : Cell). is_type_out c.kind) (slice_get n.cells i) false ≡ false
       by i None e = ap (λ (o : Option Cell). option_map_or (λ (c : Cell). is_type_out c.kind) o false) e
       by i (Some c) e =
-          let made = cell_made parts bits package_rows c (i, e) in
+          let made = cell_made parts bits extras package_rows c (i, e) in
           ap (λ (o : Option Cell). option_map_or (λ (c : Cell). is_type_out c.kind) o false) (e ∙ ap (λ (d : Cell). Some d) made.2) ∙ root_typed made.0 made.1
 
-pub sound : NetlistIsSound
-sound parts bits extras package_rows read faultless has =
-    let is = connected parts bits extras package_rows read faultless has in
+pub sound : (parts : Parts) (bits : Bits) (extras : List (ℕ × ℕ × ℕ)) (package_rows : PackageRows) → IsRead parts → HasNames parts → IsFaultless parts bits extras → Has parts.packages package_rows
+    → IsSound (netlist parts bits extras package_rows)
+sound parts bits extras package_rows read names faultless has =
+    let is = connected parts bits extras package_rows read names faultless has in
     record {
       driven = is.driven;
-      driven_once = none_twice parts bits package_rows read;
-      loopless = loopless parts bits extras package_rows read faultless has;
-      pads_apart = none_shared parts bits package_rows;
-      pin_types = all_typed parts bits extras read faultless package_rows has;
+      driven_once = none_twice parts bits extras package_rows read;
+      loopless = loopless parts bits extras package_rows read names faultless;
+      pads_apart = none_shared parts bits extras package_rows;
+      pin_types = all_typed parts bits extras read names faultless package_rows has;
       pins_at_ports = is.pins_at_ports;
       inouts_buffered = is.inouts_buffered;
     }
+
+pub is_sound : LookupsAreLawful → NetlistIsSound
+is_sound lawful parts bits extras package_rows chip faultless has = sound parts bits extras package_rows chip.read (lawful parts chip).names faultless has

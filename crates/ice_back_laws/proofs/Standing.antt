@@ -2,6 +2,7 @@
 use Rattle.std.proofs.Common.{◌≡◌, ℕ, zero, suc, ◌+◌, ◌-◌, ◌*◌, ◌/◌, ◌%◌, ◌<◌, ◌≤◌, ◌==◌, not, Bool, true, false, Option, None, Some, List, [], ◌∷◌, ◌++◌, length, map, zip, inl, inr, refl, sym, ap, ◌∙◌, subst, nat_lt, get_or, length-append, arith, rules, tests, eq-eqb, eqb-true, if◌then◌else◌}
 use Rattle.std.specs.Prelude.{option_map, unwrap_or}
 use Rattle.std.specs.List.{flat_map, range_with_len, position_or_len}
+use Rattle.std.proofs.lemmas.Bool.{lt-ltb}
 use Rattle.std.proofs.lemmas.Option.{same_Some, none-some, get_or_from_slice_get}
 use Rattle.ice_base.specs.declared.number.TileAt.{TileAt}
 use Rattle.ice_base.specs.declared.number.SignalNo.{SignalNo}
@@ -17,15 +18,15 @@ use Rattle.ice_net.specs.declared.driver.Driver as drivers
 use Rattle.ice_net.specs.declared.port.Port.{Port}
 use Rattle.ice_net.specs.Drivers.{is_signal, place_of, pin_of, buffer_at, pad_of, pads, output_of, outputs, driver_from, driver_of}
 use Rattle.ice_net.specs.NetlistData.{NetlistData, port_at, is_at}
-use Rattle.ice_decode.specs.Cells.{cells, logic_tiles, has_carry, has_flop}
-use Rattle.ice_decode.specs.Meaning.{tile_place}
+use Rattle.ice_decode.specs.Cells.{cells, logic_tiles, tile_place, has_carry, has_flop}
 use Rattle.ice_decode.specs.Reads.{cell_inputs, carry_inputs}
+use Rattle.ice_decode.specs.Registers.{has_output_register}
 use Rattle.ice_decode.proofs.KeptLevels.{tile_at}
-use Rattle.ice_decode.proofs.Members.{At_map_cases, At_range_cases, Has_left, Has_right, Has_append_cases, Has_map}
+use Rattle.ice_decode.proofs.Members.{At_map_cases, At_range, At_range_cases, Has_left, Has_right, Has_append_cases, Has_map}
 use Rattle.ice_decode.proofs.PointPlaces.{cell_at, cell_cases, cells_long}
-use Rattle.ice_back_laws.specs.Back.{reader, cell, signal_at, pad_cell, table_cells, carry_cells, flop_cell, flop_cells, logic_cells, fixed_cells, numbered_pads, pad_port, back_netlist}
-use Rattle.ice_back_laws.specs.Numbers.{port_number, input_number, cell_number, root_number, signal, pad_names, cell_names}
-use Rattle.ice_back_laws.specs.Roots.{LevelRoot, Fixed, Input, Table, Register, Sum, cell_table}
+use Rattle.ice_back_laws.specs.Back.{reader, cell, signal_at, buffer_cell, pad_cell, input_cell, input_cells, output_cell, output_cells, level_cell, level_cells, side_cells, table_cells, carry_cells, flop_cell, flop_cells, logic_cells, fixed_cells, numbered_pads, pad_port, back_netlist}
+use Rattle.ice_back_laws.specs.Numbers.{port_number, input_number, given_number, kept_number, level_number, cell_number, root_number, signal, pad_names, cell_names}
+use Rattle.ice_back_laws.specs.Roots.{LevelRoot, Fixed, Input, Taken, Given, Kept, Level, Table, Register, Sum, cell_table, no_pad, pad_at, is_registered, feeds_global}
 use Rattle.ice_back_laws.proofs.Ranks.{IsThere, StandsAt, place_found}
 
 -- ---- lists
@@ -92,38 +93,46 @@ numbered_at a (y ∷ xs) (suc i) x at =
     let e : a + 1 + i ≡ a + suc i = omega arith in
     subst (λ n. At (zip (range_with_len (a + 1) (length xs)) xs) i (n, x)) e (numbered_at (a + 1) xs i x at)
 
-pub no_pad : Pad
-no_pad = record { tile = record { x = 0; y = 0 }; pio = 0 }
+pub pad_stands : (xs : List Pad) (k : ℕ) → k < length xs → At xs k (pad_at xs k)
+pad_stands [] k lt = absurd (omega arith)
+pad_stands (x ∷ xs) zero lt = refl
+pad_stands (x ∷ xs) (suc k) lt = pad_stands xs k (omega arith)
 
-pub pad_at : (xs : List Pad) (k : ℕ) → k < length xs → At xs k (get_or xs k no_pad)
-pad_at [] k lt = absurd (omega arith)
-pad_at (x ∷ xs) zero lt = refl
-pad_at (x ∷ xs) (suc k) lt = pad_at xs k (omega arith)
-
-module _ (parts : Parts) (bits : Bits) (package_rows : PackageRows) where
+module _ (parts : Parts) (bits : Bits) (extras : List (ℕ × ℕ × ℕ)) (package_rows : PackageRows) where
   abbrev pub bonded : List Pad
   bonded = package_rows.pads
 
   abbrev pub netlist : NetlistData
-  netlist = back_netlist parts bits package_rows
+  netlist = back_netlist parts bits extras package_rows
 
   abbrev pub Stands : LevelRoot → Type 0
-  Stands r = IsThere parts bits bonded r
+  Stands r = IsThere parts bits extras bonded r
+
+  -- the pad of a number, with the number
+  abbrev pub numbered : ℕ → ℕ × Pad
+  numbered k = (k, pad_at bonded k)
 
   -- the cell that makes the level of a root
   abbrev pub cell_of : LevelRoot → Cell
   cell_of (Fixed false) = cell (Cover 0 0) [] (signal_at 0 ∷ [])
   cell_of (Fixed true) = cell (Cover 1 0) [] (signal_at 1 ∷ [])
-  cell_of (Input k) = pad_cell parts bits bonded (k, get_or bonded k no_pad)
-  cell_of (Table t i) = cell (Lut (cell_table parts bits t i)) (map (reader parts bits bonded false) (cell_inputs parts t i)) (signal_at (cell_number parts bonded t i) ∷ [])
-  cell_of (Register t i) = flop_cell parts bits bonded (t, i)
-  cell_of (Sum t i) = cell kinds.TheVariants.Carry (map (reader parts bits bonded false) (carry_inputs parts t i)) (signal_at (cell_number parts bonded t i + 2) ∷ [])
+  cell_of (Input k) = buffer_cell parts bits extras bonded (numbered k) (input_number k)
+  cell_of (Taken k) = input_cell parts bits extras bonded (numbered k)
+  cell_of (Given k) = buffer_cell parts bits extras bonded (numbered k) (given_number k)
+  cell_of (Kept k) = output_cell parts bits extras bonded (numbered k)
+  cell_of (Level k) = level_cell k
+  cell_of (Table t i) = cell (Lut (cell_table parts bits t i)) (map (reader parts bits extras bonded false) (cell_inputs parts t i)) (signal_at (cell_number parts bonded t i) ∷ [])
+  cell_of (Register t i) = flop_cell parts bits extras bonded (t, i)
+  cell_of (Sum t i) = cell kinds.TheVariants.Carry (map (reader parts bits extras bonded false) (carry_inputs parts t i)) (signal_at (cell_number parts bonded t i + 2) ∷ [])
 
   abbrev pad_cells : List Cell
-  pad_cells = map (pad_cell parts bits bonded) (numbered_pads bonded)
+  pad_cells = map (pad_cell parts bits extras bonded) (numbered_pads bonded)
+
+  abbrev sides : List Cell
+  sides = flat_map (side_cells parts bits extras bonded) (numbered_pads bonded)
 
   abbrev all_logic : List Cell
-  all_logic = flat_map (logic_cells parts bits bonded) (cells parts)
+  all_logic = flat_map (logic_cells parts bits extras bonded) (cells parts)
 
   -- ---- each cell makes a root's level
   abbrev IsMadeFor : Cell → Type 0
@@ -134,75 +143,146 @@ module _ (parts : Parts) (bits : Bits) (package_rows : PackageRows) where
   fixed_made (suc zero) c at = (Fixed true, tt, sym (same_Some (cell_of (Fixed true)) c at))
   fixed_made (suc (suc i)) c at = absurd (none-some c at)
 
+  one : (c d : Cell) → Has (d ∷ []) c → c ≡ d
+  one c d (zero, at) = sym (same_Some d c at)
+  one c d (suc j, at) = absurd (none-some c at)
+
   pad_made : (c : Cell) → Has pad_cells c → IsMadeFor c
   pad_made c has =
-      let found = At_map_cases (pad_cell parts bits bonded) (numbered_pads bonded) has.0 c has.1 in
+      let found = At_map_cases (pad_cell parts bits extras bonded) (numbered_pads bonded) has.0 c has.1 in
       let x : ℕ × Pad = found.0 in
       let is = numbered_cases 0 bonded has.0 x found.1 in
       let e : has.0 ≡ x.0 = omega (arith, is.0) in
-      let pad : get_or bonded has.0 no_pad ≡ x.1 = get_or_from_slice_get bonded has.0 x.1 no_pad is.1 in
-      (Input has.0, At_within bonded has.0 x.1 is.1, sym found.2 ∙ (λ j. pad_cell parts bits bonded (sym e j, sym pad j)))
+      let pad : pad_at bonded has.0 ≡ x.1 = get_or_from_slice_get bonded has.0 x.1 no_pad is.1 in
+      by has.0 (At_within bonded has.0 x.1 is.1) (is_registered parts bits (pad_at bonded has.0)) refl (sym found.2 ∙ (λ j. pad_cell parts bits extras bonded (sym e j, sym pad j)))
+    where
+      by : (k : ℕ) → k < length bonded → (b : Bool) → is_registered parts bits (pad_at bonded k) ≡ b
+          → c ≡ buffer_cell parts bits extras bonded (numbered k) (if b then given_number k else input_number k) → IsMadeFor c
+      by k lt true e f = (Given k, (lt, e), f)
+      by k lt false e f = (Input k, (lt, e), f)
 
-  logic_made : (t : TileAt) (i : ℕ) (c : Cell) → StandsAt parts t i → Has (logic_cells parts bits bonded (t, i)) c → IsMadeFor c
-  logic_made t i c place has = elim (Has_append_cases (table_cells parts bits bonded (t, i)) (carry_cells parts bits bonded (t, i) ++ flop_cells parts bits bonded (t, i)) c has) [
+  side_made : (k : ℕ) (c : Cell) → k < length bonded → Has (side_cells parts bits extras bonded (numbered k)) c → IsMadeFor c
+  side_made k c lt has = elim (Has_append_cases (input_cells parts bits extras bonded (numbered k)) (output_cells parts bits extras bonded (numbered k) ++ level_cells parts bits extras (numbered k)) c has) [
+    | inl first ↦ input (is_registered parts bits (pad_at bonded k)) refl first
+    | inr rest ↦ elim (Has_append_cases (output_cells parts bits extras bonded (numbered k)) (level_cells parts bits extras (numbered k)) c rest) [
+      | inl second ↦ output (has_output_register parts bits (pad_at bonded k)) refl second
+      | inr third ↦ level (feeds_global parts bits extras (pad_at bonded k)) refl third
+    ]
+  ]
+    where
+      input : (b : Bool) → is_registered parts bits (pad_at bonded k) ≡ b → Has (if b then cell_of (Taken k) ∷ [] else []) c → IsMadeFor c
+      input true e h = (Taken k, (lt, e), one c (cell_of (Taken k)) h)
+      input false e h = absurd (none-some c h.1)
+
+      output : (b : Bool) → has_output_register parts bits (pad_at bonded k) ≡ b → Has (if b then cell_of (Kept k) ∷ [] else []) c → IsMadeFor c
+      output true e h = (Kept k, (lt, e), one c (cell_of (Kept k)) h)
+      output false e h = absurd (none-some c h.1)
+
+      level : (b : Bool) → feeds_global parts bits extras (pad_at bonded k) ≡ b → Has (if b then cell_of (Level k) ∷ [] else []) c → IsMadeFor c
+      level true e h = (Level k, (lt, e), one c (cell_of (Level k)) h)
+      level false e h = absurd (none-some c h.1)
+
+  sides_made : (c : Cell) → Has sides c → IsMadeFor c
+  sides_made c has =
+      let found = flat_back (side_cells parts bits extras bonded) (numbered_pads bonded) c has in
+      let k : ℕ = found.1.0 in
+      let is = numbered_cases 0 bonded found.1.0 found.0 found.1.1 in
+      let e : found.0.0 ≡ found.1.0 = omega (arith, is.0) in
+      let pad : found.0.1 ≡ pad_at bonded found.1.0 = sym (get_or_from_slice_get bonded found.1.0 found.0.1 no_pad is.1) in
+      let same : found.0 ≡ numbered found.1.0 = (λ j. (e j, pad j)) in
+      side_made found.1.0 c (At_within bonded found.1.0 found.0.1 is.1) (subst (λ (x : ℕ × Pad). Has (side_cells parts bits extras bonded x) c) same found.2)
+
+  logic_made : (t : TileAt) (i : ℕ) (c : Cell) → StandsAt parts t i → Has (logic_cells parts bits extras bonded (t, i)) c → IsMadeFor c
+  logic_made t i c place has = elim (Has_append_cases (table_cells parts bits extras bonded (t, i)) (carry_cells parts bits extras bonded (t, i) ++ flop_cells parts bits extras bonded (t, i)) c has) [
     | inl first ↦ table (cell_table parts bits t i == 0) refl first
-    | inr rest ↦ elim (Has_append_cases (carry_cells parts bits bonded (t, i)) (flop_cells parts bits bonded (t, i)) c rest) [
+    | inr rest ↦ elim (Has_append_cases (carry_cells parts bits extras bonded (t, i)) (flop_cells parts bits extras bonded (t, i)) c rest) [
       | inl second ↦ carry (has_carry parts bits t i) refl second
       | inr third ↦ flop (has_flop parts bits t i) refl third
     ]
   ]
     where
-      one : (d : Cell) → Has (d ∷ []) c → c ≡ d
-      one d (zero, at) = sym (same_Some d c at)
-      one d (suc j, at) = absurd (none-some c at)
-
       table : (b : Bool) → (cell_table parts bits t i == 0) ≡ b → Has (if b then [] else cell_of (Table t i) ∷ []) c → IsMadeFor c
       table true e h = absurd (none-some c h.1)
-      table false e h = (Table t i, (place, e), one (cell_of (Table t i)) h)
+      table false e h = (Table t i, (place, e), one c (cell_of (Table t i)) h)
 
       carry : (b : Bool) → has_carry parts bits t i ≡ b → Has (if b then cell_of (Sum t i) ∷ [] else []) c → IsMadeFor c
-      carry true e h = (Sum t i, (place, e), one (cell_of (Sum t i)) h)
+      carry true e h = (Sum t i, (place, e), one c (cell_of (Sum t i)) h)
       carry false e h = absurd (none-some c h.1)
 
       flop : (b : Bool) → has_flop parts bits t i ≡ b → Has (if b then cell_of (Register t i) ∷ [] else []) c → IsMadeFor c
-      flop true e h = (Register t i, (place, e), one (cell_of (Register t i)) h)
+      flop true e h = (Register t i, (place, e), one c (cell_of (Register t i)) h)
       flop false e h = absurd (none-some c h.1)
 
   pub cell_made : (c : Cell) → Has netlist.cells c → IsMadeFor c
-  cell_made c has = elim (Has_append_cases fixed_cells (pad_cells ++ all_logic) c has) [
+  cell_made c has = elim (Has_append_cases fixed_cells (pad_cells ++ (sides ++ all_logic)) c has) [
     | inl fixed ↦ fixed_made fixed.0 c fixed.1
-    | inr rest ↦ elim (Has_append_cases pad_cells all_logic c rest) [
+    | inr rest ↦ elim (Has_append_cases pad_cells (sides ++ all_logic) c rest) [
       | inl pad ↦ pad_made c pad
-      | inr logic ↦ (let found = flat_back (logic_cells parts bits bonded) (cells parts) c logic in
-          let spot = cell_cases (logic_tiles parts) found.1.0 found.0 found.1.1 in
-          let place = place_found found.0.0 (logic_tiles parts) (spot.place, spot.stands) in
-          logic_made found.0.0 found.0.1 c (place.0, place.1, spot.below) found.2)
+      | inr more ↦ elim (Has_append_cases sides all_logic c more) [
+        | inl side ↦ sides_made c side
+        | inr logic ↦ (let found = flat_back (logic_cells parts bits extras bonded) (cells parts) c logic in
+            let spot = cell_cases (logic_tiles parts) found.1.0 found.0 found.1.1 in
+            let place = place_found found.0.0 (logic_tiles parts) (spot.place, spot.stands) in
+            logic_made found.0.0 found.0.1 c (place.0, place.1, spot.below) found.2)
+      ]
     ]
   ]
 
   -- ---- each root that is there has its cell
-  logic_stands : (t : TileAt) (i : ℕ) (c : Cell) → StandsAt parts t i → Has (logic_cells parts bits bonded (t, i)) c → Has netlist.cells c
+  pad_there : (c : Cell) → Has pad_cells c → Has netlist.cells c
+  pad_there c has = Has_right fixed_cells (pad_cells ++ (sides ++ all_logic)) c (Has_left pad_cells (sides ++ all_logic) c has)
+
+  number_stands : (k : ℕ) → k < length bonded → At (numbered_pads bonded) k (numbered k)
+  number_stands k lt = let e : 0 + k ≡ k = omega arith in subst (λ n. At (numbered_pads bonded) k (n, pad_at bonded k)) e (numbered_at 0 bonded k (pad_at bonded k) (pad_stands bonded k lt))
+
+  pub buffer_there : (k : ℕ) → k < length bonded → Has netlist.cells (pad_cell parts bits extras bonded (numbered k))
+  buffer_there k lt =
+      pad_there (pad_cell parts bits extras bonded (numbered k)) (Has_map (pad_cell parts bits extras bonded) (numbered_pads bonded) (numbered k) (k, number_stands k lt))
+
+  side_there : (k : ℕ) (c : Cell) → k < length bonded → Has (side_cells parts bits extras bonded (numbered k)) c → Has netlist.cells c
+  side_there k c lt has =
+      Has_right fixed_cells (pad_cells ++ (sides ++ all_logic)) c (Has_right pad_cells (sides ++ all_logic) c
+      (Has_left sides all_logic c (flat_on (side_cells parts bits extras bonded) (numbered_pads bonded) k (numbered k) c (number_stands k lt) has)))
+
+  logic_stands : (t : TileAt) (i : ℕ) (c : Cell) → StandsAt parts t i → Has (logic_cells parts bits extras bonded (t, i)) c → Has netlist.cells c
   logic_stands t i c (k, e, lt) has =
-      Has_right fixed_cells (pad_cells ++ all_logic) c (Has_right pad_cells all_logic c
-      (flat_on (logic_cells parts bits bonded) (cells parts) (8 * k + i) (t, i) c (cell_at (logic_tiles parts) k i t (tile_at t (logic_tiles parts) k e) lt) has))
+      Has_right fixed_cells (pad_cells ++ (sides ++ all_logic)) c (Has_right pad_cells (sides ++ all_logic) c (Has_right sides all_logic c
+      (flat_on (logic_cells parts bits extras bonded) (cells parts) (8 * k + i) (t, i) c (cell_at (logic_tiles parts) k i t (tile_at t (logic_tiles parts) k e) lt) has)))
+
+  -- the SB_IO of a pad, by whether the netlist has the register of its input
+  pub buffer_is : (k : ℕ) (b : Bool) → is_registered parts bits (pad_at bonded k) ≡ b
+      → pad_cell parts bits extras bonded (numbered k) ≡ buffer_cell parts bits extras bonded (numbered k) (if b then given_number k else input_number k)
+  buffer_is k b e = ap (λ c. buffer_cell parts bits extras bonded (numbered k) (if c then given_number k else input_number k)) e
 
   pub root_stands : (r : LevelRoot) → Stands r → Has netlist.cells (cell_of r)
   root_stands (Fixed false) there = (0, refl)
   root_stands (Fixed true) there = (1, refl)
-  root_stands (Input k) there =
-      Has_right fixed_cells (pad_cells ++ all_logic) (cell_of (Input k)) (Has_left pad_cells all_logic (cell_of (Input k))
-      (Has_map (pad_cell parts bits bonded) (numbered_pads bonded) (k, get_or bonded k no_pad)
-      (k, (let e : 0 + k ≡ k = omega arith in subst (λ n. At (numbered_pads bonded) k (n, get_or bonded k no_pad)) e (numbered_at 0 bonded k (get_or bonded k no_pad) (pad_at bonded k there))))))
+  root_stands (Input k) there = subst (Has netlist.cells) (buffer_is k false there.1) (buffer_there k there.0)
+  root_stands (Taken k) there =
+      side_there k (cell_of (Taken k)) there.0
+      (Has_left (input_cells parts bits extras bonded (numbered k)) (output_cells parts bits extras bonded (numbered k) ++ level_cells parts bits extras (numbered k)) (cell_of (Taken k))
+      (subst (λ b. Has (if b then cell_of (Taken k) ∷ [] else []) (cell_of (Taken k))) (sym there.1) (0, refl)))
+  root_stands (Given k) there = subst (Has netlist.cells) (buffer_is k true there.1) (buffer_there k there.0)
+  root_stands (Kept k) there =
+      side_there k (cell_of (Kept k)) there.0
+      (Has_right (input_cells parts bits extras bonded (numbered k)) (output_cells parts bits extras bonded (numbered k) ++ level_cells parts bits extras (numbered k)) (cell_of (Kept k))
+      (Has_left (output_cells parts bits extras bonded (numbered k)) (level_cells parts bits extras (numbered k)) (cell_of (Kept k))
+      (subst (λ b. Has (if b then cell_of (Kept k) ∷ [] else []) (cell_of (Kept k))) (sym there.1) (0, refl))))
+  root_stands (Level k) there =
+      side_there k (cell_of (Level k)) there.0
+      (Has_right (input_cells parts bits extras bonded (numbered k)) (output_cells parts bits extras bonded (numbered k) ++ level_cells parts bits extras (numbered k)) (cell_of (Level k))
+      (Has_right (output_cells parts bits extras bonded (numbered k)) (level_cells parts bits extras (numbered k)) (cell_of (Level k))
+      (subst (λ b. Has (if b then cell_of (Level k) ∷ [] else []) (cell_of (Level k))) (sym there.1) (0, refl))))
   root_stands (Table t i) there =
-      logic_stands t i (cell_of (Table t i)) there.0 (Has_left (table_cells parts bits bonded (t, i)) (carry_cells parts bits bonded (t, i) ++ flop_cells parts bits bonded (t, i)) (cell_of (Table t i))
+      logic_stands t i (cell_of (Table t i)) there.0 (Has_left (table_cells parts bits extras bonded (t, i)) (carry_cells parts bits extras bonded (t, i) ++ flop_cells parts bits extras bonded (t, i)) (cell_of (Table t i))
       (subst (λ b. Has (if b then [] else cell_of (Table t i) ∷ []) (cell_of (Table t i))) (sym there.1) (0, refl)))
   root_stands (Register t i) there =
-      logic_stands t i (cell_of (Register t i)) there.0 (Has_right (table_cells parts bits bonded (t, i)) (carry_cells parts bits bonded (t, i) ++ flop_cells parts bits bonded (t, i)) (cell_of (Register t i))
-      (Has_right (carry_cells parts bits bonded (t, i)) (flop_cells parts bits bonded (t, i)) (cell_of (Register t i))
+      logic_stands t i (cell_of (Register t i)) there.0 (Has_right (table_cells parts bits extras bonded (t, i)) (carry_cells parts bits extras bonded (t, i) ++ flop_cells parts bits extras bonded (t, i)) (cell_of (Register t i))
+      (Has_right (carry_cells parts bits extras bonded (t, i)) (flop_cells parts bits extras bonded (t, i)) (cell_of (Register t i))
       (subst (λ b. Has (if b then cell_of (Register t i) ∷ [] else []) (cell_of (Register t i))) (sym there.1) (0, refl))))
   root_stands (Sum t i) there =
-      logic_stands t i (cell_of (Sum t i)) there.0 (Has_right (table_cells parts bits bonded (t, i)) (carry_cells parts bits bonded (t, i) ++ flop_cells parts bits bonded (t, i)) (cell_of (Sum t i))
-      (Has_left (carry_cells parts bits bonded (t, i)) (flop_cells parts bits bonded (t, i)) (cell_of (Sum t i))
+      logic_stands t i (cell_of (Sum t i)) there.0 (Has_right (table_cells parts bits extras bonded (t, i)) (carry_cells parts bits extras bonded (t, i) ++ flop_cells parts bits extras bonded (t, i)) (cell_of (Sum t i))
+      (Has_left (carry_cells parts bits extras bonded (t, i)) (flop_cells parts bits extras bonded (t, i)) (cell_of (Sum t i))
       (subst (λ b. Has (if b then cell_of (Sum t i) ∷ [] else []) (cell_of (Sum t i))) (sym there.1) (0, refl))))
 
   -- ---- numbers tell roots
@@ -214,37 +294,45 @@ module _ (parts : Parts) (bits : Bits) (package_rows : PackageRows) where
   abbrev no_cell : TileAt × ℕ
   no_cell = (record { x = 0; y = 0 }, 0)
 
+  abbrev of_pad : ℕ → ℕ → LevelRoot
+  of_pad k zero = Fixed false
+  of_pad k (suc zero) = if is_registered parts bits (pad_at bonded k) then Taken k else Input k
+  of_pad k (suc (suc zero)) = Given k
+  of_pad k (suc (suc (suc zero))) = Kept k
+  of_pad k (suc (suc (suc (suc n)))) = Level k
+
   abbrev behind_fixed : ℕ → Bool → LevelRoot
-  behind_fixed n true = Input (n / 2)
-  behind_fixed n false = of_cell (get_or (cells parts) ((n - 2 * length bonded) / 3) no_cell) ((n - 2 * length bonded) % 3)
+  behind_fixed n true = of_pad (n / 5) (n % 5)
+  behind_fixed n false = of_cell (get_or (cells parts) ((n - 5 * length bonded) / 3) no_cell) ((n - 5 * length bonded) % 3)
 
   -- the root of a signal's number
   abbrev told : ℕ → LevelRoot
   told zero = Fixed false
   told (suc zero) = Fixed true
-  told (suc (suc n)) = behind_fixed n (nat_lt n (2 * length bonded))
+  told (suc (suc n)) = behind_fixed n (nat_lt n (5 * length bonded))
 
-  number_is : (t : TileAt) (i k : ℕ) → tile_place t (logic_tiles parts) ≡ Some k → cell_number parts bonded t i ≡ 2 + 2 * length bonded + 3 * (8 * k + i)
-  number_is t i k e = ap (λ (o : Option ℕ). 2 + 2 * length bonded + 3 * (8 * unwrap_or o 0 + i)) e
+  number_is : (t : TileAt) (i k : ℕ) → tile_place t (logic_tiles parts) ≡ Some k → cell_number parts bonded t i ≡ 2 + 5 * length bonded + 3 * (8 * k + i)
+  number_is t i k e = ap (λ (o : Option ℕ). 2 + 5 * length bonded + 3 * (8 * unwrap_or o 0 + i)) e
 
-  input_told : (k : ℕ) → k < length bonded → told (input_number k) ≡ Input k
-  input_told k lt =
-      let e : input_number k ≡ suc (suc (1 + 2 * k)) = omega arith in
-      let below : nat_lt (1 + 2 * k) (2 * length bonded) ≡ true = search (rules, tests) in
-      let half : (1 + 2 * k) / 2 ≡ k = omega arith in
-      ap told e ∙ ap (behind_fixed (1 + 2 * k)) below ∙ ap Input half
+  pad_told : (k d n : ℕ) → k < length bonded → d < 5 → n ≡ 2 + 5 * k + d → told n ≡ of_pad k d
+  pad_told k d n lt few is =
+      let e : n ≡ suc (suc (5 * k + d)) = omega (arith, is) in
+      let below : nat_lt (5 * k + d) (5 * length bonded) ≡ true = lt-ltb (5 * k + d) (5 * length bonded) (omega (arith, lt, few)) in
+      let whole : (5 * k + d) / 5 ≡ k = omega (arith, few) in
+      let rest : (5 * k + d) % 5 ≡ d = omega (arith, few) in
+      ap told e ∙ ap (behind_fixed (5 * k + d)) below ∙ (λ j. of_pad (whole j) (rest j))
 
   cell_told : (t : TileAt) (i d : ℕ) → StandsAt parts t i → d < 3 → told (cell_number parts bonded t i + d) ≡ of_cell (t, i) d
   cell_told t i d (k, e, lt) less =
       let number = number_is t i k e in
-      let n : ℕ = 2 * length bonded + 3 * (8 * k + i) + d in
-      let shape : cell_number parts bonded t i + d ≡ suc (suc (2 * length bonded + 3 * (8 * k + i) + d)) = omega (arith, number) in
-      let above : nat_lt (2 * length bonded + 3 * (8 * k + i) + d) (2 * length bonded) ≡ false = not_less (2 * length bonded) (3 * (8 * k + i) + d) _ (omega arith) in
-      let rest : 2 * length bonded + 3 * (8 * k + i) + d - 2 * length bonded ≡ 3 * (8 * k + i) + d = omega arith in
+      let n : ℕ = 5 * length bonded + 3 * (8 * k + i) + d in
+      let shape : cell_number parts bonded t i + d ≡ suc (suc (5 * length bonded + 3 * (8 * k + i) + d)) = omega (arith, number) in
+      let above : nat_lt (5 * length bonded + 3 * (8 * k + i) + d) (5 * length bonded) ≡ false = not_less (5 * length bonded) (3 * (8 * k + i) + d) _ (omega arith) in
+      let rest : 5 * length bonded + 3 * (8 * k + i) + d - 5 * length bonded ≡ 3 * (8 * k + i) + d = omega arith in
       let place : (3 * (8 * k + i) + d) / 3 ≡ 8 * k + i = omega (arith, less) in
       let which : (3 * (8 * k + i) + d) % 3 ≡ d = omega (arith, less) in
       let found : get_or (cells parts) (8 * k + i) no_cell ≡ (t, i) = get_or_from_slice_get (cells parts) (8 * k + i) (t, i) no_cell (cell_at (logic_tiles parts) k i t (tile_at t (logic_tiles parts) k e) lt) in
-      ap told shape ∙ ap (behind_fixed (2 * length bonded + 3 * (8 * k + i) + d)) above
+      ap told shape ∙ ap (behind_fixed (5 * length bonded + 3 * (8 * k + i) + d)) above
       ∙ ap (λ m. of_cell (get_or (cells parts) (m / 3) no_cell) (m % 3)) rest
       ∙ (λ j. of_cell (get_or (cells parts) (place j) no_cell) (which j))
       ∙ ap (λ c. of_cell c d) found
@@ -255,7 +343,11 @@ module _ (parts : Parts) (bits : Bits) (package_rows : PackageRows) where
   root_told : (r : LevelRoot) → Stands r → told (root_number parts bonded r) ≡ r
   root_told (Fixed false) there = refl
   root_told (Fixed true) there = refl
-  root_told (Input k) there = input_told k there
+  root_told (Input k) there = pad_told k 1 (input_number k) there.0 (omega arith) (omega arith) ∙ ap (λ b. if b then Taken k else Input k) there.1
+  root_told (Taken k) there = pad_told k 1 (input_number k) there.0 (omega arith) (omega arith) ∙ ap (λ b. if b then Taken k else Input k) there.1
+  root_told (Given k) there = pad_told k 2 (given_number k) there.0 (omega arith) (omega arith)
+  root_told (Kept k) there = pad_told k 3 (kept_number k) there.0 (omega arith) (omega arith)
+  root_told (Level k) there = pad_told k 4 (level_number k) there.0 (omega arith) (omega arith)
   root_told (Table t i) there = let e : cell_number parts bonded t i ≡ cell_number parts bonded t i + 0 = omega arith in ap told e ∙ cell_told t i 0 there.0 (omega arith)
   root_told (Register t i) there = cell_told t i 1 there.0 (omega arith)
   root_told (Sum t i) there = cell_told t i 2 there.0 (omega arith)
@@ -267,6 +359,10 @@ module _ (parts : Parts) (bits : Bits) (package_rows : PackageRows) where
   output_is (Fixed false) = refl
   output_is (Fixed true) = refl
   output_is (Input k) = refl
+  output_is (Taken k) = refl
+  output_is (Given k) = refl
+  output_is (Kept k) = refl
+  output_is (Level k) = refl
   output_is (Table t i) = refl
   output_is (Register t i) = refl
   output_is (Sum t i) = refl
@@ -281,13 +377,17 @@ module _ (parts : Parts) (bits : Bits) (package_rows : PackageRows) where
       let inside = At_range_cases 0 (length bonded) has.0 found.0 found.1 in
       (found.0, (let e : found.0 ≡ 0 + has.0 = inside.1 in omega (arith, inside.0, e)), sym found.2)
 
-  cell_above : (t : TileAt) (i : ℕ) → StandsAt parts t i → 2 + 2 * length bonded ≤ cell_number parts bonded t i
+  cell_above : (t : TileAt) (i : ℕ) → StandsAt parts t i → 2 + 5 * length bonded ≤ cell_number parts bonded t i
   cell_above t i (k, e, lt) = omega (arith, number_is t i k e)
 
   not_port : (r : LevelRoot) → Stands r → (k : ℕ) → k < length bonded → port_number k ≡ root_number parts bonded r → ⊥
   not_port (Fixed false) there k lt e = omega (arith, e)
   not_port (Fixed true) there k lt e = omega (arith, e)
   not_port (Input j) there k lt e = omega (arith, e)
+  not_port (Taken j) there k lt e = omega (arith, e)
+  not_port (Given j) there k lt e = omega (arith, e)
+  not_port (Kept j) there k lt e = omega (arith, e)
+  not_port (Level j) there k lt e = omega (arith, e)
   not_port (Table t i) there k lt e = let above = cell_above t i there.0 in omega (arith, e, lt, above)
   not_port (Register t i) there k lt e = let above = cell_above t i there.0 in omega (arith, e, lt, above)
   not_port (Sum t i) there k lt e = let above = cell_above t i there.0 in omega (arith, e, lt, above)
@@ -307,9 +407,9 @@ module _ (parts : Parts) (bits : Bits) (package_rows : PackageRows) where
       (found.0, (λ j. driver_from (unported s (not_port r there) j) (found.1 j)), found.2)
 
   -- ---- how many signals there are
-  pub names_long : length netlist.names ≡ 2 + 2 * length bonded + 3 * (8 * length (logic_tiles parts))
+  pub names_long : length netlist.names ≡ 2 + 5 * length bonded + 3 * (8 * length (logic_tiles parts))
   names_long =
-      let a = flat_long (pad_names package_rows) 2 (λ p. refl) bonded in
+      let a = flat_long (pad_names package_rows) 5 (λ p. refl) bonded in
       let b = flat_long cell_names 3 (λ c. refl) (cells parts) in
       let c = cells_long (logic_tiles parts) in
       let d = length-append (flat_map (pad_names package_rows) bonded) (flat_map cell_names (cells parts)) in
@@ -324,7 +424,11 @@ module _ (parts : Parts) (bits : Bits) (package_rows : PackageRows) where
   pub root_below : (r : LevelRoot) → Stands r → root_number parts bonded r < length netlist.names
   root_below (Fixed false) there = omega (arith, names_long)
   root_below (Fixed true) there = omega (arith, names_long)
-  root_below (Input k) there = omega (arith, names_long, there)
+  root_below (Input k) there = let lt = there.0 in omega (arith, names_long, lt)
+  root_below (Taken k) there = let lt = there.0 in omega (arith, names_long, lt)
+  root_below (Given k) there = let lt = there.0 in omega (arith, names_long, lt)
+  root_below (Kept k) there = let lt = there.0 in omega (arith, names_long, lt)
+  root_below (Level k) there = let lt = there.0 in omega (arith, names_long, lt)
   root_below (Table t i) there = let below = cell_below t i there.0 in omega (arith, below)
   root_below (Register t i) there = let below = cell_below t i there.0 in omega (arith, below)
   root_below (Sum t i) there = cell_below t i there.0
@@ -341,18 +445,26 @@ module _ (parts : Parts) (bits : Bits) (package_rows : PackageRows) where
       λ j. driver_from (ports j) (outs j)
 
   -- ---- the SB_IO of a port
-  pin_at : (r : LevelRoot) (k : ℕ) → pin_of (cell_of r) ≡ Some (signal (port_number k)) → r ≡ Input k
-  pin_at (Fixed false) k e = cc e
-  pin_at (Fixed true) k e = cc e
-  pin_at (Input j) k e = let same : port_number j ≡ port_number k = same_number (port_number j) (port_number k) e in let f : j ≡ k = omega (arith, same) in ap Input f
-  pin_at (Table t i) k e = cc e
-  pin_at (Register t i) k e = cc e
-  pin_at (Sum t i) k e = cc e
+  same_port : (j k : ℕ) → Some (signal (port_number j)) ≡ Some (signal (port_number k)) → j ≡ k
+  same_port j k e = let same = same_number (port_number j) (port_number k) e in omega (arith, same)
 
-  pub buffered : (k : ℕ) → k < length bonded → (i : ℕ) × (buffer_at netlist.cells (port_number k) ≡ Some i) × At netlist.cells i (cell_of (Input k))
+  -- a cell at the pin of a port is the SB_IO of the port's pad
+  at_port : (k : ℕ) (r : LevelRoot) → Stands r → pin_of (cell_of r) ≡ Some (signal (port_number k)) → cell_of r ≡ pad_cell parts bits extras bonded (numbered k)
+  at_port k (Fixed false) there e = cc e
+  at_port k (Fixed true) there e = cc e
+  at_port k (Input j) there e = sym (buffer_is j false there.1) ∙ ap (λ n. pad_cell parts bits extras bonded (numbered n)) (same_port j k e)
+  at_port k (Taken j) there e = cc e
+  at_port k (Given j) there e = sym (buffer_is j true there.1) ∙ ap (λ n. pad_cell parts bits extras bonded (numbered n)) (same_port j k e)
+  at_port k (Kept j) there e = cc e
+  at_port k (Level j) there e = cc e
+  at_port k (Table t i) there e = cc e
+  at_port k (Register t i) there e = cc e
+  at_port k (Sum t i) there e = cc e
+
+  pub buffered : (k : ℕ) → k < length bonded → (i : ℕ) × (buffer_at netlist.cells (port_number k) ≡ Some i) × At netlist.cells i (pad_cell parts bits extras bonded (numbered k))
   buffered k lt =
-      place_one pin_of (port_number k) (cell_of (Input k)) netlist.cells (root_stands (Input k) lt) refl
-      (λ c has e. let made = cell_made c has in made.2 ∙ ap cell_of (pin_at made.0 k (ap pin_of (sym made.2) ∙ e)))
+      place_one pin_of (port_number k) (pad_cell parts bits extras bonded (numbered k)) netlist.cells (buffer_there k lt) refl
+      (λ c has e. let made = cell_made c has in made.2 ∙ at_port k made.0 made.1 (ap pin_of (sym made.2) ∙ e))
 
   -- ---- the place of a port
   port_from : (a n k : ℕ) → k < n → position_or_len (is_at (port_number (a + k))) (map pad_port (range_with_len a n)) ≡ k
@@ -384,3 +496,19 @@ module _ (parts : Parts) (bits : Bits) (package_rows : PackageRows) where
       let long = ports_long in
       let yes : nat_lt k (length bonded) ≡ true = search (rules, tests) in
       (λ j. if nat_lt (first j) (long j) then Some (first j) else None) ∙ ap (λ b. if b then Some k else None) yes
+
+  -- the pad of a port drives the port's signal
+  pub port_driven : (k : ℕ) → k < length bonded → driver_of netlist (port_number k) ≡ drivers.TheVariants.Pad k
+  port_driven k lt =
+      let there : Has netlist.ports (pad_port k) = Has_map pad_port (range_with_len 0 (length bonded)) k (k, numbered_range) in
+      let found = place_one (pad_of netlist.cells) (port_number k) (pad_port k) netlist.ports there refl
+      (λ p has e. let is = port_made p has in
+      is.2 ∙ ap pad_port (same_port is.0 k (ap (pad_of netlist.cells) (sym is.2) ∙ e))) in
+      let at = At_map_cases pad_port (range_with_len 0 (length bonded)) found.0 (pad_port k) found.2 in
+      let inside = At_range_cases 0 (length bonded) found.0 at.0 at.1 in
+      let same : port_number at.0 ≡ port_number k = ap (λ (p : Port). p.signal.0) at.2 in
+      let place : found.0 ≡ k = omega (arith, inside.1, same) in
+      (λ j. driver_from (found.1 j) (place_of (port_number k) (outputs netlist))) ∙ ap (λ i. drivers.TheVariants.Pad i) place
+    where
+      numbered_range : At (range_with_len 0 (length bonded)) k k
+      numbered_range = let e : 0 + k ≡ k = omega arith in subst (λ m. At (range_with_len 0 (length bonded)) k m) e (At_range 0 (length bonded) k lt)

@@ -8,8 +8,16 @@ use ice_base::TileAt;
 pub enum LevelRoot {
     /// A fixed level.
     Fixed(bool),
-    /// The pad of this number of the package.
+    /// What the pad of this number of the package gives to its wire.
     Input(usize),
+    /// What the register keeps that takes what the pad of this number gives.
+    Taken(usize),
+    /// What the pad of this number gives to that register. No point has this root: the register alone reads it.
+    Given(usize),
+    /// What the register keeps that the pad of this number is driven with. No point has this root: the pad alone reads it.
+    Kept(usize),
+    /// The level of the pad of this number, which feeds a global.
+    Level(usize),
     /// The look-up table of a cell.
     Table {
         /// The cell's tile.

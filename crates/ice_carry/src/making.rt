@@ -9,8 +9,8 @@ use crate::CarryFault;
 use crate::moves::{find_moves, number_moves};
 use crate::renames::{cells_after, rename_globals, rename_pads};
 use ice_base::NoMemory;
-use ice_cells::{CarryIn, Design, DesignPad, Follow, Items, LogicCell, Root, Run};
 use ice_carry_chains::{build_runs, find_follows, find_heads, numbers_by_cell, push_feeds};
+use ice_cells::{CarryIn, Design, DesignPad, Follow, Items, LogicCell, Root, Run};
 use std::alloc::Global;
 
 // A design's runs, its cells with those that the runs have beside their carries, and the cell that passes each carry on.

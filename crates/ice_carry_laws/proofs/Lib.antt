@@ -2,7 +2,7 @@ mod ReadRoots
 mod Renaming
 mod Arriving
 mod Steps
-mod MovedNumbers
+pub mod MovedNumbers
 mod TiedRuns
 mod Shown
 mod NewCells

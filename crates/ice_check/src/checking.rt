@@ -20,8 +20,8 @@ use crate::signals::{driven_twice, undriven};
 use crate::sound::Orders;
 use crate::{NetFault, Sound};
 use ice_base::NoMemory;
-use ice_net::{CellKind, Driver, Netlist};
 use ice_base_values::Outcome;
+use ice_net::{CellKind, Driver, Netlist};
 use std::alloc::Global;
 
 // The PIN_TYPE of an SB_IO, and 0 for other cells.

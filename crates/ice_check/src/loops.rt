@@ -8,8 +8,8 @@ ghost use Rattle.ice_check.specs.Tables.{AreDrivers};
 ghost use Rattle.ice_check.specs.Loops.{IsGraphOf, IsSearched};
 
 use ice_base::{NoMemory, SignalNo};
-use ice_net::{CellKind, Driver, Netlist};
 use ice_base_values::{Graph, Outcome, from_least, order};
+use ice_net::{CellKind, Driver, Netlist};
 use std::alloc::Global;
 
 // Puts the numbers of the signals that are there behind a row.

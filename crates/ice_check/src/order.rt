@@ -7,8 +7,8 @@ ghost use Rattle.ice_check.specs.Loops.{IsGraphOf, HasOrder, cell_by, cells_at, 
 
 use crate::loops::read_by;
 use ice_base::NoMemory;
-use ice_net::{Driver, Netlist};
 use ice_base_values::{Graph, Outcome, order};
+use ice_net::{Driver, Netlist};
 use std::alloc::Global;
 
 // The cell that drives a signal, if one does.

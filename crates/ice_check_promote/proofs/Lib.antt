@@ -11,5 +11,5 @@ mod Chosen
 mod Redirected
 mod Filled
 mod NewNames
-mod Unpromoted
+pub mod Unpromoted
 pub mod PlainNames

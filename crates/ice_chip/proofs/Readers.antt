@@ -9,7 +9,7 @@ use Rattle.ice_base.specs.declared.number.TileAt.{TileAt}
 use Rattle.ice_base.specs.Names.{number_of_name}
 use Rattle.ice_chip.specs.Database.{Parts}
 use Rattle.ice_chip.specs.Places.{same_tile, same_pad}
-use Rattle.ice_chip.specs.Lookups.{in_group, placed_names, placed_wire, names_of, wire_named, global_tile, enable_counts, buffer_counts, served_tile, global_of, ieren_of, colbuf_of}
+use Rattle.ice_chip.specs.Lookups.{in_group, placed_names, placed_wire, names_of, wire_named, global_tile, fed_pad, enable_counts, buffer_counts, served_tile, global_of, gbufpin_of, padin_of, ieren_of, colbuf_of}
 use Rattle.ice_chip.specs.Indices.{Numbered, same_numbered, numbered, lists_of, listed, firsts, row_in, row_at}
 use Rattle.ice_chip.specs.NameIndex.{no_names}
 use Rattle.ice_chip.specs.Views.{group_view, row_view}
@@ -99,6 +99,12 @@ wire_found parts s tile name e =
 -- ---- the first rows
 pub global_found : (parts : Parts) (entries : List (ℕ × TileAt)) (n : ℕ) → entries ≡ firsts nat_eq [] (map global_tile parts.gbufin) → lookup (nat_eq n) entries ≡ global_of parts n
 global_found parts entries n e = ap (lookup (nat_eq n)) e ∙ lookup-firsts nat_eq nat_same n [] (map global_tile parts.gbufin)
+
+pub global_pad_found : (parts : Parts) (entries : List (ℕ × Pad)) (n : ℕ) → entries ≡ firsts nat_eq [] (map fed_pad parts.gbufpin) → lookup (nat_eq n) entries ≡ gbufpin_of parts n
+global_pad_found parts entries n e = ap (lookup (nat_eq n)) e ∙ lookup-firsts nat_eq nat_same n [] (map fed_pad parts.gbufpin)
+
+pub extra_found : (parts : Parts) (entries : List (ℕ × (ℕ × ℕ × ℕ))) (n : ℕ) → entries ≡ firsts nat_eq [] parts.padin → lookup (nat_eq n) entries ≡ padin_of parts n
+extra_found parts entries n e = ap (lookup (nat_eq n)) e ∙ lookup-firsts nat_eq nat_same n [] parts.padin
 
 pub enable_found : (parts : Parts) (entries : List (Pad × Pad)) (pad : Pad) → entries ≡ firsts same_pad [] (filter (enable_counts parts.tiles) parts.ieren) → lookup (same_pad pad) entries ≡ ieren_of parts pad
 enable_found parts entries pad e = ap (lookup (same_pad pad)) e ∙ lookup-firsts same_pad pad_same pad [] (filter (enable_counts parts.tiles) parts.ieren)

@@ -3,7 +3,7 @@ use Rattle.std.proofs.Common.{◌≡◌, ℕ, ◌<◌, None, Some, List, [], ◌
 use Rattle.ice_chip.specs.Digits.{digit, number_behind, number_or, numbered_or}
 use Rattle.ice_chip.specs.WireNames.{wire_name, IsTileWire, IsNamedWire, WireNamesAreRead, cell_wire, pad_wire, lone_wire, global_wire, outer_wire, tile_wire, global_name}
 use Rattle.ice_chip.specs.declared.wire_names.TileWire.{TileWire}
-use Rattle.ice_chip.specs.declared.wire_names.TileWire.TheVariants.{CellInput, CellOutput, CarryOut, LookUp, Clock, ClockEnable, SetReset, CarryIn, FirstCarry, PadInput, PadOutput, OutputEnable, Fabout, Global}
+use Rattle.ice_chip.specs.declared.wire_names.TileWire.TheVariants.{CellInput, CellOutput, CarryOut, LookUp, Clock, ClockEnable, SetReset, CarryIn, FirstCarry, PadInput, PadOutput, OutputEnable, InputClock, OutputClock, InOutEnable, Fabout, Global}
 use Rattle.ice_base.proofs.Keys.{bytes_same}
 use Rattle.ice_chip.proofs.Prefixes.{number_behind_read, number_within_read, if_meets, number_meets, number_or_meets, numbered_or_meets}
 
@@ -29,6 +29,9 @@ names_read FirstCarry within = refl
 names_read (PadInput pio) within = of_pad pio (codes "/D_IN_0") within
 names_read (PadOutput pio) within = of_pad pio (codes "/D_OUT_0") within
 names_read (OutputEnable pio) within = of_pad pio (codes "/OUT_ENB") within
+names_read InputClock within = refl
+names_read OutputClock within = refl
+names_read InOutEnable within = refl
 names_read Fabout within = refl
 names_read (Global n) within = ap (λ o. number_or Global o (lone_wire (global_name n))) (number_behind_read 8 (codes "glb_netwk_") n within (omega arith))
 
@@ -59,8 +62,11 @@ lone_told name =
     (if_meets P (bytes_eq name (codes "lutff_global/s_r")) (Some SetReset) _ (λ is. record { within = tt; named = bytes_same name (codes "lutff_global/s_r") is })
     (if_meets P (bytes_eq name (codes "carry_in")) (Some CarryIn) _ (λ is. record { within = tt; named = bytes_same name (codes "carry_in") is })
     (if_meets P (bytes_eq name (codes "carry_in_mux")) (Some FirstCarry) _ (λ is. record { within = tt; named = bytes_same name (codes "carry_in_mux") is })
+    (if_meets P (bytes_eq name (codes "io_global/inclk")) (Some InputClock) _ (λ is. record { within = tt; named = bytes_same name (codes "io_global/inclk") is })
+    (if_meets P (bytes_eq name (codes "io_global/outclk")) (Some OutputClock) _ (λ is. record { within = tt; named = bytes_same name (codes "io_global/outclk") is })
+    (if_meets P (bytes_eq name (codes "io_global/cen")) (Some InOutEnable) _ (λ is. record { within = tt; named = bytes_same name (codes "io_global/cen") is })
     (if_meets P (bytes_eq name (codes "fabout")) (Some Fabout) None (λ is. record { within = tt; named = bytes_same name (codes "fabout") is })
-    tt)))))
+    tt))))))))
 
 told : (name : List ℕ) → IfSome (tile_wire name) (IsNamedWire name)
 told name =

@@ -53,6 +53,8 @@ pub record Parts : Type 0 where
   pub packages : List PackageRows
   pub gbufin : List (TileAt × ℕ)
   pub gbufpin : List (Pad × ℕ)
+  -- the extra bit that puts the level of its pad on a global, by the global's number
+  pub padin : List (ℕ × (ℕ × ℕ × ℕ))
   pub ieren : List (Pad × Pad)
   pub colbuf : List (TileAt × TileAt)
 
@@ -69,6 +71,7 @@ no_parts width height wires = record {
   packages = [];
   gbufin = [];
   gbufpin = [];
+  padin = [];
   ieren = [];
   colbuf = [];
 }

@@ -40,9 +40,10 @@ is_of_pll (a ∷ b ∷ []) = false
 is_of_pll (a ∷ b ∷ c ∷ []) = false
 is_of_pll (a ∷ b ∷ c ∷ d ∷ name) = (a == 80) && (b == 76) && (c == 76) && (d == 46)
 
--- the functions of PLLs and of pairs of pads, which are kept so that bits which set them can be refused
+-- The functions of PLLs and of pairs of pads, and the falling clock of the registers of pads, which are kept so that bits which set them
+-- can be refused. They aren't read.
 abbrev pub is_foreign : TileKind → List ℕ → Bool
-is_foreign Io name = is_of_pll name || bytes_eq name (codes "IoCtrl.LVDS")
+is_foreign Io name = is_of_pll name || bytes_eq name (codes "IoCtrl.LVDS") || bytes_eq name (codes "NegClk")
 is_foreign Logic name = false
 is_foreign RamBottom name = false
 is_foreign RamTop name = false

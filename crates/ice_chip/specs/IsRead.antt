@@ -40,6 +40,7 @@ pub record IsRead (parts : Parts) : Type 0 where
   pub package_forms : All (IsPackage parts.width parts.height) parts.packages
   pub feeds : All (FeedsGlobal parts.width parts.height) parts.gbufin
   pub pad_feeds : All (PadFeedsGlobal parts.width parts.height) parts.gbufpin
+  pub padins : All (λ row. row.0 < 8) parts.padin
   pub enables : All (ArePads parts.width parts.height) parts.ieren
   pub buffers : All (ArePlaces parts.width parts.height) parts.colbuf
 

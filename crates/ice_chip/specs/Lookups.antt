@@ -59,6 +59,17 @@ global_tile row = (row.1, row.0)
 abbrev pub global_of : Parts → ℕ → Option TileAt
 global_of parts n = lookup (nat_eq n) (map global_tile parts.gbufin)
 
+abbrev pub fed_pad : Pad × ℕ → ℕ × Pad
+fed_pad row = (row.1, row.0)
+
+-- the pad that can feed a global directly
+abbrev pub gbufpin_of : Parts → ℕ → Option Pad
+gbufpin_of parts n = lookup (nat_eq n) (map fed_pad parts.gbufpin)
+
+-- the extra bit that puts the level of that pad on the global
+abbrev pub padin_of : Parts → ℕ → Option (ℕ × ℕ × ℕ)
+padin_of parts n = lookup (nat_eq n) parts.padin
+
 abbrev pub is_io_kind : TileKind → Bool
 is_io_kind Io = true
 is_io_kind Logic = false

@@ -7,7 +7,7 @@ use Rattle.ice_chip.specs.WireNames.{tile_wire}
 use Rattle.ice_chip.specs.declared.rows.TileKind.{TileKind}
 use Rattle.ice_chip.specs.declared.rows.TileKind.TheVariants.{Io, Logic}
 use Rattle.ice_chip.specs.declared.wire_names.TileWire.{TileWire}
-use Rattle.ice_chip.specs.declared.wire_names.TileWire.TheVariants.{CellInput, CellOutput, CarryOut, LookUp, Clock, ClockEnable, SetReset, FirstCarry, PadInput, PadOutput, OutputEnable, Fabout, Global}
+use Rattle.ice_chip.specs.declared.wire_names.TileWire.TheVariants.{CellInput, CellOutput, CarryOut, LookUp, Clock, ClockEnable, SetReset, FirstCarry, PadInput, PadOutput, OutputEnable, InputClock, OutputClock, InOutEnable, Fabout, Global}
 
 -- the name of a global in a tile, `glb_netwk_N`
 abbrev pub is_global_name : List ℕ → Bool
@@ -24,6 +24,9 @@ abbrev pub is_input_of : TileKind → TileWire → Bool
 is_input_of Io (PadOutput pio) = true
 is_input_of Io (OutputEnable pio) = true
 is_input_of Io Fabout = true
+is_input_of Io InputClock = true
+is_input_of Io OutputClock = true
+is_input_of Io InOutEnable = true
 is_input_of Logic (CellInput cell input) = true
 is_input_of Logic Clock = true
 is_input_of Logic ClockEnable = true

@@ -35,6 +35,7 @@ parts_view p = record {
   packages = map package_view p.packages.items;
   gbufin = p.gbufin.items;
   gbufpin = p.gbufpin.items;
+  padin = p.padin.items;
   ieren = p.ieren.items;
   colbuf = p.colbuf.items;
 }

@@ -2,7 +2,7 @@
 use Rattle.std.specs.Prelude.{◌≡◌, ℕ, ◌<◌, Option, None, Some, List, [], ◌∷◌, ◌++◌, codes, bytes_eq, option_map, IfSome, if◌then◌else◌}
 use Rattle.ice_chip.specs.Digits.{digit, number_behind, number_within, number_or, numbered_or}
 use Rattle.ice_chip.specs.declared.wire_names.TileWire.{TileWire}
-use Rattle.ice_chip.specs.declared.wire_names.TileWire.TheVariants.{CellInput, CellOutput, CarryOut, LookUp, Clock, ClockEnable, SetReset, CarryIn, FirstCarry, PadInput, PadOutput, OutputEnable, Fabout, Global}
+use Rattle.ice_chip.specs.declared.wire_names.TileWire.TheVariants.{CellInput, CellOutput, CarryOut, LookUp, Clock, ClockEnable, SetReset, CarryIn, FirstCarry, PadInput, PadOutput, OutputEnable, InputClock, OutputClock, InOutEnable, Fabout, Global}
 
 -- ---- cells
 -- `lutff_I/in_J`
@@ -47,6 +47,17 @@ pad_output_name pio = codes "io_" ++ digit pio ∷ codes "/D_OUT_0"
 abbrev pub output_enable_name : ℕ → List ℕ
 output_enable_name pio = codes "io_" ++ digit pio ∷ codes "/OUT_ENB"
 
+-- what the registers of both pads of a tile share: the clock of those that take what pads give, the clock of those that pads are driven
+-- with, and the enable of both
+abbrev pub input_clock_name : List ℕ
+input_clock_name = codes "io_global/inclk"
+
+abbrev pub output_clock_name : List ℕ
+output_clock_name = codes "io_global/outclk"
+
+abbrev pub in_out_enable_name : List ℕ
+in_out_enable_name = codes "io_global/cen"
+
 -- ---- globals
 -- what feeds a global from an IO tile
 abbrev pub fabout_name : List ℕ
@@ -70,6 +81,9 @@ wire_name FirstCarry = first_carry_name
 wire_name (PadInput pio) = pad_input_name pio
 wire_name (PadOutput pio) = pad_output_name pio
 wire_name (OutputEnable pio) = output_enable_name pio
+wire_name InputClock = input_clock_name
+wire_name OutputClock = output_clock_name
+wire_name InOutEnable = in_out_enable_name
 wire_name Fabout = fabout_name
 wire_name (Global n) = global_name n
 
@@ -110,8 +124,11 @@ lone_wire name =
     else (if bytes_eq name (codes "lutff_global/s_r") then Some SetReset
     else (if bytes_eq name (codes "carry_in") then Some CarryIn
     else (if bytes_eq name (codes "carry_in_mux") then Some FirstCarry
+    else (if bytes_eq name (codes "io_global/inclk") then Some InputClock
+    else (if bytes_eq name (codes "io_global/outclk") then Some OutputClock
+    else (if bytes_eq name (codes "io_global/cen") then Some InOutEnable
     else (if bytes_eq name (codes "fabout") then Some Fabout
-    else None)))))
+    else None))))))))
 
 abbrev pub global_wire : List ℕ → Option TileWire
 global_wire name = number_or Global (number_behind 8 (codes "glb_netwk_") name) (lone_wire name)

@@ -5,7 +5,7 @@ ghost use Rattle.ice_chip.specs.IsRead.{IsRead, IsChip};
 ghost use Rattle.ice_chip.specs.Whole.{whole_fault};
 ghost use Rattle.ice_chip.specs.Indices.{row_at, enables_of};
 ghost use Rattle.ice_chip.specs.Places.{same_pad};
-ghost use Rattle.ice_chip.specs.Lookups.{tile_of, kind_at, names_of, wire_named, rows_of, package_of, global_of, ieren_of, colbuf_of, function_of};
+ghost use Rattle.ice_chip.specs.Lookups.{tile_of, kind_at, names_of, wire_named, rows_of, package_of, global_of, gbufpin_of, padin_of, ieren_of, colbuf_of, function_of};
 ghost use Rattle.ice_chip.specs.Views.{function_view, row_view, group_view, package_view, parts_view};
 
 use crate::index::RowPlace;
@@ -178,7 +178,22 @@ impl Chip {
     pub fn global_of(&self, n: u8) -> Option<TileAt>
         ensures { result ≡ global_of self.now n }
     {
-        self.servers.globals.get(&n).copied()
+        self.servers.globals.tiles.get(&n).copied()
+    }
+
+    /// The pad that can feed a global directly, or None exactly where no row says so.
+    #[tactic(auto, using(crate::proofs::Readers::global_pad_found))]
+    pub fn gbufpin_of(&self, n: u8) -> Option<Pad>
+        ensures { result ≡ gbufpin_of self.now n }
+    {
+        self.servers.globals.pads.get(&n).copied()
+    }
+
+    /// The extra bit, as bank and place, that puts the level of that pad on the global, or None exactly where no row says so.
+    pub fn padin_of(&self, n: u8) -> Option<(u32, u32, u32)>
+        ensures { result ≡ padin_of self.now n }
+    {
+        self.servers.globals.extras.get(&n).copied()
     }
 }
 

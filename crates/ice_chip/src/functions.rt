@@ -89,7 +89,9 @@ pub fn is_foreign(kind: TileKind, name: &[u8]) -> bool
     ensures { result ≡ is_foreign kind name.now }
 {
     match kind {
-        TileKind::Io => is_of_pll(name) || name == b"IoCtrl.LVDS".as_slice(),
+        TileKind::Io => {
+            is_of_pll(name) || name == b"IoCtrl.LVDS".as_slice() || name == b"NegClk".as_slice()
+        }
         TileKind::Logic => false,
         TileKind::RamBottom => false,
         TileKind::RamTop => false,

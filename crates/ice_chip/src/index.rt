@@ -1,7 +1,7 @@
 //! The maps and lists by which a chip answers at once.
 ghost use Rattle.std.specs.Prelude.{◌≡◌, [], map, filter, IfOk, OnOk, nat_eq};
 ghost use Rattle.ice_chip.specs.Places.{same_tile, tile_known};
-ghost use Rattle.ice_chip.specs.Lookups.{tile_of, global_tile, is_io, holds_buffers, buffer_counts, served_tile};
+ghost use Rattle.ice_chip.specs.Lookups.{tile_of, global_tile, fed_pad, is_io, holds_buffers, buffer_counts, served_tile};
 ghost use Rattle.ice_chip.specs.Indices.{with_first, firsts, enables_of};
 ghost use Rattle.ice_chip.specs.Views.{function_view, parts_view};
 ghost use Rattle.ice_chip.specs.BufferKinds.{IsOfKinds};
@@ -58,15 +58,40 @@ pub fn tiles(alloc: Global, parts: &ChipParts) -> Result<Vec<Tile>, NoMemory>
     Ok(tiles)
 }
 
-/// The tile that feeds each global.
-pub fn globals(alloc: Global, parts: &ChipParts) -> Result<IndexMap<u8, TileAt>, NoMemory>
-    ensures { IfOk result (λ globals. globals.entries ≡ firsts nat_eq [] (map global_tile (parts_view parts.now).gbufin)) }
+/// The tile whose `fabout` feeds each global.
+pub fn feeding_tiles(alloc: Global, parts: &ChipParts) -> Result<IndexMap<u8, TileAt>, NoMemory>
+    ensures { IfOk result (λ tiles. tiles.entries ≡ firsts nat_eq [] (map global_tile (parts_view parts.now).gbufin)) }
 {
-    let mut globals = IndexMap::new(alloc);
+    let mut tiles = IndexMap::new(alloc);
     for row in &parts.gbufin {
-        note_first(&mut globals, row.1, row.0)?;
+        note_first(&mut tiles, row.1, row.0)?;
     }
-    Ok(globals)
+    Ok(tiles)
+}
+
+/// The pad that can feed each global.
+pub fn global_pads(alloc: Global, parts: &ChipParts) -> Result<IndexMap<u8, Pad>, NoMemory>
+    ensures { IfOk result (λ pads. pads.entries ≡ firsts nat_eq [] (map fed_pad (parts_view parts.now).gbufpin)) }
+{
+    let mut pads = IndexMap::new(alloc);
+    for row in &parts.gbufpin {
+        note_first(&mut pads, row.1, row.0)?;
+    }
+    Ok(pads)
+}
+
+/// The extra bit that puts the level of its pad on each global.
+pub fn global_extras(
+    alloc: Global,
+    parts: &ChipParts,
+) -> Result<IndexMap<u8, (u32, u32, u32)>, NoMemory>
+    ensures { IfOk result (λ extras. extras.entries ≡ firsts nat_eq [] (parts_view parts.now).padin) }
+{
+    let mut extras = IndexMap::new(alloc);
+    for row in &parts.padin {
+        note_first(&mut extras, row.0, row.1)?;
+    }
+    Ok(extras)
 }
 
 // Whether an IO tile stands there.

@@ -1,9 +1,11 @@
 //! The maps and lists by which a chip answers at once, in three groups.
 ghost use Rattle.std.specs.Prelude.{◌<◌, All, IfOk};
-ghost use Rattle.ice_chip.specs.IndexForms.{IsWireIndex, IsServerIndex, IsPlaceIndex};
+ghost use Rattle.ice_chip.specs.IndexForms.{IsWireIndex, IsGlobalIndex, IsServerIndex, IsPlaceIndex};
 ghost use Rattle.ice_chip.specs.Views.{parts_view};
 
-use crate::index::{RowPlace, column_buffers, globals, input_enables, tiles};
+use crate::index::{
+    RowPlace, column_buffers, feeding_tiles, global_extras, global_pads, input_enables, tiles,
+};
 use crate::lists::names_by_wire;
 use crate::name_places::{FunctionPlaces, places_of_packages};
 use crate::names::NameIndex;
@@ -24,11 +26,22 @@ pub struct WireIndex {
     pub names: NameIndex,
 }
 
+/// What serves each global.
+#[derive(Drop)]
+pub struct GlobalIndex {
+    /// The tile whose `fabout` feeds each global.
+    pub tiles: IndexMap<u8, TileAt>,
+    /// The pad that can feed each global.
+    pub pads: IndexMap<u8, Pad>,
+    /// The extra bit that puts the level of its pad on each global.
+    pub extras: IndexMap<u8, (u32, u32, u32)>,
+}
+
 /// What serves each global, pad and tile.
 #[derive(Drop)]
 pub struct ServerIndex {
-    /// The tile that feeds each global.
-    pub globals: IndexMap<u8, TileAt>,
+    /// What serves each global.
+    pub globals: GlobalIndex,
     /// The input enable of each pad.
     pub enables: IndexMap<Pad, Pad>,
     /// The tile that holds the column buffers of each tile.
@@ -62,12 +75,27 @@ impl WireIndex {
     }
 }
 
+impl GlobalIndex {
+    /// What serves the globals of these rows.
+    fn new(alloc: Global, parts: &ChipParts) -> Result<GlobalIndex, NoMemory>
+        ensures { IfOk result (IsGlobalIndex (parts_view parts.now)) }
+    {
+        let fed = both(feeding_tiles(alloc, parts), global_pads(alloc, parts));
+        let ((tiles, pads), extras) = both(fed, global_extras(alloc, parts))?;
+        Ok(GlobalIndex {
+            tiles,
+            pads,
+            extras,
+        })
+    }
+}
+
 impl ServerIndex {
     /// What serves the globals, pads and tiles of these rows.
     pub fn new(alloc: Global, parts: &ChipParts) -> Result<ServerIndex, NoMemory>
         ensures { IfOk result (IsServerIndex (parts_view parts.now)) }
     {
-        let pads = both(globals(alloc, parts), input_enables(alloc, parts));
+        let pads = both(GlobalIndex::new(alloc, parts), input_enables(alloc, parts));
         let ((globals, enables), buffers) = both(pads, column_buffers(alloc, parts))?;
         Ok(ServerIndex {
             globals,

@@ -43,7 +43,8 @@ pub use tile::Tile;
 pub use uses::{BitUse, KindBit};
 pub use wire_names::{
     TileWire, carry_in_name, carry_out_name, clock_enable_name, clock_name, fabout_name,
-    first_carry_name, global_name, input_name, look_up_name, output_enable_name, output_name,
-    pad_input_name, pad_output_name, set_reset_name, tile_wire, wire_names_are_read,
+    first_carry_name, global_name, in_out_enable_name, input_clock_name, input_name, look_up_name,
+    output_clock_name, output_enable_name, output_name, pad_input_name, pad_output_name,
+    set_reset_name, tile_wire, wire_names_are_read,
 };
 pub use wire_text::WireText;

@@ -50,8 +50,10 @@ pub struct ChipParts {
     pub packages: Vec<Package>,
     /// The tile whose `fabout` feeds a global, and the global; the first row of a global counts.
     pub gbufin: Vec<(TileAt, u8)>,
-    /// The pad that can feed a global, and the global.
+    /// The pad that can feed a global, and the global; the first row of a global counts.
     pub gbufpin: Vec<(Pad, u8)>,
+    /// A global, and the extra bit that puts the level of its pad on it: bank and place; the first row of a global counts.
+    pub padin: Vec<(u8, (u32, u32, u32))>,
     /// A pad, and the tile and number of its input enable; the first row of a pad counts.
     pub ieren: Vec<(Pad, Pad)>,
     /// The tile with the column buffer bits, and the tile that they serve; the first row of a served tile counts.
@@ -74,6 +76,7 @@ impl ChipParts {
             packages: Vec::new(alloc),
             gbufin: Vec::new(alloc),
             gbufpin: Vec::new(alloc),
+            padin: Vec::new(alloc),
             ieren: Vec::new(alloc),
             colbuf: Vec::new(alloc),
         }

@@ -14,6 +14,9 @@ ghost use Rattle.ice_chip.specs.WireNames.{
   pad_input_name,
   pad_output_name,
   output_enable_name,
+  input_clock_name,
+  output_clock_name,
+  in_out_enable_name,
   fabout_name,
   global_name,
   cell_wire,
@@ -53,6 +56,12 @@ pub enum TileWire {
     PadOutput(u8),
     /// `io_P/OUT_ENB`: whether a pad is driven.
     OutputEnable(u8),
+    /// `io_global/inclk`: the clock of the registers that take what pads give.
+    InputClock,
+    /// `io_global/outclk`: the clock of the registers that pads are driven with.
+    OutputClock,
+    /// `io_global/cen`: the enable of the registers of pads.
+    InOutEnable,
     /// `fabout`: what feeds a global.
     Fabout,
     /// `glb_netwk_N`: a global.
@@ -158,6 +167,27 @@ pub fn output_enable_name(pio: u8) -> [u8; 12]
     name
 }
 
+/// `io_global/inclk`, the clock of the registers that take what the pads of a tile give.
+pub fn input_clock_name() -> [u8; 15]
+    ensures { result ≡ input_clock_name }
+{
+    *b"io_global/inclk"
+}
+
+/// `io_global/outclk`, the clock of the registers that the pads of a tile are driven with.
+pub fn output_clock_name() -> [u8; 16]
+    ensures { result ≡ output_clock_name }
+{
+    *b"io_global/outclk"
+}
+
+/// `io_global/cen`, the enable of the registers of the pads of a tile.
+pub fn in_out_enable_name() -> [u8; 13]
+    ensures { result ≡ in_out_enable_name }
+{
+    *b"io_global/cen"
+}
+
 /// `fabout`, what feeds a global.
 pub fn fabout_name() -> [u8; 6]
     ensures { result ≡ fabout_name }
@@ -227,6 +257,15 @@ fn lone_wire(name: &[u8]) -> Option<TileWire>
     }
     if name == b"carry_in_mux".as_slice() {
         return Some(TileWire::FirstCarry);
+    }
+    if name == b"io_global/inclk".as_slice() {
+        return Some(TileWire::InputClock);
+    }
+    if name == b"io_global/outclk".as_slice() {
+        return Some(TileWire::OutputClock);
+    }
+    if name == b"io_global/cen".as_slice() {
+        return Some(TileWire::InOutEnable);
     }
     if name == b"fabout".as_slice() {
         return Some(TileWire::Fabout);

@@ -155,6 +155,7 @@ example_is_read = record {
   package_forms = All-nil (IsPackage 2 2);
   feeds = lifted (FeedsGlobal 2 2) (feeds 2 2) (feeds_one 2 2) example.gbufin refl;
   pad_feeds = All-nil (PadFeedsGlobal 2 2);
+  padins = All-nil (λ row. row.0 < 8);
   enables = lifted (ArePads 2 2) (are_pads 2 2) (pads_are 2 2) example.ieren refl;
   buffers = lifted (ArePlaces 2 2) (are_places 2 2) (places_are 2 2) example.colbuf refl;
 }

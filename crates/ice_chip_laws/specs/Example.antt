@@ -97,6 +97,7 @@ example = record {
   packages = [];
   gbufin = (io_place, 0) ∷ [];
   gbufpin = [];
+  padin = [];
   ieren = (first_pad, second_pad) ∷ [];
   colbuf = (logic_place, logic_place) ∷ [];
 }

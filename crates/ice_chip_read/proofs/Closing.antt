@@ -34,6 +34,7 @@ closed_other section.ReadOver group pins parts other others = refl
 closed_other section.Pins group pins parts other others = absurd (other refl)
 closed_other section.BufferInputs group pins parts other others = refl
 closed_other section.BufferPins group pins parts other others = refl
+closed_other section.ExtraBits group pins parts other others = refl
 closed_other section.InputEnables group pins parts other others = refl
 closed_other section.ColumnBuffers group pins parts other others = refl
 closed_other (section.Bits kind) group pins parts other others = refl

@@ -16,8 +16,9 @@ use Rattle.ice_chip.specs.declared.parts.TileLine.{TileLine}
 use Rattle.ice_chip.specs.declared.rows.TileKind.{TileKind}
 use Rattle.ice_chip_read.specs.Faults.{◌>>=◌}
 use Rattle.ice_chip_read.specs.FirstFault.{NamesLine}
+use Rattle.ice_chip_read.specs.ExtraBits.{padin_global}
 use Rattle.ice_chip_read.specs.Headings.{heading_of}
-use Rattle.ice_chip_read.specs.Lines.{tile_in, pad_in, wire_in, global_in, unseen, one_word, sizes_in, begun_within, device_first, new_tile, tile_heading, bits_heading, net_heading, bits_at, group_bits, switches_heading, heading_says, pin_row, buffer_input_row, buffer_pin_row, input_enable_row, column_buffer_row, kept_function, function_row, name_row, known_values, values_at, switch_row, row_says, with_closed, line_says, first_says}
+use Rattle.ice_chip_read.specs.Lines.{tile_in, pad_in, wire_in, global_in, unseen, one_word, sizes_in, begun_within, device_first, new_tile, tile_heading, bits_heading, net_heading, bits_at, group_bits, switches_heading, heading_says, pin_row, buffer_input_row, buffer_pin_row, extra_row, input_enable_row, column_buffer_row, kept_function, function_row, name_row, known_values, values_at, switch_row, row_says, with_closed, line_says, first_says}
 use Rattle.ice_chip_read.specs.Reading.{Reading}
 use Rattle.ice_chip_read.specs.Words.{known, number, two, three, ended}
 use Rattle.ice_chip_read.specs.declared.section.Section.{Section}
@@ -125,6 +126,7 @@ heading_names r line heading.Device ws = bind line (sizes_in line ws) _ (sizes_n
 heading_names r line heading.Pins ws = bind line (one_word line ws) _ (one_word_names line ws) (λ name. tt)
 heading_names r line heading.BufferInputs ws = bind line (ended line ws) _ (ended_names line ws) (λ u. tt)
 heading_names r line heading.BufferPins ws = bind line (ended line ws) _ (ended_names line ws) (λ u. tt)
+heading_names r line heading.ExtraBits ws = bind line (ended line ws) _ (ended_names line ws) (λ u. tt)
 heading_names r line heading.InputEnables ws = bind line (ended line ws) _ (ended_names line ws) (λ u. tt)
 heading_names r line heading.ColumnBuffers ws = bind line (ended line ws) _ (ended_names line ws) (λ u. tt)
 heading_names r line (heading.Tile kind) ws = tile_heading_names r line kind ws
@@ -148,6 +150,11 @@ buffer_pin_names : (r : Reading) (line : ℕ) (ws : List (List ℕ)) → Names l
 buffer_pin_names r line ws =
     bind line (three line ws) _ (three_names line ws) (λ a. bind line (number line a.1) _ (number_names line a.1) (λ b. bind line (ended line b.1) _ (ended_names line b.1) (λ u.
     bind line (pad_in line r.parts a.0.0 a.0.1 a.0.2) _ (pad_names line r.parts a.0.0 a.0.1 a.0.2) (λ pad. bind line (global_in line b.0) _ (global_names line b.0) (λ global. tt)))))
+
+extra_names : (r : Reading) (line : ℕ) (o : Option ℕ) (ws : List (List ℕ)) → Names line (extra_row r line o ws)
+extra_names r line None ws = tt
+extra_names r line (Some n) ws =
+    bind line (three line ws) _ (three_names line ws) (λ a. bind line (ended line a.1) _ (ended_names line a.1) (λ u. bind line (global_in line n) _ (global_names line n) (λ global. tt)))
 
 input_enable_names : (r : Reading) (line : ℕ) (ws : List (List ℕ)) → Names line (input_enable_row r line ws)
 input_enable_names r line ws =
@@ -194,6 +201,7 @@ row_names r line section.ReadOver w ws = tt
 row_names r line section.Pins w ws = pin_row_names r line w ws
 row_names r line section.BufferInputs w ws = buffer_input_names r line (w ∷ ws)
 row_names r line section.BufferPins w ws = buffer_pin_names r line (w ∷ ws)
+row_names r line section.ExtraBits w ws = extra_names r line (padin_global w) ws
 row_names r line section.InputEnables w ws = input_enable_names r line (w ∷ ws)
 row_names r line section.ColumnBuffers w ws = column_buffer_names r line (w ∷ ws)
 row_names r line (section.Bits kind) w ws = function_names r line kind w ws

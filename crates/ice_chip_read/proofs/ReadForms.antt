@@ -19,12 +19,13 @@ use Rattle.ice_chip_read.specs.declared.section.Section.TheVariants as section
 use Rattle.ice_chip_read.specs.declared.section.Heading.{Heading}
 use Rattle.ice_chip_read.specs.declared.section.Heading.TheVariants as heading
 use Rattle.ice_chip_read.specs.Faults.{◌>>=◌}
+use Rattle.ice_chip_read.specs.ExtraBits.{padin_global}
 use Rattle.ice_chip_read.specs.Headings.{heading_of}
 use Rattle.ice_chip_read.specs.Reading.{Reading, begun, closed}
 use Rattle.ice_base.specs.BitNames.{bits_named}
 use Rattle.ice_chip_read.specs.Words.{number, two, three, ended}
 use Rattle.ice_chip.specs.Limits.{most_wires, most_places, most_rows}
-use Rattle.ice_chip_read.specs.Lines.{tile_in, pad_in, wire_in, global_in, unseen, one_word, sizes_in, begun_within, device_first, tile_line, new_tile, bits_at, group_bits, heading_says, kept_function, function_row, values_at, with_row, row_says, with_closed, line_says, lines_say, first_says, plain_says}
+use Rattle.ice_chip_read.specs.Lines.{tile_in, pad_in, wire_in, global_in, unseen, one_word, sizes_in, begun_within, device_first, tile_line, new_tile, bits_at, group_bits, heading_says, kept_function, function_row, extra_row, values_at, with_row, row_says, with_closed, line_says, lines_say, first_says, plain_says}
 use Rattle.ice_chip_read.proofs.Results.{bind, bind_meeting, held}
 use Rattle.ice_chip_read.proofs.Once.{distinct_none, keys_further, tile_laws, AreOthers, others_unseen, others_unread, functions_further, package_further}
 use Rattle.ice_chip_read.proofs.InRange.{place_read, pad_read, global_read, bits_read, AreSomeBits, group_bits_read, values_read}
@@ -49,10 +50,11 @@ pub record AreJoined (width height : ℕ) (groups : List SwitchGroup) (packages 
   pub package_forms : All (IsPackage width height) packages
 
 -- the rows of globals, input enables and column buffers
-pub record AreServed (width height : ℕ) (gbufin : List (TileAt × ℕ)) (gbufpin : List (Pad × ℕ)) (ieren : List (Pad × Pad)) (colbuf : List (TileAt × TileAt)) : Type 0 where
+pub record AreServed (width height : ℕ) (gbufin : List (TileAt × ℕ)) (gbufpin : List (Pad × ℕ)) (padin : List (ℕ × (ℕ × ℕ × ℕ))) (ieren : List (Pad × Pad)) (colbuf : List (TileAt × TileAt)) : Type 0 where
   pub feeds : All (FeedsGlobal width height) gbufin
   pub pad_feeds : All (PadFeedsGlobal width height) gbufpin
   pub enables : All (ArePads width height) ieren
+  pub padins : All (λ row. row.0 < 8) padin
   pub buffers : All (ArePlaces width height) colbuf
 
 -- the sections that are ended
@@ -60,7 +62,7 @@ pub record AreWithin (parts : Parts) : Type 0 where
   pub small : AreSmall parts.width parts.height
   pub listed : AreListed parts.width parts.height parts.tiles parts.functions parts.names
   pub joined : AreJoined parts.width parts.height parts.groups parts.packages
-  pub served : AreServed parts.width parts.height parts.gbufin parts.gbufpin parts.ieren parts.colbuf
+  pub served : AreServed parts.width parts.height parts.gbufin parts.gbufpin parts.padin parts.ieren parts.colbuf
 
 -- the section that is open
 abbrev IsOpenForm : Section → ℕ → ℕ → SwitchGroup → PackageRows → Type 0
@@ -69,6 +71,7 @@ IsOpenForm section.ReadOver width height g p = Unit {0}
 IsOpenForm section.Pins width height g p = IsPackage width height p
 IsOpenForm section.BufferInputs width height g p = Unit {0}
 IsOpenForm section.BufferPins width height g p = Unit {0}
+IsOpenForm section.ExtraBits width height g p = Unit {0}
 IsOpenForm section.InputEnables width height g p = Unit {0}
 IsOpenForm section.ColumnBuffers width height g p = Unit {0}
 IsOpenForm (section.Bits kind) width height g p = Unit {0}
@@ -97,6 +100,7 @@ close_forms section.Pins r h = record {
 }
 close_forms section.BufferInputs r h = record { within = h.within; opened = tt }
 close_forms section.BufferPins r h = record { within = h.within; opened = tt }
+close_forms section.ExtraBits r h = record { within = h.within; opened = tt }
 close_forms section.InputEnables r h = record { within = h.within; opened = tt }
 close_forms section.ColumnBuffers r h = record { within = h.within; opened = tt }
 close_forms (section.Bits kind) r h = record { within = h.within; opened = tt }
@@ -144,6 +148,7 @@ heading_forms r line heading.Pins ws h =
     })
 heading_forms r line heading.BufferInputs ws h = bind Forms (ended line ws) _ (λ x e. record { within = h.within; opened = tt })
 heading_forms r line heading.BufferPins ws h = bind Forms (ended line ws) _ (λ x e. record { within = h.within; opened = tt })
+heading_forms r line heading.ExtraBits ws h = bind Forms (ended line ws) _ (λ x e. record { within = h.within; opened = tt })
 heading_forms r line heading.InputEnables ws h = bind Forms (ended line ws) _ (λ x e. record { within = h.within; opened = tt })
 heading_forms r line heading.ColumnBuffers ws h = bind Forms (ended line ws) _ (λ x e. record { within = h.within; opened = tt })
 heading_forms r line heading.Net ws h =
@@ -205,6 +210,27 @@ function_forms r line kind name ws h = by (is_read kind name) (is_foreign kind n
     by false true is other = kept_forms r line kind name ws h (ap (λ b. b || is_foreign kind name) is ∙ other) (others_unread kind name r.parts.functions is)
     by false false is other = h
 
+extra_forms : (r : Reading) (line : ℕ) (o : Option ℕ) (ws : List (List ℕ)) → Forms (record r { open_section = section.ExtraBits })
+    → IfOk (extra_row (record r { open_section = section.ExtraBits }) line o ws) Forms
+extra_forms r line None ws h = h
+extra_forms r line (Some n) ws h =
+    bind Forms (three line ws) _ (λ a e. bind Forms (ended line a.1) _ (λ u f.
+    bind_meeting Forms (λ n. n < 8) (global_in line n) _ (global_read line n) (λ global lt. record {
+      within = record {
+        small = h.within.small;
+        listed = h.within.listed;
+        joined = h.within.joined;
+        served = record {
+          feeds = h.within.served.feeds;
+          pad_feeds = h.within.served.pad_feeds;
+          padins = All-push (λ (row : ℕ × (ℕ × ℕ × ℕ)). row.0 < 8) r.parts.padin (global, a.0) h.within.served.padins lt;
+          enables = h.within.served.enables;
+          buffers = h.within.served.buffers;
+        };
+      };
+      opened = tt;
+    })))
+
 row_forms : (r : Reading) (s : Section) (line : ℕ) (w : List ℕ) (ws : List (List ℕ)) → Forms (record r { open_section = s }) → IfOk (row_says (record r { open_section = s }) line s w ws) Forms
 row_forms r section.Rowless line w ws h = tt
 row_forms r section.ReadOver line w ws h = h
@@ -225,6 +251,7 @@ row_forms r section.BufferInputs line w ws h =
         served = record {
           feeds = All-push (FeedsGlobal r.parts.width r.parts.height) r.parts.gbufin (tile, global) h.within.served.feeds (record { place = at; global = lt });
           pad_feeds = h.within.served.pad_feeds;
+          padins = h.within.served.padins;
           enables = h.within.served.enables;
           buffers = h.within.served.buffers;
         };
@@ -242,12 +269,14 @@ row_forms r section.BufferPins line w ws h =
         served = record {
           feeds = h.within.served.feeds;
           pad_feeds = All-push (PadFeedsGlobal r.parts.width r.parts.height) r.parts.gbufpin (pad, global) h.within.served.pad_feeds (record { pad = at; global = lt });
+          padins = h.within.served.padins;
           enables = h.within.served.enables;
           buffers = h.within.served.buffers;
         };
       };
       opened = tt;
     })))))
+row_forms r section.ExtraBits line w ws h = extra_forms r line (padin_global w) ws h
 row_forms r section.InputEnables line w ws h =
     bind Forms (three line (w ∷ ws)) _ (λ a e. bind Forms (three line a.1) _ (λ b f. bind Forms (ended line b.1) _ (λ u g.
     bind_meeting Forms (IsPad r.parts.width r.parts.height) (pad_in line r.parts a.0.0 a.0.1 a.0.2) _ (pad_read line r.parts a.0.0 a.0.1 a.0.2) (λ pad at.
@@ -259,6 +288,7 @@ row_forms r section.InputEnables line w ws h =
         served = record {
           feeds = h.within.served.feeds;
           pad_feeds = h.within.served.pad_feeds;
+          padins = h.within.served.padins;
           enables = All-push (ArePads r.parts.width r.parts.height) r.parts.ieren (pad, enable) h.within.served.enables (record { pad = at; enable = there });
           buffers = h.within.served.buffers;
         };
@@ -276,6 +306,7 @@ row_forms r section.ColumnBuffers line w ws h =
         served = record {
           feeds = h.within.served.feeds;
           pad_feeds = h.within.served.pad_feeds;
+          padins = h.within.served.padins;
           enables = h.within.served.enables;
           buffers = All-push (ArePlaces r.parts.width r.parts.height) r.parts.colbuf (source, served) h.within.served.buffers (record { holder = at; served = there });
         };
@@ -343,7 +374,7 @@ begun_forms line width height wires narrow low = record {
       named_places = All-nil (λ n. IsPlace width height n.tile);
     };
     joined = record { group_forms = All-nil (IsGroup width height); package_forms = All-nil (IsPackage width height) };
-    served = record { feeds = All-nil (FeedsGlobal width height); pad_feeds = All-nil (PadFeedsGlobal width height); enables = All-nil (ArePads width height); buffers = All-nil (ArePlaces width height) };
+    served = record { feeds = All-nil (FeedsGlobal width height); pad_feeds = All-nil (PadFeedsGlobal width height); enables = All-nil (ArePads width height); padins = All-nil (λ row. row.0 < 8); buffers = All-nil (ArePlaces width height) };
   };
   opened = tt;
 }

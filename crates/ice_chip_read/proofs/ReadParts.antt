@@ -18,12 +18,13 @@ use Rattle.ice_chip_read.specs.declared.section.Section.TheVariants as section
 use Rattle.ice_chip_read.specs.declared.section.Heading.{Heading}
 use Rattle.ice_chip_read.specs.declared.section.Heading.TheVariants as heading
 use Rattle.ice_chip_read.specs.Faults.{◌>>=◌}
+use Rattle.ice_chip_read.specs.ExtraBits.{padin_global}
 use Rattle.ice_chip_read.specs.Headings.{heading_of}
 use Rattle.ice_chip_read.specs.Reading.{Reading, begun, closed}
 use Rattle.ice_base.specs.BitNames.{bits_named}
 use Rattle.ice_chip_read.specs.Words.{number, two, three, ended}
 use Rattle.ice_chip.specs.Limits.{most_wires, most_places, most_rows}
-use Rattle.ice_chip_read.specs.Lines.{tile_in, pad_in, wire_in, global_in, unseen, one_word, sizes_in, begun_within, device_first, new_tile, bits_at, group_bits, heading_says, kept_function, values_at, with_row, row_says, with_closed, line_says, lines_say, first_says, plain_says}
+use Rattle.ice_chip_read.specs.Lines.{tile_in, pad_in, wire_in, global_in, unseen, one_word, sizes_in, begun_within, device_first, new_tile, bits_at, group_bits, heading_says, kept_function, extra_row, values_at, with_row, row_says, with_closed, line_says, lines_say, first_says, plain_says}
 use Rattle.ice_chip_read.specs.Whole.{AreReadOfLines}
 use Rattle.ice_chip_read.proofs.Results.{bind, held}
 use Rattle.ice_chip_read.proofs.ReadForms.{AreWithin, plain_within}
@@ -60,6 +61,7 @@ IsOpen section.ReadOver wires groups g rows = rows ≡ length (rows_of groups)
 IsOpen section.Pins wires groups g rows = rows ≡ length (rows_of groups)
 IsOpen section.BufferInputs wires groups g rows = rows ≡ length (rows_of groups)
 IsOpen section.BufferPins wires groups g rows = rows ≡ length (rows_of groups)
+IsOpen section.ExtraBits wires groups g rows = rows ≡ length (rows_of groups)
 IsOpen section.InputEnables wires groups g rows = rows ≡ length (rows_of groups)
 IsOpen section.ColumnBuffers wires groups g rows = rows ≡ length (rows_of groups)
 IsOpen (section.Bits kind) wires groups g rows = rows ≡ length (rows_of groups)
@@ -94,6 +96,7 @@ close_holds section.ReadOver r h = record { sound = h.sound; few = h.few; opened
 close_holds section.Pins r h = record { sound = h.sound; few = h.few; opened = h.opened }
 close_holds section.BufferInputs r h = record { sound = h.sound; few = h.few; opened = h.opened }
 close_holds section.BufferPins r h = record { sound = h.sound; few = h.few; opened = h.opened }
+close_holds section.ExtraBits r h = record { sound = h.sound; few = h.few; opened = h.opened }
 close_holds section.InputEnables r h = record { sound = h.sound; few = h.few; opened = h.opened }
 close_holds section.ColumnBuffers r h = record { sound = h.sound; few = h.few; opened = h.opened }
 close_holds (section.Bits kind) r h = record { sound = h.sound; few = h.few; opened = h.opened }
@@ -106,6 +109,7 @@ heading_holds r line heading.Device ws h = bind Holds (sizes_in line ws) _ (λ x
 heading_holds r line heading.Pins ws h = bind Holds (one_word line ws) _ (λ x e. record { sound = h.sound; few = h.few; opened = h.opened })
 heading_holds r line heading.BufferInputs ws h = bind Holds (ended line ws) _ (λ x e. record { sound = h.sound; few = h.few; opened = h.opened })
 heading_holds r line heading.BufferPins ws h = bind Holds (ended line ws) _ (λ x e. record { sound = h.sound; few = h.few; opened = h.opened })
+heading_holds r line heading.ExtraBits ws h = bind Holds (ended line ws) _ (λ x e. record { sound = h.sound; few = h.few; opened = h.opened })
 heading_holds r line heading.InputEnables ws h = bind Holds (ended line ws) _ (λ x e. record { sound = h.sound; few = h.few; opened = h.opened })
 heading_holds r line heading.ColumnBuffers ws h = bind Holds (ended line ws) _ (λ x e. record { sound = h.sound; few = h.few; opened = h.opened })
 heading_holds r line heading.Net ws h =
@@ -137,6 +141,12 @@ kept_holds : (r : Reading) (line : ℕ) (kind : TileKind) (name : List ℕ) (ws 
     → IfOk (kept_function (record r { open_section = section.Bits kind }) line kind name ws) Holds
 kept_holds r line kind name ws h = bind Holds (bits_at line (bits_named (columns kind) ws)) _ (λ bits e. record { sound = h.sound; few = h.few; opened = h.opened })
 
+extra_holds : (r : Reading) (line : ℕ) (o : Option ℕ) (ws : List (List ℕ)) → Holds (record r { open_section = section.ExtraBits })
+    → IfOk (extra_row (record r { open_section = section.ExtraBits }) line o ws) Holds
+extra_holds r line None ws h = h
+extra_holds r line (Some n) ws h =
+    bind Holds (three line ws) _ (λ a e. bind Holds (ended line a.1) _ (λ u f. bind Holds (global_in line n) _ (λ global g. record { sound = h.sound; few = h.few; opened = h.opened })))
+
 row_holds : (r : Reading) (s : Section) (line : ℕ) (w : List ℕ) (ws : List (List ℕ)) → Holds (record r { open_section = s }) → IfOk (row_says (record r { open_section = s }) line s w ws) Holds
 row_holds r section.Rowless line w ws h = tt
 row_holds r section.ReadOver line w ws h = h
@@ -148,6 +158,7 @@ row_holds r section.BufferInputs line w ws h =
 row_holds r section.BufferPins line w ws h =
     bind Holds (three line (w ∷ ws)) _ (λ a e. bind Holds (number line a.1) _ (λ b f. bind Holds (ended line b.1) _ (λ u g.
     bind Holds (pad_in line r.parts a.0.0 a.0.1 a.0.2) _ (λ pad k. bind Holds (global_in line b.0) _ (λ global m. record { sound = h.sound; few = h.few; opened = h.opened })))))
+row_holds r section.ExtraBits line w ws h = extra_holds r line (padin_global w) ws h
 row_holds r section.InputEnables line w ws h =
     bind Holds (three line (w ∷ ws)) _ (λ a e. bind Holds (three line a.1) _ (λ b f. bind Holds (ended line b.1) _ (λ u g.
     bind Holds (pad_in line r.parts a.0.0 a.0.1 a.0.2) _ (λ pad k. bind Holds (pad_in line r.parts b.0.0 b.0.1 b.0.2) _ (λ enable m. record { sound = h.sound; few = h.few; opened = h.opened })))))
@@ -255,6 +266,7 @@ closed_is_read r h within =
       package_forms = within.joined.package_forms;
       feeds = within.served.feeds;
       pad_feeds = within.served.pad_feeds;
+      padins = within.served.padins;
       enables = within.served.enables;
       buffers = within.served.buffers;
     }

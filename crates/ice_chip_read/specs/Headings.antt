@@ -2,7 +2,7 @@
 use Rattle.std.specs.Prelude.{ℕ, ◌||◌, List, codes, bytes_eq, if◌then◌else◌}
 use Rattle.ice_chip.specs.declared.rows.TileKind.TheVariants.{Io, Logic, RamBottom, RamTop}
 use Rattle.ice_chip_read.specs.declared.section.Heading.{Heading}
-use Rattle.ice_chip_read.specs.declared.section.Heading.TheVariants.{Device, Pins, BufferInputs, BufferPins, InputEnables, ColumnBuffers, Tile, Bits, Net, Switches, Other}
+use Rattle.ice_chip_read.specs.declared.section.Heading.TheVariants.{Device, Pins, BufferInputs, BufferPins, ExtraBits, InputEnables, ColumnBuffers, Tile, Bits, Net, Switches, Other}
 
 -- the headings of tiles and of the functions of their kinds
 abbrev pub tile_heading_of : List ℕ → Heading
@@ -26,6 +26,7 @@ heading_of word =
     else (if bytes_eq word (codes ".pins") then Pins
     else (if bytes_eq word (codes ".gbufin") then BufferInputs
     else (if bytes_eq word (codes ".gbufpin") then BufferPins
+    else (if bytes_eq word (codes ".extra_bits") then ExtraBits
     else (if bytes_eq word (codes ".ieren") then InputEnables
     else (if bytes_eq word (codes ".colbuf") then ColumnBuffers
-    else tile_heading_of word)))))))
+    else tile_heading_of word))))))))

@@ -23,6 +23,7 @@ use Rattle.ice_chip_read.specs.Faults.{◌>>=◌}
 use Rattle.ice_chip_read.specs.Words.{number, two, three, ended}
 use Rattle.ice_base.specs.BitNames.{bits_named, values_in}
 use Rattle.ice_chip.specs.Functions.{is_read, is_foreign, function_line}
+use Rattle.ice_chip_read.specs.ExtraBits.{padin_global}
 use Rattle.ice_chip_read.specs.Headings.{heading_of}
 use Rattle.ice_chip_read.specs.Reading.{Reading, begun, closed, tile_at, no_group, no_package}
 
@@ -132,6 +133,7 @@ heading_says r line heading.Device ws = device_again r line ws
 heading_says r line heading.Pins ws = pins_heading r line ws
 heading_says r line heading.BufferInputs ws = plain_heading r section.BufferInputs line ws
 heading_says r line heading.BufferPins ws = plain_heading r section.BufferPins line ws
+heading_says r line heading.ExtraBits ws = plain_heading r section.ExtraBits line ws
 heading_says r line heading.InputEnables ws = plain_heading r section.InputEnables line ws
 heading_says r line heading.ColumnBuffers ws = plain_heading r section.ColumnBuffers line ws
 heading_says r line (heading.Tile kind) ws = tile_heading r line kind ws
@@ -160,6 +162,16 @@ abbrev pub buffer_pin_row : Reading → ℕ → List (List ℕ) → Result Readi
 buffer_pin_row r line ws =
     three line ws >>= (λ a. number line a.1 >>= (λ b. ended line b.1 >>= (λ u. pad_in line r.parts a.0.0 a.0.1 a.0.2 >>= (λ pad. global_in line b.0 >>= (λ global.
     Ok (record r { parts = record r.parts { gbufpin = r.parts.gbufpin ++ (pad, global) ∷ [] } }))))))
+
+abbrev pub extra_bit_row : Reading → ℕ → ℕ → List (List ℕ) → Result Reading ChipFault
+extra_bit_row r line global ws =
+    three line ws >>= (λ a. ended line a.1 >>= (λ u. global_in line global >>= (λ n.
+    Ok (record r { parts = record r.parts { padin = r.parts.padin ++ (n, a.0) ∷ [] } }))))
+
+-- rows of other extra bits are read over
+abbrev pub extra_row : Reading → ℕ → Option ℕ → List (List ℕ) → Result Reading ChipFault
+extra_row r line None ws = Ok r
+extra_row r line (Some global) ws = extra_bit_row r line global ws
 
 abbrev pub input_enable_row : Reading → ℕ → List (List ℕ) → Result Reading ChipFault
 input_enable_row r line ws =
@@ -217,6 +229,7 @@ row_says r line section.ReadOver w ws = Ok r
 row_says r line section.Pins w ws = pin_row r line w ws
 row_says r line section.BufferInputs w ws = buffer_input_row r line (w ∷ ws)
 row_says r line section.BufferPins w ws = buffer_pin_row r line (w ∷ ws)
+row_says r line section.ExtraBits w ws = extra_row r line (padin_global w) ws
 row_says r line section.InputEnables w ws = input_enable_row r line (w ∷ ws)
 row_says r line section.ColumnBuffers w ws = column_buffer_row r line (w ∷ ws)
 row_says r line (section.Bits kind) w ws = function_row r line kind w ws

@@ -42,6 +42,7 @@ parts_closed section.ReadOver group pins parts = parts
 parts_closed section.Pins group pins parts = record parts { packages = parts.packages ++ pins ∷ [] }
 parts_closed section.BufferInputs group pins parts = parts
 parts_closed section.BufferPins group pins parts = parts
+parts_closed section.ExtraBits group pins parts = parts
 parts_closed section.InputEnables group pins parts = parts
 parts_closed section.ColumnBuffers group pins parts = parts
 parts_closed (section.Bits kind) group pins parts = parts

@@ -231,6 +231,7 @@ pub fn heading_line(
         Heading::Pins => pins_heading(alloc, reading, line, words),
         Heading::BufferInputs => Ok(plain_heading(reading, Section::BufferInputs, line, words)?),
         Heading::BufferPins => Ok(plain_heading(reading, Section::BufferPins, line, words)?),
+        Heading::ExtraBits => Ok(plain_heading(reading, Section::ExtraBits, line, words)?),
         Heading::InputEnables => Ok(plain_heading(reading, Section::InputEnables, line, words)?),
         Heading::ColumnBuffers => Ok(plain_heading(reading, Section::ColumnBuffers, line, words)?),
         Heading::Tile(kind) => tile_heading(reading, line, kind, words),

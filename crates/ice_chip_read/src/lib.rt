@@ -2,6 +2,7 @@
 #![tactic(auto)]
 
 mod bits;
+mod extra_bits;
 mod fault;
 mod headings;
 mod laws;

@@ -19,6 +19,7 @@ ghost use Rattle.ice_chip_read.specs.Views.{Gives, reading_view};
 
 use crate::ChipStop;
 use crate::bits::{bits, values};
+use crate::extra_bits::extra_row;
 use crate::ranges::{global_in, pad_in, tile_in, wire_in};
 use crate::reading::Reading;
 use crate::section::Section;
@@ -244,6 +245,7 @@ pub fn row_line(
         Section::Pins => pin_row(alloc, reading, line, first, words),
         Section::BufferInputs => buffer_input_row(reading, line, first, words),
         Section::BufferPins => buffer_pin_row(reading, line, first, words),
+        Section::ExtraBits => extra_row(reading, line, first, words),
         Section::InputEnables => input_enable_row(reading, line, first, words),
         Section::ColumnBuffers => column_buffer_row(reading, line, first, words),
         Section::Bits(kind) => function_row(alloc, reading, line, kind, first, words),

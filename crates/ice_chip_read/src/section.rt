@@ -17,6 +17,8 @@ pub enum Section {
     BufferInputs,
     /// The pads that can feed the globals.
     BufferPins,
+    /// The extra bits that put the levels of pads on globals.
+    ExtraBits,
     /// Where the input enables of the pads stand.
     InputEnables,
     /// Where the column buffers of the tiles stand.
@@ -40,6 +42,8 @@ pub enum Heading {
     BufferInputs,
     /// `.gbufpin`
     BufferPins,
+    /// `.extra_bits`
+    ExtraBits,
     /// `.ieren`
     InputEnables,
     /// `.colbuf`
@@ -108,6 +112,9 @@ pub fn heading_named(word: &[u8]) -> Heading
     }
     if word == b".gbufpin".as_slice() {
         return Heading::BufferPins;
+    }
+    if word == b".extra_bits".as_slice() {
+        return Heading::ExtraBits;
     }
     if word == b".ieren".as_slice() {
         return Heading::InputEnables;

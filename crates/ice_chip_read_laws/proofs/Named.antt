@@ -26,8 +26,9 @@ use Rattle.ice_chip_read.specs.declared.section.Heading.{Heading}
 use Rattle.ice_chip_read.specs.declared.section.Heading.TheVariants as heading
 use Rattle.ice_base.specs.PlainLines.{plain_lines}
 use Rattle.ice_chip_read.specs.Faults.{◌>>=◌}
+use Rattle.ice_chip_read.specs.ExtraBits.{padin_global}
 use Rattle.ice_chip_read.specs.Headings.{heading_of}
-use Rattle.ice_chip_read.specs.Lines.{tile_in, pad_in, wire_in, global_in, unseen, one_word, sizes_in, begun_within, device_first, new_tile, bits_at, group_bits, heading_says, with_pin, kept_function, function_row, values_at, with_row, row_says, with_closed, line_says, lines_say, first_says, plain_says, text_says}
+use Rattle.ice_chip_read.specs.Lines.{tile_in, pad_in, wire_in, global_in, unseen, one_word, sizes_in, begun_within, device_first, new_tile, bits_at, group_bits, heading_says, with_pin, kept_function, function_row, extra_row, values_at, with_row, row_says, with_closed, line_says, lines_say, first_says, plain_says, text_says}
 use Rattle.ice_chip_read.specs.Reading.{Reading, begun, parts_closed}
 use Rattle.ice_chip_read.specs.Words.{number, two, three, ended}
 use Rattle.ice_chip_read.specs.Whole.{chip_says}
@@ -64,6 +65,7 @@ close_named section.ReadOver g p parts all here = all
 close_named section.Pins g p parts all here = rec_push (λ (rows : PackageRows). ArePins rows.pins) parts.packages p all here
 close_named section.BufferInputs g p parts all here = all
 close_named section.BufferPins g p parts all here = all
+close_named section.ExtraBits g p parts all here = all
 close_named section.InputEnables g p parts all here = all
 close_named section.ColumnBuffers g p parts all here = all
 close_named (section.Bits kind) g p parts all here = all
@@ -76,6 +78,7 @@ heading_named r line heading.Device ws is = bind Named (sizes_in line ws) _ (λ 
 heading_named r line heading.Pins ws is = bind Named (one_word line ws) _ (λ name. record { ended = is.ended; opened = tt })
 heading_named r line heading.BufferInputs ws is = bind Named (ended line ws) _ (λ x. record { ended = is.ended; opened = is.opened })
 heading_named r line heading.BufferPins ws is = bind Named (ended line ws) _ (λ x. record { ended = is.ended; opened = is.opened })
+heading_named r line heading.ExtraBits ws is = bind Named (ended line ws) _ (λ x. record { ended = is.ended; opened = is.opened })
 heading_named r line heading.InputEnables ws is = bind Named (ended line ws) _ (λ x. record { ended = is.ended; opened = is.opened })
 heading_named r line heading.ColumnBuffers ws is = bind Named (ended line ws) _ (λ x. record { ended = is.ended; opened = is.opened })
 heading_named r line (heading.Tile kind) ws is =
@@ -113,6 +116,11 @@ function_named r line kind name ws is = by (is_read kind name) (is_foreign kind 
     by false true = kept_named r line kind name ws is
     by false false = is
 
+extra_named : (r : Reading) (line : ℕ) (o : Option ℕ) (ws : List (List ℕ)) → Named r → IfOk (extra_row r line o ws) Named
+extra_named r line None ws is = is
+extra_named r line (Some n) ws is =
+    bind Named (three line ws) _ (λ a. bind Named (ended line a.1) _ (λ u. bind Named (global_in line n) _ (λ global. record { ended = is.ended; opened = is.opened })))
+
 row_named : (r : Reading) (s : Section) (line : ℕ) (w : List ℕ) (ws : List (List ℕ)) → IsWord w → Named r → IfOk (row_says r line s w ws) Named
 row_named r section.Rowless line w ws word is = tt
 row_named r section.ReadOver line w ws word is = is
@@ -125,6 +133,7 @@ row_named r section.BufferInputs line w ws word is =
 row_named r section.BufferPins line w ws word is =
     bind Named (three line (w ∷ ws)) _ (λ a. bind Named (number line a.1) _ (λ b. bind Named (ended line b.1) _ (λ u. bind Named (pad_in line r.parts a.0.0 a.0.1 a.0.2) _ (λ pad. bind Named (global_in line b.0) _ (λ global.
     record { ended = is.ended; opened = is.opened })))))
+row_named r section.ExtraBits line w ws word is = extra_named r line (padin_global w) ws is
 row_named r section.InputEnables line w ws word is =
     bind Named (three line (w ∷ ws)) _ (λ a. bind Named (three line a.1) _ (λ b. bind Named (ended line b.1) _ (λ u.
     bind Named (pad_in line r.parts a.0.0 a.0.1 a.0.2) _ (λ pad. bind Named (pad_in line r.parts b.0.0 b.0.1 b.0.2) _ (λ enable. record { ended = is.ended; opened = is.opened })))))

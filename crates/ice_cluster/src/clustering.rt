@@ -9,7 +9,7 @@ use crate::ranking::{rank_flops, rank_plains};
 use crate::sets::by_sets;
 use crate::sorting::loose_cells;
 use ice_base::NoMemory;
-use ice_cells::{Cluster, Clusters, Control, Design, TileCells, Items, LogicCell, Run};
+use ice_cells::{Cluster, Clusters, Control, Design, Items, LogicCell, Run, TileCells};
 use std::alloc::Global;
 
 // Opens groups of the flip-flops by their control sets, and fills them with plain cells; gives those that are left.

@@ -5,7 +5,7 @@ ghost use Rattle.ice_cells.specs.Pieces.{pieces_count};
 ghost use Rattle.ice_cells.specs.Clusters.{run_piece, set_piece, runs_pieces, plain_pieces, ends, group_of, group_pieces, groups_pieces};
 
 use ice_base::{NoMemory, to_u32};
-use ice_cells::{Control, TileCells, Items, LogicCell, Run, first_control, piece, pieces_count};
+use ice_cells::{Control, Items, LogicCell, Run, TileCells, first_control, piece, pieces_count};
 use indexmap::IndexSet;
 use std::alloc::Global;
 

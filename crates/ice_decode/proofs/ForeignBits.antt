@@ -5,12 +5,13 @@ use Rattle.std.specs.List.{list_any}
 use Rattle.std.proofs.lemmas.Bool.{and_parts, eqb-true}
 use Rattle.std.proofs.lemmas.List.Folds.{list_any-append}
 use Rattle.ice_base.specs.declared.number.BitAt.{BitAt}
-use Rattle.ice_chip.specs.Database.{FunctionRow}
+use Rattle.ice_chip.specs.Database.{Parts, FunctionRow}
 use Rattle.ice_chip.specs.Functions.{is_foreign, same_kind}
 use Rattle.ice_chip.specs.declared.rows.TileKind.{TileKind}
 use Rattle.ice_chip.specs.declared.rows.TileKind.TheVariants.{Io, Logic, RamBottom, RamTop}
 use Rattle.ice_chip.specs.declared.tile.Tile.{Tile}
 use Rattle.ice_bits.specs.Configuration.{Bits, same_place}
+use Rattle.ice_decode.specs.Faults.{counts_in}
 use Rattle.ice_decode.specs.ForeignTiles.{is_set_at, foreign_at}
 use Rattle.ice_decode.specs.ForeignPlaces.{with_place, with_places, with_function, foreign_places}
 use Rattle.ice_decode.proofs.Members.{Has_any, Has_none}
@@ -58,39 +59,39 @@ module _ (test : BitAt → Bool) where
       by false none = (none, refl)
 
 -- ---- functions
-not_both : (a b c : Bool) → (b && c) ≡ false → (a && b && c) ≡ false
-not_both true true c e = e
-not_both true false c e = refl
-not_both false b c e = refl
+not_both : (a b c d : Bool) → (b && c) ≡ false → (a && b && c && d) ≡ false
+not_both true true c d e = ap (λ x. x && d) e
+not_both true false c d e = refl
+not_both false b c d e = refl
 
-module _ (bits : Bits) (tile : Tile) where
+module _ (parts : Parts) (bits : Bits) (tile : Tile) where
   unset : (seen : List BitAt) (functions : List FunctionRow) → list_any (bits tile.at) (foreign_places seen functions) ≡ false
-      → (list_any (bits tile.at) seen ≡ false) × (find (is_set_at bits tile) functions ≡ None)
+      → (list_any (bits tile.at) seen ≡ false) × (find (is_set_at parts bits tile) functions ≡ None)
   unset seen [] e = (e, refl)
   unset seen (f ∷ functions) e =
       let later = unset (with_function seen f) functions e in
       let here = none_of (bits tile.at) seen f later.0 in (
         here.0,
-        ap (λ x. cond x (Some f) (find (is_set_at bits tile) functions))
-            (not_both (same_kind f.kind tile.kind) (is_foreign f.kind f.name) (list_any (bits tile.at) f.bits) here.1) ∙ later.1,
+        ap (λ x. cond x (Some f) (find (is_set_at parts bits tile) functions))
+            (not_both (same_kind f.kind tile.kind) (is_foreign f.kind f.name) (list_any (bits tile.at) f.bits) (counts_in parts bits tile.at f.name) here.1) ∙ later.1,
       )
 
-  pub none_marked : (functions : List FunctionRow) (places : List BitAt) → places ≡ foreign_places [] functions → list_any (bits tile.at) places ≡ false → foreign_at functions bits tile ≡ None
+  pub none_marked : (functions : List FunctionRow) (places : List BitAt) → places ≡ foreign_places [] functions → list_any (bits tile.at) places ≡ false → foreign_at parts functions bits tile ≡ None
   none_marked functions places are none =
       ap (option_map (λ (f : FunctionRow). f.line)) (unset [] functions (ap (list_any (bits tile.at)) (sym are) ∙ none)).1
 
   -- foreign functions are functions of IO tiles
-  not_foreign : (f : FunctionRow) (kind : TileKind) → f.kind ≡ kind → same_kind Io tile.kind ≡ false → is_set_at bits tile f ≡ false
+  not_foreign : (f : FunctionRow) (kind : TileKind) → f.kind ≡ kind → same_kind Io tile.kind ≡ false → is_set_at parts bits tile f ≡ false
   not_foreign f Io e other =
-      ap (λ kind. same_kind kind tile.kind && is_foreign f.kind f.name && list_any (bits tile.at) f.bits) e
-      ∙ ap (λ x. x && is_foreign f.kind f.name && list_any (bits tile.at) f.bits) other
-  not_foreign f Logic e other = not_both (same_kind f.kind tile.kind) (is_foreign f.kind f.name) _ (ap (λ kind. is_foreign kind f.name && list_any (bits tile.at) f.bits) e)
-  not_foreign f RamBottom e other = not_both (same_kind f.kind tile.kind) (is_foreign f.kind f.name) _ (ap (λ kind. is_foreign kind f.name && list_any (bits tile.at) f.bits) e)
-  not_foreign f RamTop e other = not_both (same_kind f.kind tile.kind) (is_foreign f.kind f.name) _ (ap (λ kind. is_foreign kind f.name && list_any (bits tile.at) f.bits) e)
+      ap (λ kind. same_kind kind tile.kind && is_foreign f.kind f.name && list_any (bits tile.at) f.bits && counts_in parts bits tile.at f.name) e
+      ∙ ap (λ x. x && is_foreign f.kind f.name && list_any (bits tile.at) f.bits && counts_in parts bits tile.at f.name) other
+  not_foreign f Logic e other = not_both (same_kind f.kind tile.kind) (is_foreign f.kind f.name) _ _ (ap (λ kind. is_foreign kind f.name && list_any (bits tile.at) f.bits) e)
+  not_foreign f RamBottom e other = not_both (same_kind f.kind tile.kind) (is_foreign f.kind f.name) _ _ (ap (λ kind. is_foreign kind f.name && list_any (bits tile.at) f.bits) e)
+  not_foreign f RamTop e other = not_both (same_kind f.kind tile.kind) (is_foreign f.kind f.name) _ _ (ap (λ kind. is_foreign kind f.name && list_any (bits tile.at) f.bits) e)
 
-  none_found : (functions : List FunctionRow) → same_kind Io tile.kind ≡ false → find (is_set_at bits tile) functions ≡ None
+  none_found : (functions : List FunctionRow) → same_kind Io tile.kind ≡ false → find (is_set_at parts bits tile) functions ≡ None
   none_found [] other = refl
-  none_found (f ∷ functions) other = ap (λ x. cond x (Some f) (find (is_set_at bits tile) functions)) (not_foreign f f.kind refl other) ∙ none_found functions other
+  none_found (f ∷ functions) other = ap (λ x. cond x (Some f) (find (is_set_at parts bits tile) functions)) (not_foreign f f.kind refl other) ∙ none_found functions other
 
-  pub none_elsewhere : (functions : List FunctionRow) → same_kind Io tile.kind ≡ false → foreign_at functions bits tile ≡ None
+  pub none_elsewhere : (functions : List FunctionRow) → same_kind Io tile.kind ≡ false → foreign_at parts functions bits tile ≡ None
   none_elsewhere functions other = ap (option_map (λ (f : FunctionRow). f.line)) (none_found functions other)

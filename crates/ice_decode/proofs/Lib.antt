@@ -12,6 +12,7 @@ pub mod ForeignBits
 pub mod DriverTables
 pub mod Driven
 pub mod GlobalsNamed
+pub mod DirectGlobals
 pub mod KeptLevels
 pub mod PinRoles
 pub mod RowValues

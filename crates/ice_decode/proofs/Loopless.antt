@@ -21,10 +21,10 @@ use Rattle.ice_decode.proofs.PointPlaces.{wire_at}
 use Rattle.ice_decode.proofs.ReadPoints.{IsReadBy, is_read_by}
 use Rattle.ice_decode.proofs.Valued.{valued}
 
-module _ (parts : Parts) (bits : Bits) (read : IsRead parts) (bonded : List Pad) (levels kept : List Bool) (steps : ℕ)
-    (each : (w : ℕ) → w < parts.wires → (x : Bool) × (value (system_of parts bits bonded levels kept) steps (Wire (record { 0 = w })) ≡ Some x)) where
+module _ (parts : Parts) (bits : Bits) (extras : List (ℕ × ℕ × ℕ)) (read : IsRead parts) (bonded : List Pad) (levels kept : List Bool) (steps : ℕ)
+    (each : (w : ℕ) → w < parts.wires → (x : Bool) × (value (system_of parts bits extras bonded levels kept) steps (Wire (record { 0 = w })) ≡ Some x)) where
   abbrev system : System Point Bool
-  system = system_of parts bits bonded levels kept
+  system = system_of parts bits extras bonded levels kept
 
   -- a wire of the chip has a value, and so has the carry of a cell, after all carries before it
   abbrev IsValued : ℕ → Point → Type 0
@@ -33,7 +33,7 @@ module _ (parts : Parts) (bits : Bits) (read : IsRead parts) (bonded : List Pad)
   wire_valued : (w : ℕ) → w < parts.wires → (n : ℕ) → steps ≤ n → IsValued n (Wire (record { 0 = w }))
   wire_valued w lt n le = let here = each w lt in (here.0, value_at_more system steps n (Wire (record { 0 = w })) here.0 le here.1)
 
-  point_valued : (n : ℕ) (p : Point) → ((q : Point) → Has (depends_on parts bits p) q → IsValued n q) → IsValued (suc n) p
+  point_valued : (n : ℕ) (p : Point) → ((q : Point) → Has (depends_on parts bits extras p) q → IsValued n q) → IsValued (suc n) p
   point_valued n p all = (
     system.local p (map level (system.depends p)),
     value_step system level n p (λ q has. let got = all q has in got.1 ∙ ap (λ (x : Bool). Some x) (sym (ap (λ o. unwrap_or o false) got.1))),
@@ -49,24 +49,24 @@ module _ (parts : Parts) (bits : Bits) (read : IsRead parts) (bonded : List Pad)
       subst (λ (v : TileAt). IsValued (steps + k) (Carry v j)) (sym is.0) (subst (λ (n : ℕ). IsValued n (Carry t j)) e (before j is.1))
 
   carry_valued : (t : TileAt) (i : ℕ) → IsValued (suc (steps + i)) (Carry t i)
-  carry_valued t zero = point_valued (steps + zero) (Carry t zero) (λ q has. read_valued t zero (λ j e. absurd (omega arith)) q (is_read_by parts bits read (Carry t zero) q has))
+  carry_valued t zero = point_valued (steps + zero) (Carry t zero) (λ q has. read_valued t zero (λ j e. absurd (omega arith)) q (is_read_by parts bits extras read (Carry t zero) q has))
   carry_valued t (suc i) =
       point_valued (steps + suc i) (Carry t (suc i))
-      (λ q has. read_valued t (suc i) (λ j e. let f : i ≡ j = omega arith in subst (λ (n : ℕ). IsValued (suc (steps + n)) (Carry t n)) f (carry_valued t i)) q (is_read_by parts bits read (Carry t (suc i)) q has))
+      (λ q has. read_valued t (suc i) (λ j e. let f : i ≡ j = omega arith in subst (λ (n : ℕ). IsValued (suc (steps + n)) (Carry t n)) f (carry_valued t i)) q (is_read_by parts bits extras read (Carry t (suc i)) q has))
 
-  pub valued_loopless : HasNoLoop parts bits
+  pub valued_loopless : HasNoLoop parts bits extras
   valued_loopless = record {
     none = λ cycle c.
         let first : Point = get_or cycle 0 (Wire (record { 0 = 0 })) in
-        let next = cycle_goes_on (depends_on parts bits) cycle c first (0, slice_get-get_or cycle 0 (Wire (record { 0 = 0 })) c.some) in
-        by first next.0 (is_read_by parts bits read first next.0 next.1) (λ n. value_in_cycle system cycle c n next.0 next.2);
+        let next = cycle_goes_on (depends_on parts bits extras) cycle c first (0, slice_get-get_or cycle 0 (Wire (record { 0 = 0 })) c.some) in
+        by first next.0 (is_read_by parts bits extras read first next.0 next.1) (λ n. value_in_cycle system cycle c n next.0 next.2);
   }
     where
       by : (p q : Point) → IsReadBy parts p q → ((n : ℕ) → value system n q ≡ None) → ⊥
       by p (Wire w) is none = let some = wire_valued w.0 is steps (omega arith) in let no = none steps in cc (some.1, no)
       by p (Carry t i) is none = let some = carry_valued t i in let no = none (suc (steps + i)) in cc (some.1, no)
 
-pub loopless : (parts : Parts) (bits : Bits) → IsRead parts → (order : List Point) → IsOrderOf parts bits order → HasNoLoop parts bits
-loopless parts bits read order o =
-    valued_loopless parts bits read [] [] [] (count_points parts + 1)
-    (λ w lt. (point_level parts bits [] [] [] (wire_point w), valued parts bits order o [] [] [] (wire_point w) (w, wire_at parts.wires (logic_tiles parts) w lt)))
+pub loopless : (parts : Parts) (bits : Bits) (extras : List (ℕ × ℕ × ℕ)) → IsRead parts → (order : List Point) → IsOrderOf parts bits extras order → HasNoLoop parts bits extras
+loopless parts bits extras read order o =
+    valued_loopless parts bits extras read [] [] [] (count_points parts + 1)
+    (λ w lt. (point_level parts bits extras [] [] [] (wire_point w), valued parts bits extras order o [] [] [] (wire_point w) (w, wire_at parts.wires (logic_tiles parts) w lt)))

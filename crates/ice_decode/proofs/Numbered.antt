@@ -116,15 +116,15 @@ present_has (None ∷ inputs) (suc k) p at = present_has inputs k p at
 present_has (Some q ∷ inputs) zero p at = (0, same_Some (Some q) (Some p) at)
 present_has (Some q ∷ inputs) (suc k) p at = let rest = present_has inputs k p at in (suc rest.0, rest.1)
 
-pub reads_numbered : (parts : Parts) (bits : Bits) → IsRead parts → (list items : List Point) → AreAllPoints parts list → items ≡ list
-    → (i : ℕ) (d : Point) → i < length items → All (IsNumbered list) (reads parts bits (get_or items i d))
-reads_numbered parts bits read list items all e i d lt =
-    All-from_get_or (IsNumbered list) (reads parts bits (get_or items i d)) None
-    (λ k below. by (get_or (reads parts bits (get_or items i d)) k None) k (slice_get-get_or (reads parts bits (get_or items i d)) k None below))
+pub reads_numbered : (parts : Parts) (bits : Bits) (extras : List (ℕ × ℕ × ℕ)) → IsRead parts → (list items : List Point) → AreAllPoints parts list → items ≡ list
+    → (i : ℕ) (d : Point) → i < length items → All (IsNumbered list) (reads parts bits extras (get_or items i d))
+reads_numbered parts bits extras read list items all e i d lt =
+    All-from_get_or (IsNumbered list) (reads parts bits extras (get_or items i d)) None
+    (λ k below. by (get_or (reads parts bits extras (get_or items i d)) k None) k (slice_get-get_or (reads parts bits extras (get_or items i d)) k None below))
   where
     there : Has list (get_or items i d)
     there = subst (λ (l : List Point). Has l (get_or items i d)) e (i, slice_get-get_or items i d lt)
 
-    by : (o : Option Point) (k : ℕ) → At (reads parts bits (get_or items i d)) k o → IsNumbered list o
+    by : (o : Option Point) (k : ℕ) → At (reads parts bits extras (get_or items i d)) k o → IsNumbered list o
     by None k at = tt
-    by (Some q) k at = all.each q (read_there parts bits read (get_or items i d) q (all.within (get_or items i d) there) (present_has (reads parts bits (get_or items i d)) k q at))
+    by (Some q) k at = all.each q (read_there parts bits extras read (get_or items i d) q (all.within (get_or items i d) there) (present_has (reads parts bits extras (get_or items i d)) k q at))

@@ -12,7 +12,7 @@ use Rattle.ice_chip.specs.Database.{Parts}
 use Rattle.ice_chip.specs.Digits.{digit, numbered_or}
 use Rattle.ice_chip.specs.Lookups.{kind_at, names_of, wire_named, placed_at}
 use Rattle.ice_chip.specs.PinNames.{is_global_name, cell_pin, is_output_of, is_input_name, is_output_name}
-use Rattle.ice_chip.specs.WireNames.{global_name, cell_wire, outer_wire, tile_wire}
+use Rattle.ice_chip.specs.WireNames.{global_name, in_out_enable_name, cell_wire, outer_wire, tile_wire}
 use Rattle.ice_chip.specs.declared.rows.TileKind.{TileKind}
 use Rattle.ice_chip.specs.declared.rows.TileKind.TheVariants.{Io, Logic, RamBottom, RamTop}
 use Rattle.ice_chip.specs.declared.placed.PlacedName.{PlacedName}
@@ -117,13 +117,14 @@ cell_out name p pin wires is =
 role_pin : (t : TileAt) (kind : TileKind) (name : List ℕ) (r : Role) → role_in t (Some kind) name ≡ Some r → is_pin_in (Some kind) name ≡ true
 role_pin t RamBottom name r e = global_pin RamBottom name (global_some name r e)
 role_pin t RamTop name r e = global_pin RamTop name (global_some name r e)
-role_pin t Io name r e = by (bytes_eq name (codes "io_0/D_IN_0")) (bytes_eq name (codes "io_1/D_IN_0")) refl refl e
+role_pin t Io name r e = by (bytes_eq name (codes "io_0/D_IN_0")) (bytes_eq name (codes "io_1/D_IN_0")) (bytes_eq name in_out_enable_name) refl refl refl e
   where
-    by : (a b : Bool) → bytes_eq name (codes "io_0/D_IN_0") ≡ a → bytes_eq name (codes "io_1/D_IN_0") ≡ b
-        → cond a (Some (PadInput (record { tile = t; pio = 0 }))) (cond b (Some (PadInput (record { tile = t; pio = 1 }))) (global_role name)) ≡ Some r → is_pin_in (Some Io) name ≡ true
-    by true b ea eb f = same_pin Io name (codes "io_0/D_IN_0") refl ea
-    by false true ea eb f = same_pin Io name (codes "io_1/D_IN_0") refl eb
-    by false false ea eb f = global_pin Io name (global_some name r f)
+    by : (a b c : Bool) → bytes_eq name (codes "io_0/D_IN_0") ≡ a → bytes_eq name (codes "io_1/D_IN_0") ≡ b → bytes_eq name in_out_enable_name ≡ c
+        → cond a (Some (PadInput (record { tile = t; pio = 0 }))) (cond b (Some (PadInput (record { tile = t; pio = 1 }))) (cond c (Some ClockEnable) (global_role name))) ≡ Some r → is_pin_in (Some Io) name ≡ true
+    by true b c ea eb ec f = same_pin Io name (codes "io_0/D_IN_0") refl ea
+    by false true c ea eb ec f = same_pin Io name (codes "io_1/D_IN_0") refl eb
+    by false false true ea eb ec f = same_pin Io name in_out_enable_name refl ec
+    by false false false ea eb ec f = global_pin Io name (global_some name r f)
 role_pin t Logic name r e = by (bytes_eq name (codes "carry_in_mux")) (bytes_eq name (codes "lutff_global/cen")) refl refl e
   where
     out_pin : (i : ℕ) (s : Role) → output_role t i (cell_pin name) ≡ Some s → is_pin_in (Some Logic) name ≡ true

@@ -22,9 +22,10 @@ use Rattle.ice_decode.specs.declared.role.Role.{Role}
 use Rattle.ice_decode.specs.declared.role.Role.TheVariants.{Plain, Output, LookUp, CarryOut, PadInput, Global, CarryIn, ClockEnable}
 use Rattle.ice_chip.specs.WireNames.{input_name}
 use Rattle.ice_decode.specs.Cells.{has_carry, has_flop, logic_tiles}
+use Rattle.ice_decode.specs.Direct.{takes_pad}
 use Rattle.ice_decode.specs.Drivers.{driver}
 use Rattle.ice_decode.specs.Roles.{role_of}
-use Rattle.ice_decode.specs.Reads.{wire_point, points, at_pin, at_pin_of, cell_inputs, carry_inputs, role_reads, driven_reads, reads, depends_on}
+use Rattle.ice_decode.specs.Reads.{wire_point, points, at_pin, at_pin_of, global_feed, cell_inputs, carry_inputs, role_reads, driven_reads, reads, depends_on}
 use Rattle.ice_decode.proofs.PointPlaces.{StandsAs, wire_at, carry_at, point_cases}
 use Rattle.ice_decode.proofs.RolePlaces.{IsCell, Fits, role_fits, cell_there}
 use Rattle.ice_decode.proofs.Switches.{driver_between}
@@ -76,34 +77,35 @@ carry_inputs_read parts read t (suc i) =
     pin_read parts (λ _ _. false) read (Carry t (suc i)) t (input_name (suc i) 1) _ (pin_read parts (λ _ _. false) read (Carry t (suc i)) t (input_name (suc i) 2) _
     ((refl, refl), tt))
 
-role_read : (parts : Parts) (bits : Bits) → IsRead parts → (w : ℕ) (role : Role) → Fits parts role → AllRead (IsReadBy parts (wire_point w)) (role_reads parts bits role)
-role_read parts bits read w Plain fits = tt
-role_read parts bits read w (Output t i) fits =
+role_read : (parts : Parts) (bits : Bits) (extras : List (ℕ × ℕ × ℕ)) → IsRead parts → (w : ℕ) (role : Role) → Fits parts role → AllRead (IsReadBy parts (wire_point w)) (role_reads parts bits extras role)
+role_read parts bits extras read w Plain fits = tt
+role_read parts bits extras read w (Output t i) fits =
     cond_both (has_flop parts bits t i) [] (cell_inputs parts t i) (AllRead (IsReadBy parts (wire_point w))) (λ e. tt) (λ e. inputs_read parts bits read (wire_point w) t i)
-role_read parts bits read w (LookUp t i) fits = inputs_read parts bits read (wire_point w) t i
-role_read parts bits read w (CarryOut t i) fits = (fits, tt)
-role_read parts bits read w (PadInput pad) fits = tt
-role_read parts bits read w (Global n) fits = feed_read parts bits read (wire_point w) (global_of parts n)
-role_read parts bits read w (CarryIn t) fits = tt
-role_read parts bits read w ClockEnable fits = tt
+role_read parts bits extras read w (LookUp t i) fits = inputs_read parts bits read (wire_point w) t i
+role_read parts bits extras read w (CarryOut t i) fits = (fits, tt)
+role_read parts bits extras read w (PadInput pad) fits = tt
+role_read parts bits extras read w (Global n) fits =
+    cond_both (takes_pad parts extras n) [] (global_feed parts n ∷ []) (AllRead (IsReadBy parts (wire_point w))) (λ e. tt) (λ e. feed_read parts bits read (wire_point w) (global_of parts n))
+role_read parts bits extras read w (CarryIn t) fits = tt
+role_read parts bits extras read w ClockEnable fits = tt
 
-driven_read : (parts : Parts) (bits : Bits) → IsRead parts → (w : ℕ) (d : Driver) → driver parts bits w ≡ d
-    → AllRead (IsReadBy parts (wire_point w)) (driven_reads parts bits (role_of parts w) d)
-driven_read parts bits read w Nothing e = role_read parts bits read w (role_of parts w) (role_fits parts w)
-driven_read parts bits read w (By s) e = ((driver_between parts bits w s read e).source, tt)
-driven_read parts bits read w (Several first second) e = tt
+driven_read : (parts : Parts) (bits : Bits) (extras : List (ℕ × ℕ × ℕ)) → IsRead parts → (w : ℕ) (d : Driver) → driver parts bits w ≡ d
+    → AllRead (IsReadBy parts (wire_point w)) (driven_reads parts bits extras (role_of parts w) d)
+driven_read parts bits extras read w Nothing e = role_read parts bits extras read w (role_of parts w) (role_fits parts w)
+driven_read parts bits extras read w (By s) e = ((driver_between parts bits w s read e).source, tt)
+driven_read parts bits extras read w (Several first second) e = tt
 
-reads_read : (parts : Parts) (bits : Bits) → IsRead parts → (p : Point) → AllRead (IsReadBy parts p) (reads parts bits p)
-reads_read parts bits read (Wire w) = driven_read parts bits read w.0 (driver parts bits w.0) refl
-reads_read parts bits read (Carry t i) =
+reads_read : (parts : Parts) (bits : Bits) (extras : List (ℕ × ℕ × ℕ)) → IsRead parts → (p : Point) → AllRead (IsReadBy parts p) (reads parts bits extras p)
+reads_read parts bits extras read (Wire w) = driven_read parts bits extras read w.0 (driver parts bits w.0) refl
+reads_read parts bits extras read (Carry t i) =
     cond_both (has_carry parts bits t i) (carry_inputs parts t i) [] (AllRead (IsReadBy parts (Carry t i))) (λ e. carry_inputs_read parts read t i) (λ e. tt)
 
-pub is_read_by : (parts : Parts) (bits : Bits) → IsRead parts → (p q : Point) → Has (depends_on parts bits p) q → IsReadBy parts p q
-is_read_by parts bits read p q has = read_has (IsReadBy parts p) (reads parts bits p) (reads_read parts bits read p) q has
+pub is_read_by : (parts : Parts) (bits : Bits) (extras : List (ℕ × ℕ × ℕ)) → IsRead parts → (p q : Point) → Has (depends_on parts bits extras p) q → IsReadBy parts p q
+is_read_by parts bits extras read p q has = read_has (IsReadBy parts p) (reads parts bits extras p) (reads_read parts bits extras read p) q has
 
 -- what a point of the chip reads is one too
-pub read_there : (parts : Parts) (bits : Bits) → IsRead parts → (p q : Point) → Has (points parts) p → Has (depends_on parts bits p) q → Has (points parts) q
-read_there parts bits read p q there has = by p q (point_cases parts.wires (logic_tiles parts) there.0 p there.1) (is_read_by parts bits read p q has)
+pub read_there : (parts : Parts) (bits : Bits) (extras : List (ℕ × ℕ × ℕ)) → IsRead parts → (p q : Point) → Has (points parts) p → Has (depends_on parts bits extras p) q → Has (points parts) q
+read_there parts bits extras read p q there has = by p q (point_cases parts.wires (logic_tiles parts) there.0 p there.1) (is_read_by parts bits extras read p q has)
   where
     by : (x y : Point) → StandsAs parts.wires (logic_tiles parts) there.0 x → IsReadBy parts x y → Has (points parts) y
     by x (Wire w) stands is = (w.0, wire_at parts.wires (logic_tiles parts) w.0 is)

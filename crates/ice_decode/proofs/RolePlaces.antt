@@ -9,6 +9,7 @@ use Rattle.ice_chip.specs.Database.{Parts}
 use Rattle.ice_chip.specs.Lookups.{kind_at, names_of}
 use Rattle.ice_chip.specs.Places.{same_tile, tile_known}
 use Rattle.ice_chip.specs.PinNames.{cell_pin, is_global_name}
+use Rattle.ice_chip.specs.WireNames.{in_out_enable_name}
 use Rattle.ice_chip.specs.declared.parts.TileLine.{TileLine}
 use Rattle.ice_chip.specs.declared.rows.TileKind.{TileKind}
 use Rattle.ice_chip.specs.declared.rows.TileKind.TheVariants.{Io, Logic, RamBottom, RamTop}
@@ -87,7 +88,8 @@ logic_fits parts t name logic =
 io_fits : (parts : Parts) (t : TileAt) (name : List ℕ) → FitsIf parts (io_role t name)
 io_fits parts t name =
     cond_both (bytes_eq name (codes "io_0/D_IN_0")) (Some (PadInput (record { tile = t; pio = 0 }))) _ (FitsIf parts) (λ e. tt)
-    (λ e. cond_both (bytes_eq name (codes "io_1/D_IN_0")) (Some (PadInput (record { tile = t; pio = 1 }))) _ (FitsIf parts) (λ f. tt) (λ f. global_fits parts name))
+    (λ e. cond_both (bytes_eq name (codes "io_1/D_IN_0")) (Some (PadInput (record { tile = t; pio = 1 }))) _ (FitsIf parts) (λ f. tt)
+    (λ f. cond_both (bytes_eq name in_out_enable_name) (Some ClockEnable) _ (FitsIf parts) (λ g. tt) (λ g. global_fits parts name)))
 
 role_in_fits : (parts : Parts) (t : TileAt) (kind : Option TileKind) (name : List ℕ) → kind_at parts t ≡ kind → FitsIf parts (role_in t kind name)
 role_in_fits parts t None name e = tt

@@ -38,14 +38,14 @@ pub logic_same : (parts : Parts) → logic_among (map tile_of parts.tiles) ≡ l
 logic_same parts = logic_in parts.tiles
 
 -- ---- foreign functions
-foreign_in_tiles : (functions : List FunctionRow) (bits : Bits) (tiles : List (TileAt × TileLine)) → foreign_among functions bits (map tile_of tiles) ≡ first_foreign functions bits tiles
-foreign_in_tiles functions bits [] = refl
-foreign_in_tiles functions bits (t ∷ tiles) =
-    ap (λ o. or_else o (foreign_among functions bits (map tile_of tiles))) (mapped_twice (λ (f : FunctionRow). f.line) (λ line. (t.0, line)) (find (is_set_in bits t) functions))
-    ∙ ap (or_else (foreign_in functions bits t)) (foreign_in_tiles functions bits tiles)
+foreign_in_tiles : (parts : Parts) (bits : Bits) (tiles : List (TileAt × TileLine)) → foreign_among parts bits (map tile_of tiles) ≡ first_foreign parts bits tiles
+foreign_in_tiles parts bits [] = refl
+foreign_in_tiles parts bits (t ∷ tiles) =
+    ap (λ o. or_else o (foreign_among parts bits (map tile_of tiles))) (mapped_twice (λ (f : FunctionRow). f.line) (λ line. (t.0, line)) (find (is_set_in parts bits t) parts.functions))
+    ∙ ap (or_else (foreign_in parts bits t)) (foreign_in_tiles parts bits tiles)
 
-pub foreign_same : (parts : Parts) (bits : Bits) → foreign_among parts.functions bits (map tile_of parts.tiles) ≡ foreign_function parts bits
-foreign_same parts bits = foreign_in_tiles parts.functions bits parts.tiles
+pub foreign_same : (parts : Parts) (bits : Bits) → foreign_among parts bits (map tile_of parts.tiles) ≡ foreign_function parts bits
+foreign_same parts bits = foreign_in_tiles parts bits parts.tiles
 
 -- ---- pads
 find_append : {X : Type 0} (test : X → Bool) (xs ys : List X) → find test (xs ++ ys) ≡ or_else (find test xs) (find test ys)

@@ -17,7 +17,7 @@ use Rattle.ice_decode.specs.declared.fault.DecodeFault.TheVariants.{Contention, 
 use Rattle.ice_decode.specs.Cells.{logic_tiles}
 use Rattle.ice_decode.specs.Reads.{points, count_points, reads}
 use Rattle.ice_decode.specs.Meaning.{makes, system_of, point_level}
-use Rattle.ice_decode.specs.Faults.{IsOrderOf, first_extra}
+use Rattle.ice_decode.specs.Faults.{IsOrderOf}
 use Rattle.ice_decode.specs.Refusals.{CircuitData, IsCircuitOf, IsFaultless, IsFaultOf}
 use Rattle.ice_decode.specs.declared.point.Point.TheVariants.{Wire}
 use Rattle.ice_decode.proofs.PointPlaces.{cells_long, points_long}
@@ -28,38 +28,38 @@ pub counted : (parts : Parts) → count_points parts ≡ parts.wires + 8 * lengt
 counted parts = ap (λ n. parts.wires + n) (cells_long (logic_tiles parts))
 
 -- the place of a point in an order is below the number of the points and one
-place_below : (parts : Parts) (bits : Bits) (order : List Point) → IsOrderOf parts bits order → (i : ℕ) (p : Point) → At order i p → i < count_points parts + 1
-place_below parts bits order o i p at =
+place_below : (parts : Parts) (bits : Bits) (extras : List (ℕ × ℕ × ℕ)) (order : List Point) → IsOrderOf parts bits extras order → (i : ℕ) (p : Point) → At order i p → i < count_points parts + 1
+place_below parts bits extras order o i p at =
     let lt = slice_get_within order i p at in
     let few = o.few in
     let long = points_long parts.wires (logic_tiles parts) in
     let count = counted parts in
     omega arith
 
-pub valued : (parts : Parts) (bits : Bits) (order : List Point) → IsOrderOf parts bits order → (bonded : List Pad) (levels kept : List Bool) (p : Point) → Has (points parts) p
-    → value (system_of parts bits bonded levels kept) (count_points parts + 1) p ≡ Some (point_level parts bits bonded levels kept p)
-valued parts bits order o bonded levels kept p has =
+pub valued : (parts : Parts) (bits : Bits) (extras : List (ℕ × ℕ × ℕ)) (order : List Point) → IsOrderOf parts bits extras order → (bonded : List Pad) (levels kept : List Bool) (p : Point) → Has (points parts) p
+    → value (system_of parts bits extras bonded levels kept) (count_points parts + 1) p ≡ Some (point_level parts bits extras bonded levels kept p)
+valued parts bits extras order o bonded levels kept p has =
     let there = o.each p has in
-    let found = value_there (system_of parts bits bonded levels kept) (At order) o.after (count_points parts + 1) there.0 p there.1 (place_below parts bits order o there.0 p there.1) in
+    let found = value_there (system_of parts bits extras bonded levels kept) (At order) o.after (count_points parts + 1) there.0 p there.1 (place_below parts bits extras order o there.0 p there.1) in
     found.1 ∙ ap (λ (x : Bool). Some x) (sym (ap (λ x. unwrap_or x false) found.1))
 
-pub unique : (parts : Parts) (bits : Bits) (order : List Point) → IsOrderOf parts bits order → (bonded : List Pad) (levels kept : List Bool) (v : Point → Bool)
-    → ((p : Point) → Has (points parts) p → v p ≡ makes parts bits bonded levels kept p (map (reading false v) (reads parts bits p)))
-    → (p : Point) → Has (points parts) p → point_level parts bits bonded levels kept p ≡ v p
-unique parts bits order o bonded levels kept v meets p has =
+pub unique : (parts : Parts) (bits : Bits) (extras : List (ℕ × ℕ × ℕ)) (order : List Point) → IsOrderOf parts bits extras order → (bonded : List Pad) (levels kept : List Bool) (v : Point → Bool)
+    → ((p : Point) → Has (points parts) p → v p ≡ makes parts bits extras bonded levels kept p (map (reading false v) (reads parts bits extras p)))
+    → (p : Point) → Has (points parts) p → point_level parts bits extras bonded levels kept p ≡ v p
+unique parts bits extras order o bonded levels kept v meets p has =
     let there = o.each p has in
     ap (λ x. unwrap_or x false)
-    (value_ranked (system_of parts bits bonded levels kept) (At order) v o.after
-    (λ i q at. meets q (o.within q (i, at)) ∙ sym (local_gapped (reads parts bits) false (makes parts bits bonded levels kept) v q))
-    (count_points parts + 1) there.0 p there.1 (place_below parts bits order o there.0 p there.1))
+    (value_ranked (system_of parts bits extras bonded levels kept) (At order) v o.after
+    (λ i q at. meets q (o.within q (i, at)) ∙ sym (local_gapped (reads parts bits extras) false (makes parts bits extras bonded levels kept) v q))
+    (count_points parts + 1) there.0 p there.1 (place_below parts bits extras order o there.0 p there.1))
 
 -- without a fault no order is needed: a loop alone could leave a point without a value
 pub faultless_valued : (parts : Parts) (bits : Bits) (extras : List (ℕ × ℕ × ℕ)) → IsRead parts → IsFaultless parts bits extras
     → (bonded : List Pad) (levels kept : List Bool) (p : Point) → Has (points parts) p
-    → value (system_of parts bits bonded levels kept) (count_points parts + 1) p ≡ Some (point_level parts bits bonded levels kept p)
+    → value (system_of parts bits extras bonded levels kept) (count_points parts + 1) p ≡ Some (point_level parts bits extras bonded levels kept p)
 faultless_valued parts bits extras read faultless bonded levels kept p has =
-    let system = system_of parts bits bonded levels kept in
-    let found = all_valued system (points parts) (Wire (record { 0 = 0 })) (read_there parts bits read) faultless.loopless.none p has in
+    let system = system_of parts bits extras bonded levels kept in
+    let found = all_valued system (points parts) (Wire (record { 0 = 0 })) (read_there parts bits extras read) faultless.loopless.none p has in
     let long : length (points parts) ≡ count_points parts = points_long parts.wires (logic_tiles parts) ∙ sym (counted parts) in
     let enough : value system (count_points parts + 1) p ≡ Some found.0 = subst (λ n. value system (n + 1) p ≡ Some found.0) long found.1 in
     enough ∙ ap (λ (x : Bool). Some x) (sym (ap (λ x. unwrap_or x false) enough))
@@ -69,7 +69,7 @@ faultless_has_none : (parts : Parts) (bits : Bits) (extras : List (ℕ × ℕ ×
 faultless_has_none parts bits extras (Contention wire rows) ne is none = let no = none.of_chip.uncontended in cc (is, no)
 faultless_has_none parts bits extras (ForeignSource wire) ne is none = let yes = is.first in let no = none.of_chip.sources in cc (yes, no)
 faultless_has_none parts bits extras (ForeignFunction tile line) ne is none = let yes = is.first in let no = none.of_chip.functions in cc (yes, no)
-faultless_has_none parts bits extras (ForeignExtra extra) ne is none = let yes = is.first in let no = ap first_extra none.of_chip.no_extras in cc (yes, no)
+faultless_has_none parts bits extras (ForeignExtra extra) ne is none = let yes = is.first in let no = none.of_chip.extras_known in cc (yes, no)
 faultless_has_none parts bits extras (ChipLoop wires) ne is none = none.loopless.none is.is_loop.cycle is.is_loop.closes
 faultless_has_none parts bits extras (PinType pad value) ne is none = let yes = is.first in let no = none.types in cc (yes, no)
 faultless_has_none parts bits extras NoMemory ne is none = ne refl

@@ -1,8 +1,10 @@
 -- The logic cells of a chip: their settings, and what their tables give.
-use Rattle.std.specs.Prelude.{ℕ, Bool, true, false, List, [], ◌∷◌, map, filter, slice_index_or}
+use Rattle.std.specs.Prelude.{ℕ, Bool, true, false, Option, None, Some, List, [], ◌∷◌, map, filter, option_map, slice_index_or, if◌then◌else◌}
 use Rattle.std.specs.List.{flat_map}
+use Rattle.std.proofs.Common.{suc}
 use Rattle.ice_base.specs.declared.number.TileAt.{TileAt}
 use Rattle.ice_chip.specs.Database.{Parts}
+use Rattle.ice_chip.specs.Places.{same_tile}
 use Rattle.ice_chip.specs.declared.parts.TileLine.{TileLine}
 use Rattle.ice_chip.specs.declared.rows.TileKind.{TileKind}
 use Rattle.ice_chip.specs.declared.rows.TileKind.TheVariants.{Io, Logic, RamBottom, RamTop}
@@ -26,6 +28,11 @@ is_logic_tile tile = is_logic tile.1.kind
 -- the logic tiles in the order of the database
 abbrev pub logic_tiles : Parts → List TileAt
 logic_tiles parts = map (λ (tile : TileAt × TileLine). tile.0) (filter is_logic_tile parts.tiles)
+
+-- the place of a tile among these
+abbrev pub tile_place : TileAt → List TileAt → Option ℕ
+tile_place t [] = None
+tile_place t (u ∷ tiles) = if same_tile u t then Some 0 else option_map suc (tile_place t tiles)
 
 -- the numbers of the eight cells of a tile
 abbrev pub eight : List ℕ

@@ -1,5 +1,5 @@
 -- The faults of bits, each of which leaves them without a meaning.
-use Rattle.std.specs.Prelude.{◌≡◌, ℕ, ◌+◌, ◌==◌, ◌/◌, ◌%◌, ◌≤◌, ◌&&◌, ◌||◌, not, Bool, false, Option, None, Some, List, [], ◌∷◌, find, length, codes, nat_eq, option_map}
+use Rattle.std.specs.Prelude.{◌≡◌, ℕ, ◌+◌, ◌==◌, ◌/◌, ◌%◌, ◌≤◌, ◌&&◌, ◌||◌, not, Bool, false, Option, None, Some, List, [], ◌∷◌, find, length, codes, bytes_eq, nat_eq, option_map}
 use Rattle.std.specs.List.{list_any, starts_with}
 use Rattle.std.proofs.Common.{zero, suc}
 use Rattle.ice_base.specs.declared.number.TileAt.{TileAt}
@@ -16,8 +16,10 @@ use Rattle.ice_decode.specs.declared.driver.Switch.{Switch}
 use Rattle.ice_decode.specs.declared.driver.Driver.{Driver}
 use Rattle.ice_decode.specs.declared.driver.Driver.TheVariants.{Nothing, By, Several}
 use Rattle.ice_chip.specs.WireNames.{pad_input_name}
+use Rattle.ice_chip.specs.FunctionNames.{falling_clock_function}
 use Rattle.ice_decode.specs.Drivers.{switches_on, driver}
-use Rattle.ice_decode.specs.Pads.{pads, pin_type}
+use Rattle.ice_decode.specs.Pads.{pads_in, pads, pin_type}
+use Rattle.ice_decode.specs.Registers.{has_input_register, has_output_register}
 use Rattle.ice_decode.specs.Reads.{points, depends_on}
 
 abbrev pub or_else : {A : Type 0} → Option A → Option A → Option A
@@ -52,60 +54,7 @@ is_foreign_wire parts w = list_any (λ n. is_memory_output n.name) (names_of par
 abbrev pub foreign_source : Parts → Bits → Option ℕ
 foreign_source parts bits = option_map (λ (s : Switch). s.source.0) (find (λ (s : Switch). is_foreign_wire parts s.source.0) (switches_on bits parts.groups))
 
--- ---- functions of PLLs and of pairs of pads
--- a bit of a foreign function of the tile's kind is set in the tile
-abbrev pub is_set_in : Bits → TileAt × TileLine → FunctionRow → Bool
-is_set_in bits tile f = same_kind f.kind tile.1.kind && is_foreign f.kind f.name && list_any (bits tile.0) f.bits
-
--- the tile and the function's line
-abbrev pub foreign_in : List FunctionRow → Bits → TileAt × TileLine → Option (TileAt × ℕ)
-foreign_in functions bits tile = option_map (λ f. (tile.0, f.line)) (find (is_set_in bits tile) functions)
-
-abbrev pub first_foreign : List FunctionRow → Bits → List (TileAt × TileLine) → Option (TileAt × ℕ)
-first_foreign functions bits [] = None
-first_foreign functions bits (tile ∷ tiles) = or_else (foreign_in functions bits tile) (first_foreign functions bits tiles)
-
--- the first tile in which such a bit is set, and the line of the first function with one there
-abbrev pub foreign_function : Parts → Bits → Option (TileAt × ℕ)
-foreign_function parts bits = first_foreign parts.functions bits parts.tiles
-
--- ---- extra bits
-abbrev pub first_extra : List (ℕ × ℕ × ℕ) → Option (ℕ × ℕ × ℕ)
-first_extra [] = None
-first_extra (e ∷ extras) = Some e
-
--- ---- loops
--- no points depend on one another in a circle
-pub record HasNoLoop (parts : Parts) (bits : Bits) : Type 0 where
-  pub none : (cycle : List Point) → IsCycle (depends_on parts bits) cycle → ⊥
-
--- the wires among these points, in their order
-abbrev pub wires_among : List Point → List ℕ
-wires_among [] = []
-wires_among (Wire w ∷ others) = w.0 ∷ wires_among others
-wires_among (Carry t i ∷ others) = wires_among others
-
--- the wires of a closed list of points, each of which depends on the next; none stands twice
-pub record IsLoop (parts : Parts) (bits : Bits) (wires : List ℕ) : Type 0 where
-  pub cycle : List Point
-  pub closes : IsCycle (depends_on parts bits) cycle
-  pub once : StandOnce cycle
-  pub are_wires : wires ≡ wires_among cycle
-
--- An order of evaluation: each wire of the chip and the carry of each logic cell once, after all that it depends on. So it is no
--- longer than the list of the points.
-pub record IsOrderOf (parts : Parts) (bits : Bits) (order : List Point) : Type 0 where
-  pub few : length order ≤ length (points parts)
-  pub within : (p : Point) → Has order p → Has (points parts) p
-  pub each : (p : Point) → Has (points parts) p → Has order p
-  pub once : StandOnce order
-  pub after : StandsAfter (depends_on parts bits) order
-
--- ---- pin types
--- off, driving, or driving where enabled
-abbrev pub is_output_part : ℕ → Bool
-is_output_part part = (part == 0) || ((part == 6) || (part == 10))
-
+-- ---- what is read of pads
 -- a row that is on reads the wire
 abbrev pub is_read : Parts → Bits → Option ℕ → Bool
 is_read parts bits None = false
@@ -115,9 +64,71 @@ is_read parts bits (Some w) = list_any (λ (s : Switch). s.source.0 == w) (switc
 abbrev pub is_input_read : Parts → Bits → Pad → Bool
 is_input_read parts bits pad = is_read parts bits (wire_named parts pad.tile (pad_input_name pad.pio))
 
--- A pad's output part is none of the three, or its input is read while its input part is not 01.
+-- a register of the pad is in use
+abbrev pub uses_register : Parts → Bits → Pad → Bool
+uses_register parts bits pad = has_output_register parts bits pad || (has_input_register parts bits pad && is_input_read parts bits pad)
+
+-- ---- functions of PLLs, of pairs of pads and of registers of pads
+-- a foreign function of this name counts in the tile: the falling clock of registers of pads only beside one that is in use
+abbrev pub counts_in : Parts → Bits → TileAt → List ℕ → Bool
+counts_in parts bits t name = not (bytes_eq name falling_clock_function) || list_any (uses_register parts bits) (pads_in t)
+
+-- a bit of a foreign function of the tile's kind is set in the tile, where the function counts
+abbrev pub is_set_in : Parts → Bits → TileAt × TileLine → FunctionRow → Bool
+is_set_in parts bits tile f =
+    same_kind f.kind tile.1.kind && is_foreign f.kind f.name && list_any (bits tile.0) f.bits && counts_in parts bits tile.0 f.name
+
+-- the tile and the function's line
+abbrev pub foreign_in : Parts → Bits → TileAt × TileLine → Option (TileAt × ℕ)
+foreign_in parts bits tile = option_map (λ f. (tile.0, f.line)) (find (is_set_in parts bits tile) parts.functions)
+
+abbrev pub first_foreign : Parts → Bits → List (TileAt × TileLine) → Option (TileAt × ℕ)
+first_foreign parts bits [] = None
+first_foreign parts bits (tile ∷ tiles) = or_else (foreign_in parts bits tile) (first_foreign parts bits tiles)
+
+-- the first tile in which such a bit is set, and the line of the first function with one there
+abbrev pub foreign_function : Parts → Bits → Option (TileAt × ℕ)
+foreign_function parts bits = first_foreign parts bits parts.tiles
+
+-- ---- loops
+-- no points depend on one another in a circle
+pub record HasNoLoop (parts : Parts) (bits : Bits) (extras : List (ℕ × ℕ × ℕ)) : Type 0 where
+  pub none : (cycle : List Point) → IsCycle (depends_on parts bits extras) cycle → ⊥
+
+-- the wires among these points, in their order
+abbrev pub wires_among : List Point → List ℕ
+wires_among [] = []
+wires_among (Wire w ∷ others) = w.0 ∷ wires_among others
+wires_among (Carry t i ∷ others) = wires_among others
+
+-- the wires of a closed list of points, each of which depends on the next; none stands twice
+pub record IsLoop (parts : Parts) (bits : Bits) (extras : List (ℕ × ℕ × ℕ)) (wires : List ℕ) : Type 0 where
+  pub cycle : List Point
+  pub closes : IsCycle (depends_on parts bits extras) cycle
+  pub once : StandOnce cycle
+  pub are_wires : wires ≡ wires_among cycle
+
+-- An order of evaluation: each wire of the chip and the carry of each logic cell once, after all that it depends on. So it is no
+-- longer than the list of the points.
+pub record IsOrderOf (parts : Parts) (bits : Bits) (extras : List (ℕ × ℕ × ℕ)) (order : List Point) : Type 0 where
+  pub few : length order ≤ length (points parts)
+  pub within : (p : Point) → Has order p → Has (points parts) p
+  pub each : (p : Point) → Has (points parts) p → Has order p
+  pub once : StandOnce order
+  pub after : StandsAfter (depends_on parts bits extras) order
+
+-- ---- pin types
+-- off, driving what a register keeps, driving, or driving where enabled
+abbrev pub is_output_part : ℕ → Bool
+is_output_part part = (part == 0) || ((part == 5) || ((part == 6) || (part == 10)))
+
+-- an input that is read has the part 01, or is a register's at a pad that is off
+abbrev pub is_input_type : ℕ → Bool
+is_input_type value = (value % 4 == 1) || (value == 0)
+
+-- A pad's output part is none of the four, or its input is read while its type is none for that.
 abbrev pub has_wrong_type : Parts → Bits → Pad → Bool
-has_wrong_type parts bits pad = not (is_output_part (pin_type parts bits pad / 4)) || (is_input_read parts bits pad && not (pin_type parts bits pad % 4 == 1))
+has_wrong_type parts bits pad = not (is_output_part (pin_type parts bits pad / 4)) || (is_input_read parts bits pad && not (is_input_type (pin_type parts bits pad)))
 
 -- the first pad of a wrong type
 abbrev pub wrong_pad : Parts → Bits → Option Pad

@@ -26,22 +26,22 @@ PointsAreCounted = (parts : Parts) → count_points parts ≡ parts.wires + 8 * 
 
 -- with an order of evaluation each point has a value at each moment
 abbrev pub PointsHaveValues : Type 0
-PointsHaveValues = (parts : Parts) (bits : Bits) (order : List Point) → IsOrderOf parts bits order
+PointsHaveValues = (parts : Parts) (bits : Bits) (extras : List (ℕ × ℕ × ℕ)) (order : List Point) → IsOrderOf parts bits extras order
     → (bonded : List Pad) (levels kept : List Bool) (p : Point) → Has (points parts) p
-    → value (system_of parts bits bonded levels kept) (count_points parts + 1) p ≡ Some (point_level parts bits bonded levels kept p)
+    → value (system_of parts bits extras bonded levels kept) (count_points parts + 1) p ≡ Some (point_level parts bits extras bonded levels kept p)
 
 -- then levels of which each is what the point makes of those that it reads are the values
 abbrev pub PointLevelsAreUnique : Type 0
-PointLevelsAreUnique = (parts : Parts) (bits : Bits) (order : List Point) → IsOrderOf parts bits order
+PointLevelsAreUnique = (parts : Parts) (bits : Bits) (extras : List (ℕ × ℕ × ℕ)) (order : List Point) → IsOrderOf parts bits extras order
     → (bonded : List Pad) (levels kept : List Bool) (v : Point → Bool)
-    → ((p : Point) → Has (points parts) p → v p ≡ makes parts bits bonded levels kept p (map (reading false v) (reads parts bits p)))
-    → (p : Point) → Has (points parts) p → point_level parts bits bonded levels kept p ≡ v p
+    → ((p : Point) → Has (points parts) p → v p ≡ makes parts bits extras bonded levels kept p (map (reading false v) (reads parts bits extras p)))
+    → (p : Point) → Has (points parts) p → point_level parts bits extras bonded levels kept p ≡ v p
 
 -- what a chip shows is defined: where bits have no fault each point has a value at each moment, so no default stands in for one
 abbrev pub FaultlessPointsHaveValues : Type 0
 FaultlessPointsHaveValues = (parts : Parts) (bits : Bits) (extras : List (ℕ × ℕ × ℕ)) → IsRead parts → IsFaultless parts bits extras
     → (bonded : List Pad) (levels kept : List Bool) (p : Point) → Has (points parts) p
-    → value (system_of parts bits bonded levels kept) (count_points parts + 1) p ≡ Some (point_level parts bits bonded levels kept p)
+    → value (system_of parts bits extras bonded levels kept) (count_points parts + 1) p ≡ Some (point_level parts bits extras bonded levels kept p)
 
 -- where bits have no fault no wire is contended
 abbrev pub FaultlessWiresAreUncontended : Type 0

@@ -1,22 +1,20 @@
 -- What configuration bits mean: the level of each point of the chip, and one step. It is the meaning of bits without a fault.
-use Rattle.std.specs.Prelude.{ℕ, ◌+◌, ◌*◌, ◌&&◌, Bool, true, false, Option, None, Some, List, [], ◌∷◌, map, if◌then◌else◌, codes, slice_index_or, unwrap_or}
-use Rattle.std.specs.Option.{option_map_or}
+use Rattle.std.specs.Prelude.{ℕ, ◌+◌, ◌/◌, ◌&&◌, Bool, true, false, Option, None, Some, List, [], ◌∷◌, map, if◌then◌else◌, codes, slice_index_or, unwrap_or}
 use Rattle.std.specs.List.{zip}
-use Rattle.std.specs.Prelude.{option_map}
-use Rattle.std.proofs.Common.{suc}
 use Rattle.ice_base.specs.declared.number.TileAt.{TileAt}
 use Rattle.ice_base_values.specs.System.{System, value}
 use Rattle.ice_base_values.specs.Inputs.{gapped, reading}
 use Rattle.ice_base_values.specs.Machine as machine
 use Rattle.ice_chip.specs.Database.{Parts}
 use Rattle.ice_chip.specs.Places.{same_tile}
-use Rattle.ice_chip.specs.Lookups.{colbuf_of, names_of}
+use Rattle.ice_chip.specs.Lookups.{colbuf_of, names_of, gbufpin_of}
 use Rattle.ice_chip.specs.PinNames.{is_global_name}
 use Rattle.ice_chip.specs.declared.rows.Pad.{Pad}
 use Rattle.ice_chip.specs.declared.placed.PlacedName.{PlacedName}
 use Rattle.ice_bits.specs.Configuration.{Bits}
 use Rattle.ice_bits.specs.Settings.{set_at}
 use Rattle.ice_net.specs.declared.drive.Drive.{Drive}
+use Rattle.ice_net.specs.declared.kind.Reset.TheVariants.{Nothing as NeitherWay}
 use Rattle.ice_net.specs.Flops.{is_edge, fired}
 use Rattle.ice_net.specs.Meaning.{State, majority}
 use Rattle.ice_decode.specs.declared.point.Point.{Point}
@@ -26,12 +24,17 @@ use Rattle.ice_decode.specs.declared.driver.Driver.{Driver}
 use Rattle.ice_decode.specs.declared.driver.Driver.TheVariants.{Nothing, By, Several}
 use Rattle.ice_decode.specs.declared.role.Role.{Role}
 use Rattle.ice_decode.specs.declared.role.Role.TheVariants.{Plain, Output, LookUp, CarryOut, PadInput, Global, CarryIn, ClockEnable}
+use Rattle.ice_chip.specs.WireNames.{input_clock_name, output_clock_name, in_out_enable_name, pad_output_name, output_enable_name}
 use Rattle.ice_chip.specs.FunctionNames.{column_buffer_function}
 use Rattle.ice_decode.specs.Roles.{role_of, number_at}
 use Rattle.ice_decode.specs.Drivers.{driver}
-use Rattle.ice_decode.specs.Cells.{cells, logic_tiles, has_flop, reset_of, looked_up}
+pub use Rattle.ice_decode.specs.Cells.{tile_place}
+use Rattle.ice_decode.specs.Cells.{has_flop, reset_of, looked_up}
+use Rattle.ice_decode.specs.Direct.{takes_pad}
+pub use Rattle.ice_decode.specs.Registers.{kept_at}
+use Rattle.ice_decode.specs.Registers.{Store, CellStore, InputStore, OutputStore, stores, input_kept, output_kept, has_input_register, has_output_register}
 use Rattle.ice_decode.specs.Reads.{reads, cell_inputs, count_points}
-use Rattle.ice_decode.specs.Pads.{pad_gives, pin_level, drive_at}
+use Rattle.ice_decode.specs.Pads.{pad_gives, pin_type, pin_level, part_drive}
 
 -- ---- column buffers
 -- the number of the global whose name stands among these at a place
@@ -54,49 +57,45 @@ abbrev pub passes : Parts → Bits → Switch → Bool
 passes parts bits s = passes_global parts bits s.tile (global_at s.tile (names_of parts s.source.0))
 
 -- ---- the level of a point
--- the place of a tile among these
-abbrev pub tile_place : TileAt → List TileAt → Option ℕ
-tile_place t [] = None
-tile_place t (u ∷ tiles) = if same_tile u t then Some 0 else option_map suc (tile_place t tiles)
-
--- the level that the flip-flop of a cell keeps, where `kept` has those of all logic cells in order
-abbrev pub kept_at : Parts → List Bool → TileAt → ℕ → Bool
-kept_at parts kept t i = option_map_or (λ k. slice_index_or kept (8 * k + i) false) (tile_place t (logic_tiles parts)) false
-
 -- the first of the levels that are read
 abbrev pub first_level : List Bool → Bool
 first_level xs = slice_index_or xs 0 false
 
+-- the level of the pad that feeds a global; 0 where no row of the database names one
+abbrev pub global_gives : Parts → Bits → List Pad → List Bool → Option Pad → Bool
+global_gives parts bits bonded levels None = false
+global_gives parts bits bonded levels (Some pad) = pad_gives parts bits bonded levels pad
+
 -- what a wire without a row that is on makes of what it reads, by its role
-abbrev pub role_makes : Parts → Bits → List Pad → List Bool → List Bool → Role → List Bool → Bool
-role_makes parts bits bonded levels kept Plain xs = false
-role_makes parts bits bonded levels kept (Output t i) xs = if has_flop parts bits t i then kept_at parts kept t i else looked_up parts bits t i xs
-role_makes parts bits bonded levels kept (LookUp t i) xs = looked_up parts bits t i xs
-role_makes parts bits bonded levels kept (CarryOut t i) xs = first_level xs
-role_makes parts bits bonded levels kept (PadInput pad) xs = pad_gives parts bits bonded levels pad
-role_makes parts bits bonded levels kept (Global n) xs = first_level xs
-role_makes parts bits bonded levels kept (CarryIn t) xs = set_at parts bits t (codes "CarryInSet") 0
-role_makes parts bits bonded levels kept ClockEnable xs = true
+abbrev pub role_makes : Parts → Bits → List (ℕ × ℕ × ℕ) → List Pad → List Bool → List Bool → Role → List Bool → Bool
+role_makes parts bits extras bonded levels kept Plain xs = false
+role_makes parts bits extras bonded levels kept (Output t i) xs = if has_flop parts bits t i then kept_at parts kept t i else looked_up parts bits t i xs
+role_makes parts bits extras bonded levels kept (LookUp t i) xs = looked_up parts bits t i xs
+role_makes parts bits extras bonded levels kept (CarryOut t i) xs = first_level xs
+role_makes parts bits extras bonded levels kept (PadInput pad) xs = if has_input_register parts bits pad then input_kept parts kept pad else pad_gives parts bits bonded levels pad
+role_makes parts bits extras bonded levels kept (Global n) xs = if takes_pad parts extras n then global_gives parts bits bonded levels (gbufpin_of parts n) else first_level xs
+role_makes parts bits extras bonded levels kept (CarryIn t) xs = set_at parts bits t (codes "CarryInSet") 0
+role_makes parts bits extras bonded levels kept ClockEnable xs = true
 
 -- what a wire makes of what it reads, by what drives it
-abbrev pub driven_makes : Parts → Bits → List Pad → List Bool → List Bool → Role → Driver → List Bool → Bool
-driven_makes parts bits bonded levels kept role Nothing xs = role_makes parts bits bonded levels kept role xs
-driven_makes parts bits bonded levels kept role (By s) xs = passes parts bits s && first_level xs
-driven_makes parts bits bonded levels kept role (Several first second) xs = false
+abbrev pub driven_makes : Parts → Bits → List (ℕ × ℕ × ℕ) → List Pad → List Bool → List Bool → Role → Driver → List Bool → Bool
+driven_makes parts bits extras bonded levels kept role Nothing xs = role_makes parts bits extras bonded levels kept role xs
+driven_makes parts bits extras bonded levels kept role (By s) xs = passes parts bits s && first_level xs
+driven_makes parts bits extras bonded levels kept role (Several first second) xs = false
 
--- What a point makes of what it reads: `levels` has the levels of the package's pads, `bonded`, in order. A carry is the majority of
+-- What a point makes of what it reads: `levels` has the levels of the package's pads, `bonded`, in order, and `kept` those of all stores. A carry is the majority of
 -- its three inputs, and 0 where it isn't enabled, since it reads nothing then.
-abbrev pub makes : Parts → Bits → List Pad → List Bool → List Bool → Point → List Bool → Bool
-makes parts bits bonded levels kept (Wire w) xs = driven_makes parts bits bonded levels kept (role_of parts w.0) (driver parts bits w.0) xs
-makes parts bits bonded levels kept (Carry t i) xs = majority (slice_index_or xs 0 false) (slice_index_or xs 1 false) (slice_index_or xs 2 false)
+abbrev pub makes : Parts → Bits → List (ℕ × ℕ × ℕ) → List Pad → List Bool → List Bool → Point → List Bool → Bool
+makes parts bits extras bonded levels kept (Wire w) xs = driven_makes parts bits extras bonded levels kept (role_of parts w.0) (driver parts bits w.0) xs
+makes parts bits extras bonded levels kept (Carry t i) xs = majority (slice_index_or xs 0 false) (slice_index_or xs 1 false) (slice_index_or xs 2 false)
 
 -- the configured chip as a system of points at one moment. An input that has no wire reads 0.
-abbrev pub system_of : Parts → Bits → List Pad → List Bool → List Bool → System Point Bool
-system_of parts bits bonded levels kept = gapped (reads parts bits) false (makes parts bits bonded levels kept)
+abbrev pub system_of : Parts → Bits → List (ℕ × ℕ × ℕ) → List Pad → List Bool → List Bool → System Point Bool
+system_of parts bits extras bonded levels kept = gapped (reads parts bits extras) false (makes parts bits extras bonded levels kept)
 
 -- the level of a point. As many steps back as there are points, and one more, are enough where there is no loop.
-abbrev pub point_level : Parts → Bits → List Pad → List Bool → List Bool → Point → Bool
-point_level parts bits bonded levels kept p = unwrap_or (value (system_of parts bits bonded levels kept) (count_points parts + 1) p) false
+abbrev pub point_level : Parts → Bits → List (ℕ × ℕ × ℕ) → List Pad → List Bool → List Bool → Point → Bool
+point_level parts bits extras bonded levels kept p = unwrap_or (value (system_of parts bits extras bonded levels kept) (count_points parts + 1) p) false
 
 -- ---- one step
 -- what the table of a cell gives, by the levels of points
@@ -114,33 +113,54 @@ flop_after parts bits v t i kept clock =
     fired (reset_of parts bits t i) (is_edge (set_at parts bits t (codes "NegClk") 0) clock (clock_level parts v t))
     (pin_level true parts v t (codes "lutff_global/cen")) (pin_level false parts v t (codes "lutff_global/s_r")) (table_level parts bits v t i) kept
 
--- a cell without a flip-flop keeps nothing, which is written 0
-abbrev pub kept_after : Parts → Bits → (Point → Bool) → (TileAt × ℕ) × (Bool × Option Bool) → Bool
-kept_after parts bits v x = has_flop parts bits x.0.0 x.0.1 && flop_after parts bits v x.0.0 x.0.1 x.1.0 x.1.1
+-- What a register of a pad keeps after a step in which its datum has a level. It has neither set nor reset, and takes its datum at the
+-- rising edge of its clock; an enable that has no wire reads 1.
+abbrev pub register_after : Parts → (Point → Bool) → TileAt → List ℕ → Bool → Bool → Option Bool → Bool
+register_after parts v t clock_name datum kept clock =
+    fired NeitherWay (is_edge false clock (pin_level false parts v t clock_name)) (pin_level true parts v t in_out_enable_name) false datum kept
 
--- the clock's level of a cell with a flip-flop
-abbrev pub clock_after : Parts → Bits → (Point → Bool) → TileAt × ℕ → Option Bool
-clock_after parts bits v c = if has_flop parts bits c.0 c.1 then Some (clock_level parts v c.0) else None
+-- What a store keeps after a step, by what it kept and its clock's level before. One that the bits don't use keeps nothing, which is
+-- written 0.
+abbrev pub store_after : Parts → Bits → List Pad → List Bool → (Point → Bool) → Store → Bool → Option Bool → Bool
+store_after parts bits bonded levels v (CellStore t i) kept clock = has_flop parts bits t i && flop_after parts bits v t i kept clock
+store_after parts bits bonded levels v (InputStore pad) kept clock =
+    has_input_register parts bits pad && register_after parts v pad.tile input_clock_name (pad_gives parts bits bonded levels pad) kept clock
+store_after parts bits bonded levels v (OutputStore pad) kept clock =
+    has_output_register parts bits pad && register_after parts v pad.tile output_clock_name (pin_level false parts v pad.tile (pad_output_name pad.pio)) kept clock
 
--- what the logic cells keep after a step
-abbrev pub state_after : Parts → Bits → (Point → Bool) → State → State
-state_after parts bits v state = record {
-  kept = map (kept_after parts bits v) (zip (cells parts) (zip state.kept state.clocks));
-  clocks = map (clock_after parts bits v) (cells parts);
+abbrev pub kept_after : Parts → Bits → List Pad → List Bool → (Point → Bool) → Store × (Bool × Option Bool) → Bool
+kept_after parts bits bonded levels v x = store_after parts bits bonded levels v x.0 x.1.0 x.1.1
+
+-- the clock's level of a store that the bits use
+abbrev pub clock_after : Parts → Bits → (Point → Bool) → Store → Option Bool
+clock_after parts bits v (CellStore t i) = if has_flop parts bits t i then Some (clock_level parts v t) else None
+clock_after parts bits v (InputStore pad) = if has_input_register parts bits pad then Some (pin_level false parts v pad.tile input_clock_name) else None
+clock_after parts bits v (OutputStore pad) = if has_output_register parts bits pad then Some (pin_level false parts v pad.tile output_clock_name) else None
+
+-- what the stores keep after a step
+abbrev pub state_after : Parts → Bits → List Pad → List Bool → (Point → Bool) → State → State
+state_after parts bits bonded levels v state = record {
+  kept = map (kept_after parts bits bonded levels v) (zip (stores parts) (zip state.kept state.clocks));
+  clocks = map (clock_after parts bits v) (stores parts);
 }
+
+-- what the chip drives a pad with, by the levels of points and what is kept
+abbrev pub drive_at : Parts → Bits → List Bool → (Point → Bool) → Pad → Drive
+drive_at parts bits kept v pad =
+    part_drive (pin_type parts bits pad / 4) (pin_level false parts v pad.tile (pad_output_name pad.pio)) (pin_level false parts v pad.tile (output_enable_name pad.pio)) (output_kept parts kept pad)
 
 -- One step: all levels are taken with what was kept before it. `bonded` are the pads of the package, which have the levels, and `shown`
 -- those whose drives are told.
-abbrev pub step : Parts → Bits → List Pad → List Pad → State → List Bool → State × List Drive
-step parts bits bonded shown state levels = (
-  state_after parts bits (point_level parts bits bonded levels state.kept) state,
-  map (drive_at parts bits (point_level parts bits bonded levels state.kept)) shown,
+abbrev pub step : Parts → Bits → List (ℕ × ℕ × ℕ) → List Pad → List Pad → State → List Bool → State × List Drive
+step parts bits extras bonded shown state levels = (
+  state_after parts bits bonded levels (point_level parts bits extras bonded levels state.kept) state,
+  map (drive_at parts bits state.kept (point_level parts bits extras bonded levels state.kept)) shown,
 )
 
--- at the start all flip-flops are 0, and no clock has been seen
+-- at the start all stores are 0, and no clock has been seen
 abbrev pub start : Parts → State
-start parts = record { kept = map (λ (c : TileAt × ℕ). false) (cells parts); clocks = map (λ (c : TileAt × ℕ). None) (cells parts) }
+start parts = record { kept = map (λ (s : Store). false) (stores parts); clocks = map (λ (s : Store). None) (stores parts) }
 
 -- what the chip drives at the pads `shown`, step by step, for a list of levels of the pads of the package
-abbrev pub shows : Parts → Bits → List Pad → List Pad → List (List Bool) → List (List Drive)
-shows parts bits bonded shown levels = machine.shows (step parts bits bonded shown) (start parts) levels
+abbrev pub shows : Parts → Bits → List (ℕ × ℕ × ℕ) → List Pad → List Pad → List (List Bool) → List (List Drive)
+shows parts bits extras bonded shown levels = machine.shows (step parts bits extras bonded shown) (start parts) levels

@@ -1,5 +1,5 @@
 -- The pads of a chip: their levels, what they give to the chip, and how they are driven.
-use Rattle.std.specs.Prelude.{ℕ, ◌/◌, ◌==◌, ◌&&◌, not, Bool, true, false, Option, None, Some, List, [], ◌∷◌, map, filter, if◌then◌else◌}
+use Rattle.std.specs.Prelude.{ℕ, ◌==◌, ◌&&◌, not, Bool, true, false, Option, None, Some, List, [], ◌∷◌, map, filter, if◌then◌else◌}
 use Rattle.std.specs.List.{flat_map}
 use Rattle.ice_base.specs.declared.number.TileAt.{TileAt}
 use Rattle.ice_chip.specs.Database.{Parts}
@@ -15,7 +15,6 @@ use Rattle.ice_net.specs.declared.drive.Drive.TheVariants.{Off}
 use Rattle.ice_net.specs.Drives.{level_drive}
 use Rattle.ice_net.specs.Meaning.{number_of}
 use Rattle.ice_decode.specs.declared.point.Point.{Point}
-use Rattle.ice_chip.specs.WireNames.{pad_output_name, output_enable_name}
 use Rattle.ice_chip.specs.FunctionNames.{pin_type_function, input_enable_function}
 use Rattle.ice_decode.specs.Reads.{at_pin}
 
@@ -25,6 +24,10 @@ pads_in t = (record { tile = t; pio = 0 }) ∷ (record { tile = t; pio = 1 }) �
 
 abbrev pub is_io_tile : TileAt × TileLine → Bool
 is_io_tile tile = is_io_kind tile.1.kind
+
+-- the IO tiles in the order of the database
+abbrev pub io_tiles : Parts → List TileAt
+io_tiles parts = map (λ (tile : TileAt × TileLine). tile.0) (filter is_io_tile parts.tiles)
 
 -- the two pads of each IO tile, in the order of the database
 abbrev pub pads : Parts → List Pad
@@ -45,7 +48,7 @@ is_enabled_by parts bits (Some enable) = not (set_at parts bits enable.tile (inp
 abbrev pub is_enabled : Parts → Bits → Pad → Bool
 is_enabled parts bits pad = is_enabled_by parts bits (ieren_of parts pad)
 
--- what a pad gives to its wire in the chip
+-- what a pad gives to the chip: to its wire, to its register or to a global
 abbrev pub pad_gives : Parts → Bits → List Pad → List Bool → Pad → Bool
 pad_gives parts bits bonded levels pad = is_enabled parts bits pad && level_of bonded levels pad
 
@@ -63,13 +66,9 @@ pin_type parts bits pad = number_of (map (pin_type_digit parts bits pad) (0 ∷ 
 abbrev pub pin_level : Bool → Parts → (Point → Bool) → TileAt → List ℕ → Bool
 pin_level bare parts v t name = reading bare v (at_pin parts t name)
 
--- what the chip drives with these levels at D_OUT_0 and OUT_ENB, by the output part: 0110 drives the level, 1010 drives it where
--- enabled, and every other part is off
-abbrev pub part_drive : ℕ → Bool → Bool → Drive
-part_drive part level enable =
-    if part == 6 then level_drive level else (if part == 10 then (if enable then level_drive level else Off) else Off)
-
--- what the chip drives a pad with, by the levels of points
-abbrev pub drive_at : Parts → Bits → (Point → Bool) → Pad → Drive
-drive_at parts bits v pad =
-    part_drive (pin_type parts bits pad / 4) (pin_level false parts v pad.tile (pad_output_name pad.pio)) (pin_level false parts v pad.tile (output_enable_name pad.pio))
+-- what the chip drives with these levels at D_OUT_0 and OUT_ENB and with the level that the pad's register keeps, by the output part: 0101
+-- drives what is kept, 0110 drives the level, 1010 drives it where enabled, and every other part is off
+abbrev pub part_drive : ℕ → Bool → Bool → Bool → Drive
+part_drive part level enable kept =
+    if part == 5 then level_drive kept
+    else (if part == 6 then level_drive level else (if part == 10 then (if enable then level_drive level else Off) else Off))

@@ -17,6 +17,7 @@ use Rattle.ice_chip.specs.WireNames.{input_name}
 use Rattle.ice_decode.specs.Roles.{role_of}
 use Rattle.ice_decode.specs.Drivers.{driver}
 use Rattle.ice_decode.specs.Cells.{cells, has_carry, has_flop}
+use Rattle.ice_decode.specs.Direct.{takes_pad}
 
 -- ---- points
 abbrev pub wire_point : ℕ → Point
@@ -61,28 +62,28 @@ carry_inputs parts t i = at_pin parts t (input_name i 1) ∷ at_pin parts t (inp
 abbrev pub global_feed : Parts → ℕ → Option Point
 global_feed parts n = at_pin_of parts (global_of parts n) (codes "fabout")
 
--- what a wire without a row that is on reads, by its role
-abbrev pub role_reads : Parts → Bits → Role → List (Option Point)
-role_reads parts bits Plain = []
-role_reads parts bits (Output t i) = if has_flop parts bits t i then [] else cell_inputs parts t i
-role_reads parts bits (LookUp t i) = cell_inputs parts t i
-role_reads parts bits (CarryOut t i) = Some (Carry t i) ∷ []
-role_reads parts bits (PadInput pad) = []
-role_reads parts bits (Global n) = global_feed parts n ∷ []
-role_reads parts bits (CarryIn t) = []
-role_reads parts bits ClockEnable = []
+-- what a wire without a row that is on reads, by its role; `extras` has the extra bits that are set
+abbrev pub role_reads : Parts → Bits → List (ℕ × ℕ × ℕ) → Role → List (Option Point)
+role_reads parts bits extras Plain = []
+role_reads parts bits extras (Output t i) = if has_flop parts bits t i then [] else cell_inputs parts t i
+role_reads parts bits extras (LookUp t i) = cell_inputs parts t i
+role_reads parts bits extras (CarryOut t i) = Some (Carry t i) ∷ []
+role_reads parts bits extras (PadInput pad) = []
+role_reads parts bits extras (Global n) = if takes_pad parts extras n then [] else global_feed parts n ∷ []
+role_reads parts bits extras (CarryIn t) = []
+role_reads parts bits extras ClockEnable = []
 
 -- what a wire reads, by what drives it
-abbrev pub driven_reads : Parts → Bits → Role → Driver → List (Option Point)
-driven_reads parts bits role Nothing = role_reads parts bits role
-driven_reads parts bits role (By s) = Some (Wire s.source) ∷ []
-driven_reads parts bits role (Several first second) = []
+abbrev pub driven_reads : Parts → Bits → List (ℕ × ℕ × ℕ) → Role → Driver → List (Option Point)
+driven_reads parts bits extras role Nothing = role_reads parts bits extras role
+driven_reads parts bits extras role (By s) = Some (Wire s.source) ∷ []
+driven_reads parts bits extras role (Several first second) = []
 
 -- What a point reads. A carry that isn't enabled reads nothing.
-abbrev pub reads : Parts → Bits → Point → List (Option Point)
-reads parts bits (Wire w) = driven_reads parts bits (role_of parts w.0) (driver parts bits w.0)
-reads parts bits (Carry t i) = if has_carry parts bits t i then carry_inputs parts t i else []
+abbrev pub reads : Parts → Bits → List (ℕ × ℕ × ℕ) → Point → List (Option Point)
+reads parts bits extras (Wire w) = driven_reads parts bits extras (role_of parts w.0) (driver parts bits w.0)
+reads parts bits extras (Carry t i) = if has_carry parts bits t i then carry_inputs parts t i else []
 
 -- the points that a point depends on
-abbrev pub depends_on : Parts → Bits → Point → List Point
-depends_on parts bits p = present (reads parts bits p)
+abbrev pub depends_on : Parts → Bits → List (ℕ × ℕ × ℕ) → Point → List Point
+depends_on parts bits extras p = present (reads parts bits extras p)

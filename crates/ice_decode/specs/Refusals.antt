@@ -1,5 +1,5 @@
 -- Which fault bits are refused for, and what is kept of those that aren't.
-use Rattle.std.specs.Prelude.{◌≡◌, ℕ, None, Some, List, [], map}
+use Rattle.std.specs.Prelude.{◌≡◌, ℕ, None, Some, Bool, List, map}
 use Rattle.std.specs.List.{range_with_len}
 use Rattle.ice_base.specs.declared.number.TileAt.{TileAt}
 use Rattle.ice_chip.specs.Database.{Parts}
@@ -11,20 +11,21 @@ use Rattle.ice_decode.specs.declared.fault.DecodeFault.{DecodeFault}
 use Rattle.ice_decode.specs.declared.fault.DecodeFault.TheVariants.{Contention, ForeignSource, ForeignFunction, ForeignExtra, ChipLoop, PinType, NoMemory}
 use Rattle.ice_decode.specs.Drivers.{driver}
 use Rattle.ice_decode.specs.Pads.{pin_type}
-use Rattle.ice_decode.specs.Faults.{contention, foreign_source, foreign_function, first_extra, HasNoLoop, IsLoop, IsOrderOf, wrong_pad}
+use Rattle.ice_decode.specs.Direct.{AreDirect, foreign_extra}
+use Rattle.ice_decode.specs.Faults.{contention, foreign_source, foreign_function, HasNoLoop, IsLoop, IsOrderOf, wrong_pad}
 
 -- ---- no fault
--- the faults of the first four kinds are not there
+-- the faults of the first four kinds are not there: each extra bit is some global's
 pub record IsOfChip (parts : Parts) (bits : Bits) (extras : List (ℕ × ℕ × ℕ)) : Type 0 where
   pub uncontended : contention parts bits ≡ None
   pub sources : foreign_source parts bits ≡ None
   pub functions : foreign_function parts bits ≡ None
-  pub no_extras : extras ≡ []
+  pub extras_known : foreign_extra parts extras ≡ None
 
 -- none of the six kinds is there, so the bits have a circuit
 pub record IsFaultless (parts : Parts) (bits : Bits) (extras : List (ℕ × ℕ × ℕ)) : Type 0 where
   pub of_chip : IsOfChip parts bits extras
-  pub loopless : HasNoLoop parts bits
+  pub loopless : HasNoLoop parts bits extras
   pub types : wrong_pad parts bits ≡ None
 
 -- ---- the first fault
@@ -41,16 +42,16 @@ pub record IsForeignExtra (parts : Parts) (bits : Bits) (extras : List (ℕ × �
   pub uncontended : contention parts bits ≡ None
   pub sources : foreign_source parts bits ≡ None
   pub functions : foreign_function parts bits ≡ None
-  pub first : first_extra extras ≡ Some extra
+  pub first : foreign_extra parts extras ≡ Some extra
 
 -- any loop may be told
 pub record IsChipLoop (parts : Parts) (bits : Bits) (extras : List (ℕ × ℕ × ℕ)) (wires : List ℕ) : Type 0 where
   pub of_chip : IsOfChip parts bits extras
-  pub is_loop : IsLoop parts bits wires
+  pub is_loop : IsLoop parts bits extras wires
 
 pub record IsPinType (parts : Parts) (bits : Bits) (extras : List (ℕ × ℕ × ℕ)) (pad : Pad) (value : ℕ) : Type 0 where
   pub of_chip : IsOfChip parts bits extras
-  pub loopless : HasNoLoop parts bits
+  pub loopless : HasNoLoop parts bits extras
   pub first : wrong_pad parts bits ≡ Some pad
   pub value_is : value ≡ pin_type parts bits pad
 
@@ -69,10 +70,11 @@ IsFaultOf parts bits extras NoMemory = Unit {0}
 abbrev pub AreDrivers : Parts → Bits → List Driver → Type 0
 AreDrivers parts bits drivers = drivers ≡ map (driver parts bits) (range_with_len 0 parts.wires)
 
--- what is kept of bits without a fault: the bits, what drives each wire, and an order of evaluation
+-- what is kept of bits without a fault: the bits, what drives each wire, which globals have the level of a pad, and an order of evaluation
 pub record CircuitData : Type 0 where
   pub configuration : Configuration
   pub drivers : List Driver
+  pub direct : List Bool
   pub order : List Point
 
 -- the circuit is the one that the bits are on the chip
@@ -80,4 +82,5 @@ pub record IsCircuitOf (parts : Parts) (k : Configuration) (circuit : CircuitDat
   pub same : circuit.configuration ≡ k
   pub faultless : IsFaultless parts (bits_of k) k.extras
   pub driven_by : AreDrivers parts (bits_of k) circuit.drivers
-  pub ordered : IsOrderOf parts (bits_of k) circuit.order
+  pub fed_by_pads : AreDirect parts k.extras circuit.direct
+  pub ordered : IsOrderOf parts (bits_of k) k.extras circuit.order

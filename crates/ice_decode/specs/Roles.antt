@@ -4,6 +4,7 @@ use Rattle.ice_base.specs.declared.number.TileAt.{TileAt}
 use Rattle.ice_chip.specs.Database.{Parts}
 use Rattle.ice_chip.specs.Lookups.{kind_at, names_of}
 use Rattle.ice_chip.specs.PinNames.{is_global_name, cell_pin}
+use Rattle.ice_chip.specs.WireNames.{in_out_enable_name}
 use Rattle.ice_chip.specs.declared.rows.TileKind.{TileKind}
 use Rattle.ice_chip.specs.declared.rows.TileKind.TheVariants.{Io, Logic, RamBottom, RamTop}
 use Rattle.ice_chip.specs.declared.placed.PlacedName.{PlacedName}
@@ -42,7 +43,8 @@ abbrev pub io_role : TileAt → List ℕ → Option Role
 io_role t name =
     if bytes_eq name (codes "io_0/D_IN_0") then Some (PadInput (record { tile = t; pio = 0 }))
     else (if bytes_eq name (codes "io_1/D_IN_0") then Some (PadInput (record { tile = t; pio = 1 }))
-    else global_role name)
+    else (if bytes_eq name in_out_enable_name then Some ClockEnable
+    else global_role name))
 
 -- the role of a name in a tile of a kind
 abbrev pub role_in : TileAt → Option TileKind → List ℕ → Option Role

@@ -1,21 +1,25 @@
 //! Circuits: bits without a fault.
-ghost use Rattle.std.specs.Prelude.{◌≡◌, ◌<◌, Some, length, map, slice_get};
+ghost use Rattle.std.specs.Prelude.{◌≡◌, ◌<◌, Some, false, length, map, slice_get, slice_index_or};
 ghost use Rattle.ice_chip.specs.Database.{Parts};
 ghost use Rattle.ice_bits.specs.Configuration.{bits_of};
+ghost use Rattle.ice_decode.specs.Direct.{takes_pad};
 ghost use Rattle.ice_decode.specs.Drivers.{row_of};
 ghost use Rattle.ice_decode.specs.Laws.{IsDriverOf};
 ghost use Rattle.ice_decode.specs.Refusals.{CircuitData, IsCircuitOf};
 
+use crate::direct::direct_at;
 use crate::{Driver, Point};
 use ice_base::{RowNo, WireNo};
 use ice_bits::Bits;
 use std::marker::Model;
 
-/// The circuit in bits without a fault. Contracts see the bits, what drives each wire, and an order of evaluation.
+/// The circuit in bits without a fault. Contracts see the bits, what drives each wire, which globals have the level of a pad, and an
+/// order of evaluation.
 #[derive(Drop)]
 pub struct Circuit {
     bits: Bits,
     drivers: Vec<Driver>,
+    direct: [bool; 8],
     order: Vec<Point>,
 }
 
@@ -24,7 +28,7 @@ impl Model for Circuit {
 
     ghost Value = { CircuitData };
 
-    ghost view = { λ c. record { configuration = c.bits; drivers = c.drivers.items; order = c.order.items } };
+    ghost view = { λ c. record { configuration = c.bits; drivers = c.drivers.items; direct = c.direct; order = c.order.items } };
 }
 
 impl Circuit {
@@ -56,6 +60,21 @@ impl Circuit {
         self.drivers.as_slice()
     }
 
+    /// Whether each global has the level of a pad, by its number.
+    pub fn direct(&self) -> &[bool]
+        ensures { result.now ≡ self.now.direct }
+    {
+        self.direct.as_slice()
+    }
+
+    /// Whether a global has the level of a pad: its extra bit is set.
+    pub fn takes_pad(&self, global: u8) -> bool
+        ensures kept { result ≡ slice_index_or self.now.direct global false }
+        ensures told { (parts : Parts) → IsCircuitOf parts self.now.configuration self.now → result ≡ takes_pad parts self.now.configuration.extras global }
+    {
+        direct_at(self.direct(), global)
+    }
+
     /// Each wire and each logic cell's carry once, after all that it depends on.
     pub fn order(&self) -> &[Point]
         ensures { result.now ≡ self.now.order }
@@ -71,12 +90,18 @@ impl Circuit {
     }
 
     // The circuit of these bits.
-    pub(crate) fn of(bits: Bits, drivers: Vec<Driver>, order: Vec<Point>) -> Circuit
-        ensures { result ≡ record { configuration = bits; drivers = drivers.items; order = order.items } }
+    pub(crate) fn of(
+        bits: Bits,
+        drivers: Vec<Driver>,
+        direct: [bool; 8],
+        order: Vec<Point>,
+    ) -> Circuit
+        ensures { result ≡ record { configuration = bits; drivers = drivers.items; direct = direct; order = order.items } }
     {
         Circuit {
             bits,
             drivers,
+            direct,
             order,
         }
     }

@@ -3,6 +3,7 @@ ghost use Rattle.std.specs.Prelude.{◌≡◌, ◌++◌, length, map, IfOk};
 ghost use Rattle.ice_base_values.specs.Order.{IsOrder, IsSimpleCycle};
 ghost use Rattle.ice_base_values.specs.Graph.{depends_of};
 ghost use Rattle.ice_bits.specs.Configuration.{bits_of};
+ghost use Rattle.ice_decode.specs.Direct.{AreDirect};
 ghost use Rattle.ice_decode.specs.Reads.{depends_on};
 ghost use Rattle.ice_decode.specs.Faults.{wires_among};
 ghost use Rattle.ice_decode.specs.Refusals.{AreDrivers};
@@ -13,9 +14,9 @@ use crate::numbering::Numbering;
 use crate::reads::add_reads;
 use crate::{Driver, Point, Wires};
 use ice_base::NoMemory;
+use ice_base_values::{Graph, Outcome, from_least, order};
 use ice_bits::Bits;
 use ice_chip::Chip;
-use ice_base_values::{Graph, Outcome, from_least, order};
 use std::alloc::Global;
 
 /// What the search for an order of all points finds.
@@ -33,11 +34,13 @@ fn graph_of_points(
     chip: &Chip,
     bits: &Bits,
     drivers: &[Driver],
+    direct: &[bool],
     numbering: &Numbering,
 ) -> Result<Graph, NoMemory>
     requires drivers { AreDrivers chip.now (bits_of bits.now) drivers.now }
+    requires direct { AreDirect chip.now bits.now.extras direct.now }
     requires points { AreAllPoints chip.now numbering.now }
-    ensures { IfOk result (IsGraphOf numbering.now (depends_on chip.now (bits_of bits.now))) }
+    ensures { IfOk result (IsGraphOf numbering.now (depends_on chip.now (bits_of bits.now) bits.now.extras)) }
 {
     let _wires = chip.wires();
     let mut graph = Graph::new(alloc);
@@ -45,7 +48,7 @@ fn graph_of_points(
     let mut row = Vec::new(alloc);
     for point in numbering.points() {
         reads.clear();
-        add_reads(chip, bits, drivers, *point, &mut reads)?;
+        add_reads(chip, bits, drivers, direct, *point, &mut reads)?;
         numbering.number_all(&reads, &mut row)?;
         graph.push(&row)?;
     }
@@ -75,9 +78,9 @@ fn order_at(
     order: &[usize],
 ) -> Result<Found, NoMemory>
     requires points { AreAllPoints chip.now numbering.now }
-    requires graph { IsGraphOf numbering.now (depends_on chip.now (bits_of bits.now)) graph.now }
+    requires graph { IsGraphOf numbering.now (depends_on chip.now (bits_of bits.now) bits.now.extras) graph.now }
     requires order { IsOrder (length graph.now) (depends_of graph.now) order.now }
-    ensures { IfOk result (IsSearched chip.now (bits_of bits.now)) }
+    ensures { IfOk result (IsSearched chip.now (bits_of bits.now) bits.now.extras) }
 {
     let (_chip, _bits, _graph) = (chip, bits, graph);
     let points = numbering.points_at(alloc, order)?;
@@ -94,9 +97,9 @@ fn loop_at(
     cycle: &[usize],
 ) -> Result<Found, NoMemory>
     requires points { AreAllPoints chip.now numbering.now }
-    requires graph { IsGraphOf numbering.now (depends_on chip.now (bits_of bits.now)) graph.now }
+    requires graph { IsGraphOf numbering.now (depends_on chip.now (bits_of bits.now) bits.now.extras) graph.now }
     requires cycle { IsSimpleCycle (length graph.now) (depends_of graph.now) cycle.now }
-    ensures { IfOk result (IsSearched chip.now (bits_of bits.now)) }
+    ensures { IfOk result (IsSearched chip.now (bits_of bits.now) bits.now.extras) }
 {
     let (_chip, _bits, _graph) = (chip, bits, graph);
     let cycle = from_least(alloc, cycle)?;
@@ -114,8 +117,8 @@ fn found_in(
     graph: &Graph,
 ) -> Result<Found, NoMemory>
     requires points { AreAllPoints chip.now numbering.now }
-    requires graph { IsGraphOf numbering.now (depends_on chip.now (bits_of bits.now)) graph.now }
-    ensures { IfOk result (IsSearched chip.now (bits_of bits.now)) }
+    requires graph { IsGraphOf numbering.now (depends_on chip.now (bits_of bits.now) bits.now.extras) graph.now }
+    ensures { IfOk result (IsSearched chip.now (bits_of bits.now) bits.now.extras) }
 {
     match order(alloc, graph)? {
         Outcome::Order(order) => order_at(alloc, chip, bits, numbering, graph, &order),
@@ -129,18 +132,20 @@ fn search_by(
     chip: &Chip,
     bits: &Bits,
     drivers: &[Driver],
+    direct: &[bool],
     numbering: &Numbering,
 ) -> Result<Found, NoMemory>
     requires drivers { AreDrivers chip.now (bits_of bits.now) drivers.now }
+    requires direct { AreDirect chip.now bits.now.extras direct.now }
     requires points { AreAllPoints chip.now numbering.now }
-    ensures { IfOk result (IsSearched chip.now (bits_of bits.now)) }
+    ensures { IfOk result (IsSearched chip.now (bits_of bits.now) bits.now.extras) }
 {
-    let graph = graph_of_points(alloc, chip, bits, drivers, numbering)?;
+    let graph = graph_of_points(alloc, chip, bits, drivers, direct, numbering)?;
     found_in(alloc, chip, bits, numbering, &graph)
 }
 
-/// An order of evaluation of all points of a chip, or else a loop, begun at its point of the least number. The table has what drives
-/// each wire.
+/// An order of evaluation of all points of a chip, or else a loop, begun at its point of the least number. The tables have what drives
+/// each wire, and which globals have the level of a pad.
 ///
 /// # Errors
 /// Want of memory alone.
@@ -149,10 +154,12 @@ pub(crate) fn search(
     chip: &Chip,
     bits: &Bits,
     drivers: &[Driver],
+    direct: &[bool],
 ) -> Result<Found, NoMemory>
-    requires { AreDrivers chip.now (bits_of bits.now) drivers.now }
-    ensures { IfOk result (IsSearched chip.now (bits_of bits.now)) }
+    requires drivers { AreDrivers chip.now (bits_of bits.now) drivers.now }
+    requires direct { AreDirect chip.now bits.now.extras direct.now }
+    ensures { IfOk result (IsSearched chip.now (bits_of bits.now) bits.now.extras) }
 {
     let numbering = Numbering::new(alloc, chip)?;
-    search_by(alloc, chip, bits, drivers, &numbering)
+    search_by(alloc, chip, bits, drivers, direct, &numbering)
 }

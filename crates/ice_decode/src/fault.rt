@@ -25,17 +25,17 @@ pub enum DecodeFault {
         /// The source of the row.
         wire: WireNo,
     },
-    /// A bit of a function of a PLL or of a pair of pads is set in this tile, the function of this line; the first in the order of
-    /// tiles and then of lines.
-    #[error("line {line}: a function of a PLL or of a pair of pads is set")]
+    /// A bit of a function of a PLL or of a pair of pads, or the falling clock of a register of a pad that is in use, is set in this tile,
+    /// the function of this line; the first in the order of tiles and then of lines.
+    #[error("line {line}: a function of a PLL or of pads is set")]
     ForeignFunction {
         /// The place of the tile.
         tile: TileAt,
         /// The line of the function in the database.
         line: u32,
     },
-    /// There is an extra bit; the first in their order.
-    #[error("an extra bit")]
+    /// An extra bit is no global's; the first such in their order.
+    #[error("an extra bit of no global")]
     ForeignExtra {
         /// Its bank, its column and its row.
         extra: (u32, u32, u32),
@@ -46,8 +46,8 @@ pub enum DecodeFault {
         /// The wires in the order of the list.
         wires: Wires,
     },
-    /// The pad's type has an output part that is unknown, or another input part than 01 while its input is read; the first in
-    /// the order of tiles and pads. The value is from 0 to 63.
+    /// The pad's type has an output part that is unknown, or its input is read while its input part is not 01 and its type not 0; the
+    /// first in the order of tiles and pads. The value is from 0 to 63.
     #[error("{value} is no type of a pad that is known")]
     PinType {
         /// The pad.

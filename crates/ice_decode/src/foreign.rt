@@ -1,17 +1,19 @@
-//! What no circuit holds: outputs of memories, functions of PLLs and of pairs of pads.
+//! What no circuit holds: outputs of memories, functions of PLLs and of pairs of pads, and falling clocks of registers of pads.
 ghost use Rattle.std.specs.Prelude.{◌≡◌, ◌<◌, [], All, map, find, option_map, IfOk, OnOk};
 ghost use Rattle.std.specs.List.{list_any};
 ghost use Rattle.ice_chip.specs.Views.{function_view};
 ghost use Rattle.ice_bits.specs.Configuration.{bits_of};
-ghost use Rattle.ice_decode.specs.Faults.{is_memory_output, is_foreign_wire, foreign_function};
-ghost use Rattle.ice_decode.specs.Tables.{IsBetween, foreign_wires, foreign_source_of};
+ghost use Rattle.ice_decode.specs.Drivers.{switches_on};
+ghost use Rattle.ice_decode.specs.Faults.{is_memory_output, is_foreign_wire, counts_in, foreign_function};
+ghost use Rattle.ice_decode.specs.Tables.{IsBetween, AreSources, foreign_wires, foreign_source_of};
 ghost use Rattle.ice_decode.specs.ForeignTiles.{is_set_at, foreign_at};
 ghost use Rattle.ice_decode.specs.ForeignPlaces.{with_places, foreign_places};
 
 use crate::Switch;
+use crate::pin_types::uses_registers;
 use ice_base::{BitAt, NoMemory, TileAt, WireNo};
 use ice_bits::Bits;
-use ice_chip::{Chip, Function, Tile, TileKind, is_foreign, same_kind};
+use ice_chip::{Chip, Function, Tile, TileKind, falling_clock_function, is_foreign, same_kind};
 use indexmap::IndexSet;
 use std::alloc::Global;
 
@@ -99,21 +101,38 @@ fn has_one(bits: &Bits, tile: TileAt, places: &[BitAt]) -> bool
     false
 }
 
-// Whether a bit of a foreign function of the tile's kind is set in the tile.
-fn is_set_at(bits: &Bits, tile: Tile, function: &Function) -> bool
-    ensures { result ≡ is_set_at (bits_of bits.now) tile (function_view function.now) }
+// Whether a foreign function of this name counts in a tile.
+fn counts_in(chip: &Chip, bits: &Bits, sources: &[bool], tile: TileAt, name: &[u8]) -> bool
+    requires { AreSources (switches_on (bits_of bits.now) chip.now.groups) sources.now }
+    ensures { result ≡ counts_in chip.now (bits_of bits.now) tile name.now }
+{
+    name != falling_clock_function().as_slice() || uses_registers(chip, bits, sources, tile)
+}
+
+// Whether a bit of a foreign function of the tile's kind is set in the tile, where the function counts.
+fn is_set_at(chip: &Chip, bits: &Bits, sources: &[bool], tile: Tile, function: &Function) -> bool
+    requires { AreSources (switches_on (bits_of bits.now) chip.now.groups) sources.now }
+    ensures { result ≡ is_set_at chip.now (bits_of bits.now) tile (function_view function.now) }
 {
     same_kind(function.kind, tile.kind)
         && is_foreign(function.kind, function.name.as_bytes())
         && has_one(bits, tile.at, &function.bits)
+        && counts_in(chip, bits, sources, tile.at, function.name.as_bytes())
 }
 
 // The line of the first foreign function with a bit that is set in the tile.
-fn foreign_at(functions: &[Function], bits: &Bits, tile: Tile) -> Option<u32>
-    ensures { result ≡ foreign_at (map function_view functions.now) (bits_of bits.now) tile }
+fn foreign_at(
+    chip: &Chip,
+    bits: &Bits,
+    sources: &[bool],
+    functions: &[Function],
+    tile: Tile,
+) -> Option<u32>
+    requires { AreSources (switches_on (bits_of bits.now) chip.now.groups) sources.now }
+    ensures { result ≡ foreign_at chip.now (map function_view functions.now) (bits_of bits.now) tile }
 {
     for function in functions {
-        if is_set_at(bits, tile, function) {
+        if is_set_at(chip, bits, sources, tile, function) {
             return Some(function.line);
         }
     }
@@ -146,9 +165,17 @@ fn foreign_places(alloc: Global, functions: &[Function]) -> Result<IndexSet<BitA
 // The line of the first foreign function with a bit that is set in the tile, by the different places of such bits: functions are gone
 // through in a tile alone in which one of the places is set.
 #[tactic(auto, using(crate::proofs::ForeignBits::none_marked, crate::proofs::ForeignBits::none_elsewhere))]
-fn foreign_in(functions: &[Function], places: &[BitAt], bits: &Bits, tile: Tile) -> Option<u32>
-    requires { places.now ≡ foreign_places [] (map function_view functions.now) }
-    ensures { result ≡ foreign_at (map function_view functions.now) (bits_of bits.now) tile }
+fn foreign_in(
+    chip: &Chip,
+    bits: &Bits,
+    sources: &[bool],
+    functions: &[Function],
+    places: &[BitAt],
+    tile: Tile,
+) -> Option<u32>
+    requires sources { AreSources (switches_on (bits_of bits.now) chip.now.groups) sources.now }
+    requires places { places.now ≡ foreign_places [] (map function_view functions.now) }
+    ensures { result ≡ foreign_at chip.now (map function_view functions.now) (bits_of bits.now) tile }
 {
     if !same_kind(TileKind::Io, tile.kind) {
         return None;
@@ -156,10 +183,11 @@ fn foreign_in(functions: &[Function], places: &[BitAt], bits: &Bits, tile: Tile)
     if !has_one(bits, tile.at, places) {
         return None;
     }
-    foreign_at(functions, bits, tile)
+    foreign_at(chip, bits, sources, functions, tile)
 }
 
-/// The first tile in which a bit of a foreign function is set, and the line of the first function with one there.
+/// The first tile in which a bit of a foreign function is set, and the line of the first function with one there. The table has whether
+/// a row that is on reads each wire.
 ///
 /// # Errors
 /// Want of memory alone.
@@ -168,13 +196,15 @@ pub(crate) fn foreign_function(
     alloc: Global,
     chip: &Chip,
     bits: &Bits,
+    sources: &[bool],
 ) -> Result<Option<(TileAt, u32)>, NoMemory>
+    requires { AreSources (switches_on (bits_of bits.now) chip.now.groups) sources.now }
     ensures { IfOk result (λ found. found ≡ foreign_function chip.now (bits_of bits.now)) }
 {
     let functions = chip.functions();
     let places = foreign_places(alloc, functions)?;
     for tile in chip.tiles() {
-        if let Some(line) = foreign_in(functions, places.as_slice(), bits, *tile) {
+        if let Some(line) = foreign_in(chip, bits, sources, functions, places.as_slice(), *tile) {
             return Ok(Some((tile.at, line)));
         }
     }

@@ -2,6 +2,7 @@
 ghost use Rattle.std.specs.Prelude.{◌≡◌, ◌<◌, ◌≤◌, ◌+◌, ◌*◌, not, if◌then◌else◌};
 ghost use Rattle.ice_bits.specs.Configuration.{bits_of};
 ghost use Rattle.ice_decode.specs.Pads.{is_enabled, pin_type_digit, pin_type};
+ghost use Rattle.ice_decode.specs.Registers.{has_input_register, has_output_register};
 
 use crate::settings::setting;
 use ice_bits::Bits;
@@ -51,4 +52,18 @@ pub fn pin_type(chip: &Chip, bits: &Bits, pad: Pad) -> u8
     let number = with_digit(pin_type_digit(chip, bits, pad, 2), number);
     let number = with_digit(pin_type_digit(chip, bits, pad, 1), number);
     with_digit(pin_type_digit(chip, bits, pad, 0), number)
+}
+
+/// Whether what a pad gives goes through a register.
+pub fn has_input_register(chip: &Chip, bits: &Bits, pad: Pad) -> bool
+    ensures { result ≡ has_input_register chip.now (bits_of bits.now) pad }
+{
+    pin_type(chip, bits, pad) % 4 == 0b00
+}
+
+/// Whether a pad drives what a register keeps.
+pub fn has_output_register(chip: &Chip, bits: &Bits, pad: Pad) -> bool
+    ensures { result ≡ has_output_register chip.now (bits_of bits.now) pad }
+{
+    pin_type(chip, bits, pad) / 4 == 0b0101
 }

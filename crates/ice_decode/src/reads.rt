@@ -1,14 +1,16 @@
 //! What the points of a chip read.
-ghost use Rattle.std.specs.Prelude.{◌≡◌, ◌<◌, ◌++◌, [], length, OnOk, if◌then◌else◌};
+ghost use Rattle.std.specs.Prelude.{◌≡◌, ◌<◌, ◌++◌, ◌∷◌, [], length, OnOk, if◌then◌else◌};
 ghost use Rattle.ice_bits.specs.Configuration.{bits_of};
 ghost use Rattle.ice_chip.specs.WireNames.{input_name};
 ghost use Rattle.ice_decode.specs.Drivers.{driver};
 ghost use Rattle.ice_decode.specs.Roles.{role_of};
 ghost use Rattle.ice_decode.specs.Cells.{has_flop};
+ghost use Rattle.ice_decode.specs.Direct.{takes_pad, AreDirect};
 ghost use Rattle.ice_decode.specs.Reads.{at_pin, cell_inputs, carry_into, carry_inputs, global_feed, role_reads, driven_reads, reads};
 ghost use Rattle.ice_decode.specs.Refusals.{AreDrivers};
 ghost use Rattle.ice_decode.specs.Points.{HasWire};
 
+use crate::direct::takes_pad;
 use crate::role::role_of;
 use crate::settings::{has_carry, has_flop};
 use crate::{Driver, Point, Role};
@@ -103,14 +105,34 @@ fn add_output_reads(
     add_inputs(chip, tile, cell, inputs)
 }
 
+// Adds what a global reads: nothing, where it has the level of a pad.
+fn add_global_reads(
+    chip: &Chip,
+    bits: &Bits,
+    direct: &[bool],
+    global: u8,
+    inputs: &mut Vec<Option<Point>>,
+) -> Result<(), NoMemory>
+    requires { AreDirect chip.now bits.now.extras direct.now }
+    ensures { OnOk result (inputs.new.items ≡ inputs.old.items ++ (if takes_pad chip.now bits.now.extras global then [] else global_feed chip.now global ∷ [])) }
+{
+    if takes_pad(chip, bits, direct, global) {
+        return Ok(());
+    }
+    inputs.push(global_feed(chip, global))?;
+    Ok(())
+}
+
 // Adds what a wire without a row that is on reads, by its role.
 fn add_role_reads(
     chip: &Chip,
     bits: &Bits,
+    direct: &[bool],
     role: Role,
     inputs: &mut Vec<Option<Point>>,
 ) -> Result<(), NoMemory>
-    ensures { OnOk result (inputs.new.items ≡ inputs.old.items ++ role_reads chip.now (bits_of bits.now) role) }
+    requires { AreDirect chip.now bits.now.extras direct.now }
+    ensures { OnOk result (inputs.new.items ≡ inputs.old.items ++ role_reads chip.now (bits_of bits.now) bits.now.extras role) }
 {
     match role {
         Role::Plain | Role::PadInput(_) | Role::CarryIn(_) | Role::ClockEnable => Ok(()),
@@ -120,10 +142,7 @@ fn add_role_reads(
             inputs.push(Some(Point::Carry { tile, cell }))?;
             Ok(())
         }
-        Role::Global(global) => {
-            inputs.push(global_feed(chip, global))?;
-            Ok(())
-        }
+        Role::Global(global) => add_global_reads(chip, bits, direct, global, inputs),
     }
 }
 
@@ -131,12 +150,14 @@ fn add_role_reads(
 fn add_wire_reads(
     chip: &Chip,
     bits: &Bits,
+    direct: &[bool],
     wire: WireNo,
     driver: Driver,
     inputs: &mut Vec<Option<Point>>,
 ) -> Result<(), NoMemory>
-    requires { wire.0 < chip.now.wires }
-    ensures { OnOk result (inputs.new.items ≡ inputs.old.items ++ driven_reads chip.now (bits_of bits.now) (role_of chip.now wire.0) driver) }
+    requires direct { AreDirect chip.now bits.now.extras direct.now }
+    requires wire { wire.0 < chip.now.wires }
+    ensures { OnOk result (inputs.new.items ≡ inputs.old.items ++ driven_reads chip.now (bits_of bits.now) bits.now.extras (role_of chip.now wire.0) driver) }
 {
     match driver {
         Driver::Several(_, _) => Ok(()),
@@ -144,7 +165,7 @@ fn add_wire_reads(
             inputs.push(Some(Point::Wire(switch.source)))?;
             Ok(())
         }
-        Driver::Nothing => add_role_reads(chip, bits, role_of(chip, wire), inputs),
+        Driver::Nothing => add_role_reads(chip, bits, direct, role_of(chip, wire), inputs),
     }
 }
 
@@ -158,7 +179,8 @@ fn driver_at(chip: &Chip, bits: &Bits, drivers: &[Driver], wire: WireNo) -> Driv
     drivers[wire.0 as usize]
 }
 
-/// Adds what a point reads, input by input, where the table has what drives each wire. A wire is one of the chip.
+/// Adds what a point reads, input by input, where the tables have what drives each wire, and which globals have the level of a pad. A
+/// wire is one of the chip.
 ///
 /// # Errors
 /// Want of memory alone.
@@ -166,17 +188,19 @@ pub fn add_reads(
     chip: &Chip,
     bits: &Bits,
     drivers: &[Driver],
+    direct: &[bool],
     point: Point,
     inputs: &mut Vec<Option<Point>>,
 ) -> Result<(), NoMemory>
     requires drivers { AreDrivers chip.now (bits_of bits.now) drivers.now }
+    requires direct { AreDirect chip.now bits.now.extras direct.now }
     requires point { HasWire chip.now point }
-    ensures { OnOk result (inputs.new.items ≡ inputs.old.items ++ reads chip.now (bits_of bits.now) point) }
+    ensures { OnOk result (inputs.new.items ≡ inputs.old.items ++ reads chip.now (bits_of bits.now) bits.now.extras point) }
 {
     match point {
         Point::Wire(wire) => {
             let driver = driver_at(chip, bits, drivers, wire);
-            add_wire_reads(chip, bits, wire, driver, inputs)
+            add_wire_reads(chip, bits, direct, wire, driver, inputs)
         }
         Point::Carry { tile, cell } if has_carry(chip, bits, tile, cell) => {
             add_carry_inputs(chip, tile, cell, inputs)

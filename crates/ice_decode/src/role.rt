@@ -3,7 +3,7 @@ ghost use Rattle.std.specs.Prelude.{◌≡◌, ◌<◌};
 ghost use Rattle.ice_decode.specs.Roles.{number_at, global_role, output_role, or_global, logic_role, io_role, role_in, role_of};
 
 use ice_base::{TileAt, WireNo};
-use ice_chip::{Chip, Pad, TileKind, cell_pin, is_global_name};
+use ice_chip::{Chip, Pad, TileKind, cell_pin, in_out_enable_name, is_global_name};
 
 /// What a wire is at a tile's cells or pads, by its name there, where no row of switches leads into it. Cells are numbered from 0
 /// to 7 in their tile.
@@ -38,7 +38,7 @@ pub enum Role {
     Global(u8),
     /// The carry into the first cell of a tile, `carry_in_mux`.
     CarryIn(TileAt),
-    /// The clock enable of a tile, `lutff_global/cen`.
+    /// The clock enable of a tile, `lutff_global/cen` or `io_global/cen`.
     ClockEnable,
 }
 
@@ -110,6 +110,9 @@ fn io_role(tile: TileAt, name: &[u8]) -> Option<Role>
     }
     if name == b"io_1/D_IN_0".as_slice() {
         return Some(Role::PadInput(Pad { tile, pio: 1 }));
+    }
+    if name == in_out_enable_name().as_slice() {
+        return Some(Role::ClockEnable);
     }
     global_role(name)
 }

@@ -8,3 +8,4 @@ mod Wanting
 mod Slotless
 mod Ready
 mod Meant
+mod ExtraBits

@@ -1,5 +1,5 @@
 -- What the written bits mean, from the laws of which each says a part.
-use Rattle.std.proofs.Common.{◌≡◌, Bool, List, sym, subst}
+use Rattle.std.proofs.Common.{◌≡◌, ℕ, Bool, List, sym, subst}
 use Rattle.std.proofs.Math.Path.{fun_ext}
 use Rattle.ice_base.specs.declared.number.BitAt.{BitAt}
 use Rattle.ice_base.specs.declared.number.TileAt.{TileAt}
@@ -17,7 +17,7 @@ use Rattle.ice_emit_defs.specs.Led.{AreLed}
 use Rattle.ice_emit_defs.specs.Realised.{Realises}
 use Rattle.ice_emit_defs.specs.Routed.{AreTrees, IsPlaced}
 use Rattle.ice_emit_defs.specs.Set.{AreSet}
-use Rattle.ice_emit_defs.specs.Written.{held_by, wanted_rows, written_bits, IsWritten}
+use Rattle.ice_emit_defs.specs.Written.{held_by, wanted_rows, written_bits, plan_extras, IsWritten}
 
 -- what each law says of the chip
 abbrev pub Leads : Parts → Type 0
@@ -29,13 +29,13 @@ Drives parts = (wanted : List Switch) (more : Bits) → AreWanted parts wanted �
 
 abbrev pub Means : Parts → Type 0
 Means parts =
-    (rows : PackageRows) (plan : Plan) (pullups : List Bool) (wanted : List Switch) (held : Held) (bits : Bits) → HasNoLoop parts bits → IsPlaced parts rows plan pullups → AreLed parts plan wanted held → AreSet parts plan wanted held bits
-    → IsWired parts bits wanted → Realises parts plan wanted bits
+    (rows : PackageRows) (plan : Plan) (pullups : List Bool) (wanted : List Switch) (held : Held) (bits : Bits) (extras : List (ℕ × ℕ × ℕ)) → extras ≡ plan_extras parts plan → HasNoLoop parts bits extras → IsPlaced parts rows plan pullups → AreLed parts plan wanted held → AreSet parts plan wanted held bits
+    → IsWired parts bits wanted → Realises parts plan wanted bits extras
 
 abbrev pub Unloops : Parts → Type 0
 Unloops parts =
-    (rows : PackageRows) (plan : Plan) (pullups : List Bool) (wanted : List Switch) (held : Held) (bits : Bits) → FeedsNoGlobal parts → IsPlaced parts rows plan pullups → AreLed parts plan wanted held → AreSet parts plan wanted held bits
-    → IsWired parts bits wanted → HasNoLoop parts bits
+    (rows : PackageRows) (plan : Plan) (pullups : List Bool) (wanted : List Switch) (held : Held) (bits : Bits) (extras : List (ℕ × ℕ × ℕ)) → extras ≡ plan_extras parts plan → FeedsNoGlobal parts → IsPlaced parts rows plan pullups → AreLed parts plan wanted held → AreSet parts plan wanted held bits
+    → IsWired parts bits wanted → HasNoLoop parts bits extras
 
 module _ (parts : Parts) (rows : PackageRows) (plan : Plan) (pullups : List Bool) (routes : List Route) (k : Configuration) (leads : Leads parts) (apart : SetsNoGroups parts) (sets : SetsDesigns parts) (drives : Drives parts)
     (placed : IsPlaced parts rows plan pullups) (trees : AreTrees parts plan routes) (written : IsWritten parts plan pullups routes k) where
@@ -63,12 +63,11 @@ module _ (parts : Parts) (rows : PackageRows) (plan : Plan) (pullups : List Bool
   pub are_wired : IsWired parts (bits_of k) wanted
   are_wired = subst (λ (bits : Bits). IsWired parts bits wanted) same wired
 
-  pub are_meant : Means parts → HasNoLoop parts (bits_of k) → Realises parts plan wanted (bits_of k)
+  pub are_meant : Means parts → HasNoLoop parts (bits_of k) k.extras → Realises parts plan wanted (bits_of k) k.extras
   are_meant means loopless =
-      subst (λ (bits : Bits). Realises parts plan wanted bits) same
-      (means rows plan pullups wanted held (set_bits parts wanted own) (subst (λ (bits : Bits). HasNoLoop parts bits) (sym same) loopless) placed led set wired)
+      subst (λ (bits : Bits). Realises parts plan wanted bits k.extras) same
+      (means rows plan pullups wanted held (set_bits parts wanted own) k.extras written.extras (subst (λ (bits : Bits). HasNoLoop parts bits k.extras) (sym same) loopless) placed led set wired)
 
-  pub have_no_loop : Unloops parts → FeedsNoGlobal parts → HasNoLoop parts (bits_of k)
+  pub have_no_loop : Unloops parts → FeedsNoGlobal parts → HasNoLoop parts (bits_of k) k.extras
   have_no_loop unloops unfed =
-      subst (λ (bits : Bits). HasNoLoop parts bits) same
-      (unloops rows plan pullups wanted held (set_bits parts wanted own) unfed placed led set wired)
+      subst (λ (bits : Bits). HasNoLoop parts bits k.extras) same (unloops rows plan pullups wanted held (set_bits parts wanted own) k.extras written.extras unfed placed led set wired)

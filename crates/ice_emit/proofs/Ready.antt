@@ -1,5 +1,5 @@
 -- What is looked up in a placed and routed design, and the bits of lists of rows and settings.
-use Rattle.std.proofs.Common.{◌≡◌, ℕ, zero, suc, Bool, true, false, cond, Option, None, Some, List, [], ◌∷◌, map, get_or, replicate, refl, sym, ap, ◌∙◌, subst}
+use Rattle.std.proofs.Common.{◌≡◌, ℕ, zero, suc, Bool, true, false, cond, Option, None, Some, List, [], ◌∷◌, ◌++◌, map, get_or, replicate, refl, sym, ap, ◌∙◌, subst}
 use Rattle.std.specs.Prelude.{◌||◌, slice_get, option_map}
 use Rattle.std.specs.List.{list_any, cons_option}
 use Rattle.std.specs.Map.{lookup}
@@ -10,7 +10,7 @@ use Rattle.ice_chip.specs.Database.{Parts, SwitchGroup, SwitchRow}
 use Rattle.ice_chip.specs.Lookups.{rows_of}
 use Rattle.ice_chip.specs.Places.{same_tile, columns}
 use Rattle.ice_chip.specs.declared.parts.TileLine.{TileLine}
-use Rattle.ice_bits.specs.Configuration.{Configuration, bits_of, bit_at, blank, blank_rows, blank_tile}
+use Rattle.ice_bits.specs.Configuration.{Configuration, IsOf, bits_of, bit_at, blank, blank_rows, blank_tile}
 use Rattle.ice_cells.specs.Tables.{table}
 use Rattle.ice_cluster.specs.Slots.{CellsStandInOneSlot}
 use Rattle.ice_graph.specs.Leading.{route_of}
@@ -25,10 +25,10 @@ use Rattle.ice_emit_bits.specs.declared.settings.Setting.{Setting}
 use Rattle.ice_emit_defs.specs.Functions.{settings}
 use Rattle.ice_emit_defs.specs.Links.{switch_of_row}
 use Rattle.ice_emit_defs.specs.Routed.{AreTrees}
-use Rattle.ice_emit_defs.specs.Written.{held_by, wanted_rows, IsWritten}
+use Rattle.ice_emit_defs.specs.Written.{held_by, wanted_rows, plan_extras, IsWritten}
 use Rattle.ice_emit.specs.Placed.{IsPlacedOn}
 use Rattle.ice_emit.specs.Routed.{IsRouted, owner_from, routes_in}
-use Rattle.ice_emit.specs.Views.{AreBitsWith}
+use Rattle.ice_emit.specs.Views.{AreBitsWith, with_extras}
 use Rattle.ice_emit_settings.specs.Views.{views, switches}
 use Rattle.ice_emit.specs.declared.routed.Routed.{Routed}
 use Rattle.ice_graph.specs.declared.tree.Tree.{Tree}
@@ -74,12 +74,14 @@ false_or : (x y : Bool) → x ≡ false → (x || y) ≡ y
 false_or true y e = absurd (cc)
 false_or false y e = refl
 
-pub all_set : (parts : Parts) (rows : List RowNo) (made : List Setting) (empty some all : Configuration) → empty ≡ blank parts → Adds parts empty some (all_rows parts rows) → Adds parts some all (function_bits parts (map setting_view made))
-    → AreBitsWith parts rows made all
-all_set parts rows made empty some all is one other = record {
-  form = other.form;
-  extras = other.extras ∙ one.extras ∙ ap (λ (k : Configuration). k.extras) is;
-  bits = λ t b. other.bits t b ∙ ap (λ x. x || function_bits parts (views made) t b) (one.bits t b ∙ false_or (bits_of empty t b) (all_rows parts rows t b) (ap (λ k. bits_of k t b) is ∙ no_bit parts t b));
+pub all_set : (parts : Parts) (rows : List RowNo) (made : List Setting) (extras : List (ℕ × ℕ × ℕ)) (empty some all whole : Configuration) → empty ≡ blank parts → Adds parts empty some (all_rows parts rows)
+    → Adds parts some all (function_bits parts (map setting_view made)) → whole ≡ with_extras extras all → AreBitsWith parts rows made extras whole
+all_set parts rows made extras empty some all whole is one other more = record {
+  form = subst (IsOf parts) (sym more) (record { grids = other.form.grids; kinds = other.form.kinds });
+  extras_are = ap (λ (k : Configuration). k.extras) more ∙ ap (λ (before : List (ℕ × ℕ × ℕ)). before ++ extras) (other.extras ∙ one.extras ∙ ap (λ (k : Configuration). k.extras) is);
+  bits = λ t b.
+      ap (λ k. bits_of k t b) more ∙ other.bits t b
+      ∙ ap (λ x. x || function_bits parts (views made) t b) (one.bits t b ∙ false_or (bits_of empty t b) (all_rows parts rows t b) (ap (λ k. bits_of k t b) is ∙ no_bit parts t b));
 }
 
 -- the bits of rows are those of their switches
@@ -93,10 +95,10 @@ rows_are parts t b (row ∷ rows) = by (slice_get (rows_of parts.groups) row.0) 
     by (Some x) e rest = ap (λ y. sets_of (Some x) t b || y) rest ∙ ap (λ o. sets_of o t b || list_any (λ s. sets_switch parts s t b) (switches parts rows)) (sym e)
 
 pub are_written : (parts : Parts) (plan : Plan) (pullups : List Bool) (trees : List Tree) (rows : List RowNo) (made : List Setting) (k : Configuration) → switches parts rows ≡ wanted_rows parts plan (map route_of trees)
-    → views made ≡ settings parts plan pullups (held_by parts plan (map route_of trees)) (switches parts rows) → AreBitsWith parts rows made k → IsWritten parts plan pullups (map route_of trees) k
+    → views made ≡ settings parts plan pullups (held_by parts plan (map route_of trees)) (switches parts rows) → AreBitsWith parts rows made (plan_extras parts plan) k → IsWritten parts plan pullups (map route_of trees) k
 are_written parts plan pullups trees rows made k wanted all are = record {
   form = are.form;
-  extras = are.extras;
+  extras = are.extras_are;
   bits = λ t b.
       are.bits t b ∙ ap (λ x. x || function_bits parts (views made) t b) (rows_are parts t b rows)
       ∙ ap (λ xs. list_any (λ s. sets_switch parts s t b) (switches parts rows) || function_bits parts xs t b) all
@@ -106,7 +108,7 @@ are_written parts plan pullups trees rows made k wanted all are = record {
 -- the same, where chip, plan, pull-ups and lists come under other names
 pub written_for : (parts q : Parts) (plan p : Plan) (pullups u : List Bool) (trees : List Tree) (rows r s : List RowNo) (made m : List Setting) (k : Configuration)
     → q ≡ parts → p ≡ plan → u ≡ pullups → r ≡ rows → s ≡ rows → m ≡ made → switches q rows ≡ wanted_rows q p (map route_of trees)
-    → views made ≡ settings q p u (held_by q p (map route_of trees)) (switches q r) → AreBitsWith parts s m k → IsWritten parts plan pullups (map route_of trees) k
+    → views made ≡ settings q p u (held_by q p (map route_of trees)) (switches q r) → AreBitsWith parts s m (plan_extras parts plan) k → IsWritten parts plan pullups (map route_of trees) k
 written_for parts q plan p pullups u trees rows r s made m k eq ep eu er es em wanted all are =
     are_written parts plan pullups trees rows made k
     (subst (λ x. switches x rows ≡ wanted_rows x plan (map route_of trees)) eq (subst (λ y. switches q rows ≡ wanted_rows q y (map route_of trees)) ep wanted))
@@ -114,4 +116,4 @@ written_for parts q plan p pullups u trees rows r s made m k eq ep eu er es em w
     (subst (λ y. views made ≡ settings q y pullups (held_by q y (map route_of trees)) (switches q rows)) ep
     (subst (λ z. views made ≡ settings q p z (held_by q p (map route_of trees)) (switches q rows)) eu
     (subst (λ (x : List RowNo). views made ≡ settings q p u (held_by q p (map route_of trees)) (switches q x)) er all))))
-    (subst (λ (x : List RowNo). AreBitsWith parts x made k) es (subst (λ (y : List Setting). AreBitsWith parts s y k) em are))
+    (subst (λ (x : List RowNo). AreBitsWith parts x made (plan_extras parts plan) k) es (subst (λ (y : List Setting). AreBitsWith parts s y (plan_extras parts plan) k) em are))

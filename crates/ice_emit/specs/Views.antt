@@ -1,5 +1,5 @@
 -- The rows of trees, and the bits of lists of rows and settings.
-use Rattle.std.specs.Prelude.{◌≡◌, ◌||◌, List, []}
+use Rattle.std.specs.Prelude.{◌≡◌, ℕ, ◌||◌, ◌++◌, List}
 use Rattle.ice_base.specs.declared.number.BitAt.{BitAt}
 use Rattle.ice_base.specs.declared.number.RowNo.{RowNo}
 use Rattle.ice_base.specs.declared.number.TileAt.{TileAt}
@@ -14,8 +14,12 @@ use Rattle.ice_emit_bits.specs.declared.settings.Setting.{Setting}
 abbrev pub rows_in : Tree → List RowNo
 rows_in tree = tree.rows.items
 
--- bits of a chip of which those of these rows and settings are set, and no others
-pub record AreBitsWith (parts : Parts) (rows : List RowNo) (made : List Setting) (k : Configuration) : Type 0 where
+-- these extra bits are behind the others, and nothing else changes
+abbrev pub with_extras : List (ℕ × ℕ × ℕ) → Configuration → Configuration
+with_extras more k = record { tiles = k.tiles; kinds = k.kinds; extras = k.extras ++ more }
+
+-- bits of a chip of which those of these rows and settings and these extra bits are set, and no others
+pub record AreBitsWith (parts : Parts) (rows : List RowNo) (made : List Setting) (extras : List (ℕ × ℕ × ℕ)) (k : Configuration) : Type 0 where
   pub form : IsOf parts k
-  pub extras : k.extras ≡ []
+  pub extras_are : k.extras ≡ extras
   pub bits : (t : TileAt) (b : BitAt) → bits_of k t b ≡ (all_rows parts rows t b || function_bits parts (views made) t b)

@@ -13,8 +13,8 @@ ghost use Rattle.ice_emit.specs.Routed.{IsRouted, held_in, routes_in, owner_from
 use crate::routed::Routed;
 use ice_base::{TileAt, WireNo};
 use ice_cells::{LogicCell, Root};
-use ice_lut::rewired;
 use ice_emit_nets::{TilePin, is_free, pin_wire};
+use ice_lut::rewired;
 
 // What stands in a list at a place, where there may be nothing.
 fn wire_at(wires: &[Option<WireNo>], k: u32) -> Option<WireNo>

@@ -12,8 +12,8 @@ use crate::routed::{Routed, tile_at};
 use ice_base::{NoMemory, TileAt};
 use ice_cells::{Cluster, Control, LogicCell, Run};
 use ice_chip::TileFunction;
-use ice_emit_settings::{push_cell, push_if};
 use ice_emit_bits::Setting;
+use ice_emit_settings::{push_cell, push_if};
 
 // The cell of a number.
 fn cell_at(cells: &[LogicCell], c: u32) -> Option<LogicCell>

@@ -3,10 +3,12 @@
 
 mod arriving;
 mod clusters;
+mod extras;
 mod links;
 mod owners;
 mod routed;
 mod rows;
 mod writing;
 
+pub use ice_emit_nets::nets_of;
 pub use writing::{emit, indexed_emit};

@@ -13,9 +13,9 @@ ghost use Rattle.ice_emit_settings.specs.Views.{switches};
 use crate::routed::tile_at;
 use crate::rows::push_row;
 use ice_base::{NoMemory, RowNo, TileAt, WireNo};
+use ice_bits_rows::{Index, first_sound};
 use ice_cells::{Cluster, LogicCell};
 use ice_chip::{Chip, carry_in_name, carry_out_name, first_carry_name, input_name};
-use ice_bits_rows::{Index, first_sound};
 
 // The first sound row from the one wire to the other, if there are both.
 #[tactic(auto, using(crate::proofs::Listed::link_is, crate::proofs::Listed::no_source, crate::proofs::Listed::no_target))]

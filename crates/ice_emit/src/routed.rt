@@ -2,8 +2,8 @@
 ghost use Rattle.std.specs.Prelude.{◌≡◌, slice_get};
 
 use ice_base::TileAt;
-use ice_graph::Tree;
 use ice_emit_nets::{Placed, Wires};
+use ice_graph::Tree;
 
 /// A placed and routed design.
 #[derive(Clone, Copy)]

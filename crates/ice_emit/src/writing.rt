@@ -4,39 +4,41 @@ ghost use Rattle.ice_bits.specs.Configuration.{bits_of};
 ghost use Rattle.ice_decode.specs.Faults.{HasNoLoop};
 ghost use Rattle.ice_graph.specs.Leading.{route_of};
 ghost use Rattle.ice_emit_nets.specs.Plans.{plan_in, plan_of};
+ghost use Rattle.ice_pads.specs.Globals.{numbers};
 ghost use Rattle.ice_emit_defs.specs.Functions.{settings};
 ghost use Rattle.ice_emit_meaning_laws.specs.Feeds.{FeedsNoGlobal};
 ghost use Rattle.ice_bits_rows.specs.Index.{IsIndexOf};
 ghost use Rattle.ice_emit_rows_laws.specs.Wanted.{IsWired};
 ghost use Rattle.ice_emit_defs.specs.Realised.{Realises};
 ghost use Rattle.ice_emit_defs.specs.Routed.{AreTrees};
-ghost use Rattle.ice_emit_defs.specs.Written.{held_by, wanted_rows, IsWritten};
+ghost use Rattle.ice_emit_defs.specs.Written.{held_by, wanted_rows, extras_among, IsWritten};
 ghost use Rattle.ice_emit.specs.Placed.{IsPlacedOn};
 ghost use Rattle.ice_emit.specs.Routed.{IsRouted, held_in};
 ghost use Rattle.ice_emit.specs.Views.{AreBitsWith};
 ghost use Rattle.ice_emit_settings.specs.Views.{views, switches};
 
 use crate::clusters::push_clusters;
+use crate::extras::add_extras;
 use crate::links::push_links;
 use crate::owners::owners_of;
 use crate::routed::Routed;
 use crate::rows::push_trees;
 use ice_base::{NoMemory, RowNo};
 use ice_bits::{Bits, blank};
+use ice_bits_rows::{Index, index_of};
 use ice_cells::{Clusters, Design};
 use ice_chip::Chip;
 use ice_cluster::laws::cells_stand_in_one_slot;
-use ice_graph::Tree;
+use ice_emit_bits::{Setting, set_all, turn_all_on};
 use ice_emit_led_laws::laws::roots_are_led_to_pins;
-use ice_emit_nets::{Placed, placed_of, wires_of};
-use ice_pads::Pads;
-use ice_place::Placement;
 use ice_emit_meaning_laws::laws::{bits_have_no_loop, bits_realise_their_design};
-use ice_bits_rows::{Index, index_of};
+use ice_emit_nets::{Placed, placed_of, wires_of};
+use ice_emit_rows_laws::laws::wanted_rows_drive;
 use ice_emit_set_laws::laws::designs_are_set;
 use ice_emit_settings::{push_buffers, push_enables, push_ports};
-use ice_emit_rows_laws::laws::wanted_rows_drive;
-use ice_emit_bits::{Setting, set_all, turn_all_on};
+use ice_graph::Tree;
+use ice_pads::Pads;
+use ice_place::Placement;
 use std::alloc::Global;
 
 // The rows that are wanted: those of the trees, and those that carry runs.
@@ -107,13 +109,20 @@ fn settings_in(
     settings_of(alloc, &routed, pullups, rows)
 }
 
-// Bits of a chip of which these rows and settings are set, and no others.
-fn bits_with(alloc: Global, chip: &Chip, rows: &[RowNo], made: &[Setting]) -> Result<Bits, NoMemory>
-    ensures { IfOk result (AreBitsWith chip.now rows.now made.now) }
+// Bits of a chip of which these rows and settings are set, and the extra bits of direct global buffers, and no others.
+fn bits_with(
+    alloc: Global,
+    chip: &Chip,
+    rows: &[RowNo],
+    made: &[Setting],
+    pads: &Pads,
+) -> Result<Bits, NoMemory>
+    ensures { IfOk result (AreBitsWith chip.now rows.now made.now (extras_among chip.now pads.now.globals pads.now.direct numbers)) }
 {
     let mut bits = blank(alloc, chip)?;
     turn_all_on(&mut bits, chip, rows);
     set_all(&mut bits, chip, made);
+    add_extras(&mut bits, chip, pads.globals(), pads.direct())?;
     Ok(bits)
 }
 
@@ -136,8 +145,8 @@ pub fn indexed_emit(
     requires trees { AreTrees chip.now (plan_of design.now clusters.now placement.now pads.now) (map route_of trees.now) }
     ensures written { IfOk result (IsWritten chip.now (plan_of design.now clusters.now placement.now pads.now) pads.now.pullups (map route_of trees.now)) }
     ensures driven { IfOk result (λ bits. IsWired chip.now (bits_of bits) (wanted_rows chip.now (plan_of design.now clusters.now placement.now pads.now) (map route_of trees.now))) }
-    ensures loopless { IfOk result (λ bits. FeedsNoGlobal chip.now → HasNoLoop chip.now (bits_of bits)) }
-    ensures realised { IfOk result (λ bits. HasNoLoop chip.now (bits_of bits) → Realises chip.now (plan_of design.now clusters.now placement.now pads.now) (wanted_rows chip.now (plan_of design.now clusters.now placement.now pads.now) (map route_of trees.now)) (bits_of bits)) }
+    ensures loopless { IfOk result (λ bits. FeedsNoGlobal chip.now → HasNoLoop chip.now (bits_of bits) bits.extras) }
+    ensures realised { IfOk result (λ bits. HasNoLoop chip.now (bits_of bits) bits.extras → Realises chip.now (plan_of design.now clusters.now placement.now pads.now) (wanted_rows chip.now (plan_of design.now clusters.now placement.now pads.now) (map route_of trees.now)) (bits_of bits) bits.extras) }
 {
     roots_are_led_to_pins(chip);
     designs_are_set(chip);
@@ -147,13 +156,14 @@ pub fn indexed_emit(
     let placed = placed_of(chip, design, clusters, placement, pads);
     let rows = rows_of(alloc, &placed, index, trees)?;
     let made = settings_in(alloc, &placed, pads.pullups(), trees, rows.as_slice())?;
-    let bits = bits_with(alloc, chip, rows.as_slice(), made.as_slice())?;
+    let bits = bits_with(alloc, chip, rows.as_slice(), made.as_slice(), pads)?;
     Ok(bits)
 }
 
 /// The bits of a placed and routed design: of each tree's rows, and of the rows that carry runs into last inputs and across tiles; of
 /// cells, their tables rewired to the inputs at which their signals arrive; of clocks' edges and carries into runs; of the pads'
-/// types and pull-ups, of inputs that nothing reads, and of the column buffers that globals pass. No other bit is set.
+/// types and pull-ups, of inputs that nothing reads, and of the column buffers that globals pass; and the extra bits of the globals
+/// that direct global buffers have, by rising global. No other bit is set.
 ///
 /// Each wanted row drives its wire, and no other wire has a driver. Decoding these bits gives no fault but a loop, and no loop where no
 /// global of the chip is fed by a global, as where each is fed in an IO tile. Where they have no loop the ports' pads show for every
@@ -174,8 +184,8 @@ pub fn emit(
     requires trees { AreTrees chip.now (plan_of design.now clusters.now placement.now pads.now) (map route_of trees.now) }
     ensures written { IfOk result (IsWritten chip.now (plan_of design.now clusters.now placement.now pads.now) pads.now.pullups (map route_of trees.now)) }
     ensures driven { IfOk result (λ bits. IsWired chip.now (bits_of bits) (wanted_rows chip.now (plan_of design.now clusters.now placement.now pads.now) (map route_of trees.now))) }
-    ensures loopless { IfOk result (λ bits. FeedsNoGlobal chip.now → HasNoLoop chip.now (bits_of bits)) }
-    ensures realised { IfOk result (λ bits. HasNoLoop chip.now (bits_of bits) → Realises chip.now (plan_of design.now clusters.now placement.now pads.now) (wanted_rows chip.now (plan_of design.now clusters.now placement.now pads.now) (map route_of trees.now)) (bits_of bits)) }
+    ensures loopless { IfOk result (λ bits. FeedsNoGlobal chip.now → HasNoLoop chip.now (bits_of bits) bits.extras) }
+    ensures realised { IfOk result (λ bits. HasNoLoop chip.now (bits_of bits) bits.extras → Realises chip.now (plan_of design.now clusters.now placement.now pads.now) (wanted_rows chip.now (plan_of design.now clusters.now placement.now pads.now) (map route_of trees.now)) (bits_of bits) bits.extras) }
 {
     let index = index_of(alloc, chip)?;
     indexed_emit(

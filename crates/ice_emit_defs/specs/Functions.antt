@@ -101,7 +101,7 @@ read_pads (pad ∷ ports) (wanted ∷ pads) = if wanted.reads then pad ∷ read_
 abbrev pub is_read_pad : List Pad → Pad → Bool
 is_read_pad read pad = list_any (same_pad pad) read
 
--- some pad that is read is enabled at this place
+-- some pad that is read, also by a direct global buffer alone, is enabled at this place
 abbrev pub is_needed : List (Pad × Pad) → List Pad → Pad → Bool
 is_needed enables read place = list_any (λ (row : Pad × Pad). same_pad row.1 place && is_read_pad read row.0) enables
 

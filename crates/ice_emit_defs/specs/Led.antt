@@ -17,7 +17,7 @@ use Rattle.ice_cells.specs.declared.design.DesignPad.{DesignPad}
 use Rattle.ice_cells.specs.declared.root.Root.{Root}
 use Rattle.ice_cells.specs.Readings.{is_read}
 use Rattle.ice_emit_rows_laws.specs.Wanted.{AreWanted}
-use Rattle.ice_place_defs.specs.Plan.{Plan}
+use Rattle.ice_place_defs.specs.Plan.{Plan, is_direct}
 use Rattle.ice_emit_nets.specs.Ends.{wire_no, is_free}
 use Rattle.ice_emit_nets.specs.Nets.{root_wire}
 use Rattle.ice_emit_defs.specs.Arrivals.{Held, arrival}
@@ -97,7 +97,8 @@ pub record AreLed (parts : Parts) (plan : Plan) (wanted : List Switch) (held : H
   pub controls : (t : TileAt) (cluster : Cluster) (control : Control) → IsOn plan t cluster → cluster.control ≡ Some control → IsControlLed parts plan wanted t control
   pub entries : (t : TileAt) (cluster : Cluster) → IsOn plan t cluster → IsEntryLed parts plan wanted t cluster.run
   pub ports : (k : ℕ) (pad : Pad) (port : DesignPad) → At plan.ports k pad → At plan.design.pads k port → Has (pads parts) pad → IsPadLed parts plan wanted pad port
-  pub feeds : (g n : ℕ) (root : Option Root) (t : TileAt) → At plan.globals g n → At plan.design.globals g root → global_of parts n ≡ Some t → IsLed parts plan wanted (wire_named parts t fabout_name) root
+  pub feeds : (g n : ℕ) (root : Option Root) (t : TileAt) → At plan.globals g n → At plan.design.globals g root → is_direct plan g ≡ false → global_of parts n ≡ Some t
+      → IsLed parts plan wanted (wire_named parts t fabout_name) root
   -- each wanted row leads on from a root, or is a link
   pub origins : (s : Switch) → Has wanted s → IsOfRoot parts plan wanted s.source ⊎ IsLink parts plan s
   -- the input of a pad that a wanted row leaves is that of a port's pad that is read

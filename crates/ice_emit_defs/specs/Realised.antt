@@ -21,14 +21,14 @@ use Rattle.ice_place_defs.specs.Plan.{Plan}
 abbrev pub port_levels : List Pad → List Pad → List Bool → List Bool
 port_levels bonded ports levels = map (level_of bonded levels) ports
 
--- The bits have no fault. Each wanted row drives its wire, and no other wire has a driver. For every list of levels of the pads of
+-- The bits, with these extra bits, have no fault. Each wanted row drives its wire, and no other wire has a driver. For every list of levels of the pads of
 -- a package, `bonded`, the ports' pads show step by step what the design shows, and every other pad is off. An input is disabled
 -- only where no pad that it enables is read.
-pub record Realises (parts : Parts) (plan : Plan) (wanted : List Switch) (bits : Bits) : Type 0 where
-  pub faultless : IsFaultless parts bits []
+pub record Realises (parts : Parts) (plan : Plan) (wanted : List Switch) (bits : Bits) (extras : List (ℕ × ℕ × ℕ)) : Type 0 where
+  pub faultless : IsFaultless parts bits extras
   pub wired : IsWired parts bits wanted
-  pub shows : (bonded : List Pad) (steps : List (List Bool)) → chip.shows parts bits bonded plan.ports steps ≡ design.shows plan.design (map (port_levels bonded plan.ports) steps)
+  pub shows : (bonded : List Pad) (steps : List (List Bool)) → chip.shows parts bits extras bonded plan.ports steps ≡ design.shows plan.design (map (port_levels bonded plan.ports) steps)
   pub elsewhere : (bonded : List Pad) (steps : List (List Bool)) (pad : Pad) → Has (pads parts) pad → (Has plan.ports pad → ⊥)
-      → chip.shows parts bits bonded (pad ∷ []) steps ≡ replicate (length steps) (Off ∷ [])
+      → chip.shows parts bits extras bonded (pad ∷ []) steps ≡ replicate (length steps) (Off ∷ [])
   pub disabled : (row : Pad × Pad) → Has (enables_of parts) row → set_at parts bits row.1.tile (input_enable_function row.1.pio) 0 ≡ true
       → (k : ℕ) (port : DesignPad) → At plan.ports k row.0 → At plan.design.pads k port → port.reads ≡ false

@@ -18,7 +18,7 @@ use Rattle.ice_graph.specs.Leading.{Leads}
 use Rattle.ice_graph.specs.Leading.{Route}
 
 abbrev pub pads_of : Plan → List Bool → PadsData
-pads_of plan pullups = record { ports = plan.ports; pullups = pullups; globals = plan.globals }
+pads_of plan pullups = record { ports = plan.ports; pullups = pullups; globals = plan.globals; direct = plan.direct }
 
 -- The design keeps to its form and has no loop. Its clusters stand on sites of the chip, its ports have pads of one of the chip's
 -- packages, and its global buffers have globals.

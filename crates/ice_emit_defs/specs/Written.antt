@@ -1,14 +1,16 @@
 -- The bits of a placed and routed design.
-use Rattle.std.specs.Prelude.{◌≡◌, ℕ, nat_eq, Bool, false, Option, None, Some, List, [], ◌∷◌, map, if◌then◌else◌}
+use Rattle.std.specs.Prelude.{◌≡◌, ℕ, nat_eq, ◌&&◌, ◌||◌, Bool, false, Option, None, Some, List, [], ◌∷◌, map, filter, filter_map, if◌then◌else◌}
 use Rattle.ice_base.specs.declared.number.BitAt.{BitAt}
 use Rattle.ice_base.specs.declared.number.RowNo.{RowNo}
 use Rattle.ice_base.specs.declared.number.TileAt.{TileAt}
 use Rattle.ice_base.specs.declared.number.WireNo.{WireNo}
 use Rattle.ice_chip.specs.Database.{Parts}
+use Rattle.ice_chip.specs.Lookups.{padin_of}
 use Rattle.ice_decode.specs.declared.driver.Switch.{Switch}
 use Rattle.ice_bits.specs.Configuration.{Configuration, Bits, bits_of, IsOf}
 use Rattle.ice_emit_rows_laws.specs.Wanted.{set_bits}
 use Rattle.ice_emit_rows_laws.specs.Settings.{function_bits}
+use Rattle.ice_pads.specs.Globals.{numbers}
 use Rattle.ice_place_defs.specs.Plan.{Plan}
 use Rattle.ice_emit_nets.specs.Nets.{root_wire}
 use Rattle.ice_graph.specs.Leading.{Route}
@@ -44,7 +46,21 @@ abbrev pub written_bits : Parts → Plan → List Bool → List Route → Bits
 written_bits parts plan pullups routes =
     set_bits parts (wanted_rows parts plan routes) (function_bits parts (settings parts plan pullups (held_by parts plan routes) (wanted_rows parts plan routes)))
 
+-- a direct global buffer has the global
+abbrev pub takes_direct : List ℕ → List Bool → ℕ → Bool
+takes_direct [] direct n = false
+takes_direct (m ∷ globals) [] n = false
+takes_direct (m ∷ globals) (is ∷ direct) n = (is && nat_eq n m) || takes_direct globals direct n
+
+-- the extra bits of those of these globals that direct buffers have
+abbrev pub extras_among : Parts → List ℕ → List Bool → List ℕ → List (ℕ × ℕ × ℕ)
+extras_among parts globals direct ns = filter_map (padin_of parts) (filter (takes_direct globals direct) ns)
+
+-- the same of all globals, by rising number
+abbrev pub plan_extras : Parts → Plan → List (ℕ × ℕ × ℕ)
+plan_extras parts plan = extras_among parts plan.globals plan.direct numbers
+
 pub record IsWritten (parts : Parts) (plan : Plan) (pullups : List Bool) (routes : List Route) (k : Configuration) : Type 0 where
   pub form : IsOf parts k
-  pub extras : k.extras ≡ []
+  pub extras : k.extras ≡ plan_extras parts plan
   pub bits : (t : TileAt) (b : BitAt) → bits_of k t b ≡ written_bits parts plan pullups routes t b

@@ -9,7 +9,8 @@ use Rattle.ice_chip.specs.declared.rows.TileKind.TheVariants.{Logic}
 use Rattle.ice_chip.specs.declared.wire_names.TileWire.{TileWire}
 use Rattle.ice_sites.specs.Legal.{tile_at}
 use Rattle.ice_place_defs.specs.Plan.{Plan}
-use Rattle.ice_place_defs.specs.Loads.{Clock, Enable, SetReset, Feed, Drive, DriveEnable, pads_loads, globals_loads, clusters_give}
+use Rattle.ice_place_defs.proofs.Feeding.{fed_back}
+use Rattle.ice_place_defs.specs.Loads.{Clock, Enable, SetReset, Feed, Drive, DriveEnable, pads_loads, fed_roots, globals_loads, clusters_give}
 use Rattle.ice_emit_nets.specs.Ends.{End, load_end, cell_ends, control_ends, ends}
 use Rattle.ice_emit_led_laws.specs.Pins.{IsInput}
 use Rattle.ice_emit_led_laws.specs.Reads.{AtDrive, AtDriveEnable, AtFeed, AtClock, AtEnable, AtReset, AreApart}
@@ -34,7 +35,7 @@ module _ (parts : Parts) (rows : PackageRows) (plan : Plan) (pullups : List Bool
   pads = map (load_end parts) (pads_loads plan.ports plan.design.pads)
 
   abbrev feeds : List End
-  feeds = map (load_end parts) (globals_loads parts plan.globals plan.design.globals)
+  feeds = map (load_end parts) (globals_loads parts plan.globals (fed_roots plan.direct plan.design.globals))
 
   abbrev tiles : List End
   tiles = clusters_give (cell_ends parts) (control_ends parts) plan.design.cells plan.at plan.clusters
@@ -48,13 +49,15 @@ module _ (parts : Parts) (rows : PackageRows) (plan : Plan) (pullups : List Bool
   ends_are : Apart parts Any (ends parts plan)
   ends_are =
       joined parts plan same Outer (AtTiles parts plan same plan.at) Any (pads ++ feeds) tiles
-      (joined parts plan same (AtPads parts plan same plan.ports) (AtFeeds parts plan same plan.globals) Outer pads feeds
+      (joined parts plan same (AtPads parts plan same plan.ports) (AtFeeds parts plan same plan.globals (fed_roots plan.direct plan.design.globals)) Outer pads feeds
       (pads_apart parts plan same plan.ports plan.design.pads (λ k pad port a b. record {
         drive = λ root w e named. reads_input parts rows plan pullups on pad.tile (Drive pad.pio) root w (AtDrive k pad port root a b e) named;
         enable = λ root w e named. reads_input parts rows plan pullups on pad.tile (DriveEnable pad.pio) root w (AtDriveEnable k pad port root a b e) named;
       }) on.placed.pads.apart)
-      (feeds_apart parts plan same plan.globals plan.design.globals (λ g n o a b t root w fed e named. reads_input parts rows plan pullups on t Feed root w (AtFeed g n t root a (b ∙ ap Some e) fed) named)
-      on.placed.pads.others)
+      (feeds_apart parts plan same plan.globals (fed_roots plan.direct plan.design.globals) (λ g n o a b t root w feeds e named.
+      let back = fed_back plan.direct plan.design.globals g root (b ∙ ap Some e) in
+      reads_input parts rows plan pullups on t Feed root w (AtFeed g n t root a back.1 back.0 feeds) named)
+      (λ j k n m r s t a b c d. on.placed.pads.others j k n m t a b (fed_back plan.direct plan.design.globals j r c).0 (fed_back plan.direct plan.design.globals k s d).0))
       (λ t wire p q. none-some p.0.pio (sym (ap pio_of q.0) ∙ p.2.1)) (λ t wire p r. none-some p.0.pio (sym r.0 ∙ p.2.1)) (λ t wire q r. true≢false (sym (ap is_feed q.0) ∙ r.1)))
       (clusters_apart parts plan same plan.design.cells plan.at plan.clusters (λ n t cluster a b. record {
         inputs = λ i c cell at known k w lt named. record {

@@ -14,7 +14,7 @@ use Rattle.ice_cells.specs.declared.cell.LogicCell.{LogicCell}
 use Rattle.ice_cells.specs.declared.cluster.Cluster.{Cluster}
 use Rattle.ice_cells.specs.declared.design.DesignPad.{DesignPad}
 use Rattle.ice_cells.specs.declared.root.Root.{Root}
-use Rattle.ice_place_defs.specs.Plan.{Plan}
+use Rattle.ice_place_defs.specs.Plan.{Plan, is_direct}
 use Rattle.ice_place_defs.specs.Loads.{Pin, Input, Clock, Enable, SetReset, Feed, Drive, DriveEnable}
 use Rattle.ice_emit_nets.specs.Ends.{is_free}
 use Rattle.ice_emit_defs.specs.Slots.{IsOn, StandsIn}
@@ -62,14 +62,14 @@ module _ (parts : Parts) (plan : Plan) where
   Asks t Clock root = OfControl (λ (x : Control). x.clock) t root
   Asks t Enable root = OfControl (λ (x : Control). x.enable) t root
   Asks t SetReset root = OfControl (λ (x : Control). x.reset) t root
-  Asks t Feed root = (g : ℕ) × (n : ℕ) × At plan.globals g n × At plan.design.globals g (Some root) × (global_of parts n ≡ Some t)
+  Asks t Feed root = (g : ℕ) × (n : ℕ) × At plan.globals g n × At plan.design.globals g (Some root) × (is_direct plan g ≡ false) × (global_of parts n ≡ Some t)
   Asks t (Drive pio) root = OfPort (λ (x : DesignPad). x.drive) t pio root
   Asks t (DriveEnable pio) root = OfPort (λ (x : DesignPad). x.enable) t pio root
 
   pub asks : (t : TileAt) (pin : Pin) (root : Root) → Reads parts plan t pin root → Asks t pin root
   asks t pin root (AtDrive k pad port r a b e) = (k, pad, port, a, b, refl, refl, e)
   asks t pin root (AtDriveEnable k pad port r a b e) = (k, pad, port, a, b, refl, refl, e)
-  asks t pin root (AtFeed g n u r a b e) = (g, n, a, b, e)
+  asks t pin root (AtFeed g n u r a b not_direct e) = (g, n, a, b, not_direct, e)
   asks t pin root (AtFixed u i k c cell r stands not_free lt e) = (c, cell, stands, inl (not_free, e))
   asks t pin root (AtFree u i k j c cell r stands free lt at) = (c, cell, stands, inr (free, j, at))
   asks t pin root (AtClock u cluster control r on is e) = (cluster, control, on, is, e)

@@ -18,8 +18,9 @@ use Rattle.ice_cells.specs.declared.cluster.Cluster.{Cluster}
 use Rattle.ice_cells.specs.declared.design.DesignPad.{DesignPad}
 use Rattle.ice_cells.specs.declared.root.Root.{Root}
 use Rattle.ice_cells.specs.Same.{same_root}
-use Rattle.ice_place_defs.specs.Plan.{Plan}
-use Rattle.ice_place_defs.specs.Loads.{Pin, Input, Clock, Enable, SetReset, Feed, Drive, DriveEnable, Load, load_at, pad_loads, pads_loads, feed_load, global_loads, globals_loads, cell_loads, control_loads, slot_gives, slots_give, clusters_give}
+use Rattle.ice_place_defs.specs.Plan.{Plan, is_direct}
+use Rattle.ice_place_defs.proofs.Feeding.{fed_there}
+use Rattle.ice_place_defs.specs.Loads.{Pin, Input, Clock, Enable, SetReset, Feed, Drive, DriveEnable, Load, load_at, pad_loads, pads_loads, feed_load, fed_roots, global_loads, globals_loads, cell_loads, control_loads, slot_gives, slots_give, clusters_give}
 use Rattle.ice_emit_nets.specs.Ends.{End, load_end, pin_wires, is_free, is_seen, free_ends, inputs_of, cell_ends, control_ends, ends}
 use Rattle.ice_emit_defs.specs.Slots.{IsOn, StandsIn}
 use Rattle.ice_emit_led_laws.proofs.Roots.{root_same}
@@ -109,7 +110,7 @@ module _ (parts : Parts) (plan : Plan) where
   pads_ends = map (load_end parts) (pads_loads plan.ports plan.design.pads)
 
   abbrev globals_ends : List End
-  globals_ends = map (load_end parts) (globals_loads parts plan.globals plan.design.globals)
+  globals_ends = map (load_end parts) (globals_loads parts plan.globals (fed_roots plan.direct plan.design.globals))
 
   abbrev clusters_ends : List End
   clusters_ends = clusters_give (cell_ends parts) (control_ends parts) plan.design.cells plan.at plan.clusters
@@ -141,11 +142,11 @@ module _ (parts : Parts) (plan : Plan) where
       (Has_right (load_at pad.tile (Drive pad.pio) port.drive) (load_at pad.tile (DriveEnable pad.pio) port.enable) (load pad.tile (DriveEnable pad.pio) root)
       (load_has pad.tile (DriveEnable pad.pio) port.enable root e))))
 
-  pub feed_end : (g n : ℕ) (t : TileAt) (root : Root) → At plan.globals g n → At plan.design.globals g (Some root) → global_of parts n ≡ Some t → Has (ends parts plan) (pin_end t Feed root)
-  feed_end g n t root a b e =
+  pub feed_end : (g n : ℕ) (t : TileAt) (root : Root) → At plan.globals g n → At plan.design.globals g (Some root) → is_direct plan g ≡ false → global_of parts n ≡ Some t → Has (ends parts plan) (pin_end t Feed root)
+  feed_end g n t root a b not_direct e =
       in_globals (pin_end t Feed root)
-      (Has_map (load_end parts) (globals_loads parts plan.globals plan.design.globals) (load t Feed root)
-      (globals_has parts plan.globals plan.design.globals g n (Some root) (load t Feed root) a b
+      (Has_map (load_end parts) (globals_loads parts plan.globals (fed_roots plan.direct plan.design.globals)) (load t Feed root)
+      (globals_has parts plan.globals (fed_roots plan.direct plan.design.globals) g n (Some root) (load t Feed root) a (fed_there plan.direct plan.design.globals g (Some root) not_direct b)
       (subst (λ o. Has (option_map_or (feed_load (Some root)) o []) (load t Feed root)) (sym e) (0, refl))))
 
   -- ---- cells

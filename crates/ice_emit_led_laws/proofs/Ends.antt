@@ -18,7 +18,8 @@ use Rattle.ice_cells.specs.declared.cluster.Cluster.{Cluster}
 use Rattle.ice_cells.specs.declared.design.DesignPad.{DesignPad}
 use Rattle.ice_cells.specs.declared.root.Root.{Root}
 use Rattle.ice_place_defs.specs.Plan.{Plan}
-use Rattle.ice_place_defs.specs.Loads.{Pin, Input, Clock, Enable, SetReset, Feed, Drive, DriveEnable, pin_name, Load, load_at, pad_loads, pads_loads, feed_load, global_loads, globals_loads, cell_loads, control_loads, slot_gives, slots_give, clusters_give}
+use Rattle.ice_place_defs.proofs.Feeding.{fed_back}
+use Rattle.ice_place_defs.specs.Loads.{Pin, Input, Clock, Enable, SetReset, Feed, Drive, DriveEnable, pin_name, Load, load_at, pad_loads, pads_loads, feed_load, fed_roots, global_loads, globals_loads, cell_loads, control_loads, slot_gives, slots_give, clusters_give}
 use Rattle.ice_emit_nets.specs.Ends.{End, wire_no, pin_wire, pin_wires, load_end, is_free, is_seen, free_ends, inputs_of, cell_ends, control_ends, ends}
 use Rattle.ice_emit_rows_laws.proofs.Mapped.{Has_mapped_by}
 use Rattle.ice_emit_defs.specs.Slots.{IsOn, StandsIn}
@@ -118,10 +119,11 @@ module _ (parts : Parts) (plan : Plan) where
         | inr enable ↦ let l = load_given got.1.tile (DriveEnable got.1.pio) got.2.enable load enable in subst IsOfReader (sym l.2) (AtDriveEnable got.0 got.1 got.2 l.0 got.3 got.4 l.1)
       ]
 
-  globals_read : (load : Load) → Has (globals_loads parts plan.globals plan.design.globals) load → IsOfReader load
+  globals_read : (load : Load) → Has (globals_loads parts plan.globals (fed_roots plan.direct plan.design.globals)) load → IsOfReader load
   globals_read load has =
-      let got = global_given parts plan.globals plan.design.globals load has in
-      subst IsOfReader (sym got.7) (AtFeed got.0 got.1 got.3 got.2 got.4 got.5 got.6)
+      let got = global_given parts plan.globals (fed_roots plan.direct plan.design.globals) load has in
+      let fed = fed_back plan.direct plan.design.globals got.0 got.2 got.5 in
+      subst IsOfReader (sym got.7) (AtFeed got.0 got.1 got.3 got.2 got.4 fed.1 fed.0 got.6)
 
   -- ---- cells
   fixed_read : (t : TileAt) (i c : ℕ) (cell : LogicCell) → StandsIn plan t i c cell → is_free cell ≡ false → (load : Load) → Has (cell_loads t i cell) load → IsOfReader load
@@ -201,11 +203,11 @@ module _ (parts : Parts) (plan : Plan) where
   -- ---- all sinks
   pub each_end : (e : End) → Has (ends parts plan) e → IsEnd parts plan e
   each_end e has =
-      elim (Has_append_cases (map (load_end parts) (pads_loads plan.ports plan.design.pads) ++ map (load_end parts) (globals_loads parts plan.globals plan.design.globals))
+      elim (Has_append_cases (map (load_end parts) (pads_loads plan.ports plan.design.pads) ++ map (load_end parts) (globals_loads parts plan.globals (fed_roots plan.direct plan.design.globals)))
       (clusters_give (cell_ends parts) (control_ends parts) plan.design.cells plan.at plan.clusters) e has) [
-        | inl outer ↦ elim (Has_append_cases (map (load_end parts) (pads_loads plan.ports plan.design.pads)) (map (load_end parts) (globals_loads parts plan.globals plan.design.globals)) e outer) [
+        | inl outer ↦ elim (Has_append_cases (map (load_end parts) (pads_loads plan.ports plan.design.pads)) (map (load_end parts) (globals_loads parts plan.globals (fed_roots plan.direct plan.design.globals))) e outer) [
           | inl pads ↦ load_is (pads_loads plan.ports plan.design.pads) pads_read e pads
-          | inr globals ↦ load_is (globals_loads parts plan.globals plan.design.globals) globals_read e globals
+          | inr globals ↦ load_is (globals_loads parts plan.globals (fed_roots plan.direct plan.design.globals)) globals_read e globals
         ]
         | inr inner ↦ (
             let got = cluster_given (cell_ends parts) (control_ends parts) plan.design.cells plan.at plan.clusters e inner in

@@ -21,7 +21,7 @@ use Rattle.ice_cells.specs.declared.cluster.Cluster.{Cluster}
 use Rattle.ice_cells.specs.declared.design.DesignPad.{DesignPad}
 use Rattle.ice_cells.specs.declared.root.Root.{Root}
 use Rattle.ice_pads.specs.PadWires.{has_io_wire}
-use Rattle.ice_place_defs.specs.Plan.{Plan}
+use Rattle.ice_place_defs.specs.Plan.{Plan, is_direct}
 use Rattle.ice_place_defs.specs.Loads.{Pin, Input, Clock, Enable, SetReset, Feed, Drive, DriveEnable, pin_name}
 use Rattle.ice_emit_nets.specs.Ends.{End, wire_no, pin_wires, is_free, inputs_of, ends}
 use Rattle.ice_graph.specs.Leading.{Route}
@@ -340,17 +340,18 @@ module _ (parts : Parts) (rows : PackageRows) (plan : Plan) (pullups : List Bool
     port_led = record { drive = drive_led port.drive refl; enable = drive_enable_led port.enable refl }
 
   -- ---- global buffers
-  feed_led : (g n : ℕ) (root : Option Root) (t : TileAt) → At plan.globals g n → At plan.design.globals g root → global_of parts n ≡ Some t → IsLed parts plan wanted (wire_named parts t fabout_name) root
-  feed_led g n (Some root) t a b e = led_end t Feed root (feed_end parts plan g n t root a b e)
-  feed_led g n None t a b e =
+  feed_led : (g n : ℕ) (root : Option Root) (t : TileAt) → At plan.globals g n → At plan.design.globals g root → is_direct plan g ≡ false → global_of parts n ≡ Some t
+      → IsLed parts plan wanted (wire_named parts t fabout_name) root
+  feed_led g n (Some root) t a b not_direct e = led_end t Feed root (feed_end parts plan g n t root a b not_direct e)
+  feed_led g n None t a b not_direct e =
       bare_pin t Feed (λ w named. record { kind = Io; kind_is = io; within = tt; found = named; reads = refl }) unfed (no_chain t Feed (λ i f. let q : Feed ≡ Input i 3 = f in cc))
     where
       io : kind_at parts t ≡ Some Io
-      io = let fed = on.placed.pads.fed g n a in (io_wire parts t fabout_name (subst (λ u. has_io_wire parts u fabout_name ≡ true) (same_Some fed.tile t (sym fed.feeds ∙ e)) fed.fabout)).0
+      io = let fed = on.placed.pads.fed g n a not_direct in (io_wire parts t fabout_name (subst (λ u. has_io_wire parts u fabout_name ≡ true) (same_Some fed.tile t (sym fed.feeds ∙ e)) fed.fabout)).0
 
       unfed : (root : Root) → Asks parts plan t Feed root → ⊥
-      unfed root (h, m, c, d, f) =
-          let same : h ≡ g = on.placed.pads.others h g m n t c a f e in
+      unfed root (h, m, c, d, fed, f) =
+          let same : h ≡ g = on.placed.pads.others h g m n t c a fed not_direct f e in
           let nothing : Some root ≡ None = At_same plan.design.globals g (Some root) None (subst (λ j. At plan.design.globals j (Some root)) same d) b in
           none-some root (sym nothing)
 

@@ -15,7 +15,7 @@ use Rattle.ice_chip.specs.declared.rows.TileKind.{TileKind}
 use Rattle.ice_chip.specs.declared.rows.TileKind.TheVariants.{Io, Logic, RamBottom, RamTop}
 use Rattle.ice_chip.specs.declared.placed.PlacedName.{PlacedName}
 use Rattle.ice_chip.specs.declared.wire_names.TileWire.{TileWire}
-use Rattle.ice_chip.specs.declared.wire_names.TileWire.TheVariants.{CellInput, CellOutput, CarryOut, LookUp, Clock, ClockEnable, SetReset, CarryIn, FirstCarry, PadInput, PadOutput, OutputEnable, Fabout, Global}
+use Rattle.ice_chip.specs.declared.wire_names.TileWire.TheVariants.{CellInput, CellOutput, CarryOut, LookUp, Clock, ClockEnable, SetReset, CarryIn, FirstCarry, PadInput, PadOutput, OutputEnable, InputClock, OutputClock, InOutEnable, Fabout, Global}
 use Rattle.ice_chip_laws.specs.Laws.{IsLawful}
 use Rattle.ice_chip_laws.specs.Names.{HasName}
 use Rattle.ice_chip_laws.specs.Pins.{IsPinOf, is_pin_in}
@@ -37,6 +37,9 @@ input_local kind FirstCarry e = refl
 input_local kind (PadInput pio) e = refl
 input_local kind (PadOutput pio) e = refl
 input_local kind (OutputEnable pio) e = refl
+input_local kind InputClock e = refl
+input_local kind OutputClock e = refl
+input_local kind InOutEnable e = refl
 input_local kind Fabout e = refl
 input_local Io (Global n) e = absurd (true≢false (sym e))
 input_local Logic (Global n) e = absurd (true≢false (sym e))
@@ -47,6 +50,9 @@ input_local RamTop (Global n) e = absurd (true≢false (sym e))
 never_both : (kind : TileKind) (wire : TileWire) → is_input_of kind wire ≡ true → is_output_of kind wire ≡ true → ⊥
 never_both Io (PadOutput pio) a b = true≢false (sym b)
 never_both Io (OutputEnable pio) a b = true≢false (sym b)
+never_both Io InputClock a b = true≢false (sym b)
+never_both Io OutputClock a b = true≢false (sym b)
+never_both Io InOutEnable a b = true≢false (sym b)
 never_both Io Fabout a b = true≢false (sym b)
 never_both Io wire a b = true≢false (sym a)
 never_both Logic (CellInput i k) a b = true≢false (sym b)

@@ -73,7 +73,7 @@ module _ (parts : Parts) (rows : PackageRows) (plan : Plan) (pullups : List Bool
   pub reads_read : (t : TileAt) (pin : Pin) (root : Root) → Reads parts plan t pin root → is_read plan.design root ≡ true
   reads_read t pin root (AtDrive k pad port r at at_port e) = of_pad k port r at_port (0, ap (λ (o : Option Root). Some o) e)
   reads_read t pin root (AtDriveEnable k pad port r at at_port e) = of_pad k port r at_port (1, ap (λ (o : Option Root). Some o) e)
-  reads_read t pin root (AtFeed g n u r at at_root feeds) = of_global g r at_root
+  reads_read t pin root (AtFeed g n u r at at_root not_direct feeds) = of_global g r at_root
   reads_read t pin root (AtFixed u i k c cell r s fixed lt e) = of_cell c cell r s.cell_is (input_root cell k r lt e)
   reads_read t pin root (AtFree u i k j c cell r s free lt at) =
       let four : length cell.ins ≡ 4 = on.placed.formed.four c cell s.cell_is in
@@ -103,8 +103,8 @@ module _ (parts : Parts) (rows : PackageRows) (plan : Plan) (pullups : List Bool
   reads_input t pin root w (AtDriveEnable k pad port r at at_port e) found =
       let io = io_wire parts pad.tile (output_enable_name pad.pio) ((on.placed.pads.wires k port pad at_port at).enable (enable_type port r (on.placed.formed.pads k port at_port) e)) in
       record { kind = Io; kind_is = io.0; within = pio_below parts rows plan pullups on k pad at; found = found; reads = refl }
-  reads_input t pin root w (AtFeed g n u r at at_root feeds) found =
-      let fed = on.placed.pads.fed g n at in
+  reads_input t pin root w (AtFeed g n u r at at_root not_direct feeds) found =
+      let fed = on.placed.pads.fed g n at not_direct in
       let io = io_wire parts fed.tile fabout_name fed.fabout in
       record { kind = Io; kind_is = ap (kind_at parts) (same_Some u fed.tile (sym feeds ∙ fed.feeds)) ∙ io.0; within = tt; found = found; reads = refl }
   reads_input t pin root w (AtFixed u i k c cell r s fixed lt e) found =

@@ -12,7 +12,7 @@ use Rattle.ice_base.proofs.Options.{and_then_some}
 use Rattle.ice_base_values.specs.Order.{At, Has}
 use Rattle.ice_base_values.proofs.Members.{any_Has}
 use Rattle.ice_chip.specs.Database.{Parts, PackageRows}
-use Rattle.ice_chip.specs.Lookups.{kind_at, names_of, wire_named, placed_at, global_of}
+use Rattle.ice_chip.specs.Lookups.{kind_at, names_of, wire_named, placed_at}
 use Rattle.ice_chip.specs.PinNames.{is_global_name, is_output_of}
 use Rattle.ice_chip.specs.WireNames.{input_name, output_name, pad_input_name, global_name, wire_name}
 use Rattle.ice_chip.specs.declared.rows.Pad.{Pad}
@@ -252,7 +252,7 @@ module _ (parts : Parts) (rows : PackageRows) (plan : Plan) (pullups : List Bool
         record {
           kind = stands.0;
           kind_is = stands.1;
-          within = (on.placed.pads.fed g got.0 got.1).below;
+          within = (on.placed.pads.named g got.0 got.1).below;
           found = on.lawful.names.named n.0.tile (global_name got.0) v has;
           drives = global_drives stands.0 got.0;
         },
@@ -279,7 +279,7 @@ module _ (parts : Parts) (rows : PackageRows) (plan : Plan) (pullups : List Bool
       (wire.0, ap (option_and_then (slot_wire parts)) slot.1 ∙ wire.1)
   root_wired (GlobalOut g) read =
       let n = global_taken g (root_of_design (GlobalOut g) read) in
-      let wire = some_of (global_wire parts n.0) (on.placed.pads.fed g n.0 n.1).wire in
+      let wire = some_of (global_wire parts n.0) (on.placed.pads.named g n.0 n.1).wire in
       (wire.0, ap (option_and_then (global_wire parts)) n.1 ∙ wire.1)
   root_wired (CarryOut c) read = absurd (root_of_design (CarryOut c) read)
 
@@ -309,8 +309,7 @@ module _ (parts : Parts) (rows : PackageRows) (plan : Plan) (pullups : List Bool
   one_root a b t u x y (OfGlobal g n v at) (OfCell w i c cell s) same tile = absurd (cc same)
   one_root a b t u x y (OfGlobal g n v at) (OfGlobal h m w at_other) same tile =
       let number : n ≡ m = global_number n m same in
-      let fed = on.placed.pads.fed g n at in
-      ap GlobalOut (on.placed.pads.others g h n m fed.tile at at_other fed.feeds (ap (global_of parts) (sym number) ∙ fed.feeds))
+      ap GlobalOut (on.placed.pads.single g h m (at ∙ ap Some number) at_other)
 
   pub roots_apart : (a b : Root) (v : ℕ) → is_read plan.design a ≡ true → is_read plan.design b ≡ true → root_wire parts plan a ≡ Some v → root_wire parts plan b ≡ Some v → a ≡ b
   roots_apart a b v read_a read_b wire_a wire_b =

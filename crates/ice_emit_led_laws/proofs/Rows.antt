@@ -116,7 +116,7 @@ module _ (parts : Parts) (rows : PackageRows) (plan : Plan) (pullups : List Bool
   chained_reads : (t : TileAt) (pin : Pin) (root : Root) (i c : ℕ) (cell : LogicCell) → Reads parts plan t pin root → pin ≡ Input i 3 → StandsIn plan t i c cell → cell.carry_to_in3 ≡ true → ⊥
   chained_reads t pin root i c cell (AtDrive k pad port r at at_port e) is s chained = cc is
   chained_reads t pin root i c cell (AtDriveEnable k pad port r at at_port e) is s chained = cc is
-  chained_reads t pin root i c cell (AtFeed g n u r at at_root feeds) is s chained = cc is
+  chained_reads t pin root i c cell (AtFeed g n u r at at_root not_direct feeds) is s chained = cc is
   chained_reads t pin root i c cell (AtFixed u j k d other r o fixed lt e) is s chained =
       let two = same_input j k i 3 is in
       let one = one_cell parts rows plan pullups on u i d c other cell (subst (λ (n : ℕ). StandsIn plan u n d other) two.0 o) s in

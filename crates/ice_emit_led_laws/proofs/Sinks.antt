@@ -13,7 +13,7 @@ use Rattle.ice_chip.specs.Database.{Parts}
 use Rattle.ice_chip.specs.Lookups.{wire_named, global_of}
 use Rattle.ice_chip.specs.declared.rows.Pad.{Pad}
 use Rattle.ice_chip.specs.declared.wire_names.TileWire.{TileWire}
-use Rattle.ice_chip.specs.declared.wire_names.TileWire.TheVariants.{CellInput, CellOutput, CarryOut, LookUp, Clock, ClockEnable, SetReset, CarryIn, FirstCarry, PadInput, PadOutput, OutputEnable, Fabout, Global}
+use Rattle.ice_chip.specs.declared.wire_names.TileWire.TheVariants.{CellInput, CellOutput, CarryOut, LookUp, Clock, ClockEnable, SetReset, CarryIn, FirstCarry, PadInput, PadOutput, OutputEnable, InputClock, OutputClock, InOutEnable, Fabout, Global}
 use Rattle.ice_cells.specs.declared.cell.Control.{Control}
 use Rattle.ice_cells.specs.declared.cell.LogicCell.{LogicCell}
 use Rattle.ice_cells.specs.declared.cluster.Cluster.{Cluster}
@@ -159,33 +159,35 @@ module _ (parts : Parts) (plan : Plan) (same : (t u : TileAt) (a b : TileWire) (
           (let e : 0 ≡ suc has.0 = once 0 (suc has.0) pad (ap Some (same_pad t wire pad here there)) has.1 in omega (arith, e))
 
   -- ---- global buffers
-  abbrev pub AtFeeds : List ℕ → Place
-  AtFeeds ns t wire = (wire ≡ Fabout) × (n : ℕ) × Has ns n × (global_of parts n ≡ Some t)
+  abbrev pub AtFeeds : List ℕ → List (Option Root) → Place
+  AtFeeds ns roots t wire = (wire ≡ Fabout) × (g : ℕ) × (n : ℕ) × (root : Root) × At ns g n × At roots g (Some root) × (global_of parts n ≡ Some t)
 
   abbrev pub FeedsInput : ℕ → Option Root → Type 0
   FeedsInput n o = (t : TileAt) (root : Root) (w : ℕ) → global_of parts n ≡ Some t → o ≡ Some root → wire_named parts t (pin_name pins.Feed) ≡ Some w → IsInput parts t Fabout w
 
-  abbrev OfGlobal : ℕ → Place
-  OfGlobal n t wire = (wire ≡ Fabout) × (global_of parts n ≡ Some t)
+  abbrev OfGlobal : ℕ → Option Root → Place
+  OfGlobal n o t wire = (wire ≡ Fabout) × (global_of parts n ≡ Some t) × (root : Root) × (o ≡ Some root)
 
-  feed_apart : (n : ℕ) (o : Option Root) → FeedsInput n o → Apart parts (OfGlobal n) (map (load_end parts) (global_loads parts n o))
-  feed_apart n o input = by (global_of parts n) refl
+  feed_apart : (n : ℕ) (o : Option Root) → FeedsInput n o → Apart parts (OfGlobal n o) (map (load_end parts) (global_loads parts n o))
+  feed_apart n o input = by (global_of parts n) refl o refl
     where
-      by : (g : Option TileAt) → global_of parts n ≡ g → Apart parts (OfGlobal n) (map (load_end parts) (option_map_or (feed_load o) g []))
-      by None e = none_apart (OfGlobal n)
-      by (Some t) e =
-          (let one = pin_apart t pins.Feed o (λ root w is named. input t root w e is named) in
-          record { stand = λ x w has target. (let s = one.stand x w has target in (s.0, s.1, (s.2.1, e ∙ ap Some (sym s.2.0)), s.3)); apart = one.apart })
+      by : (g : Option TileAt) → global_of parts n ≡ g → (read : Option Root) → o ≡ read → Apart parts (OfGlobal n o) (map (load_end parts) (option_map_or (feed_load read) g []))
+      by None e read f = none_apart (OfGlobal n o)
+      by (Some t) e None f = none_apart (OfGlobal n o)
+      by (Some t) e (Some root) f =
+          (let one = pin_apart t pins.Feed (Some root) (λ r w is named. input t r w e (f ∙ is) named) in
+          record { stand = λ x w has target. (let s = one.stand x w has target in (s.0, s.1, (s.2.1, e ∙ ap Some (sym s.2.0), root, f), s.3)); apart = one.apart })
 
   pub feeds_apart : (ns : List ℕ) (roots : List (Option Root)) → ((g n : ℕ) (o : Option Root) → At ns g n → At roots g o → FeedsInput n o)
-      → ((j k n m : ℕ) (t : TileAt) → At ns j n → At ns k m → global_of parts n ≡ Some t → global_of parts m ≡ Some t → j ≡ k) → Apart parts (AtFeeds ns) (map (load_end parts) (globals_loads parts ns roots))
-  feeds_apart [] roots input once = none_apart (AtFeeds [])
-  feeds_apart (n ∷ ns) [] input once = none_apart (AtFeeds (n ∷ ns))
+      → ((j k n m : ℕ) (r s : Root) (t : TileAt) → At ns j n → At ns k m → At roots j (Some r) → At roots k (Some s) → global_of parts n ≡ Some t → global_of parts m ≡ Some t → j ≡ k)
+      → Apart parts (AtFeeds ns roots) (map (load_end parts) (globals_loads parts ns roots))
+  feeds_apart [] roots input once = none_apart (AtFeeds [] roots)
+  feeds_apart (n ∷ ns) [] input once = none_apart (AtFeeds (n ∷ ns) [])
   feeds_apart (n ∷ ns) (o ∷ roots) input once =
-      loads_joined (OfGlobal n) (AtFeeds ns) (AtFeeds (n ∷ ns)) (global_loads parts n o) (globals_loads parts ns roots) (feed_apart n o (input 0 n o refl refl))
-      (feeds_apart ns roots (λ g m p a b. input (suc g) m p a b) (λ j k m l t a b f g. let e = once (suc j) (suc k) m l t a b f g in omega (arith, e)))
-      (λ t wire here there. let e : 0 ≡ suc there.2.0 = once 0 (suc there.2.0) n there.1 t refl there.2.1 here.1 there.3 in omega (arith, e)) (λ t wire at. (at.0, n, (0, refl), at.1))
-      (λ t wire at. (at.0, at.1, (suc at.2.0, at.2.1), at.3))
+      loads_joined (OfGlobal n o) (AtFeeds ns roots) (AtFeeds (n ∷ ns) (o ∷ roots)) (global_loads parts n o) (globals_loads parts ns roots) (feed_apart n o (input 0 n o refl refl))
+      (feeds_apart ns roots (λ g m p a b. input (suc g) m p a b) (λ j k m l r s t a b c d f g. let e = once (suc j) (suc k) m l r s t a b c d f g in omega (arith, e)))
+      (λ t wire here there. let e : 0 ≡ suc there.1 = once 0 (suc there.1) n there.2 here.2 there.3 t refl there.4 (ap Some here.3) there.5 here.1 there.6 in omega (arith, e))
+      (λ t wire at. (at.0, 0, n, at.2, refl, ap Some at.3, at.1)) (λ t wire at. (at.0, suc at.1, at.2, at.3, at.4, at.5, at.6))
 
   -- ---- cells
   abbrev AtInput : TileAt → ℕ → ℕ → Place
@@ -345,6 +347,9 @@ module _ (parts : Parts) (plan : Plan) (same : (t u : TileAt) (a b : TileWire) (
   of_cell (PadInput pio) i e = (refl, refl)
   of_cell (PadOutput pio) i e = absurd (none-some i e)
   of_cell (OutputEnable pio) i e = absurd (none-some i e)
+  of_cell InputClock i e = (refl, refl)
+  of_cell OutputClock i e = (refl, refl)
+  of_cell InOutEnable i e = (refl, refl)
   of_cell Fabout i e = absurd (none-some i e)
   of_cell (Global n) i e = (refl, refl)
 

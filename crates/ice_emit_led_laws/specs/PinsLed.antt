@@ -14,7 +14,7 @@ use Rattle.ice_cells.specs.declared.cell.LogicCell.{LogicCell}
 use Rattle.ice_cells.specs.declared.cluster.Cluster.{Cluster}
 use Rattle.ice_cells.specs.declared.design.DesignPad.{DesignPad}
 use Rattle.ice_cells.specs.declared.root.Root.{Root}
-use Rattle.ice_place_defs.specs.Plan.{Plan}
+use Rattle.ice_place_defs.specs.Plan.{Plan, is_direct}
 use Rattle.ice_emit_nets.specs.Ends.{is_free}
 use Rattle.ice_graph.specs.Leading.{Route}
 use Rattle.ice_emit_defs.specs.Arrivals.{Held}
@@ -32,7 +32,8 @@ pub record ArePinsLed (parts : Parts) (plan : Plan) (wanted : List Switch) (held
   pub free : (t : TileAt) (i c : ℕ) (cell : LogicCell) → StandsIn plan t i c cell → is_free cell ≡ true → IsFreeLed parts plan wanted held t i cell
   pub controls : (t : TileAt) (cluster : Cluster) (control : Control) → IsOn plan t cluster → cluster.control ≡ Some control → IsControlLed parts plan wanted t control
   pub ports : (k : ℕ) (pad : Pad) (port : DesignPad) → At plan.ports k pad → At plan.design.pads k port → Has (pads parts) pad → IsPadLed parts plan wanted pad port
-  pub feeds : (g n : ℕ) (root : Option Root) (t : TileAt) → At plan.globals g n → At plan.design.globals g root → global_of parts n ≡ Some t → IsLed parts plan wanted (wire_named parts t fabout_name) root
+  pub feeds : (g n : ℕ) (root : Option Root) (t : TileAt) → At plan.globals g n → At plan.design.globals g root → is_direct plan g ≡ false → global_of parts n ≡ Some t
+      → IsLed parts plan wanted (wire_named parts t fabout_name) root
 
 -- the pins of a placed and routed design are such
 abbrev pub PinsAreLed : Type 0

@@ -11,7 +11,7 @@ use Rattle.ice_cells.specs.declared.cell.LogicCell.{LogicCell}
 use Rattle.ice_cells.specs.declared.cluster.Cluster.{Cluster}
 use Rattle.ice_cells.specs.declared.design.DesignPad.{DesignPad}
 use Rattle.ice_cells.specs.declared.root.Root.{Root}
-use Rattle.ice_place_defs.specs.Plan.{Plan}
+use Rattle.ice_place_defs.specs.Plan.{Plan, is_direct}
 use Rattle.ice_place_defs.specs.Loads.{Pin, Input, Clock, Enable, SetReset, Feed, Drive, DriveEnable, pin_name}
 use Rattle.ice_emit_nets.specs.Ends.{End, is_free}
 use Rattle.ice_emit_defs.specs.Slots.{IsOn, StandsIn}
@@ -20,7 +20,7 @@ use Rattle.ice_emit_defs.specs.Slots.{IsOn, StandsIn}
 pub data Reads (parts : Parts) (plan : Plan) : TileAt → Pin → Root → Type 0 where
   AtDrive : (k : ℕ) (pad : Pad) (port : DesignPad) (root : Root) → At plan.ports k pad → At plan.design.pads k port → port.drive ≡ Some root → Reads parts plan pad.tile (Drive pad.pio) root
   AtDriveEnable : (k : ℕ) (pad : Pad) (port : DesignPad) (root : Root) → At plan.ports k pad → At plan.design.pads k port → port.enable ≡ Some root → Reads parts plan pad.tile (DriveEnable pad.pio) root
-  AtFeed : (g n : ℕ) (t : TileAt) (root : Root) → At plan.globals g n → At plan.design.globals g (Some root) → global_of parts n ≡ Some t → Reads parts plan t Feed root
+  AtFeed : (g n : ℕ) (t : TileAt) (root : Root) → At plan.globals g n → At plan.design.globals g (Some root) → is_direct plan g ≡ false → global_of parts n ≡ Some t → Reads parts plan t Feed root
   AtFixed : (t : TileAt) (i k c : ℕ) (cell : LogicCell) (root : Root) → StandsIn plan t i c cell → is_free cell ≡ false → k < 4 → slice_index_or cell.ins k None ≡ Some root → Reads parts plan t (Input i k) root
   AtFree : (t : TileAt) (i k j c : ℕ) (cell : LogicCell) (root : Root) → StandsIn plan t i c cell → is_free cell ≡ true → k < 4 → At cell.ins j (Some root) → Reads parts plan t (Input i k) root
   AtClock : (t : TileAt) (cluster : Cluster) (control : Control) (root : Root) → IsOn plan t cluster → cluster.control ≡ Some control → control.clock ≡ Some root → Reads parts plan t Clock root

@@ -11,7 +11,7 @@ ghost use Rattle.ice_emit_defs.specs.Led.{AreLed};
 
 use ice_chip::{Chip, wire_names_are_read};
 use ice_chip_laws::{chip_is_lawful, lookups_are_lawful};
-use ice_cluster::laws::{runs_stand_in_chunks, cells_stand_in_one_slot};
+use ice_cluster::laws::{cells_stand_in_one_slot, runs_stand_in_chunks};
 
 /// The rows that are turned on are sound and enter different wires, and none is the wire of a root or of a carry. Each comes from a
 /// wire that rows lead to from a root that is read, or brings a carry of a run to an input or into a tile.

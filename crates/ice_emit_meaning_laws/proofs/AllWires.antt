@@ -20,6 +20,7 @@ use Rattle.ice_decode.specs.declared.role.Role.TheVariants.{Plain, Output, LookU
 use Rattle.ice_decode.specs.declared.driver.Driver.TheVariants.{Nothing}
 use Rattle.ice_decode.specs.declared.driver.Switch.{Switch}
 use Rattle.ice_decode.specs.Cells.{has_flop, logic_tiles}
+use Rattle.ice_decode.specs.Direct.{takes_pad}
 use Rattle.ice_decode.specs.Faults.{HasNoLoop}
 use Rattle.ice_decode.specs.Meaning.{kept_at, tile_place, system_of, role_makes}
 use Rattle.ice_decode.specs.Reads.{wire_point, at_pin, at_pin_of, global_feed, cell_inputs, role_reads}
@@ -58,10 +59,10 @@ entered_or_bare (first ∷ wanted) w = by (nat_eq first.target.0 w) refl (entere
 module _ (g : Premises) (unfed : FeedsNoGlobal g.parts) (bonded : List Pad) (levels kept kept_cells : List Bool)
     (alike : (t : TileAt) (i c : ℕ) (cell : LogicCell) → StandsIn g.plan t i c cell → kept_at g.parts kept t i ≡ slice_index_or kept_cells c false) where
   abbrev HasL : Point → Bool → Type 0
-  HasL p x = HasLevel g.parts g.bits bonded levels kept p x
+  HasL p x = HasLevel g.parts g.bits g.extras bonded levels kept p x
 
   abbrev HaveL : List (Option Point) → List Bool → Type 0
-  HaveL ps xs = HaveLevels g.parts g.bits bonded levels kept ps xs
+  HaveL ps xs = HaveLevels g.parts g.bits g.extras bonded levels kept ps xs
 
   abbrev IsValued : Point → Type 0
   IsValued p = (x : Bool) × HasL p x
@@ -75,23 +76,23 @@ module _ (g : Premises) (unfed : FeedsNoGlobal g.parts) (bonded : List Pad) (lev
     where
       with_cell : (c : ℕ) (cell : LogicCell) → StandsIn g.plan t i c cell → (b : Bool) → cell.carry ≡ b → IsValued (Carry t i)
       with_cell c cell s true e = (level_of_node (Net (root.CarryOut c)), arrives g bonded levels kept kept_cells alike (Net (root.CarryOut c)) (Carry t i) (AtCarry t i c cell s e))
-      with_cell c cell s false e = (false, carry_off g.parts g.bits bonded levels kept t i ((g.are_set.cells t i c cell s).carry ∙ e))
+      with_cell c cell s false e = (false, carry_off g.parts g.bits g.extras bonded levels kept t i ((g.are_set.cells t i c cell s).carry ∙ e))
 
       by : ((c : ℕ) × (cell : LogicCell) × StandsIn g.plan t i c cell) ⊎ ((c : ℕ) (cell : LogicCell) → StandsIn g.plan t i c cell → ⊥) → IsValued (Carry t i)
       by (inl one) = with_cell one.0 one.1 one.2 one.1.carry refl
-      by (inr never) = (false, carry_off g.parts g.bits bonded levels kept t i (g.are_set.free t i lt never).carry)
+      by (inr never) = (false, carry_off g.parts g.bits g.extras bonded levels kept t i (g.are_set.free t i lt never).carry)
 
   carry_wire : (t : TileAt) (i w : ℕ) → kind_at g.parts t ≡ Some Logic → i < 8 → wire_named g.parts t (carry_out_name i) ≡ Some w → IsValued (wire_point w)
   carry_wire t i w logic lt named =
       let has = carry_valued t i lt in
-      (has.0, carried g.parts g.bits bonded levels kept w t i has.0 (g.wired.bare w (g.led.carries t i w logic lt named)) (carry_is g.parts g.lawful t logic w i lt named) has.1)
+      (has.0, carried g.parts g.bits g.extras bonded levels kept w t i has.0 (g.wired.bare w (g.led.carries t i w logic lt named)) (carry_is g.parts g.lawful t logic w i lt named) has.1)
 
   -- ---- wires that rows enter
   of_root : (s : Switch) → Has g.wanted s → IsOfRoot g.parts g.plan g.wanted s.source → IsValued (Wire s.source)
   of_root s has (r, reads, u, is, way) =
       let n : Node = Net r in (
         level_of_node n,
-        led_level g.parts g.bits bonded levels kept g.wanted g.wired g.are_set.passing s.source (wire_no u) (level_of_node n) way
+        led_level g.parts g.bits g.extras bonded levels kept g.wanted g.wired g.are_set.passing s.source (wire_no u) (level_of_node n) way
             (arrives g bonded levels kept kept_cells alike n (wire_point u) (root_starts g r u is reads)),
       )
 
@@ -109,7 +110,7 @@ module _ (g : Premises) (unfed : FeedsNoGlobal g.parts) (bonded : List Pad) (lev
   entered s has = by (g.led.origins s has)
     where
       along : IsValued (Wire s.source) → IsValued (Wire s.target)
-      along from = (from.0, row_level g.parts g.bits bonded levels kept g.wanted g.wired g.are_set.passing s from.0 has from.1)
+      along from = (from.0, row_level g.parts g.bits g.extras bonded levels kept g.wanted g.wired g.are_set.passing s from.0 has from.1)
 
       by : IsOfRoot g.parts g.plan g.wanted s.source ⊎ IsLink g.parts g.plan s → IsValued (Wire s.target)
       by (inl from) = along (of_root s has from)
@@ -124,7 +125,7 @@ module _ (g : Premises) (unfed : FeedsNoGlobal g.parts) (bonded : List Pad) (lev
       by (inr none) = bare none
 
   -- ---- wires that none enters
-  pin_valued : (o : Option ℕ) → ((w : ℕ) → o ≡ Some w → IsValued (wire_point w)) → (x : Bool) × Reads g.parts g.bits bonded levels kept (option_map wire_point o) x
+  pin_valued : (o : Option ℕ) → ((w : ℕ) → o ≡ Some w → IsValued (wire_point w)) → (x : Bool) × Reads g.parts g.bits g.extras bonded levels kept (option_map wire_point o) x
   pin_valued None each = (false, refl)
   pin_valued (Some w) each = each w refl
 
@@ -135,22 +136,22 @@ module _ (g : Premises) (unfed : FeedsNoGlobal g.parts) (bonded : List Pad) (lev
       let three = input 2 (omega arith) in
       let four = input 3 (omega arith) in (
         one.0 ∷ two.0 ∷ three.0 ∷ four.0 ∷ [],
-        put g.parts g.bits bonded levels kept (at_pin g.parts t (input_name i 0)) one.0 _ _ one.1
-            (put g.parts g.bits bonded levels kept (at_pin g.parts t (input_name i 1)) two.0 _ _ two.1
-            (put g.parts g.bits bonded levels kept (at_pin g.parts t (input_name i 2)) three.0 _ _ three.1
-            (put g.parts g.bits bonded levels kept (at_pin g.parts t (input_name i 3)) four.0 [] [] four.1 tt))),
+        put g.parts g.bits g.extras bonded levels kept (at_pin g.parts t (input_name i 0)) one.0 _ _ one.1
+            (put g.parts g.bits g.extras bonded levels kept (at_pin g.parts t (input_name i 1)) two.0 _ _ two.1
+            (put g.parts g.bits g.extras bonded levels kept (at_pin g.parts t (input_name i 2)) three.0 _ _ three.1
+            (put g.parts g.bits g.extras bonded levels kept (at_pin g.parts t (input_name i 3)) four.0 [] [] four.1 tt))),
       )
     where
-      input : (k : ℕ) → k < 4 → (x : Bool) × Reads g.parts g.bits bonded levels kept (at_pin g.parts t (input_name i k)) x
+      input : (k : ℕ) → k < 4 → (x : Bool) × Reads g.parts g.bits g.extras bonded levels kept (at_pin g.parts t (input_name i k)) x
       input k lt =
           pin_valued (wire_named g.parts t (input_name i k))
-          (λ w named. valued_by w (λ none. (false, plain_low g.parts g.bits bonded levels kept w (g.wired.bare w none) (input_plain g.parts g.lawful t is.logic w i k is.below lt named))))
+          (λ w named. valued_by w (λ none. (false, plain_low g.parts g.bits g.extras bonded levels kept w (g.wired.bare w none) (input_plain g.parts g.lawful t is.logic w i k is.below lt named))))
 
   abbrev makes_of : Role → List Bool → Bool
-  makes_of r xs = role_makes g.parts g.bits bonded levels kept r xs
+  makes_of r xs = role_makes g.parts g.bits g.extras bonded levels kept r xs
 
-  by_role : (w : ℕ) (r : Role) (xs : List Bool) → IsBare g.wanted w → role_of g.parts w ≡ r → HaveL (role_reads g.parts g.bits r) xs → IsValued (wire_point w)
-  by_role w r xs none is have = (makes_of r xs, wire_made g.parts g.bits bonded levels kept w Nothing r xs (makes_of r xs) (g.wired.bare w none) is have refl)
+  by_role : (w : ℕ) (r : Role) (xs : List Bool) → IsBare g.wanted w → role_of g.parts w ≡ r → HaveL (role_reads g.parts g.bits g.extras r) xs → IsValued (wire_point w)
+  by_role w r xs none is have = (makes_of r xs, wire_made g.parts g.bits g.extras bonded levels kept w Nothing r xs (makes_of r xs) (g.wired.bare w none) is have refl)
 
   -- a wire that is no global
   other_valued : (w : ℕ) → IsBare g.wanted w → (r : Role) → role_of g.parts w ≡ r → Fits g.parts r → ((n : ℕ) → r ≡ Global n → ⊥) → IsValued (wire_point w)
@@ -169,18 +170,18 @@ module _ (g : Premises) (unfed : FeedsNoGlobal g.parts) (bonded : List Pad) (lev
   other_valued w none ClockEnable is fits not = by_role w ClockEnable [] none is tt
 
   -- what feeds a global
-  feed_valued : (n : ℕ) → (x : Bool) × Reads g.parts g.bits bonded levels kept (global_feed g.parts n) x
+  feed_valued : (n : ℕ) → (x : Bool) × Reads g.parts g.bits g.extras bonded levels kept (global_feed g.parts n) x
   feed_valued n = in_tile (global_of g.parts n) refl
     where
-      at_wire : (t : TileAt) (o : Option ℕ) → global_feed g.parts n ≡ option_map wire_point o → (x : Bool) × Reads g.parts g.bits bonded levels kept (option_map wire_point o) x
+      at_wire : (t : TileAt) (o : Option ℕ) → global_feed g.parts n ≡ option_map wire_point o → (x : Bool) × Reads g.parts g.bits g.extras bonded levels kept (option_map wire_point o) x
       at_wire t None e = (false, refl)
       at_wire t (Some w) e = valued_by w (λ none. other_valued w none (role_of g.parts w) refl (cell_fits g.parts w) (λ m is. unfed.none n m w e is))
 
-      in_tile : (o : Option TileAt) → global_of g.parts n ≡ o → (x : Bool) × Reads g.parts g.bits bonded levels kept (global_feed g.parts n) x
-      in_tile None e = subst (λ (q : Option TileAt). (x : Bool) × Reads g.parts g.bits bonded levels kept (at_pin_of g.parts q fabout_name) x) (sym e) (false, refl)
+      in_tile : (o : Option TileAt) → global_of g.parts n ≡ o → (x : Bool) × Reads g.parts g.bits g.extras bonded levels kept (global_feed g.parts n) x
+      in_tile None e = subst (λ (q : Option TileAt). (x : Bool) × Reads g.parts g.bits g.extras bonded levels kept (at_pin_of g.parts q fabout_name) x) (sym e) (false, refl)
       in_tile (Some t) e =
           let feed : global_feed g.parts n ≡ at_pin g.parts t fabout_name = ap (λ q. at_pin_of g.parts q fabout_name) e in
-          subst (λ (q : Option Point). (x : Bool) × Reads g.parts g.bits bonded levels kept q x) (sym feed) (at_wire t (wire_named g.parts t fabout_name) feed)
+          subst (λ (q : Option Point). (x : Bool) × Reads g.parts g.bits g.extras bonded levels kept q x) (sym feed) (at_wire t (wire_named g.parts t fabout_name) feed)
 
   bare_valued : (w : ℕ) → IsBare g.wanted w → (r : Role) → role_of g.parts w ≡ r → Fits g.parts r → IsValued (wire_point w)
   bare_valued w none Plain is fits = other_valued w none Plain is fits (λ n e. cc e)
@@ -188,9 +189,15 @@ module _ (g : Premises) (unfed : FeedsNoGlobal g.parts) (bonded : List Pad) (lev
   bare_valued w none (LookUp t i) is fits = other_valued w none (LookUp t i) is fits (λ n e. cc e)
   bare_valued w none (CarryOut t i) is fits = other_valued w none (CarryOut t i) is fits (λ n e. cc e)
   bare_valued w none (PadInput pad) is fits = other_valued w none (PadInput pad) is fits (λ n e. cc e)
-  bare_valued w none (Global n) is fits =
-      let feed = feed_valued n in
-      by_role w (Global n) (feed.0 ∷ []) none is (put g.parts g.bits bonded levels kept (global_feed g.parts n) feed.0 [] [] feed.1 tt)
+  bare_valued w none (Global n) is fits = by (takes_pad g.parts g.extras n) refl
+    where
+      by : (b : Bool) → takes_pad g.parts g.extras n ≡ b → IsValued (wire_point w)
+      by true e = by_role w (Global n) [] none is (subst (λ (b : Bool). HaveL (cond b [] (global_feed g.parts n ∷ [])) []) (sym e) tt)
+      by false e =
+          let feed = feed_valued n in
+          by_role w (Global n) (feed.0 ∷ []) none is
+          (subst (λ (b : Bool). HaveL (cond b [] (global_feed g.parts n ∷ [])) (feed.0 ∷ [])) (sym e)
+          (put g.parts g.bits g.extras bonded levels kept (global_feed g.parts n) feed.0 [] [] feed.1 tt))
   bare_valued w none (CarryIn t) is fits = other_valued w none (CarryIn t) is fits (λ n e. cc e)
   bare_valued w none ClockEnable is fits = other_valued w none ClockEnable is fits (λ n e. cc e)
 
@@ -200,7 +207,7 @@ module _ (g : Premises) (unfed : FeedsNoGlobal g.parts) (bonded : List Pad) (lev
 
   -- with one number of steps for all
   abbrev Within : ℕ → ℕ → Type 0
-  Within steps n = (w : ℕ) → w < n → (x : Bool) × (value (system_of g.parts g.bits bonded levels kept) steps (wire_point w) ≡ Some x)
+  Within steps n = (w : ℕ) → w < n → (x : Bool) × (value (system_of g.parts g.bits g.extras bonded levels kept) steps (wire_point w) ≡ Some x)
 
   within : (n : ℕ) → (steps : ℕ) × Within steps n
   within zero = (0, λ w lt. absurd (omega arith))
@@ -209,22 +216,22 @@ module _ (g : Premises) (unfed : FeedsNoGlobal g.parts) (bonded : List Pad) (lev
       let last = wire_valued n in
       (rest.0 + last.1.0, λ w lt. by rest.0 last.1.0 last.0 rest.1 last.1.1 w lt)
     where
-      by : (a b : ℕ) (x : Bool) → Within a n → value (system_of g.parts g.bits bonded levels kept) b (wire_point n) ≡ Some x → Within (a + b) (suc n)
+      by : (a b : ℕ) (x : Bool) → Within a n → value (system_of g.parts g.bits g.extras bonded levels kept) b (wire_point n) ≡ Some x → Within (a + b) (suc n)
       by a b x rest last w lt = either (nat_eq w n) refl
         where
-          either : (same : Bool) → nat_eq w n ≡ same → (y : Bool) × (value (system_of g.parts g.bits bonded levels kept) (a + b) (wire_point w) ≡ Some y)
+          either : (same : Bool) → nat_eq w n ≡ same → (y : Bool) × (value (system_of g.parts g.bits g.extras bonded levels kept) (a + b) (wire_point w) ≡ Some y)
           either true e =
-              (x, subst (λ m. value (system_of g.parts g.bits bonded levels kept) (a + b) (wire_point m) ≡ Some x) (sym (nat_same w n e)) (value_at_more (system_of g.parts g.bits bonded levels kept) b (a + b) (wire_point n) x (omega arith) last))
+              (x, subst (λ m. value (system_of g.parts g.bits g.extras bonded levels kept) (a + b) (wire_point m) ≡ Some x) (sym (nat_same w n e)) (value_at_more (system_of g.parts g.bits g.extras bonded levels kept) b (a + b) (wire_point n) x (omega arith) last))
           either false e =
               let less : w < n = smaller (λ f. true≢false (sym (nat_self n) ∙ ap (λ m. nat_eq m n) (sym f) ∙ e)) in
               let got = rest w less in
-              (got.0, value_at_more (system_of g.parts g.bits bonded levels kept) a (a + b) (wire_point w) got.0 (omega arith) got.1)
+              (got.0, value_at_more (system_of g.parts g.bits g.extras bonded levels kept) a (a + b) (wire_point w) got.0 (omega arith) got.1)
             where
               smaller : (w ≡ n → ⊥) → w < n
               smaller ne = elim (cases_lt w n) [ inl less ↦ less | inr le ↦ absurd (ne (omega (arith, lt, le))) ]
 
-  no_loop : HasNoLoop g.parts g.bits
-  no_loop = let all = within g.parts.wires in valued_loopless g.parts g.bits g.chip_read bonded levels kept all.0 all.1
+  no_loop : HasNoLoop g.parts g.bits g.extras
+  no_loop = let all = within g.parts.wires in valued_loopless g.parts g.bits g.extras g.chip_read bonded levels kept all.0 all.1
 
 -- before the first step
 nothing_kept : (g : Premises) (t : TileAt) (i : ℕ) → kept_at g.parts [] t i ≡ false
@@ -234,5 +241,5 @@ nothing_kept g t i = by (tile_place t (logic_tiles g.parts))
     by None = refl
     by (Some k) = refl
 
-pub unfed_loopless : (g : Premises) → FeedsNoGlobal g.parts → HasNoLoop g.parts g.bits
+pub unfed_loopless : (g : Premises) → FeedsNoGlobal g.parts → HasNoLoop g.parts g.bits g.extras
 unfed_loopless g unfed = no_loop g unfed [] [] [] [] (λ t i c cell s. nothing_kept g t i)

@@ -1,6 +1,6 @@
 -- Nodes have their levels where they start.
-use Rattle.std.proofs.Common.{◌≡◌, ◌⊎◌, ℕ, zero, suc, ◌+◌, ◌<◌, Bool, true, false, cond, Option, None, Some, List, [], ◌∷◌, length, map, inl, inr, refl, sym, ap, ◌∙◌, subst, true≢false, arith}
-use Rattle.std.specs.Prelude.{◌&&◌, not, is_some, nat_eq, slice_index_or, option_map}
+use Rattle.std.proofs.Common.{◌≡◌, ◌⊎◌, ℕ, zero, suc, ◌+◌, ◌%◌, ◌<◌, Bool, true, false, cond, Option, None, Some, List, [], ◌∷◌, length, map, inl, inr, refl, sym, ap, ◌∙◌, subst, true≢false, arith}
+use Rattle.std.specs.Prelude.{◌&&◌, ◌==◌, not, is_some, nat_eq, slice_index_or, option_map}
 use Rattle.std.specs.Option.{option_map_or}
 use Rattle.std.proofs.lemmas.Option.{same_Some, none-some, get_or_from_slice_get}
 use Rattle.ice_base.specs.declared.number.TileAt.{TileAt}
@@ -8,9 +8,10 @@ use Rattle.ice_base.proofs.Keys.{nat_same, nat_self}
 use Rattle.ice_base_values.specs.Order.{At, Has}
 use Rattle.ice_base_values.specs.Inputs.{reading}
 use Rattle.ice_base_values.proofs.Members.{At_map}
-use Rattle.ice_chip.specs.Lookups.{wire_named}
+use Rattle.ice_chip.specs.Lookups.{gbufpin_of, kind_at, wire_named}
 use Rattle.ice_chip.specs.WireNames.{input_name, pad_input_name, fabout_name, global_name}
 use Rattle.ice_chip.specs.declared.rows.Pad.{Pad}
+use Rattle.ice_chip.specs.declared.rows.TileKind.TheVariants.{Io}
 use Rattle.ice_net.specs.declared.kind.Reset.{Reset}
 use Rattle.ice_net.specs.Meaning.{number_of, table_bit, majority}
 use Rattle.ice_decode.specs.declared.point.Point.{Point}
@@ -18,15 +19,18 @@ use Rattle.ice_decode.specs.declared.point.Point.TheVariants.{Wire, Carry}
 use Rattle.ice_decode.specs.declared.role.Role.TheVariants.{Plain, Output, PadInput, Global, CarryIn}
 use Rattle.ice_decode.specs.declared.driver.Driver.TheVariants.{Nothing}
 use Rattle.ice_decode.specs.Cells.{has_flop, looked_up}
-use Rattle.ice_decode.specs.Meaning.{kept_at}
-use Rattle.ice_decode.specs.Pads.{level_of}
+use Rattle.ice_decode.specs.Meaning.{kept_at, global_gives}
+use Rattle.ice_decode.specs.Pads.{level_of, pad_gives, pin_type}
 use Rattle.ice_decode.specs.Reads.{wire_point, at_pin, at_pin_of, global_feed, carry_into, cell_inputs}
+use Rattle.ice_decode.specs.Registers.{has_input_register, input_kept}
 use Rattle.ice_decode.specs.Roles.{role_of}
 use Rattle.ice_lut.specs.Tables.{level_at, levels_from, rewired}
 use Rattle.ice_lut.proofs.TableLaws.{rewired_gives}
 use Rattle.ice_cells.specs.declared.cell.Control.{Control}
 use Rattle.ice_cells.specs.declared.cell.LogicCell.{LogicCell}
 use Rattle.ice_cells.specs.declared.design.Design.{Design}
+use Rattle.ice_cells.specs.declared.design.DesignPad.{DesignPad}
+use Rattle.ice_cells.specs.Formed.{IsPad}
 use Rattle.ice_cells.specs.declared.root.Root.{Root}
 use Rattle.ice_cells.specs.declared.root.Root.TheVariants.{PadIn, CellOut, GlobalOut, CarryOut}
 use Rattle.ice_cells.specs.Nodes as node
@@ -37,13 +41,16 @@ use Rattle.ice_cells.proofs.NodeLevels.{level_meets, level_rank, level_falls}
 use Rattle.ice_emit_nets.specs.Ends.{wire_no, is_free}
 use Rattle.ice_pads.specs.Globals.{has_name}
 use Rattle.ice_pads.specs.Passing.{first_passing}
+use Rattle.ice_place_defs.specs.Plan.{is_direct}
 use Rattle.ice_emit_defs.specs.Arrivals.{arrival, input_from}
 use Rattle.ice_emit_defs.specs.Led.{IsLed, IsFixedLed, IsFreeLed}
 use Rattle.ice_emit_defs.specs.Links.{carry_source}
 use Rattle.ice_emit_defs.specs.Realised.{port_levels}
 use Rattle.ice_emit_defs.specs.Slots.{StandsIn}
 use Rattle.ice_emit_meaning_laws.proofs.Premises.{Premises}
+use Rattle.ice_emit_meaning_laws.proofs.DirectGlobals.{direct_takes, fed_takes_not}
 use Rattle.ice_emit_meaning_laws.proofs.CarriesIn.{IsInRun, run_before, in_run, comes_in}
+use Rattle.ice_emit_meaning_laws.proofs.PadTypes.{pad_there}
 use Rattle.ice_emit_meaning_laws.proofs.Pins.{each_four, input_plain, output_is, carry_is, first_is, pad_is, fabout_plain, global_is}
 use Rattle.ice_emit_meaning_laws.proofs.Read.{IsReadable, cell_reads, feed_reads, io_wire, item_beside, pad_below}
 use Rattle.ice_emit_meaning_laws.proofs.Slots.{below, logic_on, logic_there}
@@ -90,13 +97,13 @@ module _ (g : Premises) (bonded : List Pad) (levels kept kept_cells : List Bool)
   meets n = level_meets d g.placed.values (port_levels bonded g.plan.ports levels) kept_cells n
 
   abbrev HasL : Point → Bool → Type 0
-  HasL p x = HasLevel g.parts g.bits bonded levels kept p x
+  HasL p x = HasLevel g.parts g.bits g.extras bonded levels kept p x
 
   abbrev HaveL : List (Option Point) → List Bool → Type 0
-  HaveL ps xs = HaveLevels g.parts g.bits bonded levels kept ps xs
+  HaveL ps xs = HaveLevels g.parts g.bits g.extras bonded levels kept ps xs
 
   abbrev ReadsL : Option Point → Bool → Type 0
-  ReadsL p x = Reads g.parts g.bits bonded levels kept p x
+  ReadsL p x = Reads g.parts g.bits g.extras bonded levels kept p x
 
   -- the node has its level where it starts
   abbrev Arrived : Node → Type 0
@@ -111,13 +118,13 @@ module _ (g : Premises) (bonded : List Pad) (levels kept kept_cells : List Bool)
   pub root_reads : (pin : Option ℕ) (r : Root) → IsLed g.parts g.plan g.wanted pin (Some r) → IsReadable d r → Arrived (Net r) → ReadsL (option_map wire_point pin) (v (Net r))
   root_reads pin r led readable lower =
       subst (λ q. ReadsL (option_map wire_point q) (v (Net r))) (sym led.1)
-      (led_level g.parts g.bits bonded levels kept g.wanted g.wired g.are_set.passing (wire_no led.0) (wire_no led.2.0) (v (Net r)) led.2.2
+      (led_level g.parts g.bits g.extras bonded levels kept g.wanted g.wired g.are_set.passing (wire_no led.0) (wire_no led.2.0) (v (Net r)) led.2.2
       (lower (wire_point led.2.0) (root_starts g r led.2.0 led.2.1 readable)))
 
   pub pin_reads : (pin : Option ℕ) (o : Option Root) → IsLed g.parts g.plan g.wanted pin o → ((w : ℕ) → pin ≡ Some w → role_of g.parts w ≡ Plain) → ((r : Root) → o ≡ Some r → IsReadable d r) → HasArrived (net o)
       → ReadsL (option_map wire_point pin) (read (net o))
   pin_reads None None led plain readable lower = refl
-  pin_reads (Some w) None led plain readable lower = plain_low g.parts g.bits bonded levels kept w (g.wired.bare w (led w refl)) (plain w refl)
+  pin_reads (Some w) None led plain readable lower = plain_low g.parts g.bits g.extras bonded levels kept w (g.wired.bare w (led w refl)) (plain w refl)
   pin_reads pin (Some r) led plain readable lower = root_reads pin r led (readable r refl) (lower (Net r) refl)
 
   -- ---- carries
@@ -130,14 +137,14 @@ module _ (g : Premises) (bonded : List Pad) (levels kept kept_cells : List Bool)
       let is = carry_is g.parts g.lawful low (logic_there g low 7 x cell stands) s.source.0 7 (omega arith) out in
       let bare = g.wired.bare s.source.0 (g.led.carries low 7 s.source.0 (logic_there g low 7 x cell stands) (omega arith) out) in
       subst (λ q. ReadsL (option_map wire_point q) (v (Net (CarryOut x)))) (sym first)
-      (row_level g.parts g.bits bonded levels kept g.wanted g.wired g.are_set.passing s (v (Net (CarryOut x))) has
-      (carried g.parts g.bits bonded levels kept s.source.0 low 7 (v (Net (CarryOut x))) bare is (lower (Carry low 7) (AtCarry low 7 x cell stands on))))
+      (row_level g.parts g.bits g.extras bonded levels kept g.wanted g.wired g.are_set.passing s (v (Net (CarryOut x))) has
+      (carried g.parts g.bits g.extras bonded levels kept s.source.0 low 7 (v (Net (CarryOut x))) bare is (lower (Carry low 7) (AtCarry low 7 x cell stands on))))
 
   -- the wire of what comes into a carry has its level
   pub source_level : (t : TileAt) (i w : ℕ) (n : Node) → Below g t i n → carry_source g.parts t i ≡ Some w → Arrived n → HasL (wire_point w) (v n)
   source_level t i w n (FromSlot j x cell s on) named lower =
       let lt = below g t j x cell s in
-      carried g.parts g.bits bonded levels kept w t j (v (Net (CarryOut x))) (g.wired.bare w (g.led.carries t j w (logic_there g t j x cell s) lt named)) (carry_is g.parts g.lawful t (logic_there g t j x cell s) w j lt named)
+      carried g.parts g.bits g.extras bonded levels kept w t j (v (Net (CarryOut x))) (g.wired.bare w (g.led.carries t j w (logic_there g t j x cell s) lt named)) (carry_is g.parts g.lawful t (logic_there g t j x cell s) w j lt named)
       (lower (Carry t j) (AtCarry t j x cell s on))
   source_level t i w n (FromRun u r cluster run on is at known bare) named lower =
       subst (λ q. ReadsL (option_map wire_point q) (v (Level run.set))) named (carry_reads t 0 (Level run.set) (FromRun u r cluster run on is at known bare) lower)
@@ -190,14 +197,14 @@ module _ (g : Premises) (bonded : List Pad) (levels kept kept_cells : List Bool)
           let arrived : Arrived into.0 = lower_at 3 (last_input d c cell) refl into.0 (same ∙ into.1) in
           subst (λ o. ReadsL (at_pin g.parts t (input_name i 3)) (read o)) (sym (same ∙ into.1))
           (subst (λ q. ReadsL (option_map wire_point q) (v into.0)) (sym link.3)
-          (row_level g.parts g.bits bonded levels kept g.wanted g.wired g.are_set.passing link.0 (v into.0) link.1 (source_level t i link.0.source.0 into.0 into.2 link.2 arrived)))
+          (row_level g.parts g.bits g.extras bonded levels kept g.wanted g.wired g.are_set.passing link.0 (v into.0) link.1 (source_level t i link.0.source.0 into.0 into.2 link.2 arrived)))
 
       fixed_have : HaveL (cell_inputs g.parts t i) (map read (design.cell_inputs d c cell))
       fixed_have =
-          put g.parts g.bits bonded levels kept (at_pin g.parts t (input_name i 0)) (read (input cell 0)) _ _ (fixed_reads 0 (omega arith) (λ e. absurd (omega (arith, e))) (lower_at 0 (input cell 0) refl))
-          (put g.parts g.bits bonded levels kept (at_pin g.parts t (input_name i 1)) (read (input cell 1)) _ _ (fixed_reads 1 (omega arith) (λ e. absurd (omega (arith, e))) (lower_at 1 (input cell 1) refl))
-          (put g.parts g.bits bonded levels kept (at_pin g.parts t (input_name i 2)) (read (input cell 2)) _ _ (fixed_reads 2 (omega arith) (λ e. absurd (omega (arith, e))) (lower_at 2 (input cell 2) refl))
-          (put g.parts g.bits bonded levels kept (at_pin g.parts t (input_name i 3)) (read (last_input d c cell)) [] [] (last_reads cell.carry_to_in3 refl) tt)))
+          put g.parts g.bits g.extras bonded levels kept (at_pin g.parts t (input_name i 0)) (read (input cell 0)) _ _ (fixed_reads 0 (omega arith) (λ e. absurd (omega (arith, e))) (lower_at 0 (input cell 0) refl))
+          (put g.parts g.bits g.extras bonded levels kept (at_pin g.parts t (input_name i 1)) (read (input cell 1)) _ _ (fixed_reads 1 (omega arith) (λ e. absurd (omega (arith, e))) (lower_at 1 (input cell 1) refl))
+          (put g.parts g.bits g.extras bonded levels kept (at_pin g.parts t (input_name i 2)) (read (input cell 2)) _ _ (fixed_reads 2 (omega arith) (λ e. absurd (omega (arith, e))) (lower_at 2 (input cell 2) refl))
+          (put g.parts g.bits g.extras bonded levels kept (at_pin g.parts t (input_name i 3)) (read (last_input d c cell)) [] [] (last_reads cell.carry_to_in3 refl) tt)))
 
       fixed_given : looked_up g.parts g.bits t i (map read (design.cell_inputs d c cell)) ≡ given d v c cell
       fixed_given =
@@ -339,10 +346,10 @@ module _ (g : Premises) (bonded : List Pad) (levels kept kept_cells : List Bool)
 
         free_have : HaveL (cell_inputs g.parts t i) free_levels
         free_have =
-            put g.parts g.bits bonded levels kept (at_pin g.parts t (input_name i 0)) a.level _ _ a.reads
-            (put g.parts g.bits bonded levels kept (at_pin g.parts t (input_name i 1)) b.level _ _ b.reads
-            (put g.parts g.bits bonded levels kept (at_pin g.parts t (input_name i 2)) x.level _ _ x.reads
-            (put g.parts g.bits bonded levels kept (at_pin g.parts t (input_name i 3)) y.level [] [] y.reads tt)))
+            put g.parts g.bits g.extras bonded levels kept (at_pin g.parts t (input_name i 0)) a.level _ _ a.reads
+            (put g.parts g.bits g.extras bonded levels kept (at_pin g.parts t (input_name i 1)) b.level _ _ b.reads
+            (put g.parts g.bits g.extras bonded levels kept (at_pin g.parts t (input_name i 2)) x.level _ _ x.reads
+            (put g.parts g.bits g.extras bonded levels kept (at_pin g.parts t (input_name i 3)) y.level [] [] y.reads tt)))
 
         free_given : looked_up g.parts g.bits t i free_levels ≡ given d v c cell
         free_given =
@@ -380,36 +387,80 @@ module _ (g : Premises) (bonded : List Pad) (levels kept kept_cells : List Bool)
         pin_reads (pin 2) (root_at 2) (led_here.inputs 2 (omega arith) (λ e. absurd (omega (arith, e)))) (λ w named. plain_pin 2 w (omega arith) named) (readable_at 2 (omega arith)) (λ n e. lower n (1, ap (λ (o : Option Node). Some o) e)) in
         let three : ReadsL (carry_into g.parts t i) (read (node.carry_into d c)) =
         subst (λ o. ReadsL (carry_into g.parts t i) (read o)) (sym into.1) (carry_reads t i into.0 into.2 (lower into.0 (2, ap (λ (o : Option Node). Some o) into.1))) in
-        carry_made g.parts g.bits bonded levels kept t i (read (input cell 1)) (read (input cell 2)) (read (node.carry_into d c)) _ ((g.are_set.cells t i c cell s).carry ∙ on)
-        (put g.parts g.bits bonded levels kept (at_pin g.parts t (input_name i 1)) (read (input cell 1)) _ _ one
-        (put g.parts g.bits bonded levels kept (at_pin g.parts t (input_name i 2)) (read (input cell 2)) _ _ two
-        (put g.parts g.bits bonded levels kept (carry_into g.parts t i) (read (node.carry_into d c)) [] [] three tt))) refl
+        carry_made g.parts g.bits g.extras bonded levels kept t i (read (input cell 1)) (read (input cell 2)) (read (node.carry_into d c)) _ ((g.are_set.cells t i c cell s).carry ∙ on)
+        (put g.parts g.bits g.extras bonded levels kept (at_pin g.parts t (input_name i 1)) (read (input cell 1)) _ _ one
+        (put g.parts g.bits g.extras bonded levels kept (at_pin g.parts t (input_name i 2)) (read (input cell 2)) _ _ two
+        (put g.parts g.bits g.extras bonded levels kept (carry_into g.parts t i) (read (node.carry_into d c)) [] [] three tt))) refl
+
+  -- ---- pads
+  -- what a port's pad gives goes through no register
+  unregistered : (k : ℕ) (pad : Pad) (port : DesignPad) → At g.plan.ports k pad → At d.pads k port → kind_at g.parts pad.tile ≡ Some Io → has_input_register g.parts g.bits pad ≡ false
+  unregistered k pad port here there io =
+      let typed : pin_type g.parts g.bits pad ≡ port.pin_type = g.are_set.types k pad port here there (pad_there g pad io (pad_below g k pad here)) in
+      ap (λ n. n % 4 == 0) typed ∙ by (g.placed.formed.pads k port there)
+    where
+      by : IsPad port → (port.pin_type % 4 == 0) ≡ false
+      by (inl one) = ap (λ n. n % 4 == 0) one.0
+      by (inr (inl two)) = ap (λ n. n % 4 == 0) two.0
+      by (inr (inr three)) = ap (λ n. n % 4 == 0) three
 
   -- ---- all nodes
   arrive_next : (n : Node) → ((m : Node) → Has (node_reads d n) (Some m) → Arrived m) → Arrived n
   arrive_next n lower p (AtFirst w t r cluster run on is at named bare) =
       let entry = (g.are_set.tiles t cluster on).entry r run is at in
-      wire_made g.parts g.bits bonded levels kept w.0 Nothing (CarryIn t) [] (v (Level run.set)) bare (first_is g.parts g.lawful t (logic_on g t cluster on) w.0 named) tt (entry ∙ sym (meets (Level run.set)))
+      wire_made g.parts g.bits g.extras bonded levels kept w.0 Nothing (CarryIn t) [] (v (Level run.set)) bare (first_is g.parts g.lawful t (logic_on g t cluster on) w.0 named) tt (entry ∙ sym (meets (Level run.set)))
   arrive_next n lower p (AtPad w k pad port here there reads named bare) =
       let io = io_wire g.parts pad.tile (pad_input_name pad.pio) ((g.placed.pads.wires k port pad there here).input reads) in
       let is = pad_is g.parts g.lawful pad.tile io.0 w.0 pad.pio (pad_below g k pad here) named in
       let level : v (Net (PadIn k)) ≡ level_of bonded levels pad =
       meets (Net (PadIn k)) ∙ get_or_from_slice_get (port_levels bonded g.plan.ports levels) k (level_of bonded levels pad) false (At_map (level_of bonded levels) g.plan.ports k pad here) in
-      wire_made g.parts g.bits bonded levels kept w.0 Nothing (PadInput pad) [] (v (Net (PadIn k))) bare is tt
-      (ap (λ b. b && level_of bonded levels pad) (g.are_set.enabled k pad port here there reads) ∙ sym level)
-  arrive_next n lower p (AtGlobal w b m here named bare) =
-      let fed = g.placed.pads.fed b m here in
-      let root = item_beside g.plan.globals d.globals b m g.placed.pads.globals here in
-      let reads : node_reads d (Net (GlobalOut b)) ≡ net root.0 ∷ [] = ap (λ o. option_map_or (λ r. net r ∷ []) o []) root.1 in
-      let io = io_wire g.parts fed.tile fabout_name fed.fabout in
-      let feed : global_feed g.parts m ≡ at_pin g.parts fed.tile fabout_name = ap (λ o. at_pin_of g.parts o fabout_name) fed.feeds in
-      let one : ReadsL (at_pin g.parts fed.tile fabout_name) (read (net root.0)) =
-      pin_reads (wire_named g.parts fed.tile fabout_name) root.0 (g.led.feeds b m root.0 fed.tile here root.1 fed.feeds) (λ u e. fabout_plain g.parts g.lawful fed.tile io.0 u e) (feed_reads d b root.0 root.1)
-      (λ q e. lower q (subst (λ (ns : List (Option Node)). Has ns (Some q)) (sym reads) (0, ap (λ (o : Option Node). Some o) e))) in
-      wire_made g.parts g.bits bonded levels kept w.0 Nothing (Global m) (read (net root.0) ∷ []) (v (Net (GlobalOut b))) bare
-      (global_is g.parts g.lawful m w.0 fed.below (passes_found (has_name g.parts (global_name m)) 0 g.parts.wires w.0 named))
-      (subst (λ (q : Option Point). HaveL (q ∷ []) (read (net root.0) ∷ [])) (sym feed) (put g.parts g.bits bonded levels kept (at_pin g.parts fed.tile fabout_name) (read (net root.0)) [] [] one tt))
-      (sym (meets (Net (GlobalOut b)) ∙ ap (λ ns. slice_index_or (map read ns) 0 false) reads))
+      wire_made g.parts g.bits g.extras bonded levels kept w.0 Nothing (PadInput pad) [] (v (Net (PadIn k))) bare is tt
+      (ap (λ b. cond b (input_kept g.parts kept pad) (pad_gives g.parts g.bits bonded levels pad)) (unregistered k pad port here there io.0)
+      ∙ ap (λ b. b && level_of bonded levels pad) (g.are_set.enabled k pad port here there reads) ∙ sym level)
+  arrive_next n lower p (AtGlobal w b m here named bare) = by (is_direct g.plan b) refl
+    where
+      is : role_of g.parts w.0 ≡ Global m
+      is = global_is g.parts g.lawful m w.0 (g.placed.pads.named b m here).below (passes_found (has_name g.parts (global_name m)) 0 g.parts.wires w.0 named)
+
+      -- the global of a direct buffer has the level of its port's pad
+      direct : is_direct g.plan b ≡ true → HasL (Wire w) (v (Net (GlobalOut b)))
+      direct e =
+          let own = g.placed.pads.direct b m here e in
+          let port = item_beside g.plan.ports d.pads own.port own.pad g.placed.pads.ports own.there in
+          let reads : port.0.reads ≡ true = g.placed.formed.reads own.port port.0 port.1 ∙ feed_reads d b (Some (PadIn own.port)) own.root (PadIn own.port) refl in
+          let taken = direct_takes g b m here e in
+          let level : v (Net (PadIn own.port)) ≡ level_of bonded levels own.pad =
+          meets (Net (PadIn own.port))
+          ∙ get_or_from_slice_get (port_levels bonded g.plan.ports levels) own.port (level_of bonded levels own.pad) false (At_map (level_of bonded levels) g.plan.ports own.port own.pad own.there) in
+          let value : v (Net (GlobalOut b)) ≡ level_of bonded levels own.pad =
+          meets (Net (GlobalOut b)) ∙ ap (λ (o : Option (Option Root)). slice_index_or (map read (option_map_or (λ r. net r ∷ []) o [])) 0 false) own.root ∙ level in
+          wire_made g.parts g.bits g.extras bonded levels kept w.0 Nothing (Global m) [] (v (Net (GlobalOut b))) bare is
+          (subst (λ (t : Bool). HaveL (cond t [] (global_feed g.parts m ∷ [])) []) (sym taken) tt)
+          (ap (λ t. cond t (global_gives g.parts g.bits bonded levels (gbufpin_of g.parts m)) false) taken
+          ∙ ap (global_gives g.parts g.bits bonded levels) own.fed_by
+          ∙ ap (λ t. t && level_of bonded levels own.pad) (g.are_set.enabled own.port own.pad port.0 own.there port.1 reads)
+          ∙ sym value)
+
+      fed : is_direct g.plan b ≡ false → HasL (Wire w) (v (Net (GlobalOut b)))
+      fed e =
+          let feeds = g.placed.pads.fed b m here e in
+          let root = item_beside g.plan.globals d.globals b m g.placed.pads.globals here in
+          let reads : node_reads d (Net (GlobalOut b)) ≡ net root.0 ∷ [] = ap (λ o. option_map_or (λ r. net r ∷ []) o []) root.1 in
+          let io = io_wire g.parts feeds.tile fabout_name feeds.fabout in
+          let feed : global_feed g.parts m ≡ at_pin g.parts feeds.tile fabout_name = ap (λ o. at_pin_of g.parts o fabout_name) feeds.feeds in
+          let not_taken = fed_takes_not g b m here e in
+          let one : ReadsL (at_pin g.parts feeds.tile fabout_name) (read (net root.0)) =
+          pin_reads (wire_named g.parts feeds.tile fabout_name) root.0 (g.led.feeds b m root.0 feeds.tile here root.1 e feeds.feeds) (λ u named. fabout_plain g.parts g.lawful feeds.tile io.0 u named) (feed_reads d b root.0 root.1)
+          (λ q same. lower q (subst (λ (ns : List (Option Node)). Has ns (Some q)) (sym reads) (0, ap (λ (o : Option Node). Some o) same))) in
+          wire_made g.parts g.bits g.extras bonded levels kept w.0 Nothing (Global m) (read (net root.0) ∷ []) (v (Net (GlobalOut b))) bare is
+          (subst (λ (t : Bool). HaveL (cond t [] (global_feed g.parts m ∷ [])) (read (net root.0) ∷ [])) (sym not_taken)
+          (subst (λ (q : Option Point). HaveL (q ∷ []) (read (net root.0) ∷ [])) (sym feed) (put g.parts g.bits g.extras bonded levels kept (at_pin g.parts feeds.tile fabout_name) (read (net root.0)) [] [] one tt)))
+          (ap (λ t. cond t (global_gives g.parts g.bits bonded levels (gbufpin_of g.parts m)) (read (net root.0))) not_taken
+          ∙ sym (meets (Net (GlobalOut b)) ∙ ap (λ ns. slice_index_or (map read ns) 0 false) reads))
+
+      by : (t : Bool) → is_direct g.plan b ≡ t → HasL (Wire w) (v (Net (GlobalOut b)))
+      by true e = direct e
+      by false e = fed e
   arrive_next n lower p (AtCarry t i c cell s on) =
       let three = input cell 1 ∷ input cell 2 ∷ node.carry_into d c ∷ [] in
       let reads : node_reads d (Net (CarryOut c)) ≡ three = ap (λ o. option_map_or (design.carry_reads d c) o []) s.cell_is ∙ ap (λ b. cond b three []) on in
@@ -435,7 +486,7 @@ module _ (g : Premises) (bonded : List Pad) (levels kept kept_cells : List Bool)
       by : (f : Option (Control × Reset)) → cell.flop ≡ f → HasL (Wire w) (v (Net (CellOut c)))
       by (Some f) e =
           let flop = flop_is (Some f) e in
-          wire_made g.parts g.bits bonded levels kept w.0 Nothing (Output t i) [] (v (Net (CellOut c))) bare is
+          wire_made g.parts g.bits g.extras bonded levels kept w.0 Nothing (Output t i) [] (v (Net (CellOut c))) bare is
           (subst (λ (b : Bool). HaveL (cond b [] (cell_inputs g.parts t i)) []) (sym flop) tt)
           (ap (λ b. cond b (kept_at g.parts kept t i) (looked_up g.parts g.bits t i [])) flop ∙ alike t i c cell s ∙ sym (value_is ∙ ap made e))
       by None e =
@@ -443,7 +494,7 @@ module _ (g : Premises) (bonded : List Pad) (levels kept kept_cells : List Bool)
           let ins : node_reads d (Net (CellOut c)) ≡ design.cell_inputs d c cell
           = ap (λ o. option_map_or (λ (x : LogicCell). output_reads x.flop (design.cell_inputs d c x)) o []) s.cell_is ∙ ap (λ f. output_reads f (design.cell_inputs d c cell)) e in
           let table = table_given t i c cell s (λ m has. lower m (subst (λ (ns : List (Option Node)). Has ns (Some m)) (sym ins) has)) in
-          wire_made g.parts g.bits bonded levels kept w.0 Nothing (Output t i) table.xs (v (Net (CellOut c))) bare is
+          wire_made g.parts g.bits g.extras bonded levels kept w.0 Nothing (Output t i) table.xs (v (Net (CellOut c))) bare is
           (subst (λ (b : Bool). HaveL (cond b [] (cell_inputs g.parts t i)) table.xs) (sym flop) table.have)
           (ap (λ b. cond b (kept_at g.parts kept t i) (looked_up g.parts g.bits t i table.xs)) flop ∙ table.gives ∙ sym (value_is ∙ ap made e))
 

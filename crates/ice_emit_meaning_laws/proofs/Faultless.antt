@@ -1,5 +1,5 @@
 -- The bits of a placed and routed design have no fault, but for loops.
-use Rattle.std.proofs.Common.{◌≡◌, ◌⊎◌, ℕ, zero, suc, ◌+◌, ◌/◌, ◌%◌, Bool, true, false, cond, Option, None, Some, List, [], ◌∷◌, ◌++◌, length, take, find, inl, inr, refl, sym, ap, ◌∙◌, subst, true≢false, eqb-true}
+use Rattle.std.proofs.Common.{◌≡◌, ◌⊎◌, ℕ, zero, suc, ◌+◌, ◌/◌, Bool, true, false, cond, Option, None, Some, List, [], ◌∷◌, ◌++◌, length, take, find, inl, inr, refl, sym, ap, ◌∙◌, subst, true≢false, eqb-true}
 use Rattle.std.specs.Prelude.{◌&&◌, ◌||◌, ◌==◌, not, nat_eq, option_map, codes}
 use Rattle.std.specs.Cmp.Lexicographic.{pointwise}
 use Rattle.std.specs.List.{list_any}
@@ -18,8 +18,9 @@ use Rattle.ice_chip.specs.declared.placed.PlacedName.{PlacedName}
 use Rattle.ice_chip.proofs.Keys.{pad_same}
 use Rattle.ice_base.proofs.Keys.{tile_self, nat_self}
 use Rattle.ice_decode.specs.declared.driver.Switch.{Switch}
+use Rattle.ice_decode.specs.Direct.{is_padin}
 use Rattle.ice_decode.specs.Drivers.{driver, switches_on}
-use Rattle.ice_decode.specs.Faults.{or_else, first_of, contended_by, contention, is_memory_output, is_foreign_wire, foreign_source, is_output_part, is_read, is_input_read, has_wrong_type, HasNoLoop}
+use Rattle.ice_decode.specs.Faults.{or_else, first_of, contended_by, contention, is_memory_output, is_foreign_wire, foreign_source, is_output_part, is_input_type, is_read, is_input_read, has_wrong_type, HasNoLoop}
 use Rattle.ice_decode.specs.Pads.{pads, pin_type}
 use Rattle.ice_decode.specs.Refusals.{IsFaultless}
 use Rattle.ice_cells.specs.declared.design.DesignPad.{DesignPad}
@@ -31,6 +32,7 @@ use Rattle.ice_emit_rows_laws.specs.Wanted.{IsRowOf}
 use Rattle.ice_emit_defs.specs.Led.{IsBare}
 use Rattle.ice_emit_meaning_laws.proofs.Premises.{Premises}
 use Rattle.ice_emit_meaning_laws.proofs.AllWires.{entered_or_bare}
+use Rattle.ice_emit_meaning_laws.proofs.DirectGlobals.{is_known}
 use Rattle.ice_emit_meaning_laws.proofs.Read.{item_beside}
 
 -- ---- lists
@@ -98,9 +100,9 @@ module _ (g : Premises) where
       ap (option_map (λ (s : Switch). s.source.0)) (find_none (λ (s : Switch). is_foreign_wire g.parts s.source.0) (switches_on g.bits g.parts.groups) not_foreign)
 
   -- ---- types of pins
-  of_type : (pad : Pad) (n : ℕ) → pin_type g.parts g.bits pad ≡ n → is_output_part (n / 4) ≡ true → (n % 4 == 1) ≡ true → has_wrong_type g.parts g.bits pad ≡ false
+  of_type : (pad : Pad) (n : ℕ) → pin_type g.parts g.bits pad ≡ n → is_output_part (n / 4) ≡ true → is_input_type n ≡ true → has_wrong_type g.parts g.bits pad ≡ false
   of_type pad n is part low =
-      ap (λ m. not (is_output_part (m / 4)) || (is_input_read g.parts g.bits pad && not (m % 4 == 1))) is
+      ap (λ m. not (is_output_part (m / 4)) || (is_input_read g.parts g.bits pad && not (is_input_type m))) is
       ∙ (λ i. not (part i) || (is_input_read g.parts g.bits pad && not (low i))) ∙ and_right (is_input_read g.parts g.bits pad) false refl
 
   ported : (port : DesignPad) (pad : Pad) → IsPad port → pin_type g.parts g.bits pad ≡ port.pin_type → has_wrong_type g.parts g.bits pad ≡ false
@@ -131,11 +133,11 @@ module _ (g : Premises) where
       by (inr none) =
           let zero_type = g.are_set.untyped pad there none in
           let off = unread pad there none in
-          ap (λ m. not (is_output_part (m / 4)) || (is_input_read g.parts g.bits pad && not (m % 4 == 1))) zero_type ∙ ap (λ b. false || (b && true)) off
+          ap (λ m. not (is_output_part (m / 4)) || (is_input_read g.parts g.bits pad && not (is_input_type m))) zero_type ∙ ap (λ b. false || (b && false)) off
 
-  pub faultless : HasNoLoop g.parts g.bits → IsFaultless g.parts g.bits []
+  pub faultless : HasNoLoop g.parts g.bits g.extras → IsFaultless g.parts g.bits g.extras
   faultless loopless = record {
-    of_chip = record { uncontended = uncontended; sources = sourced; functions = g.are_set.own; no_extras = refl };
+    of_chip = record { uncontended = uncontended; sources = sourced; functions = g.are_set.own; extras_known = find_none (λ e. not (is_padin g.parts e)) g.extras (λ e has. ap not (is_known g e has)) };
     loopless = loopless;
     types = find_none (has_wrong_type g.parts g.bits) (pads g.parts) typed;
   }

@@ -7,6 +7,7 @@ mod Read
 mod Slots
 mod Starts
 mod WireLevels
+mod DirectGlobals
 mod Arriving
 mod CellRoles
 mod AllWires

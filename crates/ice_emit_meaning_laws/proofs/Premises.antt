@@ -1,5 +1,5 @@
 -- What a law over the bits of a placed and routed design rests on, in one record.
-use Rattle.std.specs.Prelude.{Bool, List}
+use Rattle.std.specs.Prelude.{◌≡◌, ℕ, Bool, List}
 use Rattle.ice_chip.specs.Database.{Parts, PackageRows}
 use Rattle.ice_chip.specs.IsRead.{IsRead}
 use Rattle.ice_chip_laws.specs.Laws.{IsLawful}
@@ -13,6 +13,7 @@ use Rattle.ice_emit_defs.specs.Arrivals.{Held}
 use Rattle.ice_emit_defs.specs.Led.{AreLed}
 use Rattle.ice_emit_defs.specs.Routed.{IsPlaced}
 use Rattle.ice_emit_defs.specs.Set.{AreSet}
+use Rattle.ice_emit_defs.specs.Written.{plan_extras}
 
 pub record Premises : Type 0 where
   pub parts : Parts
@@ -22,6 +23,7 @@ pub record Premises : Type 0 where
   pub wanted : List Switch
   pub held : Held
   pub bits : Bits
+  pub extras : List (ℕ × ℕ × ℕ)
   -- the chip
   pub chip_read : IsRead parts
   pub lawful : IsLawful parts
@@ -30,6 +32,7 @@ pub record Premises : Type 0 where
   pub led : AreLed parts plan wanted held
   pub are_set : AreSet parts plan wanted held bits
   pub wired : IsWired parts bits wanted
+  pub extras_are : extras ≡ plan_extras parts plan
   -- what stands in slots
   pub slots : AreSlots plan.design (listed plan)
   pub driven : AreDriven plan.design (listed plan)

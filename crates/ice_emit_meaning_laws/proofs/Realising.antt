@@ -1,5 +1,5 @@
 -- The bits of a placed and routed design realise it.
-use Rattle.std.proofs.Common.{Bool, List}
+use Rattle.std.proofs.Common.{◌≡◌, ℕ, Bool, List}
 use Rattle.ice_chip.specs.Database.{Parts, PackageRows}
 use Rattle.ice_chip.specs.IsRead.{IsRead}
 use Rattle.ice_chip_laws.specs.Laws.{IsLawful}
@@ -15,13 +15,14 @@ use Rattle.ice_emit_defs.specs.Led.{AreLed}
 use Rattle.ice_emit_defs.specs.Realised.{Realises}
 use Rattle.ice_emit_defs.specs.Routed.{IsPlaced}
 use Rattle.ice_emit_defs.specs.Set.{AreSet}
+use Rattle.ice_emit_defs.specs.Written.{plan_extras}
 use Rattle.ice_emit_meaning_laws.specs.Feeds.{FeedsNoGlobal}
 use Rattle.ice_emit_meaning_laws.proofs.AllWires.{unfed_loopless}
 use Rattle.ice_emit_meaning_laws.proofs.Premises.{Premises}
 use Rattle.ice_emit_meaning_laws.proofs.Faultless.{faultless}
 use Rattle.ice_emit_meaning_laws.proofs.Steps.{shows_same, off_elsewhere}
 
-realised : (g : Premises) → HasNoLoop g.parts g.bits → Realises g.parts g.plan g.wanted g.bits
+realised : (g : Premises) → HasNoLoop g.parts g.bits g.extras → Realises g.parts g.plan g.wanted g.bits g.extras
 realised g loopless = record {
   faultless = faultless g loopless;
   wired = g.wired;
@@ -31,7 +32,7 @@ realised g loopless = record {
 }
 
 module _ (parts : Parts) (read : IsRead parts) (lawful : IsLawful parts) (slots : CellsStandInOneSlot) (driven : FlopsAreDrivenAsTheirCluster) (chunks : RunsStandInChunks) (bonded : PackageRows) (plan : Plan) (pullups : List Bool)
-    (wanted : List Switch) (held : Held) (bits : Bits) where
+    (wanted : List Switch) (held : Held) (bits : Bits) (extras : List (ℕ × ℕ × ℕ)) (extras_are : extras ≡ plan_extras parts plan) where
   abbrev premises : IsPlaced parts bonded plan pullups → AreLed parts plan wanted held → AreSet parts plan wanted held bits → IsWired parts bits wanted → Premises
   premises placed led are_set wired =
       record {
@@ -42,19 +43,21 @@ module _ (parts : Parts) (read : IsRead parts) (lawful : IsLawful parts) (slots 
         wanted = wanted;
         held = held;
         bits = bits;
+        extras = extras;
         chip_read = read;
         lawful = lawful;
         placed = placed;
         led = led;
         are_set = are_set;
         wired = wired;
+        extras_are = extras_are;
         slots = slots plan.design (listed plan) placed.formed placed.clusters;
         driven = driven plan.design (listed plan) placed.formed placed.clusters;
         chunks = chunks plan.design (listed plan) placed.formed placed.clusters;
       }
 
-  pub realise : HasNoLoop parts bits → IsPlaced parts bonded plan pullups → AreLed parts plan wanted held → AreSet parts plan wanted held bits → IsWired parts bits wanted → Realises parts plan wanted bits
+  pub realise : HasNoLoop parts bits extras → IsPlaced parts bonded plan pullups → AreLed parts plan wanted held → AreSet parts plan wanted held bits → IsWired parts bits wanted → Realises parts plan wanted bits extras
   realise loopless placed led are_set wired = realised (premises placed led are_set wired) loopless
 
-  pub have_no_loop : FeedsNoGlobal parts → IsPlaced parts bonded plan pullups → AreLed parts plan wanted held → AreSet parts plan wanted held bits → IsWired parts bits wanted → HasNoLoop parts bits
+  pub have_no_loop : FeedsNoGlobal parts → IsPlaced parts bonded plan pullups → AreLed parts plan wanted held → AreSet parts plan wanted held bits → IsWired parts bits wanted → HasNoLoop parts bits extras
   have_no_loop unfed placed led are_set wired = unfed_loopless (premises placed led are_set wired) unfed

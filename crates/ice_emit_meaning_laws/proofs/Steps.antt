@@ -1,5 +1,5 @@
 -- The bits of a placed and routed design show, step by step, what the design shows.
-use Rattle.std.proofs.Common.{◌≡◌, ◌⊎◌, ℕ, zero, suc, ◌+◌, ◌*◌, ◌/◌, ◌<◌, Bool, true, false, cond, Option, None, Some, List, [], ◌∷◌, length, map, replicate, zip, inl, inr, refl, sym, ap, ◌∙◌, subst, true≢false, arith}
+use Rattle.std.proofs.Common.{◌≡◌, ◌⊎◌, ℕ, zero, suc, ◌+◌, ◌*◌, ◌/◌, ◌<◌, Bool, true, false, cond, Option, None, Some, List, [], ◌∷◌, length, map, replicate, inl, inr, refl, sym, ap, ◌∙◌, subst, true≢false, arith}
 use Rattle.std.specs.Prelude.{◌&&◌, is_some, slice_get, slice_index_or, option_map}
 use Rattle.std.specs.Option.{option_map_or, option_and_then}
 use Rattle.std.proofs.lemmas.Option.{same_Some, none-some, get_or_from_slice_get}
@@ -31,15 +31,16 @@ use Rattle.ice_decode.specs.declared.point.Point.{Point}
 use Rattle.ice_decode.specs.declared.point.Point.TheVariants.{Wire, Carry}
 use Rattle.ice_decode.specs.declared.role.Role.TheVariants.{Plain, ClockEnable}
 use Rattle.ice_decode.specs.declared.driver.Driver.TheVariants.{Nothing}
-use Rattle.ice_decode.specs.Cells.{cells, logic_tiles, has_flop, reset_of, looked_up}
+use Rattle.ice_decode.specs.Cells.{logic_tiles, has_flop, reset_of, looked_up}
 use Rattle.ice_decode.specs.Faults.{HasNoLoop}
 use Rattle.ice_decode.specs.Meaning as chip
-use Rattle.ice_decode.specs.Meaning.{tile_place, kept_at, kept_after, clock_after, point_level, system_of}
-use Rattle.ice_decode.specs.Pads.{pads, pin_level, part_drive, drive_at}
+use Rattle.ice_decode.specs.Meaning.{tile_place, kept_at, store_after, clock_after, point_level, system_of, drive_at}
+use Rattle.ice_decode.specs.Pads.{pads, pin_level, part_drive}
 use Rattle.ice_decode.specs.Reads.{wire_point, at_pin, cell_inputs, count_points}
+use Rattle.ice_decode.specs.Registers.{Store, CellStore, stores, output_kept}
 use Rattle.ice_decode.specs.Roles.{role_of}
-use Rattle.ice_decode.proofs.KeptLevels.{tile_at, clock_stepped}
-use Rattle.ice_decode.proofs.PointPlaces.{cell_at, wire_at}
+use Rattle.ice_decode.proofs.KeptLevels.{kept_stepped, clock_stepped, cell_stands}
+use Rattle.ice_decode.proofs.PointPlaces.{wire_at}
 use Rattle.ice_decode.proofs.RolePlaces as places
 use Rattle.ice_decode.proofs.Valued.{faultless_valued}
 use Rattle.ice_cells.specs.declared.cell.Control.{Control}
@@ -70,15 +71,6 @@ use Rattle.ice_emit_meaning_laws.proofs.Slots.{below, logic_there}
 use Rattle.ice_emit_meaning_laws.proofs.WireLevels.{HasLevel, HaveLevels, Reads, wire_made}
 
 -- ---- lists and machines
-zip_at : {A B : Type 0} (xs : List A) (ys : List B) (n : ℕ) (a : A) (b : B) → At xs n a → At ys n b → At (zip xs ys) n (a, b)
-zip_at [] ys n a b at there = absurd (none-some a at)
-zip_at (c ∷ xs) [] n a b at there = absurd (none-some b there)
-zip_at (c ∷ xs) (d ∷ ys) zero a b at there =
-    let one = same_Some c a at in
-    let two = same_Some d b there in
-    λ i. Some (one i, two i)
-zip_at (c ∷ xs) (d ∷ ys) (suc n) a b at there = zip_at xs ys n a b at there
-
 all_alike : {X Y : Type 0} (y : Y) (xs : List X) (i : ℕ) → slice_index_or (map (λ x. y) xs) i y ≡ y
 all_alike y [] i = refl
 all_alike y (x ∷ xs) zero = refl
@@ -129,11 +121,11 @@ place_found t (u ∷ tiles) has = by (same_tile u t) refl has (λ h. place_found
     by false e (suc i, at) later = let rest = later (i, at) in (suc rest.0, ap (option_map suc) rest.1)
 
 -- what a pad of a type drives
-typed : (n m : ℕ) (level enable : Bool) → n ≡ m → part_drive (m / 4) level enable ≡ pad_drive m level enable → part_drive (n / 4) level enable ≡ pad_drive n level enable
-typed n m level enable e same = ap (λ k. part_drive (k / 4) level enable) e ∙ same ∙ sym (ap (λ k. pad_drive k level enable) e)
+typed : (n m : ℕ) (level enable kept : Bool) → n ≡ m → part_drive (m / 4) level enable kept ≡ pad_drive m level enable → part_drive (n / 4) level enable kept ≡ pad_drive n level enable
+typed n m level enable kept e same = ap (λ k. part_drive (k / 4) level enable kept) e ∙ same ∙ sym (ap (λ k. pad_drive k level enable) e)
 
 -- ---- states
-module _ (g : Premises) (loopless : HasNoLoop g.parts g.bits) where
+module _ (g : Premises) (loopless : HasNoLoop g.parts g.bits g.extras) where
   abbrev d : Design
   d = g.plan.design
 
@@ -154,7 +146,7 @@ module _ (g : Premises) (loopless : HasNoLoop g.parts g.bits) where
   -- ---- one step
   module _ (bonded : List Pad) (levels : List Bool) (s t : State) (alike : Alike s t) where
     abbrev now : Point → Bool
-    now p = point_level g.parts g.bits bonded levels s.kept p
+    now p = point_level g.parts g.bits g.extras bonded levels s.kept p
 
     abbrev node_now : Node → Bool
     node_now n = v g bonded levels s.kept t.kept (kept_same s t alike) n
@@ -172,16 +164,16 @@ module _ (g : Premises) (loopless : HasNoLoop g.parts g.bits) where
         by None e = tt
         by (Some w) e = g.lawful.names.below w (record { tile = u; name = name }) (g.lawful.names.found u name w e)
 
-    level_now : (w : WireNo) (x : Bool) → w.0 < g.parts.wires → HasLevel g.parts g.bits bonded levels s.kept (Wire w) x → now (Wire w) ≡ x
+    level_now : (w : WireNo) (x : Bool) → w.0 < g.parts.wires → HasLevel g.parts g.bits g.extras bonded levels s.kept (Wire w) x → now (Wire w) ≡ x
     level_now w x lt (k, e) =
-        let system = system_of g.parts g.bits bonded levels s.kept in
+        let system = system_of g.parts g.bits g.extras bonded levels s.kept in
         let is : value system (count_points g.parts + 1) (Wire w) ≡ Some (now (Wire w)) =
-        faultless_valued g.parts g.bits [] g.chip_read (faultless g loopless) bonded levels s.kept (Wire w) (w.0, wire_at g.parts.wires (logic_tiles g.parts) w.0 lt) in
+        faultless_valued g.parts g.bits g.extras g.chip_read (faultless g loopless) bonded levels s.kept (Wire w) (w.0, wire_at g.parts.wires (logic_tiles g.parts) w.0 lt) in
         let one = value_at_more system (count_points g.parts + 1) (k + (count_points g.parts + 1)) (Wire w) (now (Wire w)) (omega arith) is in
         let two = value_at_more system k (k + (count_points g.parts + 1)) (Wire w) x (omega arith) e in
         same_Some (now (Wire w)) x (sym one ∙ two)
 
-    reads_now : (p : Option Point) (x : Bool) → IsBelow p → Reads g.parts g.bits bonded levels s.kept p x → reading false now p ≡ x
+    reads_now : (p : Option Point) (x : Bool) → IsBelow p → Reads g.parts g.bits g.extras bonded levels s.kept p x → reading false now p ≡ x
     reads_now None x lt has = sym has
     reads_now (Some (Wire w)) x lt has = level_now w x lt has
     reads_now (Some (Carry u i)) x lt has = absurd lt
@@ -190,7 +182,7 @@ module _ (g : Premises) (loopless : HasNoLoop g.parts g.bits) where
     AreBelow [] = Unit {0}
     AreBelow (p ∷ ps) = IsBelow p × AreBelow ps
 
-    have_now : (ps : List (Option Point)) (xs : List Bool) → AreBelow ps → HaveLevels g.parts g.bits bonded levels s.kept ps xs → map (reading false now) ps ≡ xs
+    have_now : (ps : List (Option Point)) (xs : List Bool) → AreBelow ps → HaveLevels g.parts g.bits g.extras bonded levels s.kept ps xs → map (reading false now) ps ≡ xs
     have_now [] [] lt have = refl
     have_now [] (x ∷ xs) lt have = absurd have
     have_now (None ∷ ps) [] lt have = absurd have
@@ -205,7 +197,7 @@ module _ (g : Premises) (loopless : HasNoLoop g.parts g.bits) where
         λ i. one i ∷ rest i
 
     -- each node has its level where it starts
-    arrived : (n : Node) (p : Point) → Starts g p n → HasLevel g.parts g.bits bonded levels s.kept p (node_now n)
+    arrived : (n : Node) (p : Point) → Starts g p n → HasLevel g.parts g.bits g.extras bonded levels s.kept p (node_now n)
     arrived n p starts = arrives g bonded levels s.kept t.kept (kept_same s t alike) n p starts
 
     -- the level at a pin that a root is led to
@@ -259,7 +251,7 @@ module _ (g : Premises) (loopless : HasNoLoop g.parts g.bits) where
           by None None e is readable = refl
           by (Some w) None e is readable =
               level_now (record { 0 = w }) true (enable_within w e)
-              (wire_made g.parts g.bits bonded levels s.kept w Nothing ClockEnable [] true (g.wired.bare w (is w refl)) (enable_is g.parts g.lawful u logic w e) tt refl)
+              (wire_made g.parts g.bits g.extras bonded levels s.kept w Nothing ClockEnable [] true (g.wired.bare w (is w refl)) (enable_is g.parts g.lawful u logic w e) tt refl)
           by None (Some r) e is readable = absurd (none-some is.0 is.1)
           by (Some w) (Some r) e is readable =
               level_now (record { 0 = w }) (node_now (Net r)) (enable_within w e)
@@ -285,12 +277,12 @@ module _ (g : Premises) (loopless : HasNoLoop g.parts g.bits) where
       flop_is f e = (g.are_set.cells u i c cell stands).flop ∙ ap (λ (o : Option (Control × Reset)). is_some o) e
 
       keeps_now : (kept : Bool) (clock : Option Bool) (f : Option (Control × Reset)) → cell.flop ≡ f
-          → kept_after g.parts g.bits now ((u, i), (kept, clock)) ≡ flop_keeps node_now f (given d node_now c cell) kept clock
+          → store_after g.parts g.bits bonded levels now (CellStore u i) kept clock ≡ flop_keeps node_now f (given d node_now c cell) kept clock
       keeps_now kept clock None e = ap (λ b. b && chip.flop_after g.parts g.bits now u i kept clock) (flop_is None e)
       keeps_now kept clock (Some (control, kind)) e =
           ap (λ b. b && chip.flop_after g.parts g.bits now u i kept clock) (flop_is (Some (control, kind)) e) ∙ flop_now u i c cell stands control kind e kept clock
 
-      clocks_now : (f : Option (Control × Reset)) → cell.flop ≡ f → clock_after g.parts g.bits now (u, i) ≡ flop_clock node_now f
+      clocks_now : (f : Option (Control × Reset)) → cell.flop ≡ f → clock_after g.parts g.bits now (CellStore u i) ≡ flop_clock node_now f
       clocks_now None e = ap (λ b. cond b (Some (chip.clock_level g.parts now u)) None) (flop_is None e)
       clocks_now (Some (control, kind)) e =
           ap (λ b. cond b (Some (chip.clock_level g.parts now u)) None) (flop_is (Some (control, kind)) e) ∙ ap (λ (x : Bool). Some x) (clock_now u i c cell stands control kind e)
@@ -298,30 +290,29 @@ module _ (g : Premises) (loopless : HasNoLoop g.parts g.bits) where
       lt : c < length d.cells
       lt = At_within d.cells c cell stands.cell_is
 
-      kept_then : (k : ℕ) → tile_place u (logic_tiles g.parts) ≡ Some k → At (chip.state_after g.parts g.bits now s).kept (8 * k + i) (slice_index_or (design.state_after d node_now t).kept c false)
+      kept_then : (k : ℕ) → tile_place u (logic_tiles g.parts) ≡ Some k → At (chip.state_after g.parts g.bits bonded levels now s).kept (8 * k + i) (slice_index_or (design.state_after d node_now t).kept c false)
       kept_then k found =
           let a = slice_index_or t.kept c false in
           let b = slice_index_or t.clocks c None in
-          let at : At (cells g.parts) (8 * k + i) (u, i) = cell_at (logic_tiles g.parts) k i u (tile_at u (logic_tiles g.parts) k found) (below g u i c cell stands) in
-          let zipped = zip_at (cells g.parts) (zip s.kept s.clocks) (8 * k + i) (u, i) (a, b) at (zip_at s.kept s.clocks (8 * k + i) a b (alike.kept u i c cell stands k found) (alike.clocks u i c cell stands k found)) in
-          At_map (kept_after g.parts g.bits now) (zip (cells g.parts) (zip s.kept s.clocks)) (8 * k + i) ((u, i), (a, b)) zipped
+          let at = cell_stands g.parts u i k found (below g u i c cell stands) in
+          kept_stepped g.parts g.bits bonded levels now s (8 * k + i) (CellStore u i) at a b (alike.kept u i c cell stands k found) (alike.clocks u i c cell stands k found)
           ∙ ap (λ (x : Bool). Some x)
           (keeps_now a b cell.flop refl
           ∙ sym (ap (λ o. option_map_or (λ (x : LogicCell). flop_keeps node_now x.flop (given d node_now c x) a b) o false) stands.cell_is)
           ∙ sym (get_or-table (cell_keeps d node_now t) (length d.cells) c false lt))
 
-      clocks_then : (k : ℕ) → tile_place u (logic_tiles g.parts) ≡ Some k → At (chip.state_after g.parts g.bits now s).clocks (8 * k + i) (slice_index_or (design.state_after d node_now t).clocks c None)
+      clocks_then : (k : ℕ) → tile_place u (logic_tiles g.parts) ≡ Some k → At (chip.state_after g.parts g.bits bonded levels now s).clocks (8 * k + i) (slice_index_or (design.state_after d node_now t).clocks c None)
       clocks_then k found =
-          clock_stepped g.parts g.bits now s u i k found (below g u i c cell stands)
+          clock_stepped g.parts g.bits bonded levels now s (8 * k + i) (CellStore u i) (cell_stands g.parts u i k found (below g u i c cell stands))
           ∙ ap (λ (x : Option Bool). Some x)
           (clocks_now cell.flop refl ∙ sym (ap (λ o. option_map_or (λ (x : LogicCell). flop_clock node_now x.flop) o None) stands.cell_is)
           ∙ sym (get_or-table (cell_clock d node_now) (length d.cells) c None lt))
 
-    alike_then : Alike (chip.state_after g.parts g.bits now s) (design.state_after d node_now t)
+    alike_then : Alike (chip.state_after g.parts g.bits bonded levels now s) (design.state_after d node_now t)
     alike_then = record { kept = kept_then; clocks = clocks_then }
 
     -- ---- what pads show
-    drive_now : (k : ℕ) (pad : Pad) (port : DesignPad) → At g.plan.ports k pad → At d.pads k port → drive_at g.parts g.bits now pad ≡ pad_drives node_now port
+    drive_now : (k : ℕ) (pad : Pad) (port : DesignPad) → At g.plan.ports k pad → At d.pads k port → drive_at g.parts g.bits s.kept now pad ≡ pad_drives node_now port
     drive_now k pad port here there = by (io_or_other g pad.tile) (g.placed.formed.pads k port there)
       where
         lt : pad.pio < 2
@@ -333,12 +324,16 @@ module _ (g : Premises) (loopless : HasNoLoop g.parts g.bits) where
         enable : Bool
         enable = pin_level false g.parts now pad.tile (output_enable_name pad.pio)
 
+        -- what a register would keep: no port drives it
+        held : Bool
+        held = output_kept g.parts s.kept pad
+
         wires : HasWires g.parts port pad
         wires = g.placed.pads.wires k port pad there here
 
-        by : (kind_at g.parts pad.tile ≡ Some Io) ⊎ (kind_at g.parts pad.tile ≡ Some Io → ⊥) → IsPad port → drive_at g.parts g.bits now pad ≡ pad_drives node_now port
+        by : (kind_at g.parts pad.tile ≡ Some Io) ⊎ (kind_at g.parts pad.tile ≡ Some Io → ⊥) → IsPad port → drive_at g.parts g.bits s.kept now pad ≡ pad_drives node_now port
         by (inr other) (inl one) =
-            ap (λ n. part_drive (n / 4) level enable) (other_untyped g pad other lt) ∙ sym (ap (λ n. pad_drive n (at_root false node_now port.drive) (at_root false node_now port.enable)) one.0)
+            ap (λ n. part_drive (n / 4) level enable held) (other_untyped g pad other lt) ∙ sym (ap (λ n. pad_drive n (at_root false node_now port.drive) (at_root false node_now port.enable)) one.0)
         by (inr other) (inr (inl two)) = absurd (other (io_wire g.parts pad.tile (pad_output_name pad.pio) (wires.output (inl two.0))).0)
         by (inr other) (inr (inr three)) = absurd (other (io_wire g.parts pad.tile (pad_output_name pad.pio) (wires.output (inr three))).0)
         by (inl io) form =
@@ -349,38 +344,38 @@ module _ (g : Premises) (loopless : HasNoLoop g.parts g.bits) where
             pin_now pad.tile (pad_output_name pad.pio) port.drive led.drive (λ w e. pad_output_plain g.parts g.lawful pad.tile io w pad.pio lt e) (pad_reads d k port 0 port.drive there refl) in
             let on : enable ≡ at_root false node_now port.enable =
             pin_now pad.tile (output_enable_name pad.pio) port.enable led.enable (λ w e. pad_enable_plain g.parts g.lawful pad.tile io w pad.pio lt e) (pad_reads d k port 1 port.enable there refl) in
-            (λ i. part_drive (type_is i / 4) (drive i) (on i)) ∙ of_type form
+            (λ i. part_drive (type_is i / 4) (drive i) (on i) held) ∙ of_type form
           where
-            of_type : IsPad port → part_drive (port.pin_type / 4) (at_root false node_now port.drive) (at_root false node_now port.enable) ≡ pad_drives node_now port
-            of_type (inl one) = typed port.pin_type 1 (at_root false node_now port.drive) (at_root false node_now port.enable) one.0 refl
-            of_type (inr (inl two)) = typed port.pin_type 25 (at_root false node_now port.drive) (at_root false node_now port.enable) two.0 refl
-            of_type (inr (inr three)) = typed port.pin_type 41 (at_root false node_now port.drive) (at_root false node_now port.enable) three refl
+            of_type : IsPad port → part_drive (port.pin_type / 4) (at_root false node_now port.drive) (at_root false node_now port.enable) held ≡ pad_drives node_now port
+            of_type (inl one) = typed port.pin_type 1 (at_root false node_now port.drive) (at_root false node_now port.enable) held one.0 refl
+            of_type (inr (inl two)) = typed port.pin_type 25 (at_root false node_now port.drive) (at_root false node_now port.enable) held two.0 refl
+            of_type (inr (inr three)) = typed port.pin_type 41 (at_root false node_now port.drive) (at_root false node_now port.enable) held three refl
 
-    drives_now : map (drive_at g.parts g.bits now) g.plan.ports ≡ map (pad_drives node_now) d.pads
-    drives_now = maps_alike (drive_at g.parts g.bits now) (pad_drives node_now) g.plan.ports d.pads g.placed.pads.ports drive_now
+    drives_now : map (drive_at g.parts g.bits s.kept now) g.plan.ports ≡ map (pad_drives node_now) d.pads
+    drives_now = maps_alike (drive_at g.parts g.bits s.kept now) (pad_drives node_now) g.plan.ports d.pads g.placed.pads.ports drive_now
 
   -- ---- all steps
   alike_start : Alike (chip.start g.parts) (design.start d)
   alike_start = record {
-    kept = λ u i c cell stands k found. At_map (λ (x : TileAt × ℕ). false) (cells g.parts) (8 * k + i) (u, i) (cell_at (logic_tiles g.parts) k i u (tile_at u (logic_tiles g.parts) k found) (below g u i c cell stands))
+    kept = λ u i c cell stands k found. At_map (λ (x : Store). false) (stores g.parts) (8 * k + i) (CellStore u i) (cell_stands g.parts u i k found (below g u i c cell stands))
         ∙ ap (λ (x : Bool). Some x) (sym (all_alike false d.cells c));
-    clocks = λ u i c cell stands k found. At_map (λ (x : TileAt × ℕ). None) (cells g.parts) (8 * k + i) (u, i) (cell_at (logic_tiles g.parts) k i u (tile_at u (logic_tiles g.parts) k found) (below g u i c cell stands))
+    clocks = λ u i c cell stands k found. At_map (λ (x : Store). None) (stores g.parts) (8 * k + i) (CellStore u i) (cell_stands g.parts u i k found (below g u i c cell stands))
         ∙ ap (λ (x : Option Bool). Some x) (sym (all_alike None d.cells c));
   }
 
   module _ (bonded : List Pad) where
-    simulates : Simulates (chip.step g.parts g.bits bonded g.plan.ports) (λ t levels. design.step d t (port_levels bonded g.plan.ports levels)) Alike (λ levels. Unit {0})
+    simulates : Simulates (chip.step g.parts g.bits g.extras bonded g.plan.ports) (λ t levels. design.step d t (port_levels bonded g.plan.ports levels)) Alike (λ levels. Unit {0})
     simulates s t levels allowed alike = (alike_then bonded levels s t alike, drives_now bonded levels s t alike)
 
-    pub shows_same : (steps : List (List Bool)) → chip.shows g.parts g.bits bonded g.plan.ports steps ≡ design.shows d (map (port_levels bonded g.plan.ports) steps)
+    pub shows_same : (steps : List (List Bool)) → chip.shows g.parts g.bits g.extras bonded g.plan.ports steps ≡ design.shows d (map (port_levels bonded g.plan.ports) steps)
     shows_same steps =
-        shows_always_alike (chip.step g.parts g.bits bonded g.plan.ports) (λ t levels. design.step d t (port_levels bonded g.plan.ports levels)) Alike simulates (chip.start g.parts) (design.start d) alike_start steps
+        shows_always_alike (chip.step g.parts g.bits g.extras bonded g.plan.ports) (λ t levels. design.step d t (port_levels bonded g.plan.ports levels)) Alike simulates (chip.start g.parts) (design.start d) alike_start steps
         ∙ sym (shows_over (design.step d) (port_levels bonded g.plan.ports) (design.start d) steps)
 
     -- every other pad is off
-    pub off_elsewhere : (steps : List (List Bool)) (pad : Pad) → Has (pads g.parts) pad → (Has g.plan.ports pad → ⊥) → chip.shows g.parts g.bits bonded (pad ∷ []) steps ≡ replicate (length steps) (Off ∷ [])
+    pub off_elsewhere : (steps : List (List Bool)) (pad : Pad) → Has (pads g.parts) pad → (Has g.plan.ports pad → ⊥) → chip.shows g.parts g.bits g.extras bonded (pad ∷ []) steps ≡ replicate (length steps) (Off ∷ [])
     off_elsewhere steps pad there none =
-        shows_one (chip.step g.parts g.bits bonded (pad ∷ [])) (Off ∷ [])
-        (λ s levels. ap (λ n. part_drive (n / 4) (pin_level false g.parts (point_level g.parts g.bits bonded levels s.kept) pad.tile (pad_output_name pad.pio))
-        (pin_level false g.parts (point_level g.parts g.bits bonded levels s.kept) pad.tile (output_enable_name pad.pio)) ∷ []) (g.are_set.untyped pad there none))
+        shows_one (chip.step g.parts g.bits g.extras bonded (pad ∷ [])) (Off ∷ [])
+        (λ s levels. ap (λ n. part_drive (n / 4) (pin_level false g.parts (point_level g.parts g.bits g.extras bonded levels s.kept) pad.tile (pad_output_name pad.pio))
+        (pin_level false g.parts (point_level g.parts g.bits g.extras bonded levels s.kept) pad.tile (output_enable_name pad.pio)) (output_kept g.parts s.kept pad) ∷ []) (g.are_set.untyped pad there none))
         (chip.start g.parts) steps

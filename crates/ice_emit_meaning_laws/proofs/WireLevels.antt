@@ -26,12 +26,12 @@ use Rattle.ice_decode.specs.Roles.{role_of}
 use Rattle.ice_emit_rows_laws.specs.Wanted.{IsWired}
 use Rattle.ice_emit_defs.specs.Led.{LeadFrom, Here, ByRow}
 
-module _ (parts : Parts) (bits : Bits) (bonded : List Pad) (levels kept : List Bool) where
+module _ (parts : Parts) (bits : Bits) (extras : List (ℕ × ℕ × ℕ)) (bonded : List Pad) (levels kept : List Bool) where
   abbrev pub HasLevel : Point → Bool → Type 0
-  HasLevel p x = HasValue (chip.system_of parts bits bonded levels kept) p x
+  HasLevel p x = HasValue (chip.system_of parts bits extras bonded levels kept) p x
 
   abbrev pub HaveLevels : List (Option Point) → List Bool → Type 0
-  HaveLevels ps xs = HaveValues (chip.system_of parts bits bonded levels kept) false ps xs
+  HaveLevels ps xs = HaveValues (chip.system_of parts bits extras bonded levels kept) false ps xs
 
   -- an input reads the level; one that has no wire reads 0
   abbrev pub Reads : Option Point → Bool → Type 0
@@ -43,22 +43,22 @@ module _ (parts : Parts) (bits : Bits) (bonded : List Pad) (levels kept : List B
   put (Some p) x ps xs here rest = (here, rest)
 
   -- what a wire makes, by its driver and its role
-  pub wire_made : (w : ℕ) (d : Driver) (r : Role) (xs : List Bool) (x : Bool) → driver parts bits w ≡ d → role_of parts w ≡ r → HaveLevels (driven_reads parts bits r d) xs
-      → driven_makes parts bits bonded levels kept r d xs ≡ x → HasLevel (wire_point w) x
+  pub wire_made : (w : ℕ) (d : Driver) (r : Role) (xs : List Bool) (x : Bool) → driver parts bits w ≡ d → role_of parts w ≡ r → HaveLevels (driven_reads parts bits extras r d) xs
+      → driven_makes parts bits extras bonded levels kept r d xs ≡ x → HasLevel (wire_point w) x
   wire_made w d r xs x ed er all made =
-      value_made (reads parts bits) false (makes parts bits bonded levels kept) (wire_point w) xs x
-      (subst (λ (e : Driver). HaveLevels (driven_reads parts bits (role_of parts w) e) xs) (sym ed) (subst (λ (s : Role). HaveLevels (driven_reads parts bits s d) xs) (sym er) all))
-      (ap (λ e. driven_makes parts bits bonded levels kept (role_of parts w) e xs) ed ∙ ap (λ s. driven_makes parts bits bonded levels kept s d xs) er ∙ made)
+      value_made (reads parts bits extras) false (makes parts bits extras bonded levels kept) (wire_point w) xs x
+      (subst (λ (e : Driver). HaveLevels (driven_reads parts bits extras (role_of parts w) e) xs) (sym ed) (subst (λ (s : Role). HaveLevels (driven_reads parts bits extras s d) xs) (sym er) all))
+      (ap (λ e. driven_makes parts bits extras bonded levels kept (role_of parts w) e xs) ed ∙ ap (λ s. driven_makes parts bits extras bonded levels kept s d xs) er ∙ made)
 
   -- what a carry makes, where it is enabled, and where it is not
   pub carry_made : (t : TileAt) (i : ℕ) (x y z m : Bool) → has_carry parts bits t i ≡ true → HaveLevels (carry_inputs parts t i) (x ∷ y ∷ z ∷ []) → majority x y z ≡ m → HasLevel (Carry t i) m
   carry_made t i x y z m on all made =
-      value_made (reads parts bits) false (makes parts bits bonded levels kept) (Carry t i) (x ∷ y ∷ z ∷ []) m
+      value_made (reads parts bits extras) false (makes parts bits extras bonded levels kept) (Carry t i) (x ∷ y ∷ z ∷ []) m
       (subst (λ (ps : List (Option Point)). HaveLevels ps (x ∷ y ∷ z ∷ [])) (sym (ap (λ b. cond b (carry_inputs parts t i) []) on)) all) made
 
   pub carry_off : (t : TileAt) (i : ℕ) → has_carry parts bits t i ≡ false → HasLevel (Carry t i) false
   carry_off t i off =
-      value_made (reads parts bits) false (makes parts bits bonded levels kept) (Carry t i) [] false
+      value_made (reads parts bits extras) false (makes parts bits extras bonded levels kept) (Carry t i) [] false
       (subst (λ (ps : List (Option Point)). HaveLevels ps []) (sym (ap (λ b. cond b (carry_inputs parts t i) []) off)) tt) refl
 
   -- the wire of a carry has its level

@@ -1,5 +1,5 @@
 //! Laws of the bits of placed and routed designs. The functions do nothing: their contracts are the laws.
-ghost use Rattle.std.specs.Prelude.{Bool, List};
+ghost use Rattle.std.specs.Prelude.{◌≡◌, ℕ, Bool, List};
 ghost use Rattle.ice_chip.specs.Database.{PackageRows};
 ghost use Rattle.ice_bits.specs.Configuration.{Bits};
 ghost use Rattle.ice_decode.specs.Faults.{HasNoLoop};
@@ -11,19 +11,22 @@ ghost use Rattle.ice_emit_defs.specs.Led.{AreLed};
 ghost use Rattle.ice_emit_defs.specs.Realised.{Realises};
 ghost use Rattle.ice_emit_defs.specs.Routed.{IsPlaced};
 ghost use Rattle.ice_emit_defs.specs.Set.{AreSet};
+ghost use Rattle.ice_emit_defs.specs.Written.{plan_extras};
 ghost use Rattle.ice_emit_meaning_laws.specs.Feeds.{AreFedByIo, FeedsNoGlobal};
 
 use ice_chip::Chip;
 use ice_chip_laws::chip_is_lawful;
-use ice_cluster::laws::runs_stand_in_chunks;
-use ice_cluster::laws::{cells_stand_in_one_slot, flops_are_driven_as_their_cluster};
+use ice_cluster::laws::{
+    cells_stand_in_one_slot, flops_are_driven_as_their_cluster, runs_stand_in_chunks,
+};
 
 /// The bits of a placed and routed design realise it, unless they have a loop: they have no fault, and for every list of levels of the
 /// pads of a package the ports' pads show step by step what the design shows, while every other pad is off. It is so where wanted rows
 /// drive their wires and no others, lead the roots of the design to the pins that read them, and nothing else to a pin; and where the
-/// bits of functions say what the slots, tiles and pads of the design are.
+/// bits of functions say what the slots, tiles and pads of the design are; the extra bits that are set are those of the globals that direct
+/// global buffers have.
 pub fn bits_realise_their_design(chip: &Chip)
-    ensures { (package_rows : PackageRows) (plan : Plan) (pullups : List Bool) (wanted : List Switch) (held : Held) (bits : Bits) → HasNoLoop chip.now bits → IsPlaced chip.now package_rows plan pullups → AreLed chip.now plan wanted held → AreSet chip.now plan wanted held bits → IsWired chip.now bits wanted → Realises chip.now plan wanted bits }
+    ensures { (package_rows : PackageRows) (plan : Plan) (pullups : List Bool) (wanted : List Switch) (held : Held) (bits : Bits) (extras : List (ℕ × ℕ × ℕ)) → extras ≡ plan_extras chip.now plan → HasNoLoop chip.now bits extras → IsPlaced chip.now package_rows plan pullups → AreLed chip.now plan wanted held → AreSet chip.now plan wanted held bits → IsWired chip.now bits wanted → Realises chip.now plan wanted bits extras }
 {
     chip.wires();
     chip_is_lawful(chip);
@@ -34,7 +37,7 @@ pub fn bits_realise_their_design(chip: &Chip)
 
 /// The bits of a placed and routed design have no loop where no global of the chip is fed by a global.
 pub fn bits_have_no_loop(chip: &Chip)
-    ensures { (package_rows : PackageRows) (plan : Plan) (pullups : List Bool) (wanted : List Switch) (held : Held) (bits : Bits) → FeedsNoGlobal chip.now → IsPlaced chip.now package_rows plan pullups → AreLed chip.now plan wanted held → AreSet chip.now plan wanted held bits → IsWired chip.now bits wanted → HasNoLoop chip.now bits }
+    ensures { (package_rows : PackageRows) (plan : Plan) (pullups : List Bool) (wanted : List Switch) (held : Held) (bits : Bits) (extras : List (ℕ × ℕ × ℕ)) → extras ≡ plan_extras chip.now plan → FeedsNoGlobal chip.now → IsPlaced chip.now package_rows plan pullups → AreLed chip.now plan wanted held → AreSet chip.now plan wanted held bits → IsWired chip.now bits wanted → HasNoLoop chip.now bits extras }
 {
     chip.wires();
     chip_is_lawful(chip);

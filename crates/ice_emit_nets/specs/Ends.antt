@@ -10,7 +10,7 @@ use Rattle.ice_cells.specs.declared.cell.LogicCell.{LogicCell}
 use Rattle.ice_cells.specs.declared.root.Root.{Root}
 use Rattle.ice_cells.specs.Same.{same_root}
 use Rattle.ice_place_defs.specs.Plan.{Plan}
-use Rattle.ice_place_defs.specs.Loads.{Pin, Input, pin_name, Load, pads_loads, globals_loads, cell_loads, control_loads, clusters_give}
+use Rattle.ice_place_defs.specs.Loads.{Pin, Input, pin_name, Load, pads_loads, fed_roots, globals_loads, cell_loads, control_loads, clusters_give}
 
 -- a sink of a root, with the wires of which the root has to reach one
 abbrev pub End : Type 0
@@ -57,5 +57,5 @@ control_ends parts t control = map (load_end parts) (control_loads t control)
 -- the pads, the global buffers, and then cluster by cluster the cells and what they share
 abbrev pub ends : Parts → Plan → List End
 ends parts plan =
-    map (load_end parts) (pads_loads plan.ports plan.design.pads) ++ map (load_end parts) (globals_loads parts plan.globals plan.design.globals)
+    map (load_end parts) (pads_loads plan.ports plan.design.pads) ++ map (load_end parts) (globals_loads parts plan.globals (fed_roots plan.direct plan.design.globals))
     ++ clusters_give (cell_ends parts) (control_ends parts) plan.design.cells plan.at plan.clusters

@@ -76,6 +76,7 @@ pub(crate) fn ends_of(alloc: Global, placed: &Placed<'_>) -> Result<Vec<(Root, S
         &mut all,
         placed.chip,
         placed.globals,
+        placed.direct,
         design.globals(),
     )?;
     push_clusters(

@@ -48,12 +48,13 @@ pub fn placed_of<'a>(
         tiles: placement.tiles(),
         ports: pads.ports(),
         globals: pads.globals(),
+        direct: pads.direct(),
     }
 }
 
 /// The nets of a placed design, numbered in order: for each pad, each cell and each global buffer that something reads and
 /// that has a wire, that wire and its sinks. The sinks of a root come in the order of the pads that it drives, the global
-/// buffers that it feeds, and cluster by cluster the cells' inputs and what the flip-flops share. A cell without a carry has
+/// buffers that it feeds in a tile, and cluster by cluster the cells' inputs and what the flip-flops share. A cell without a carry has
 /// one sink for each root that it reads, which may arrive at any of its inputs; every other sink has one target, or none where
 /// the tile lacks the wire. A root that is none of the design, or a carry, is left out.
 ///

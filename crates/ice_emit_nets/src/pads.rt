@@ -1,7 +1,7 @@
 //! The sinks of pads and global buffers.
 ghost use Rattle.std.specs.Prelude.{◌≡◌, ◌++◌, [], map, slice_get, OnOk};
 ghost use Rattle.std.specs.Option.{option_map_or};
-ghost use Rattle.ice_place_defs.specs.Loads.{pads_loads, globals_loads};
+ghost use Rattle.ice_place_defs.specs.Loads.{pads_loads, fed_roots, globals_loads};
 ghost use Rattle.ice_emit_nets.specs.Ends.{load_end};
 ghost use Rattle.ice_emit_nets.specs.Given.{pad_ends, global_ends};
 
@@ -9,6 +9,7 @@ use crate::pins::{TilePin, push_load};
 use ice_base::{NoMemory, Sink};
 use ice_cells::{DesignPad, Root};
 use ice_chip::{Chip, Pad};
+use ice_place_defs::fed_root;
 use std::alloc::Global;
 
 // Adds the sinks of what drives and enables a pad.
@@ -119,18 +120,20 @@ fn global_at(numbers: &[u8], k: usize) -> Option<u8>
     numbers.get(k).copied()
 }
 
-// Adds the sinks of what feeds these globals.
+// Adds the sinks of what feeds these globals, but for those of direct buffers.
 pub(crate) fn push_globals(
     alloc: Global,
     ends: &mut Vec<(Root, Sink)>,
     chip: &Chip,
     numbers: &[u8],
+    direct: &[bool],
     roots: &[Option<Root>],
 ) -> Result<(), NoMemory>
-    ensures { OnOk result (ends.new.items ≡ ends.old.items ++ map (load_end chip.now) (globals_loads chip.now numbers.now roots.now)) }
+    ensures { OnOk result (ends.new.items ≡ ends.old.items ++ map (load_end chip.now) (globals_loads chip.now numbers.now (fed_roots direct.now roots.now))) }
 {
     for (k, root) in roots.iter().enumerate() {
-        push_global_at(alloc, ends, chip, *root, global_at(numbers, k))?;
+        let read = fed_root(direct, k, *root);
+        push_global_at(alloc, ends, chip, read, global_at(numbers, k))?;
     }
     Ok(())
 }

@@ -1,5 +1,5 @@
 -- Trees of nets that are routed.
-use Rattle.std.proofs.Common.{◌≡◌, ℕ, zero, suc, ◌+◌, ◌≤◌, ◌<◌, true, cond, List, [], ◌∷◌, ◌++◌, length, map, get_or, slice_get, refl, sym, ap, ◌∙◌, subst, arith, add-one}
+use Rattle.std.proofs.Common.{◌≡◌, ℕ, zero, suc, ◌+◌, ◌≤◌, ◌<◌, true, cond, List, [], ◌∷◌, ◌++◌, Option, length, map, get_or, slice_get, refl, sym, ap, ◌∙◌, subst, arith, add-one}
 use Rattle.std.proofs.lemmas.List.{length-map}
 use Rattle.std.proofs.lemmas.List.Sums.{sum_by-cons}
 use Rattle.std.proofs.lemmas.Option.{same_Some, slice_get_within, slice_get-get_or}
@@ -18,8 +18,9 @@ use Rattle.ice_graph.specs.declared.tree.Tree.{Tree}
 use Rattle.ice_negotiate_defs.proofs.Leading.{rounds_lead}
 use Rattle.ice_negotiate_defs.proofs.Leaving.{stands_at}
 use Rattle.ice_graph.specs.Leading.{Leads}
-use Rattle.ice_negotiate_defs.specs.Logs.{AreRouted}
-use Rattle.ice_negotiate_defs.specs.Rounds.{Past, AreRounds}
+use Rattle.ice_negotiate_defs.specs.Leading.{OpeningLeads}
+use Rattle.ice_negotiate_defs.specs.Logs.{AreRoutedFrom}
+use Rattle.ice_negotiate_defs.specs.Rounds.{Past, AreRoundsFrom}
 use Rattle.ice_graph.specs.Leading.{Route, route_of}
 use Rattle.ice_negotiate_defs.specs.declared.fault.Routed.{Routed}
 use Rattle.ice_emit_nets.specs.Ends.{wire_no}
@@ -51,20 +52,20 @@ held : (tree : Tree) (w : WireNo) → Has tree.wires.items w → holds w.0 tree 
 held tree w has = stands_at tree.wires.items has.0 w has.1
 
 -- ---- each round leaves a tree for each net
-round_long : (graph : Network) (nets : List Net) (rounds : List Past) → AreRounds graph nets rounds → (k : ℕ) (one : Past) → slice_get rounds k ≡ Some one → length one.trees ≡ length nets
-round_long graph nets rounds h zero one at = (h.first one at).done.news
-round_long graph nets rounds h (suc k) one at =
+round_long : (graph : Network) (nets : List Net) (opening : Option (List (Option Tree))) (rounds : List Past) → AreRoundsFrom graph nets opening rounds → (k : ℕ) (one : Past) → slice_get rounds k ≡ Some one → length one.trees ≡ length nets
+round_long graph nets opening rounds h zero one at = (h.first one at).done.news
+round_long graph nets opening rounds h (suc k) one at =
     let lt : k < length rounds = (let l = slice_get_within rounds (suc k) one at in omega (arith, l)) in
     let next : slice_get rounds (k + 1) ≡ Some one = ap (λ j. slice_get rounds j) (add-one k) ∙ at in
     (h.follow k (get_or rounds k one) one (slice_get-get_or rounds k one lt) next).done.news
 
-module _ (parts : Parts) (plan : Plan) (graph : Network) (nets : List Net) (permitted : ℕ) (routed : Routed)
-    (fabric : IsFabric parts graph) (bare : AreNetsOf parts plan nets) (h : AreRouted graph nets permitted routed) where
+module _ (parts : Parts) (plan : Plan) (graph : Network) (nets : List Net) (opening : Option (List (Option Tree))) (permitted : ℕ) (routed : Routed)
+    (fabric : IsFabric parts graph) (bare : AreNetsOf parts plan nets) (leads : OpeningLeads graph nets opening) (h : AreRoutedFrom graph nets opening permitted routed) where
   last_at : slice_get (h.earlier ++ h.last ∷ []) (length h.earlier) ≡ Some h.last
   last_at = At_push_new h.earlier h.last
 
   long : length h.last.trees ≡ length nets
-  long = round_long graph nets (h.earlier ++ h.last ∷ []) h.rounds (length h.earlier) h.last last_at
+  long = round_long graph nets opening (h.earlier ++ h.last ∷ []) h.rounds (length h.earlier) h.last last_at
 
   -- a route of the answer is that of a tree of the last round
   tree_of : (n : ℕ) (route : Route) → At (map route_of routed.trees.items) n route → (tree : Tree) × At h.last.trees n tree × (route_of tree ≡ route)
@@ -90,7 +91,7 @@ module _ (parts : Parts) (plan : Plan) (graph : Network) (nets : List Net) (perm
   led n net route at there =
       let one = net_of n net at in
       let tree = tree_of n route there in
-      let lead : Leads graph.edges one.0.root one.0.sinks.items (route_of tree.0) = rounds_lead graph nets (h.earlier ++ h.last ∷ []) h.rounds (length h.earlier) n h.last one.0 tree.0 last_at one.1 tree.1 in
+      let lead : Leads graph.edges one.0.root one.0.sinks.items (route_of tree.0) = rounds_lead graph nets opening (h.earlier ++ h.last ∷ []) leads h.rounds (length h.earlier) n h.last one.0 tree.0 last_at one.1 tree.1 in
       let over : Leads (usable_rows parts) one.0.root one.0.sinks.items (route_of tree.0) = subst (λ (edges : List Edge). Leads edges one.0.root one.0.sinks.items (route_of tree.0)) fabric.edges lead in
       let of_net : Leads (usable_rows parts) (wire_no net.0) net.1 (route_of tree.0) = subst (λ (b : Bare). Leads (usable_rows parts) (wire_no b.0) b.1 (route_of tree.0)) one.2 over in
       subst (λ (r : Route). Leads (usable_rows parts) (wire_no net.0) net.1 r) tree.2 of_net

@@ -19,7 +19,8 @@ use Rattle.ice_cells.specs.declared.design.DesignPad.{DesignPad}
 use Rattle.ice_cells.specs.declared.root.Root.{Root}
 use Rattle.ice_sites.specs.Site.{has_wire, has_cell}
 use Rattle.ice_place_defs.specs.Plan.{Plan}
-use Rattle.ice_place_defs.specs.Loads.{Pin, Input, Clock, Enable, SetReset, Feed, Drive, DriveEnable, pin_name, Load, load_at, pads_loads, globals_loads, cell_loads, control_loads, clusters_give}
+use Rattle.ice_place_defs.proofs.Feeding.{fed_back}
+use Rattle.ice_place_defs.specs.Loads.{Pin, Input, Clock, Enable, SetReset, Feed, Drive, DriveEnable, pin_name, Load, load_at, pads_loads, fed_roots, globals_loads, cell_loads, control_loads, clusters_give}
 use Rattle.ice_emit_nets.specs.Ends.{End, wire_no, pin_wire, pin_wires, load_end, is_free, free_ends, inputs_of, cell_ends, control_ends, ends}
 use Rattle.ice_emit_rows_laws.proofs.Mapped.{mapped_by_Has}
 use Rattle.ice_emit_defs.specs.Slots.{IsOn, StandsIn}
@@ -82,10 +83,10 @@ module _ (parts : Parts) (rows : PackageRows) (plan : Plan) (pullups : List Bool
         | inr enable ↦ at_pin got.1.tile (DriveEnable got.1.pio) got.2.enable (λ root e. (io_wire parts got.1.tile (output_enable_name got.1.pio) (wires.enable (enable_type got.2 root form e))).1) load enable
       ]
 
-  globals_there : (load : Load) → Has (globals_loads parts plan.globals plan.design.globals) load → IsThere load
+  globals_there : (load : Load) → Has (globals_loads parts plan.globals (fed_roots plan.direct plan.design.globals)) load → IsThere load
   globals_there load has =
-      let got = global_given parts plan.globals plan.design.globals load has in
-      let fed = on.placed.pads.fed got.0 got.1 got.4 in
+      let got = global_given parts plan.globals (fed_roots plan.direct plan.design.globals) load has in
+      let fed = on.placed.pads.fed got.0 got.1 got.4 (fed_back plan.direct plan.design.globals got.0 got.2 got.5).0 in
       let same : fed.tile ≡ got.3 = same_Some fed.tile got.3 (sym fed.feeds ∙ got.6) in
       subst IsThere (sym got.7) (subst (λ (t : TileAt). HasPin t Feed) same (io_wire parts fed.tile fabout_name fed.fabout).1)
 
@@ -144,11 +145,11 @@ module _ (parts : Parts) (rows : PackageRows) (plan : Plan) (pullups : List Bool
 
   pub each_target : (e : End) → Has (ends parts plan) e → HasTarget e
   each_target e has =
-      elim (Has_append_cases (map (load_end parts) (pads_loads plan.ports plan.design.pads) ++ map (load_end parts) (globals_loads parts plan.globals plan.design.globals))
+      elim (Has_append_cases (map (load_end parts) (pads_loads plan.ports plan.design.pads) ++ map (load_end parts) (globals_loads parts plan.globals (fed_roots plan.direct plan.design.globals)))
       (clusters_give (cell_ends parts) (control_ends parts) plan.design.cells plan.at plan.clusters) e has) [
-        | inl outer ↦ elim (Has_append_cases (map (load_end parts) (pads_loads plan.ports plan.design.pads)) (map (load_end parts) (globals_loads parts plan.globals plan.design.globals)) e outer) [
+        | inl outer ↦ elim (Has_append_cases (map (load_end parts) (pads_loads plan.ports plan.design.pads)) (map (load_end parts) (globals_loads parts plan.globals (fed_roots plan.direct plan.design.globals))) e outer) [
           | inl pads ↦ loads_reach (pads_loads plan.ports plan.design.pads) pads_there e pads
-          | inr globals ↦ loads_reach (globals_loads parts plan.globals plan.design.globals) globals_there e globals
+          | inr globals ↦ loads_reach (globals_loads parts plan.globals (fed_roots plan.direct plan.design.globals)) globals_there e globals
         ]
         | inr inner ↦ (
             let got = cluster_given (cell_ends parts) (control_ends parts) plan.design.cells plan.at plan.clusters e inner in

@@ -4,9 +4,9 @@ ghost use Rattle.ice_emit_nets_laws.specs.Routable.{PlacedNetsAreRoutable};
 
 use ice_chip::wire_names_are_read;
 use ice_chip_laws::lookups_are_lawful;
-use ice_cluster::laws::{runs_stand_in_chunks, cells_stand_in_one_slot};
+use ice_cluster::laws::{cells_stand_in_one_slot, runs_stand_in_chunks};
 
-/// Where the nets of a placed design are routed on the graph of a chip's usable rows, each has a tree: it leads from the net's
+/// Where the nets of a placed design are routed on the graph of a chip's usable rows, also from an opening of trees that lead, each has a tree: it leads from the net's
 /// root to one target of each of its sinks, over usable rows and on wires of the chip. No wire is in two trees.
 pub fn routed_nets_are_trees()
     ensures { RoutedNetsAreTrees }

@@ -1,10 +1,10 @@
 -- The bits of a placed design set each slot and each tile of cells as its cells and clusters say.
-use Rattle.std.proofs.Common.{◌≡◌, ℕ, zero, ◌+◌, ◌<◌, ◌≤◌, ◌==◌, ◌^◌, Bool, true, false, Option, None, Some, List, ◌++◌, length, refl, ap, sym, ◌∙◌, subst, arith}
-use Rattle.std.specs.Prelude.{◌&&◌, slice_get, slice_index_or, nat_lt}
+use Rattle.std.proofs.Common.{◌≡◌, ℕ, zero, ◌+◌, ◌<◌, ◌≤◌, ◌==◌, ◌^◌, true, false, Option, Some, List, ◌++◌, length, refl, ap, sym, ◌∙◌, subst, arith}
+use Rattle.std.specs.Prelude.{slice_get, slice_index_or, nat_lt}
 use Rattle.std.specs.List.{range_with_len}
 use Rattle.std.specs.Option.{option_map_or, option_and_then}
 use Rattle.std.proofs.lemmas.Bool.{eqb-true, ltb-true}
-use Rattle.std.proofs.lemmas.Option.{same_Some, get_or_from_slice_get}
+use Rattle.std.proofs.lemmas.Option.{same_Some}
 use Rattle.ice_base.specs.declared.number.TileAt.{TileAt}
 use Rattle.ice_base.specs.declared.number.BitAt.{BitAt}
 use Rattle.ice_base_values.specs.Order.{At, Has}
@@ -17,7 +17,7 @@ use Rattle.ice_chip.specs.FunctionNames.{cell_function, falling_clock_function, 
 use Rattle.ice_chip.specs.Lookups.{kind_at, function_of}
 use Rattle.ice_chip.specs.declared.function_names.TileFunction.TheVariants.{Cell, FallingClock, CarrySet}
 use Rattle.ice_chip.specs.declared.rows.TileKind.{TileKind}
-use Rattle.ice_chip.specs.declared.rows.TileKind.TheVariants.{Io, Logic, RamBottom, RamTop}
+use Rattle.ice_chip.specs.declared.rows.TileKind.TheVariants.{Logic}
 use Rattle.ice_chip_laws.specs.Functions.{HasFunction}
 use Rattle.ice_bits.specs.Configuration.{Bits}
 use Rattle.ice_bits.specs.Settings.{function_bit, set_at}
@@ -26,8 +26,6 @@ use Rattle.ice_cells.specs.declared.cell.Control.{Control}
 use Rattle.ice_cells.specs.declared.cell.LogicCell.{LogicCell}
 use Rattle.ice_cells.specs.declared.cluster.Cluster.{Cluster}
 use Rattle.ice_cells.specs.declared.design.Run.{Run}
-use Rattle.ice_sites.specs.Legal.{tile_at}
-use Rattle.ice_sites.specs.Site.{is_logic, is_site, all_below, has_cell, has_controls, has_entry, has_chain}
 use Rattle.ice_emit_rows_laws.specs.Settings.{Setting, function_bits}
 use Rattle.ice_emit_rows_laws.specs.Wanted.{AreWanted, set_bits}
 use Rattle.ice_place_defs.specs.Loads.{slots_give}
@@ -40,20 +38,9 @@ use Rattle.ice_emit_set_laws.proofs.CellNumbers.{Has_if, lists, named, in_cell, 
 use Rattle.ice_emit_set_laws.proofs.FunctionKinds.{own_name, cell_named}
 use Rattle.ice_emit_set_laws.proofs.Inside.{slots_on, clusters_on}
 use Rattle.ice_emit_set_laws.proofs.Lists.{Has_range}
+use Rattle.ice_emit_set_laws.proofs.LogicTiles.{at_tile, on_logic}
 use Rattle.ice_emit_set_laws.proofs.SetAt.{set_false, set_as}
 use Rattle.ice_emit_set_laws.proofs.Told.{Case, slot_within, all, told_at, all_own, in_clusters}
-
--- ---- a site is a logic tile
-first_part : (a b c d e : Bool) → (a && b && c && d && e) ≡ true → a ≡ true
-first_part true b c d e is = refl
-first_part false b c d e is = is
-
-logic_is : (o : Option TileKind) → is_logic o ≡ true → o ≡ Some Logic
-logic_is None e = cc e
-logic_is (Some Io) e = cc e
-logic_is (Some Logic) e = refl
-logic_is (Some RamBottom) e = cc e
-logic_is (Some RamTop) e = cc e
 
 -- ---- each entry of a table has its bit
 places_below : (j : ℕ) → j < 16 → slice_index_or table_places j 0 < 20
@@ -64,20 +51,13 @@ module _ (z : Case) (are : AreWanted z.parts z.wanted) where
   bits = set_bits z.parts z.wanted (function_bits z.parts (all z))
 
   -- ---- what stands where
-  at_tile : (t : TileAt) (cluster : Cluster) (on : IsOn z.plan t cluster) → tile_at z.plan.at on.number ≡ t
-  at_tile t cluster on = get_or_from_slice_get z.plan.at on.number t (record { x = 0; y = 0 }) on.tile_is
-
-  on_logic : (t : TileAt) (cluster : Cluster) → IsOn z.plan t cluster → kind_at z.parts t ≡ Some Logic
-  on_logic t cluster on =
-      let site : is_site z.parts t ≡ true
-      = subst (λ (u : TileAt). is_site z.parts u ≡ true) (at_tile t cluster on) (z.placed.legal.sites on.number (At_within z.plan.at on.number t on.tile_is)) in
-      logic_is (kind_at z.parts t)
-      (first_part (is_logic (kind_at z.parts t)) (all_below (has_cell z.parts t) 8) (has_controls z.parts t) (has_entry z.parts t) (all_below (has_chain z.parts t) 7) site)
+  on_tile : (t : TileAt) (cluster : Cluster) → IsOn z.plan t cluster → kind_at z.parts t ≡ Some Logic
+  on_tile t cluster on = on_logic z.parts z.rows z.plan z.pullups z.placed t cluster on
 
   same_cluster : (t : TileAt) (a b : Cluster) → IsOn z.plan t a → IsOn z.plan t b → a ≡ b
   same_cluster t a b one other =
       let same : one.number ≡ other.number
-      = z.placed.legal.apart one.number other.number (At_within z.plan.at one.number t one.tile_is) (At_within z.plan.at other.number t other.tile_is) (at_tile t a one ∙ sym (at_tile t b other)) in
+      = z.placed.legal.apart one.number other.number (At_within z.plan.at one.number t one.tile_is) (At_within z.plan.at other.number t other.tile_is) (at_tile z.plan t a one ∙ sym (at_tile z.plan t b other)) in
       At_same z.plan.clusters other.number a b (subst (λ n. At z.plan.clusters n a) same one.cluster_is) other.cluster_is
 
   same_cell : (t : TileAt) (i b c : ℕ) (x y : LogicCell) → StandsIn z.plan t i b x → StandsIn z.plan t i c y → x ≡ y
@@ -116,9 +96,9 @@ module _ (z : Case) (are : AreWanted z.parts z.wanted) where
   cell_bit_is : (t : TileAt) (i c : ℕ) (cell : LogicCell) → StandsIn z.plan t i c cell → (k : ℕ) → k < 20 → cell_bit z.parts bits t i k ≡ lists k (of_cell t i cell)
   cell_bit_is t i c cell stands k lt =
       let within : i < 8 = slot_within z t stands.cluster i c stands.on stands.slot in
-      let known = on_logic t stands.cluster stands.on in
+      let known = on_tile t stands.cluster stands.on in
       let place = logic_bit t (cell_function i) 20 k known ((z.known.lawful.functions.logic t known).cells (cell_function i) (cell_named i within)) lt in
-      set_as z.parts z.known.chip z.known.lawful (all z) (all_own z) z.wanted are (lists k (of_cell t i cell)) t (cell_function i) k place.0 (own_name (Cell i)) place.1 (cell_there t i c cell stands k)
+      set_as z.parts z.known.chip z.known.lawful (all z) (all_own z) z.wanted are (lists k (of_cell t i cell)) t (cell_function i) k place.0 (own_name z.parts t (Cell i) (λ e. cc e)) place.1 (cell_there t i c cell stands k)
       (λ has.
       let other = told_at z t k (Cell i) within has in
       subst (λ (x : LogicCell). lists k (of_cell t i x) ≡ true) (same_cell t i other.0 c other.1 cell other.2 stands) other.3)
@@ -148,7 +128,7 @@ module _ (z : Case) (are : AreWanted z.parts z.wanted) where
     where
       unset : (k : ℕ) → cell_bit z.parts bits t i k ≡ false
       unset k =
-          set_false z.parts z.known.chip z.known.lawful (all z) (all_own z) z.wanted are t (cell_function i) k (own_name (Cell i))
+          set_false z.parts z.known.chip z.known.lawful (all z) (all_own z) z.wanted are t (cell_function i) k (own_name z.parts t (Cell i) (λ e. cc e))
           (λ has. let other = told_at z t k (Cell i) lt has in free other.0 other.1 other.2)
 
   -- ---- tiles
@@ -156,7 +136,7 @@ module _ (z : Case) (are : AreWanted z.parts z.wanted) where
   tile_set t cluster on = record { edge = edge; entry = entry }
     where
       known : kind_at z.parts t ≡ Some Logic
-      known = on_logic t cluster on
+      known = on_tile t cluster on
 
       slots : List Setting
       slots = slots_give of_cell z.plan.design.cells t 0 cluster.cells
@@ -171,7 +151,7 @@ module _ (z : Case) (are : AreWanted z.parts z.wanted) where
       edge : (control : Control) → cluster.control ≡ Some control → set_at z.parts bits t falling_clock_function 0 ≡ control.falling
       edge control is =
           let place = logic_bit t falling_clock_function 1 0 known (z.known.lawful.functions.logic t known).clock_edge (omega arith) in
-          set_as z.parts z.known.chip z.known.lawful (all z) (all_own z) z.wanted are control.falling t falling_clock_function 0 place.0 (own_name FallingClock) place.1
+          set_as z.parts z.known.chip z.known.lawful (all z) (all_own z) z.wanted are control.falling t falling_clock_function 0 place.0 (own_name z.parts t FallingClock (λ e. known)) place.1
           (λ falls.
           in_edge (setting t falling_clock_function 0)
           (subst (λ o. Has (edge_settings t o) (setting t falling_clock_function 0)) (sym is) (Has_if control.falling t falling_clock_function 0 falls)))
@@ -185,7 +165,7 @@ module _ (z : Case) (are : AreWanted z.parts z.wanted) where
       entry r run is at =
           let place = logic_bit t carry_set_function 1 0 known (z.known.lawful.functions.logic t known).first_carry (omega arith) in
           let set : is_set z.plan.design.runs r ≡ run.set = ap (λ (o : Option Run). option_map_or (λ (x : Run). x.set) o false) at in
-          set_as z.parts z.known.chip z.known.lawful (all z) (all_own z) z.wanted are run.set t carry_set_function 0 place.0 (own_name CarrySet) place.1
+          set_as z.parts z.known.chip z.known.lawful (all z) (all_own z) z.wanted are run.set t carry_set_function 0 place.0 (own_name z.parts t CarrySet (λ e. cc e)) place.1
           (λ sets.
           in_carry (setting t carry_set_function 0)
           (subst (λ o. Has (carry_settings z.plan.design.runs t o) (setting t carry_set_function 0)) (sym is) (Has_if (is_set z.plan.design.runs r) t carry_set_function 0 (set ∙ sets))))

@@ -1,5 +1,6 @@
 mod Lists
 mod FunctionKinds
+mod LogicTiles
 mod SetAt
 mod CellNumbers
 mod Inside

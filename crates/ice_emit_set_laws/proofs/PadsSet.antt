@@ -150,7 +150,7 @@ module _ (z : Case) (are : AreWanted z.parts z.wanted) where
       → pin_type_digit z.parts bits pad k ≡ table_bit port.pin_type k
   type_digit j pad port at port_at io k lt =
       let place = type_place pad io k lt in
-      set_as z.parts z.known.chip z.known.lawful (all z) (all_own z) z.wanted are (table_bit port.pin_type k) pad.tile (pin_type_function pad.pio k) 0 place.0 (own_name (PinType pad.pio k)) place.1
+      set_as z.parts z.known.chip z.known.lawful (all z) (all_own z) z.wanted are (table_bit port.pin_type k) pad.tile (pin_type_function pad.pio k) 0 place.0 (own_name z.parts pad.tile (PinType pad.pio k) (λ e. cc e)) place.1
       (type_there j pad port at port_at k lt)
       (λ has.
       let other = told_at z pad.tile 0 (PinType pad.pio k) (pio_below pad io, lt) has in
@@ -165,7 +165,7 @@ module _ (z : Case) (are : AreWanted z.parts z.wanted) where
   pub type_none : (pad : Pad) → Has (pads z.parts) pad → (Has z.plan.ports pad → ⊥) → pin_type z.parts bits pad ≡ 0
   type_none pad has none =
       six_same (pin_type_digit z.parts bits pad) (λ k. false) (λ k lt.
-      set_false z.parts z.known.chip z.known.lawful (all z) (all_own z) z.wanted are pad.tile (pin_type_function pad.pio k) 0 (own_name (PinType pad.pio k))
+      set_false z.parts z.known.chip z.known.lawful (all z) (all_own z) z.wanted are pad.tile (pin_type_function pad.pio k) 0 (own_name z.parts pad.tile (PinType pad.pio k) (λ e. cc e))
       (λ listed. let other = told_at z pad.tile 0 (PinType pad.pio k) (pio_below pad (io_pad pad has), lt) listed in none (other.0, other.2)))
 
   -- ---- input enables
@@ -174,7 +174,7 @@ module _ (z : Case) (are : AreWanted z.parts z.wanted) where
 
   not_disabled : (row : Pad × Pad) → Has (enables_of z.parts) row → is_read_pad (read z) row.0 ≡ true → set_at z.parts bits row.1.tile (input_enable_function row.1.pio) 0 ≡ false
   not_disabled row has reads =
-      set_false z.parts z.known.chip z.known.lawful (all z) (all_own z) z.wanted are row.1.tile (input_enable_function row.1.pio) 0 (own_name (InputEnable row.1.pio))
+      set_false z.parts z.known.chip z.known.lawful (all z) (all_own z) z.wanted are row.1.tile (input_enable_function row.1.pio) 0 (own_name z.parts row.1.tile (InputEnable row.1.pio) (λ e. cc e))
       (λ listed.
       let unneeded = told_at z row.1.tile 0 (InputEnable row.1.pio) (enable_below z row has) listed in
       let needed : is_needed (enables_of z.parts) (read z) row.1 ≡ true

@@ -23,7 +23,7 @@ use Rattle.ice_chip.specs.declared.rows.TileKind.{TileKind}
 use Rattle.ice_bits.specs.Configuration.{Bits}
 use Rattle.ice_bits.specs.Settings.{set_at}
 use Rattle.ice_decode.specs.declared.driver.Switch.{Switch}
-use Rattle.ice_decode.specs.Faults.{or_else, is_set_in, first_foreign, foreign_function}
+use Rattle.ice_decode.specs.Faults.{or_else, counts_in, is_set_in, first_foreign, foreign_function}
 use Rattle.ice_decode.specs.Meaning.{global_at, lets_through, passes_global, passes}
 use Rattle.ice_bits_rows.specs.Bundles.{bundle, has_bit, is_of_other, is_of_function, is_shared, shares_bit, is_private}
 use Rattle.ice_bits_rows.specs.Sound.{is_alone}
@@ -32,7 +32,7 @@ use Rattle.ice_emit_rows_laws.proofs.SoundRows.{in_bundle}
 use Rattle.ice_emit_rows_laws.specs.Settings.{sets_one, function_bits}
 use Rattle.ice_emit_rows_laws.specs.Wanted.{AreWanted, sets_switch, set_bits}
 use Rattle.ice_emit_defs.specs.Functions.{setting, buffer_at, global_settings, buffer_settings}
-use Rattle.ice_emit_set_laws.proofs.FunctionKinds.{own_name, buffer_named}
+use Rattle.ice_emit_set_laws.proofs.FunctionKinds.{IsOwn, own_name, buffer_named}
 use Rattle.ice_emit_set_laws.proofs.Lists.{Has_flat, find_nothing}
 use Rattle.ice_emit_set_laws.proofs.SetAt.{kind_is, row_bit, bit_of, setter, set_true}
 use Rattle.ice_emit_set_laws.proofs.Told.{Case, all, all_own, in_buffers, global_below}
@@ -55,7 +55,7 @@ module _ (z : Case) (are : AreWanted z.parts z.wanted) where
       let x = setting served (column_buffer_function n) 0 in
       let inside : Has (buffer_settings z.parts s) x
       = subst (λ o. Has (global_settings z.parts s.tile o) x) (sym global) (subst (λ o. Has (option_map_or (buffer_at s.tile n) o []) x) (sym buffer) (Has_head x [])) in
-      set_true z.parts z.known.chip z.known.lawful (all z) (all_own z) z.wanted are served (column_buffer_function n) 0 there.0 (own_name (ColumnBuffer n))
+      set_true z.parts z.known.chip z.known.lawful (all z) (all_own z) z.wanted are served (column_buffer_function n) 0 there.0 (own_name z.parts served (ColumnBuffer n) (λ e. cc e))
       (ap (option_and_then (λ (kind : TileKind). option_and_then (λ f. slice_get f.bits 0) (function_of z.parts kind (column_buffer_function n)))) holds.1 ∙ there.1)
       (in_buffers z x (Has_flat (buffer_settings z.parts) z.wanted s x has inside))
 
@@ -98,14 +98,15 @@ module _ (z : Case) (are : AreWanted z.parts z.wanted) where
       let one = any_Has (sets_one z.parts t b) (all z) set in
       let x = one.0 in
       let places = setter z.parts z.known.chip z.known.lawful t b x one.2 in
-      let is = bit_of z.parts z.known.chip z.known.lawful t x.name x.number b (all_own z x one.1) places.1 in
+      let is = bit_of z.parts z.known.chip z.known.lawful t x.name x.number b (subst (λ (u : TileAt). IsOwn z.parts u x.name) places.0 (all_own z x one.1)) places.1 in
       let kinds : Some is.kind ≡ Some kind = sym is.known ∙ known in
       let mine : f.kind ≡ is.kind = kind_is f.kind kind same ∙ sym (same_Some is.kind kind kinds) in
       z.known.lawful.bits.not_foreign is.kind x.name x.number b f is.there has mine (subst (λ (k : TileKind). is_foreign k f.name ≡ true) mine foreign) at
 
-  unset : (tile : TileAt × TileLine) → Has z.parts.tiles tile → (f : FunctionRow) → Has z.parts.functions f → is_set_in bits tile f ≡ false
-  unset tile there f has = false_from_ne_true (is_set_in bits tile f) (λ set.
-      let two = and_parts (same_kind f.kind tile.1.kind && is_foreign f.kind f.name) (list_any (bits tile.0) f.bits) set in
+  unset : (tile : TileAt × TileLine) → Has z.parts.tiles tile → (f : FunctionRow) → Has z.parts.functions f → is_set_in z.parts bits tile f ≡ false
+  unset tile there f has = false_from_ne_true (is_set_in z.parts bits tile f) (λ set.
+      let three = and_parts (same_kind f.kind tile.1.kind && is_foreign f.kind f.name && list_any (bits tile.0) f.bits) (counts_in z.parts bits tile.0 f.name) set in
+      let two = and_parts (same_kind f.kind tile.1.kind && is_foreign f.kind f.name) (list_any (bits tile.0) f.bits) three.0 in
       let kinds = and_parts (same_kind f.kind tile.1.kind) (is_foreign f.kind f.name) two.0 in
       let one = any_Has (bits tile.0) f.bits two.1 in
       let b = one.0 in
@@ -115,11 +116,11 @@ module _ (z : Case) (are : AreWanted z.parts z.wanted) where
         | inr listed ↦ function_own tile.0 tile.1.kind b f known has kinds.0 kinds.1 one.1 listed
       ])
 
-  none_foreign : (tiles : List (TileAt × TileLine)) → ((tile : TileAt × TileLine) → Has tiles tile → Has z.parts.tiles tile) → first_foreign z.parts.functions bits tiles ≡ None
+  none_foreign : (tiles : List (TileAt × TileLine)) → ((tile : TileAt × TileLine) → Has tiles tile → Has z.parts.tiles tile) → first_foreign z.parts bits tiles ≡ None
   none_foreign [] there = refl
   none_foreign (tile ∷ tiles) there =
-      ap (λ o. or_else (option_map (λ (f : FunctionRow). (tile.0, f.line)) o) (first_foreign z.parts.functions bits tiles))
-      (find_nothing (is_set_in bits tile) z.parts.functions (unset tile (there tile (Has_head tile tiles))))
+      ap (λ o. or_else (option_map (λ (f : FunctionRow). (tile.0, f.line)) o) (first_foreign z.parts bits tiles))
+      (find_nothing (is_set_in z.parts bits tile) z.parts.functions (unset tile (there tile (Has_head tile tiles))))
       ∙ none_foreign tiles (λ other has. there other (Has_tail tile other tiles has))
 
   pub own : foreign_function z.parts bits ≡ None

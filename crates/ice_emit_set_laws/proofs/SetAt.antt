@@ -58,7 +58,7 @@ pub record IsBitOf (parts : Parts) (t : TileAt) (name : List ℕ) (k : ℕ) (b :
 
 module _ (parts : Parts) (chip : IsChip parts) (lawful : IsLawful parts) where
   -- a function that has a bit is read, if it is not foreign
-  is_known : (kind : TileKind) (name : List ℕ) (f : FunctionRow) → IsOwn name → function_of parts kind name ≡ Some f → is_read kind name ≡ true
+  is_known : (kind : TileKind) (name : List ℕ) (f : FunctionRow) → is_foreign kind name ≡ false → function_of parts kind name ≡ Some f → is_read kind name ≡ true
   is_known kind name f own is =
       let found = find_Has (is_function kind name) parts.functions f is in
       let both = and_parts (same_kind f.kind kind) (bytes_eq f.name name) found.1 in
@@ -66,15 +66,15 @@ module _ (parts : Parts) (chip : IsChip parts) (lawful : IsLawful parts) where
       let known : (is_read kind f.name || is_foreign kind f.name) ≡ true
       = subst (λ (x : TileKind). (is_read x f.name || is_foreign x f.name) ≡ true) (kind_is f.kind kind both.0) kept.known in
       let same : (is_read kind name || is_foreign kind name) ≡ true = subst (λ (x : List ℕ). (is_read kind x || is_foreign kind x) ≡ true) (bytes_same f.name name both.1) known in
-      elim (or_cases (is_read kind name) (is_foreign kind name) same) [ inl read ↦ read | inr foreign ↦ (let no = own kind in cc (foreign, no)) ]
+      elim (or_cases (is_read kind name) (is_foreign kind name) same) [ inl read ↦ read | inr foreign ↦ cc (foreign, own) ]
 
-  pub bit_of : (t : TileAt) (name : List ℕ) (k : ℕ) (b : BitAt) → IsOwn name → function_bit parts t name k ≡ Some b → IsBitOf parts t name k b
+  pub bit_of : (t : TileAt) (name : List ℕ) (k : ℕ) (b : BitAt) → IsOwn parts t name → function_bit parts t name k ≡ Some b → IsBitOf parts t name k b
   bit_of t name k b own e = by (kind_at parts t) refl e
     where
       in_kind : (kind : TileKind) → kind_at parts t ≡ Some kind → (o : Option FunctionRow) → function_of parts kind name ≡ o → option_and_then (λ f. slice_get f.bits k) o ≡ Some b → IsBitOf parts t name k b
       in_kind kind known None is at = cc at
       in_kind kind known (Some f) is at =
-          record { kind = kind; known = known; there = (is_known kind name f own is, ap (λ o. option_and_then (λ (x : FunctionRow). slice_get x.bits k) o) is ∙ at) }
+          record { kind = kind; known = known; there = (is_known kind name f (own kind known) is, ap (λ o. option_and_then (λ (x : FunctionRow). slice_get x.bits k) o) is ∙ at) }
 
       by : (o : Option TileKind) → kind_at parts t ≡ o → option_and_then (λ kind. option_and_then (λ f. slice_get f.bits k) (function_of parts kind name)) o ≡ Some b → IsBitOf parts t name k b
       by None known at = cc at
@@ -119,7 +119,7 @@ module _ (parts : Parts) (chip : IsChip parts) (lawful : IsLawful parts) where
         let got = row_bit t b s has set in
         lawful.bits.not_grouped is.kind name k b got.group is.there got.is.in_groups (ap (kind_at parts) got.tile ∙ is.known) got.bit)
 
-  module _ (settings : List Setting) (own : (x : Setting) → Has settings x → IsOwn x.name) where
+  module _ (settings : List Setting) (own : (x : Setting) → Has settings x → IsOwn parts x.tile x.name) where
     abbrev seen : List Setting
     seen = filter has_bit settings
 
@@ -152,7 +152,7 @@ module _ (parts : Parts) (chip : IsChip parts) (lawful : IsLawful parts) where
       at_place : (t : TileAt) (name : List ℕ) (k : ℕ) (b : BitAt) → function_bit parts t name k ≡ Some b → set_at parts bits t name k ≡ bits t b
       at_place t name k b e = ap (λ o. option_map_or (bits t) o false) e
 
-      pub set_true : (t : TileAt) (name : List ℕ) (k : ℕ) (b : BitAt) → IsOwn name → function_bit parts t name k ≡ Some b → Has settings (setting t name k) → set_at parts bits t name k ≡ true
+      pub set_true : (t : TileAt) (name : List ℕ) (k : ℕ) (b : BitAt) → IsOwn parts t name → function_bit parts t name k ≡ Some b → Has settings (setting t name k) → set_at parts bits t name k ≡ true
       set_true t name k b own_one e has =
           let is = bit_of t name k b own_one e in
           let kept = Has_filter has_bit settings (setting t name k) has (ap is_some e) in
@@ -160,7 +160,7 @@ module _ (parts : Parts) (chip : IsChip parts) (lawful : IsLawful parts) where
           ∙ or_right (list_any (λ s. sets_switch parts s t b) wanted) (function_bits parts settings t b)
           (sym (same_bits t b) ∙ (bit_set parts lawful.bits seen seen_read t name k b is.kind is.known is.there.0 e).0 kept)
 
-      pub set_false : (t : TileAt) (name : List ℕ) (k : ℕ) → IsOwn name → (Has settings (setting t name k) → ⊥) → set_at parts bits t name k ≡ false
+      pub set_false : (t : TileAt) (name : List ℕ) (k : ℕ) → IsOwn parts t name → (Has settings (setting t name k) → ⊥) → set_at parts bits t name k ≡ false
       set_false t name k own_one never = by (function_bit parts t name k) refl
         where
           by : (o : Option BitAt) → function_bit parts t name k ≡ o → set_at parts bits t name k ≡ false
@@ -172,7 +172,7 @@ module _ (parts : Parts) (chip : IsChip parts) (lawful : IsLawful parts) where
               (λ has. never (filter_Has has_bit settings (setting t name k) has).0)) i)
 
       -- a bit that is listed exactly where a test passes
-      pub set_as : (c : Bool) (t : TileAt) (name : List ℕ) (k : ℕ) (b : BitAt) → IsOwn name → function_bit parts t name k ≡ Some b
+      pub set_as : (c : Bool) (t : TileAt) (name : List ℕ) (k : ℕ) (b : BitAt) → IsOwn parts t name → function_bit parts t name k ≡ Some b
           → (c ≡ true → Has settings (setting t name k)) → (Has settings (setting t name k) → c ≡ true) → set_at parts bits t name k ≡ c
       set_as true t name k b own_one e on off = set_true t name k b own_one e (on refl)
       set_as false t name k b own_one e on off = set_false t name k own_one (λ has. let bad = off has in cc bad)

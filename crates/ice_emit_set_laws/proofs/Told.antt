@@ -15,13 +15,14 @@ use Rattle.ice_chip.specs.Database.{Parts, PackageRows}
 use Rattle.ice_chip.specs.FunctionNames.{function_name, tile_function, IsTileFunction, FunctionNamesAreRead, pin_type_function, input_enable_function, falling_clock_function, carry_set_function, pull_up_function, column_buffer_function}
 use Rattle.ice_chip.specs.Indices.{put_first, with_first, firsts, enables_of}
 use Rattle.ice_chip.specs.IsRead.{IsChip}
-use Rattle.ice_chip.specs.Lookups.{ieren_of, colbuf_of, names_of, enable_counts}
+use Rattle.ice_chip.specs.Lookups.{kind_at, ieren_of, colbuf_of, names_of, enable_counts}
 use Rattle.ice_chip.specs.PinNames.{is_global_name}
 use Rattle.ice_chip.specs.Places.{same_tile, same_pad}
 use Rattle.ice_chip.specs.Within.{IsPad, ArePads, IsPackage}
 use Rattle.ice_chip.specs.declared.function_names.TileFunction.{TileFunction}
 use Rattle.ice_chip.specs.declared.function_names.TileFunction.TheVariants.{Cell, FallingClock, CarrySet, PinType, InputEnable, PullUp, ColumnBuffer}
 use Rattle.ice_chip.specs.declared.rows.Pad.{Pad}
+use Rattle.ice_chip.specs.declared.rows.TileKind.TheVariants.{Logic}
 use Rattle.ice_chip.specs.declared.placed.PlacedName.{PlacedName}
 use Rattle.ice_chip.proofs.Keys.{pad_same}
 use Rattle.ice_chip.proofs.Prefixes.{set_number}
@@ -47,6 +48,7 @@ use Rattle.ice_emit_set_laws.proofs.CellNumbers.{if_told, lists, named}
 use Rattle.ice_emit_set_laws.proofs.FunctionKinds.{IsOwn, own_name}
 use Rattle.ice_emit_set_laws.proofs.Inside.{slots_back, clusters_back, ports_back}
 use Rattle.ice_emit_set_laws.proofs.Lists.{flat_Has, one_Has, range_Has}
+use Rattle.ice_emit_set_laws.proofs.LogicTiles.{on_logic}
 
 -- ---- what is known of every chip
 pub record Known (parts : Parts) : Type 0 where
@@ -293,8 +295,15 @@ module _ (z : Case) where
       = same_Some x.function g (sym (z.known.names.read x.function x.within) ∙ ap tile_function (sym x.name) ∙ z.known.names.read g within) in
       subst (Told t k) same x.says
 
-  pub all_own : (x : Setting) → Has all x → IsOwn x.name
-  all_own x has = let is = told x has in subst IsOwn (sym is.name) (own_name is.function)
+  clock_on_logic : (t : TileAt) (k : ℕ) (g : TileFunction) → Told t k g → g ≡ FallingClock → kind_at z.parts t ≡ Some Logic
+  clock_on_logic t k g says e =
+      let clock = subst (Told t k) e says in
+      on_logic z.parts z.rows z.plan z.pullups z.placed t clock.0 clock.2
+
+  pub all_own : (x : Setting) → Has all x → IsOwn z.parts x.tile x.name
+  all_own x has =
+      let is = told x has in
+      subst (IsOwn z.parts x.tile) (sym is.name) (own_name z.parts x.tile is.function (clock_on_logic x.tile x.number is.function is.says))
 
   -- ---- where settings are listed
   pub in_clusters : (x : Setting) → Has of_clusters x → Has all x

@@ -11,8 +11,8 @@ use crate::making::{push, push_if};
 use ice_base::{NoMemory, TileAt};
 use ice_cells::{Control, LogicCell};
 use ice_chip::TileFunction;
-use ice_net::Reset;
 use ice_emit_bits::Setting;
+use ice_net::Reset;
 
 // Where each entry of a table stands among the bits of a cell.
 const ENTRY_PLACES: [u8; 16] = [4, 14, 15, 5, 6, 16, 17, 7, 3, 13, 12, 2, 1, 11, 10, 0];

@@ -10,9 +10,9 @@ ghost use Rattle.ice_graph.specs.Network.{ArePlaces};
 ghost use Rattle.ice_fabric.specs.Edges.{edges_of, places_of, usable_places, usable_rows};
 
 use ice_base::{NoMemory, RowNo, TileAt};
+use ice_bits_rows::{Index, index_of, is_open, is_plain, is_taken, sources_of};
 use ice_chip::{Chip, Group};
 use ice_graph::{Edge, Graph};
-use ice_bits_rows::{Index, index_of, is_open, is_plain, is_taken, sources_of};
 use std::alloc::Global;
 
 // Adds an edge and the tile of its group, where its row is taken.
@@ -81,8 +81,9 @@ fn usable_rows(
     ensures places { IfOk result (λ r. r.1.items ≡ usable_places chip.now) }
 {
     let _wires = chip.wires();
-    let mut edges = Vec::new(alloc);
-    let mut places = Vec::new(alloc);
+    let most = chip.rows() as usize;
+    let mut edges = Vec::with_capacity(alloc, most)?;
+    let mut places = Vec::with_capacity(alloc, most)?;
     for group in chip.groups() {
         add_group(chip, index, sources, group, &mut edges, &mut places)?;
     }

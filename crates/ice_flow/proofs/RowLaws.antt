@@ -14,6 +14,7 @@ use Rattle.ice_flow_frame.specs.Ends.{IsEndOf}
 use Rattle.ice_flow_frame.specs.Reading.{File, TellsLong}
 use Rattle.ice_flow_frame.specs.Refusals.{IsKnown}
 use Rattle.ice_flow_frame.specs.Rows.{SaidBy, MadeRow, SilentRow}
+use Rattle.ice_flow_frame.specs.Says.{SilentWhereDone}
 use Rattle.ice_flow_frame.proofs.CommandRows as answers
 use Rattle.ice_flow_frame.proofs.CommandRows.{known, asked}
 use Rattle.ice_flow_back_cmd.proofs.BackLaws as back
@@ -126,6 +127,17 @@ pub may_use_asked : (may_read may_write : List ℕ → Type 0) (words : List Tex
 may_use_asked may_read may_write words w e may = subst (MayUse may_read may_write) e may
 
 -- ---- the words are no command
+-- what the end of a refusal keeps and says
+pub refusal_told : (refusal : Cause) (old new : Meaning) (end : Done) → end.cause ≡ refusal → end.status ≡ status_of refusal → SameButSaying old new
+    → (old.tells ≡ true → SaidRow old new (line_of refusal)) → SilentWhereDone old new refusal → IsRefusedAs refusal old new end
+refusal_told refusal old new end cause status same said silent = record {
+  status = status ∙ ap status_of (sym cause);
+  is_cause = cause;
+  same = same;
+  said = λ tells. subst (λ (c : Cause). SaidRow old new (line_of c)) (sym cause) (said tells);
+  silent = subst (λ (c : Cause). SilentWhereDone old new c) (sym cause) silent;
+}
+
 refused_none : (words : List Text) (refusal : Cause) (old new : Meaning) (end : Done) → IsRefusedAs refusal old new end → ((refusal ≡ Usage) × (takes command words ≡ false)) ⊎ (refusal ≡ NoMemory)
     → IsAnswerTo words None old new end
 refused_none words refusal old new end is which = record {

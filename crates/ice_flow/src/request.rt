@@ -15,11 +15,11 @@ ghost use Rattle.ice_flow.specs.Command.{build_of, back_of, play_of, bits_of, ti
 use ice_flow_back_cmd::BackRequest;
 use ice_flow_build::Effort;
 use ice_flow_build_cmd::BuildRequest;
-use ice_flow_time_cmd::TimeRequest;
-use ice_flow_play_net_cmd::NetRequest;
 use ice_flow_play_bits_cmd::BitsRequest;
-use ice_flow_words::{BackWords, BitsWords, BuildWords, NetWords, TimeWords};
+use ice_flow_play_net_cmd::NetRequest;
 use ice_flow_sample_cmd::SampleRequest;
+use ice_flow_time_cmd::TimeRequest;
+use ice_flow_words::{BackWords, BitsWords, BuildWords, NetWords, TimeWords};
 
 /// What the words of a build ask for.
 pub fn build_request<'a>(words: &BuildWords<'a>) -> BuildRequest<'a>

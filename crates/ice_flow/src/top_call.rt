@@ -10,17 +10,17 @@ ghost use Rattle.ice_flow.specs.Run.{IsAnswer};
 use crate::request::{
     back_request, bits_request, build_request, net_request, sample_request, time_request,
 };
-use ice_flow_frame::{Cause, Done, finish};
+use ice_desk::{Desk, Gate};
 use ice_flow_back_cmd::back_files;
 use ice_flow_build_cmd::build_files;
-use ice_desk::{Desk, Gate};
-use ice_flow_time_cmd::time;
-use ice_flow_play_net_cmd::play_net;
+use ice_flow_frame::{Cause, Done, finish};
 use ice_flow_play_bits_cmd::play_bits;
+use ice_flow_play_net_cmd::play_net;
+use ice_flow_sample_cmd::sample;
+use ice_flow_time_cmd::time;
 use ice_flow_words::{
     BackWords, BitsWords, BuildWords, NetWords, Request, TimeWords, WordsFault, read_request,
 };
-use ice_flow_sample_cmd::sample;
 use std::alloc::Global;
 use std::thread::Threads;
 

@@ -17,7 +17,7 @@ is_listed parts name rows found = (find_Has (λ (p : PackageRows). bytes_eq p.na
 
 -- the text that was made of a circuit that has these bits
 pub netlist_is : (name : List ℕ) (t : List (List ℕ)) (parts : Parts) (k configuration : Configuration) (bonded : PackageRows) (text : List ℕ) → IsConfigured name t parts k bonded → configuration ≡ k
-    → text ≡ blif_text (back_netlist parts (bits_of configuration) bonded) → SaysBits parts configuration bonded text → IsNetlistOfBits name t text
+    → text ≡ blif_text (back_netlist parts (bits_of configuration) configuration.extras bonded) → SaysBits parts configuration bonded text → IsNetlistOfBits name t text
 netlist_is name t parts k configuration bonded text is same written says = record {
   is_shown = record {
     parts = parts;
@@ -26,5 +26,5 @@ netlist_is name t parts k configuration bonded text is same written says = recor
     is_configured = is;
     says = subst (λ (c : Configuration). SaysBits parts c bonded text) same says;
   };
-  is_text = subst (λ (c : Configuration). text ≡ blif_text (back_netlist parts (bits_of c) bonded)) same written;
+  is_text = subst (λ (c : Configuration). text ≡ blif_text (back_netlist parts (bits_of c) c.extras bonded)) same written;
 }

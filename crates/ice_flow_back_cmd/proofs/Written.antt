@@ -66,7 +66,7 @@ module _ (names : List (List ℕ)) (plain : AllByRecursion HasNoDollar names) wh
 -- the netlist of bits can be written
 module _ (parts : Parts) (k : Configuration) (rows : PackageRows) (read : IsRead parts) (has : Has parts.packages rows) (words : HasWords rows) where
   abbrev whole : NetlistData
-  whole = back_netlist parts (bits_of k) rows
+  whole = back_netlist parts (bits_of k) k.extras rows
 
   name_fits : (z : List ℕ) → Has (back_names parts rows) z → IsName z
   name_fits z there = record { word = names_are_words parts read rows has words z there; no_comment = none_begins_comment parts read rows has z there }
@@ -83,7 +83,7 @@ module _ (parts : Parts) (k : Configuration) (rows : PackageRows) (read : IsRead
 
   -- a text that says the same says the bits
   pub says_bits : (n : NetlistData) (text : List ℕ) → n ≡ whole
-      → ((levels : List (List Bool)) → net.shows n levels ≡ chip.shows parts (bits_of k) rows.pads rows.pads levels) → SaysTheSame text n → SaysBits parts k rows text
+      → ((levels : List (List Bool)) → net.shows n levels ≡ chip.shows parts (bits_of k) k.extras rows.pads rows.pads levels) → SaysTheSame text n → SaysBits parts k rows text
   says_bits n text e shows is = record {
     netlist = is.said;
     is_said = is.is_said;

@@ -25,7 +25,7 @@ pub record SaysBits (parts : Parts) (configuration : Configuration) (bonded : Pa
   pub is_said : HasNetlist text netlist
   pub is_sound : IsSound netlist
   pub ports_are_pads : map (named_port netlist.names) netlist.ports ≡ map (port_of_pad bonded) bonded.pads
-  pub shows_same : (levels : List (List Bool)) → net.shows netlist levels ≡ chip.shows parts (bits_of configuration) bonded.pads bonded.pads levels
+  pub shows_same : (levels : List (List Bool)) → net.shows netlist levels ≡ chip.shows parts (bits_of configuration) configuration.extras bonded.pads bonded.pads levels
 
 -- The first text says a chip, which has the package of this name, and the second says bits of the chip, which have no fault. What was
 -- written says these bits.

@@ -12,7 +12,7 @@ use Rattle.ice_flow_back_cmd.specs.Headline.{IsShown}
 -- the text of the netlist that the bits make, which says the bits
 pub record IsNetlistOfBits (name : List ℕ) (texts : List (List ℕ)) (text : List ℕ) : Type 0 where
   pub is_shown : IsShown name texts text
-  pub is_text : text ≡ blif_text (back_netlist is_shown.parts (bits_of is_shown.configuration) is_shown.bonded)
+  pub is_text : text ≡ blif_text (back_netlist is_shown.parts (bits_of is_shown.configuration) is_shown.configuration.extras is_shown.bonded)
 
 -- what is made of the texts; nothing is placed or routed
 abbrev pub IsMade : List ℕ → List (List ℕ) → List (List ℕ) → Arrangement → List Shut → Type 0

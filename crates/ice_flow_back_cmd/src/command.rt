@@ -13,20 +13,20 @@ ghost use Rattle.ice_flow_back_cmd.specs.Made.{IsMade};
 ghost use Rattle.ice_flow_back_cmd.specs.Requests.{request_view};
 
 use crate::netlist_text::back_text;
-use ice_flow_frame::{
-    Cause, CommandFile, Done, FileRole, Made, Texts, asc_refusal, bits_refusal, chip_refusal,
-    made_text,
-};
 use ice_asc::read_asc;
 use ice_base::NoMemory;
 use ice_bits::Bits;
 use ice_chip::Chip;
+use ice_chip_read_laws::pins_are_words;
 use ice_chip_read_pieces::ChipReader;
-use ice_flow_chip_frame::{ChipMaking, write_made_on_chip};
 use ice_decode::decode;
 use ice_desk::Desk;
+use ice_flow_chip_frame::{ChipMaking, write_made_on_chip};
+use ice_flow_frame::{
+    Cause, CommandFile, Done, FileRole, Made, Texts, asc_refusal, bits_refusal, chip_refusal,
+    made_text,
+};
 use ice_pads::PinFault;
-use ice_chip_read_laws::pins_are_words;
 use std::alloc::Global;
 
 /// To write the netlist of the bits of one file on the chip of another, with a port for each pad of the package.

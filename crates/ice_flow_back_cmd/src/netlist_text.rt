@@ -46,7 +46,7 @@ pub(crate) fn back_text(
     requires circuit { IsCircuitOf chip.now circuit.now.configuration circuit.now }
     requires listed { Has chip.now.packages (package_view bonded.now) }
     requires words { HasWords (package_view bonded.now) }
-    ensures text { IfOk result (λ text. text.items ≡ blif_text (back_netlist chip.now (bits_of circuit.now.configuration) (package_view bonded.now))) }
+    ensures text { IfOk result (λ text. text.items ≡ blif_text (back_netlist chip.now (bits_of circuit.now.configuration) circuit.now.configuration.extras (package_view bonded.now))) }
     ensures says { IfOk result (λ text. SaysBits chip.now circuit.now.configuration (package_view bonded.now) text.items) }
 {
     let _wires = chip.wires();

@@ -1,5 +1,5 @@
 -- The answers of the stages of building make its answer.
-use Rattle.std.proofs.Common.{◌≡◌, ◌⊎◌, ℕ, inl, inr, refl, sym, ap, ◌∙◌, subst}
+use Rattle.std.proofs.Common.{◌≡◌, ◌⊎◌, ℕ, List, inl, inr, refl, sym, ap, ◌∙◌, subst}
 use Rattle.std.specs.Prelude.{Result, Ok, Err}
 use Rattle.ice_net.specs.NetlistData.{NetlistData}
 use Rattle.ice_bits.specs.Configuration.{Bits as BitsAt}
@@ -110,9 +110,9 @@ pub circuit : (n : NetlistData) (parts : Parts) (layout : Layout) (made : Built)
 circuit n parts layout made same is = subst (λ (l : Layout). IsCircuitOf n l.pads.ports parts made.bits) (sym same) is
 
 -- no global is fed by a global, or the decoder was asked
-pub no_loop : (parts : Parts) (bits : BitsAt) → (FeedsNoGlobal parts → HasNoLoop parts bits) → FeedsNoGlobal parts ⊎ HasNoLoop parts bits → HasNoLoop parts bits
-no_loop parts bits by_feeds (inl feeds) = by_feeds feeds
-no_loop parts bits by_feeds (inr none) = none
+pub no_loop : (parts : Parts) (bits : BitsAt) (extras : List (ℕ × ℕ × ℕ)) → (FeedsNoGlobal parts → HasNoLoop parts bits extras) → FeedsNoGlobal parts ⊎ HasNoLoop parts bits extras → HasNoLoop parts bits extras
+no_loop parts bits extras by_feeds (inl feeds) = by_feeds feeds
+no_loop parts bits extras by_feeds (inr none) = none
 
 -- ---- which answers there are
 not_both : {A E : Type 0} (said : Result A E) (value : A) (fault : E) → said ≡ Ok value → said ≡ Err fault → ⊥

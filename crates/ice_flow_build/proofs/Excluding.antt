@@ -1,6 +1,6 @@
 -- Of one arrangement: routes without a shared wire, a sink that can't be reached, and permitted rounds that all end with an overused wire
 -- leave each other out, whatever graph and nets they are stated of.
-use Rattle.std.proofs.Common.{◌≡◌, ◌∙◌, ℕ, List, [], ◌∷◌, suc, Some, length, map, slice_get, replicate, Result, Ok, inl, inr, refl, sym, ap, subst}
+use Rattle.std.proofs.Common.{◌≡◌, ◌∙◌, ℕ, List, [], ◌∷◌, suc, Some, length, map, slice_get, replicate, Result, Ok, inl, inr, refl, sym, ap, subst, None}
 use Rattle.std.proofs.lemmas.Bool.{cases_order}
 use Rattle.ice_base.specs.declared.number.NetNo.{NetNo}
 use Rattle.ice_base.specs.declared.number.TileAt.{TileAt}
@@ -17,7 +17,8 @@ use Rattle.ice_graph.specs.declared.tree.Tree.{Tree}
 use Rattle.ice_graph.specs.Network.{Network}
 use Rattle.ice_emit_nets.specs.Nets.{Bare, bare_net}
 use Rattle.ice_negotiate_defs.specs.Logs.{AllEndOverused}
-use Rattle.ice_negotiate_defs.specs.Rounds.{Past, IsRound, IsMoved, IsFirst, AreAll, AreRounds, AreReachedBefore, IsUnreachable}
+use Rattle.ice_negotiate_defs.specs.Tallies.{AreTallies}
+use Rattle.ice_negotiate_defs.specs.Rounds.{Past, IsRound, IsMoved, IsFirstFrom, AreAll, AreRounds, AreReachedBefore, IsUnreachable}
 use Rattle.ice_negotiate_defs.specs.Trees.{IsTree, AreReached, IsCause, route_of}
 use Rattle.ice_negotiate_defs.specs.declared.stop.TreeStop.TheVariants.{Unreachable}
 use Rattle.ice_negotiate_defs.proofs.Repeating.{reached_all, routed_free}
@@ -114,15 +115,17 @@ round_as graph other nets others round history counts moved old new same is = re
       moved_as graph other round history counts moved n found.0 net before after same.edges found.2 found.3 (is.each n found.0 before after found.1 was now);
 }
 
-first_as : (graph other : Network) (nets others : List Net) (one : Past) → AreSameRouting graph other nets others → IsFirst graph nets one → IsFirst other others one
+first_as : (graph other : Network) (nets others : List Net) (one : Past) → AreSameRouting graph other nets others → IsFirstFrom graph nets None one → IsFirstFrom other others None one
 first_as graph other nets others one same is = record {
   before = is.before;
-  bare = is.bare;
+  begins = is.begins;
+  counts = is.counts;
+  long = is.long ∙ same.wires;
+  occupied = is.occupied;
   number = is.number;
   fresh = subst (λ (wires : ℕ). one.history ≡ replicate wires 0) same.wires is.fresh;
-  all = subst (λ (n : ℕ). AreAll n one.moved) same.long is.all;
-  done = subst (λ (wires : ℕ). IsRound other others 1 one.history (replicate wires 0) one.moved is.before one.trees) same.wires
-      (round_as graph other nets others 1 one.history (replicate graph.wires 0) one.moved is.before one.trees same is.done);
+  movers = subst (λ (n : ℕ). AreAll n one.moved) same.long is.movers;
+  done = round_as graph other nets others 1 one.history is.counts one.moved is.before one.trees same is.done;
 }
 
 rounds_as : (graph other : Network) (nets others : List Net) (rounds : List Past) → AreSameRouting graph other nets others → AreRounds graph nets rounds → AreRounds other others rounds
@@ -147,7 +150,7 @@ overused_as graph other nets others permitted logs tallies same all = record {
   all = all.all;
   overused = all.overused;
   logs_of = all.logs_of;
-  tallies_of = all.tallies_of;
+  tallies_of = subst (λ (wires : ℕ). AreTallies wires all.past tallies) same.wires all.tallies_of;
   reached = subst (λ (n : ℕ). AreReachedBefore other others n) same.long (reached_before graph other nets others (length nets) same all.reached);
 }
 
@@ -220,7 +223,7 @@ given_up_not_stuck parts plan rounds logs tallies net sink (graph, nets, one, al
 routed_not_given_up : (parts : Parts) (plan : Plan) (rounds : ℕ) (routed : Routed) (logs : List RoundLog) (tallies : List Shut) → IsRouted parts plan rounds routed
     → IsGivenUp parts plan rounds logs tallies → ⊥
 routed_not_given_up parts plan rounds routed logs tallies (graph, nets, one, are) (other, others, two, all) =
-    routed_free graph nets rounds routed logs tallies are (overused_as other graph others nets rounds logs tallies (same_routing parts plan other graph others nets two one) all)
+    routed_free graph nets None rounds routed logs tallies are (overused_as other graph others nets rounds logs tallies (same_routing parts plan other graph others nets two one) all)
 
 stuck_at_one : (parts : Parts) (plan : Plan) (net other : NetNo) (sink last : WireNo) → IsStuck parts plan net sink → IsStuck parts plan other last → (net ≡ other) × (sink ≡ last)
 stuck_at_one parts plan net other sink last (graph, nets, one, stuck) (graph', nets', two, stuck') =

@@ -1,5 +1,5 @@
 -- The bits of a placed and routed design show what its netlist shows.
-use Rattle.std.proofs.Common.{◌≡◌, ℕ, suc, ◌+◌, List, [], ◌∷◌, length, map, refl, sym, ap, ◌∙◌, subst}
+use Rattle.std.proofs.Common.{◌≡◌, ℕ, suc, ◌+◌, List, [], ◌∷◌, length, map, refl, ap, ◌∙◌}
 use Rattle.std.proofs.lemmas.List.{length-map}
 use Rattle.ice_net.specs.NetlistData.{NetlistData}
 use Rattle.ice_net.specs.declared.cell.Cell.{Cell}
@@ -7,7 +7,6 @@ use Rattle.ice_net.specs.declared.port.Port.{Port}
 use Rattle.ice_pcf.specs.declared.constraint.Constraint.{Constraint}
 use Rattle.ice_chip.specs.Database.{Parts}
 use Rattle.ice_bits.specs.Configuration.{Configuration, bits_of}
-use Rattle.ice_decode.specs.Refusals.{IsFaultless}
 use Rattle.ice_cells.specs.Meaning as design
 use Rattle.ice_cells.specs.Packed.{Plan, plan_of, packed, pads_from, unread_by, read_pad}
 use Rattle.ice_cells.specs.Runs.{design_of, renamed_pad, moved_numbers, fed_numbers}
@@ -34,10 +33,10 @@ design_long n =
 
 pub shows : (n : NetlistData) (order : List ℕ) → IsSoundInOrder n order → DesignsShowTheSame → (parts : Parts) (name : List ℕ) (constraints : List Constraint) (layout : Layout) (routes : List Route) (k : Configuration)
     → IsLaidOut (task_of parts name constraints n) layout → StandsOn parts name layout → IsWritten parts (plan_in layout) layout.pads.pullups routes k
-    → Realises parts (plan_in layout) (wanted_rows parts (plan_in layout) routes) (bits_of k) → IsCircuitOf n layout.pads.ports parts k
+    → Realises parts (plan_in layout) (wanted_rows parts (plan_in layout) routes) (bits_of k) k.extras → IsCircuitOf n layout.pads.ports parts k
 shows n order sound same parts name constraints layout routes k laid stands written real = record {
   form = written.form;
-  faultless = subst (IsFaultless parts (bits_of k)) (sym written.extras) real.faultless;
+  faultless = real.faultless;
   shows_same = λ bonded. record {
     pad_each = stands.2.pads.ports ∙ ap (λ (d : Design). length d.pads) laid.design ∙ design_long n;
     at_ports = λ steps. real.shows bonded steps ∙ ap (λ (d : Design). design.shows d (map (port_levels bonded layout.pads.ports) steps)) laid.design ∙ same n order sound (map (port_levels bonded layout.pads.ports) steps);

@@ -16,7 +16,7 @@ use Rattle.ice_carry_form_laws.specs.FormLaws.{DesignsAreFormed, DesignsHaveValu
 use Rattle.ice_pack_laws.specs.PackLaws.{IsSoundInOrder}
 use Rattle.ice_pads.specs.Assign.{PadsData, assigned, assign_of}
 use Rattle.ice_pads.specs.Facts.{AssignedPadsFit}
-use Rattle.ice_pads.specs.Wants.{wants, pins}
+use Rattle.ice_pads.specs.Wants.{wants, buffers}
 use Rattle.ice_place.specs.Place.{chunks_of}
 use Rattle.ice_sites.specs.Legal.{IsLegal, IsLegalOn}
 use Rattle.ice_sites.specs.Stretches.{stretches_of}
@@ -28,7 +28,7 @@ use Rattle.ice_flow_build.specs.declared.answer.Layout.{Layout}
 package_there : (parts : Parts) (name : List ℕ) (constraints : List Constraint) (n : NetlistData) (d : Design) (pads : PadsData) → assign_of parts name constraints n d ≡ Ok pads → (bonded : PackageRows) × (package_of parts name ≡ Some bonded)
 package_there parts name constraints n d pads said = by (package_of parts name) said
   where
-    by : (o : Option PackageRows) → assigned parts constraints n (wants d) (pins d) o ≡ Ok pads → (bonded : PackageRows) × (o ≡ Some bonded)
+    by : (o : Option PackageRows) → assigned parts constraints n (wants d) (buffers d) o ≡ Ok pads → (bonded : PackageRows) × (o ≡ Some bonded)
     by None e = absurd (cc)
     by (Some bonded) e = (bonded, refl)
 

@@ -1,5 +1,5 @@
 -- The circuit in the bits of a chip is the netlist.
-use Rattle.std.specs.Prelude.{◌≡◌, Bool, List, [], ◌∷◌, length, map, replicate}
+use Rattle.std.specs.Prelude.{◌≡◌, ℕ, Bool, List, [], ◌∷◌, length, map, replicate}
 use Rattle.ice_base_values.specs.Order.{Has}
 use Rattle.ice_net.specs.NetlistData.{NetlistData}
 use Rattle.ice_net.specs.Meaning as net
@@ -14,14 +14,14 @@ use Rattle.ice_emit_defs.specs.Realised.{port_levels}
 
 -- For every list of levels of the pads of the package, `bonded`, the chip drives step by step at the ports' pads exactly what the
 -- netlist drives at its ports, and no other pad. `ports` has each port's pad.
-pub record ShowsSame (n : NetlistData) (ports : List Pad) (parts : Parts) (bits : Bits) (bonded : List Pad) : Type 0 where
+pub record ShowsSame (n : NetlistData) (ports : List Pad) (parts : Parts) (bits : Bits) (extras : List (ℕ × ℕ × ℕ)) (bonded : List Pad) : Type 0 where
   pub pad_each : length ports ≡ length n.ports
-  pub at_ports : (steps : List (List Bool)) → chip.shows parts bits bonded ports steps ≡ net.shows n (map (port_levels bonded ports) steps)
+  pub at_ports : (steps : List (List Bool)) → chip.shows parts bits extras bonded ports steps ≡ net.shows n (map (port_levels bonded ports) steps)
   pub elsewhere : (steps : List (List Bool)) (pad : Pad) → Has (pads parts) pad → (Has ports pad → ⊥)
-      → chip.shows parts bits bonded (pad ∷ []) steps ≡ replicate (length steps) (Off ∷ [])
+      → chip.shows parts bits extras bonded (pad ∷ []) steps ≡ replicate (length steps) (Off ∷ [])
 
 -- The bits are a circuit of the chip without a fault, which shows what the netlist shows, whichever pads the package has.
 pub record IsCircuitOf (n : NetlistData) (ports : List Pad) (parts : Parts) (k : Configuration) : Type 0 where
   pub form : IsOf parts k
   pub faultless : IsFaultless parts (bits_of k) k.extras
-  pub shows_same : (bonded : List Pad) → ShowsSame n ports parts (bits_of k) bonded
+  pub shows_same : (bonded : List Pad) → ShowsSame n ports parts (bits_of k) k.extras bonded

@@ -4,11 +4,11 @@ ghost use Rattle.ice_fabric.specs.Edges.{usable_rows};
 ghost use Rattle.ice_bits_rows.specs.Index.{IsIndexOf};
 
 use ice_base::{NoMemory, TileAt, WireNo};
+use ice_bits_rows::Index;
 use ice_chip::Chip;
 use ice_core::Net;
 use ice_fabric::indexed_fabric;
 use ice_graph::Graph;
-use ice_bits_rows::Index;
 use std::alloc::Global;
 
 // A table of least rows has no more sets.

@@ -12,11 +12,11 @@ use crate::laws::{layouts_stand_on_their_chip, realised_layouts_show_their_netli
 use crate::laying::indexed_lay_out;
 use crate::routing::finish;
 use ice_base::NoMemory;
+use ice_bits_rows::{Index, index_of};
 use ice_check::Sound;
 use ice_chip::Chip;
 use ice_desk::Gate;
 use ice_pcf::Pcf;
-use ice_bits_rows::{Index, index_of};
 use std::alloc::Global;
 use std::thread::Threads;
 

@@ -15,7 +15,7 @@ use std::alloc::Global;
 // Asks the decoder.
 fn check_decoded(alloc: Global, chip: &Chip, bits: &Bits) -> Result<(), BuildFault>
     requires { FeedsNoGlobal chip.now → ⊥ }
-    ensures loopless { OnOk result (HasNoLoop chip.now (bits_of bits.now)) }
+    ensures loopless { OnOk result (HasNoLoop chip.now (bits_of bits.now) bits.now.extras) }
     ensures fault { IfErr result (IsBitsFault chip.now bits.now) }
 {
     let _circuit = decode(alloc, chip, bits)?;
@@ -27,7 +27,7 @@ fn check_decoded(alloc: Global, chip: &Chip, bits: &Bits) -> Result<(), BuildFau
 /// # Errors
 /// The decoder's fault; want of memory.
 pub fn check_loops(alloc: Global, chip: &Chip, bits: &Bits) -> Result<(), BuildFault>
-    ensures loopless { OnOk result (FeedsNoGlobal chip.now ⊎ HasNoLoop chip.now (bits_of bits.now)) }
+    ensures loopless { OnOk result (FeedsNoGlobal chip.now ⊎ HasNoLoop chip.now (bits_of bits.now) bits.now.extras) }
     ensures fault { IfErr result (IsBitsFault chip.now bits.now) }
 {
     if feeds_no_global(chip) {

@@ -10,10 +10,10 @@ ghost use Rattle.ice_flow_build.specs.Laid.{IsLaidOut, IsOnSites, StandsOn, plan
 ghost use Rattle.ice_flow_build.specs.Shown.{IsCircuitOf};
 ghost use Rattle.ice_flow_build.specs.declared.answer.Layout.{Layout};
 
+use ice_carry_form_laws::laws::{designs_are_formed, designs_have_values, designs_show_the_same};
 use ice_check::Sound;
 use ice_chip::Chip;
 use ice_cluster::laws::ranks_give_clusterings;
-use ice_carry_form_laws::laws::{designs_are_formed, designs_have_values, designs_show_the_same};
 use ice_pads::assigned_pads_fit;
 use ice_sites::clusters_stand_on_sites;
 
@@ -42,7 +42,7 @@ pub fn layouts_stand_on_their_chip(chip: &Chip, sound: &Sound)
 /// The bits of the placed and routed design of a sound netlist are a circuit that shows what the netlist shows, where they realise
 /// the design.
 pub fn realised_layouts_show_their_netlist(sound: &Sound)
-    ensures { (parts : Parts) (name : List ℕ) (constraints : List Constraint) (layout : Layout) (routes : List Route) (k : Configuration) → IsLaidOut (task_of parts name constraints sound.now) layout → StandsOn parts name layout → IsWritten parts (plan_in layout) layout.pads.pullups routes k → Realises parts (plan_in layout) (wanted_rows parts (plan_in layout) routes) (bits_of k) → IsCircuitOf sound.now layout.pads.ports parts k }
+    ensures { (parts : Parts) (name : List ℕ) (constraints : List Constraint) (layout : Layout) (routes : List Route) (k : Configuration) → IsLaidOut (task_of parts name constraints sound.now) layout → StandsOn parts name layout → IsWritten parts (plan_in layout) layout.pads.pullups routes k → Realises parts (plan_in layout) (wanted_rows parts (plan_in layout) routes) (bits_of k) k.extras → IsCircuitOf sound.now layout.pads.ports parts k }
 {
     sound.netlist().cells();
     sound.signal_order();

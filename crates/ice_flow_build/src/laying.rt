@@ -10,18 +10,18 @@ ghost use Rattle.ice_flow_build.specs.Stages.{IsPlaceFault, IsLayFault};
 ghost use Rattle.ice_flow_build.specs.declared.answer.BuildFault.TheVariants.{NoMemory as out_of_memory};
 
 use crate::answer::{BuildFault, Layout};
+use ice_anneal_arrangement::{Ordered, Settled, settle};
 use ice_base::NoMemory;
+use ice_bits_rows::{Index, index_of};
 use ice_carry::runs;
 use ice_cells::{Clusters, Design};
 use ice_check::Sound;
 use ice_chip::Chip;
 use ice_cluster::cluster;
-use ice_anneal_arrangement::{Ordered, Settled, settle};
 use ice_pack::pack;
 use ice_pads::{Pads, indexed_assign};
 use ice_pcf::Pcf;
 use ice_place::first_place;
-use ice_bits_rows::{Index, index_of};
 use ice_sites::indexed_sites;
 use std::alloc::Global;
 

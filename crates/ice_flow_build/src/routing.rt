@@ -17,16 +17,15 @@ ghost use Rattle.ice_flow_build.specs.declared.answer.BuildFault.TheVariants.{No
 use crate::aiming::aimed_fabric;
 use crate::answer::{BuildFault, Built, Effort, Layout};
 use ice_base::NoMemory;
+use ice_bits_rows::{Index, index_of};
 use ice_chip::Chip;
 use ice_core::Net;
 use ice_desk::Gate;
 use ice_emit::indexed_emit;
-use ice_negotiate_defs::{RouteFault, Routed};
 use ice_emit_nets::nets_of;
+use ice_emit_nets_laws::laws::{placed_nets_are_routable, routed_nets_are_trees};
 use ice_negotiate::negotiate;
-use ice_emit_nets_laws::laws::placed_nets_are_routable;
-use ice_emit_nets_laws::laws::routed_nets_are_trees;
-use ice_bits_rows::{Index, index_of};
+use ice_negotiate_defs::{RouteFault, Routed};
 use std::alloc::Global;
 use std::thread::Threads;
 
@@ -145,8 +144,8 @@ fn write(
     ensures layout { IfOk result (λ built. built.layout ≡ layout) }
     ensures routed { IfOk result (λ built. built.routed ≡ routed) }
     ensures written { IfOk result (λ built. IsWritten chip.now (plan_in layout) layout.pads.pullups (routes_in routed) built.bits) }
-    ensures loopless { IfOk result (λ built. FeedsNoGlobal chip.now → HasNoLoop chip.now (bits_of built.bits)) }
-    ensures realised { IfOk result (λ built. HasNoLoop chip.now (bits_of built.bits) → Realises chip.now (plan_in layout) (wanted_rows chip.now (plan_in layout) (routes_in built.routed)) (bits_of built.bits)) }
+    ensures loopless { IfOk result (λ built. FeedsNoGlobal chip.now → HasNoLoop chip.now (bits_of built.bits) built.bits.extras) }
+    ensures realised { IfOk result (λ built. HasNoLoop chip.now (bits_of built.bits) built.bits.extras → Realises chip.now (plan_in layout) (wanted_rows chip.now (plan_in layout) (routes_in built.routed)) (bits_of built.bits) built.bits.extras) }
     ensures stop { IfErr result (λ fault. fault ≡ out_of_memory) }
 {
     match indexed_emit(
@@ -188,8 +187,8 @@ pub fn finish<G: Gate + Sync, R: Threads + Sync>(
     requires placed { IsPlacedOn chip.now (plan_in layout) layout.pads.pullups }
     requires effort { IsPermitted effort }
     ensures finished { IfOk result (IsFinished chip.now effort.rounds layout) }
-    ensures loopless { IfOk result (λ built. FeedsNoGlobal chip.now → HasNoLoop chip.now (bits_of built.bits)) }
-    ensures realised { IfOk result (λ built. HasNoLoop chip.now (bits_of built.bits) → Realises chip.now (plan_in layout) (wanted_rows chip.now (plan_in layout) (routes_in built.routed)) (bits_of built.bits)) }
+    ensures loopless { IfOk result (λ built. FeedsNoGlobal chip.now → HasNoLoop chip.now (bits_of built.bits) built.bits.extras) }
+    ensures realised { IfOk result (λ built. HasNoLoop chip.now (bits_of built.bits) built.bits.extras → Realises chip.now (plan_in layout) (wanted_rows chip.now (plan_in layout) (routes_in built.routed)) (bits_of built.bits) built.bits.extras) }
     ensures fault { IfErr result (IsEndFault chip.now effort.rounds layout) }
 {
     let nets = nets_in(alloc, chip, &layout)?;

@@ -276,7 +276,7 @@ made_shown b t made on counted g = record {
   parts = g.task.parts;
   constraints = g.task.constraints;
   circuit = g.is_asked.circuit;
-  pads = record { ports = g.built.layout.pads.ports; pullups = g.built.layout.pads.pullups; globals = g.are_pads.0 };
+  pads = record { ports = g.built.layout.pads.ports; pullups = g.built.layout.pads.pullups; globals = g.are_pads.0.numbers; direct = g.are_pads.0.direct };
   configuration = g.built.bits;
   is_chip = g.is_asked.is_chip;
   are_constraints = g.is_asked.are_constraints;

@@ -26,25 +26,25 @@ ghost use Rattle.ice_flow_build_cmd.specs.Requests.{request_view};
 use crate::ending::{build_refusal, made_of, without_report};
 use crate::files::{outputs, parting};
 use crate::request::BuildRequest;
+use ice_base::NoMemory;
+use ice_blif::read_blif;
+use ice_blif_laws::read_names_are_known;
+use ice_check::{Sound, check};
+use ice_chip::Chip;
+use ice_chip_read_pieces::ChipReader;
+use ice_desk::{Desk, Gate};
+use ice_flow_build::build;
+use ice_flow_chip_frame::{ChipTexts, read_chip_and_texts};
 use ice_flow_frame::{
     Cause, CommandFile, Done, FileRole, Made, Refused, Texts, blif_refusal, chip_refusal,
     end_in_files, net_refusal, pcf_refusal,
 };
-use ice_base::NoMemory;
-use ice_blif::read_blif;
-use ice_blif_laws::read_names_are_known;
-use ice_flow_build::build;
-use ice_check::{Sound, check};
-use ice_chip::Chip;
-use ice_chip_read_pieces::ChipReader;
-use ice_flow_chip_frame::{ChipTexts, read_chip_and_texts};
-use ice_desk::{Desk, Gate};
-use ice_net::Netlist;
-use ice_pcf::{Pcf, read_pcf};
 use ice_flow_prepare::laws::{
     prepared_are_given_alike, prepared_pins_stay, prepared_reports_stay, prepared_show_the_same,
 };
 use ice_flow_prepare::prepare;
+use ice_net::Netlist;
+use ice_pcf::{Pcf, read_pcf};
 use std::alloc::Global;
 use std::thread::Threads;
 

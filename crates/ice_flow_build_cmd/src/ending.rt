@@ -14,11 +14,11 @@ ghost use Rattle.ice_flow_build_cmd.specs.Requests.{request_view};
 
 use crate::request::BuildRequest;
 use crate::texts::{parting_text, texts_of};
-use ice_flow_frame::{Cause, Made, Refused, bits_refusal, pin_refusal, place_refusal};
 use ice_base::NoMemory;
-use ice_flow_build::{BuildFault, Built, Layout, arrangement_of, tallies_of};
 use ice_chip::Chip;
 use ice_core::RoundLog;
+use ice_flow_build::{BuildFault, Built, Layout, arrangement_of, tallies_of};
+use ice_flow_frame::{Cause, Made, Refused, bits_refusal, pin_refusal, place_refusal};
 use ice_net::Netlist;
 use ice_words::Tally;
 use std::alloc::Global;

@@ -11,13 +11,13 @@ ghost use Rattle.ice_flow_build_cmd.specs.Reports.{pins_text, text_asked, report
 ghost use Rattle.ice_flow_build_cmd.specs.Requests.{request_view};
 
 use crate::request::BuildRequest;
-use ice_flow_frame::{Texts, one_text};
 use ice_asc::write_asc;
 use ice_base::{NoMemory, to_u32};
 use ice_bits::Bits;
-use ice_flow_build::{Built, Layout};
 use ice_chip::Chip;
 use ice_core::RoundLog;
+use ice_flow_build::{Built, Layout};
+use ice_flow_frame::{Texts, one_text};
 use ice_net::Netlist;
 use ice_pads::Pads;
 use ice_report::{pin_report, route_report};

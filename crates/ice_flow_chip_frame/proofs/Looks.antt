@@ -10,7 +10,6 @@ use Rattle.ice_asc.specs.Answers as asc_answers
 use Rattle.ice_asc.specs.Grammar.{asc_in}
 use Rattle.ice_asc.specs.declared.fault.AscFault.{AscFault}
 use Rattle.ice_asc.specs.declared.fault.AscFault.TheVariants as asc_fault
-use Rattle.ice_decode.specs.Faults.{first_extra}
 use Rattle.ice_decode.specs.Refusals.{IsFaultless, IsFaultOf}
 use Rattle.ice_decode.specs.declared.fault.DecodeFault.{DecodeFault}
 use Rattle.ice_decode.specs.declared.fault.DecodeFault.TheVariants as decode_fault
@@ -29,7 +28,7 @@ pub none_of : (parts : Parts) (bits : Bits) (extras : List (ℕ × ℕ × ℕ)) 
 none_of parts bits extras (decode_fault.Contention wire rows) is known without = let both : Some (wire.0, rows.0.0, rows.1.0) ≡ None = sym is ∙ without.of_chip.uncontended in cc
 none_of parts bits extras (decode_fault.ForeignSource wire) is known without = let both : Some wire.0 ≡ None = sym is.first ∙ without.of_chip.sources in cc
 none_of parts bits extras (decode_fault.ForeignFunction tile line) is known without = let both : Some (tile, line) ≡ None = sym is.first ∙ without.of_chip.functions in cc
-none_of parts bits extras (decode_fault.ForeignExtra extra) is known without = let both : Some extra ≡ None = sym is.first ∙ ap first_extra without.of_chip.no_extras in cc
+none_of parts bits extras (decode_fault.ForeignExtra extra) is known without = let both : Some extra ≡ None = sym is.first ∙ without.of_chip.extras_known in cc
 none_of parts bits extras (decode_fault.ChipLoop wires) is known without = without.loopless.none is.is_loop.cycle is.is_loop.closes
 none_of parts bits extras (decode_fault.PinType pad value) is known without = let both : Some pad ≡ None = sym is.first ∙ without.types in cc
 none_of parts bits extras decode_fault.NoMemory is known without = known refl

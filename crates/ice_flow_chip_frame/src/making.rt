@@ -14,9 +14,11 @@ ghost use Rattle.ice_chip_read_pieces.specs.Stands.{StandsFor};
 ghost use Rattle.ice_flow_chip_frame.specs.ChipFiles.{with_chip, StandsForSome};
 
 use crate::texts::{ChipTexts, read_chip_and_texts};
-use ice_flow_frame::{Cause, CommandFile, Done, Made, Texts, end_aloud, end_in_files, without_report};
 use ice_chip_read_pieces::ChipReader;
 use ice_desk::Desk;
+use ice_flow_frame::{
+    Cause, CommandFile, Done, Made, Texts, end_aloud, end_in_files, without_report,
+};
 use std::alloc::Global;
 
 /// What a command makes of the text of a chip database and of the texts behind it.

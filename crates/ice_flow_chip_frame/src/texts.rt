@@ -7,10 +7,10 @@ ghost use Rattle.ice_flow_frame.specs.Texts.{files_view, ArePermitted};
 ghost use Rattle.ice_chip_read_pieces.specs.Stands.{StandsFor};
 ghost use Rattle.ice_flow_chip_frame.specs.ChipFiles.{with_chip, HasRead, AreRead};
 
-use ice_flow_frame::{Cause, CommandFile, FileRole, Texts, read_texts};
 use ice_chip_read_pieces::ChipReader;
 use ice_desk::{Desk, ReadStop};
 use ice_desk_pieces::read_pieces;
+use ice_flow_frame::{Cause, CommandFile, FileRole, Texts, read_texts};
 use std::alloc::Global;
 
 /// The most bytes of a text.

@@ -17,13 +17,13 @@ use Rattle.ice_pads.specs.declared.fault.PinFault.TheVariants.{PadLacks, NoPadLe
 use Rattle.ice_pads.specs.declared.given.Given.{Given}
 use Rattle.ice_pads.specs.declared.given.Chosen.{Chosen}
 use Rattle.ice_pads.specs.declared.want.Want.{Want}
-use Rattle.ice_pads.specs.declared.want.Pins.{Pins}
+use Rattle.ice_pads.specs.declared.want.Buffer.{Buffer}
 use Rattle.ice_pads.specs.Constraints.{◌>>=◌, port_named, port_name, want_of, of_port, free_pad, given_to, with_pad, by_port, with_line, given_by}
 use Rattle.ice_pads.specs.PadWires.{suits}
 use Rattle.ice_pads.specs.Ports.{is_fit, by_free, by_given, next_chosen, with_next, all_chosen}
 use Rattle.ice_pads.specs.Globals.{globals_of}
-use Rattle.ice_pads.specs.Wants.{wants, pins}
-use Rattle.ice_pads.specs.Assign.{pads_with, assigned, assign_of}
+use Rattle.ice_pads.specs.Wants.{wants, buffers}
+use Rattle.ice_pads.specs.Assign.{chosen_pads, pads_with, assigned, assign_of}
 use Rattle.ice_report.specs.Lines.{line_of}
 use Rattle.ice_report.specs.PinReport.{pad_words, way_word, pin_line, pin_text}
 use Rattle.ice_check_promote.specs.Promoted.{buffered_name, promoted_clocks, promoted}
@@ -71,11 +71,11 @@ module _ (parts : Parts) (m n : NetlistData) (alike : AreAlike m n) where
       ∙ bind_same (with_next chosen (next_chosen parts pads n given chosen want)) (λ more. all_chosen parts pads m given more ws) (λ more. all_chosen parts pads n given more ws)
       (λ more. same_chosen pads given more ws)
 
-  same_of : (cs : List Constraint) (ws : List Want) (ps : List Pins) (o : Option PackageRows) → assigned parts cs m ws ps o ≡ assigned parts cs n ws ps o
-  same_of cs ws ps None = refl
-  same_of cs ws ps (Some bonded) =
-      ap (λ said. (said >>= (λ given. all_chosen parts bonded.pads m given [] ws)) >>= (λ chosen. globals_of parts ps >>= (λ globals. Ok (pads_with chosen globals)))) (same_given bonded.pins ws [] cs)
-      ∙ ap (λ said. said >>= (λ chosen. globals_of parts ps >>= (λ globals. Ok (pads_with chosen globals))))
+  same_of : (cs : List Constraint) (ws : List Want) (bs : List Pad → List Buffer) (o : Option PackageRows) → assigned parts cs m ws bs o ≡ assigned parts cs n ws bs o
+  same_of cs ws bs None = refl
+  same_of cs ws bs (Some bonded) =
+      ap (λ said. (said >>= (λ given. all_chosen parts bonded.pads m given [] ws)) >>= (λ chosen. globals_of parts (bs (chosen_pads chosen)) >>= (λ taken. Ok (pads_with chosen taken)))) (same_given bonded.pins ws [] cs)
+      ∙ ap (λ said. said >>= (λ chosen. globals_of parts (bs (chosen_pads chosen)) >>= (λ taken. Ok (pads_with chosen taken))))
       (bind_same (given_by parts bonded.pins n ws [] cs) (λ given. all_chosen parts bonded.pads m given [] ws) (λ given. all_chosen parts bonded.pads n given [] ws) (λ given. same_chosen bonded.pads given [] ws))
 
 -- a netlist with the same ports, whose further names stand behind the others
@@ -87,7 +87,7 @@ names_behind n m more formed ports names = record {
 
 pub same_pins_by : (n m : NetlistData) (more : List (List ℕ)) (parts : Parts) (name : List ℕ) (constraints : List Constraint) (d : Design) → IsFormed n → m.ports ≡ n.ports → m.names ≡ n.names ++ more
     → assign_of parts name constraints m d ≡ assign_of parts name constraints n d
-same_pins_by n m more parts name constraints d formed ports names = same_of parts m n (names_behind n m more formed ports names) constraints (wants d) (pins d) (package_of parts name)
+same_pins_by n m more parts name constraints d formed ports names = same_of parts m n (names_behind n m more formed ports names) constraints (wants d) (buffers d) (package_of parts name)
 
 -- the names of the buffers' signals stand behind the netlist's
 abbrev more_names : NetlistData → ℕ → List (List ℕ)

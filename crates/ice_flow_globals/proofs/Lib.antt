@@ -1,3 +1,2 @@
 mod PortNames
 pub mod Assigned
-mod FewGlobals

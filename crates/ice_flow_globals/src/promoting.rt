@@ -1,25 +1,15 @@
 //! Clocks of a netlist are promoted, as many as globals of a chip are free.
-ghost use Rattle.std.specs.Prelude.{◌≡◌, Bool, List, length, IfOk};
+ghost use Rattle.std.specs.Prelude.{◌≡◌, Bool, List, IfOk};
 ghost use Rattle.ice_net.specs.Meaning.{shows};
-ghost use Rattle.ice_pads.specs.Globals.{globals};
 ghost use Rattle.ice_check_promote.specs.Promotable.{CanBePromoted};
-ghost use Rattle.ice_flow_globals.specs.Clocks.{free_globals, promoted_on};
+ghost use Rattle.ice_flow_globals.specs.Clocks.{promoted_on};
 
 use ice_base::NoMemory;
 use ice_check::Sound;
+use ice_check_promote::{free_beside, promote};
 use ice_chip::Chip;
 use ice_pads::globals;
-use ice_check_promote::{free_beside, promote};
 use std::alloc::Global;
-
-// How many globals of the chip can be taken.
-fn global_count(alloc: Global, chip: &Chip) -> Result<u32, NoMemory>
-    ensures { IfOk result (λ count. count ≡ length (globals chip.now)) }
-{
-    let globals = globals(alloc, chip)?;
-    let count = globals.len() as u32;
-    Ok(count)
-}
 
 /// The netlist in which clocks of sixteen flip-flops or more take the globals of a chip that the netlist's own global buffers leave
 /// free. It has the same ports, and shows for every list of levels what the netlist shows.
@@ -34,7 +24,6 @@ pub fn promote_clocks(alloc: Global, chip: &Chip, sound: Sound) -> Result<Sound,
     ensures ports { IfOk result (λ made. made.ports ≡ sound.ports) }
     ensures shows { IfOk result (λ made. (levels : List (List Bool)) → shows made levels ≡ shows sound levels) }
 {
-    let count = global_count(alloc, chip)?;
-    let free = free_beside(count, sound.netlist());
+    let free = free_beside(globals(chip), sound.netlist());
     promote(alloc, sound, free)
 }

@@ -9,21 +9,21 @@ ghost use Rattle.ice_flow_chip_frame.specs.Standing.{IsRead};
 ghost use Rattle.ice_flow_play_bits_cmd.specs.Played.{Stands, IsMade, play_bits};
 ghost use Rattle.ice_flow_play_bits_cmd.specs.Requests.{request_view};
 
-use ice_flow_frame::{
-    Cause, CommandFile, Done, FileRole, Made, Texts, asc_refusal, bits_refusal, chip_refusal,
-    made_text,
-};
 use ice_asc::read_asc;
 use ice_base::NoMemory;
 use ice_bits::Bits;
 use ice_chip::Chip;
 use ice_chip_read_pieces::ChipReader;
-use ice_flow_chip_frame::{ChipMaking, say_made_on_chip};
 use ice_decode::decode;
 use ice_desk::Desk;
-use ice_sim_levels::{LevelFault, read_levels};
+use ice_flow_chip_frame::{ChipMaking, say_made_on_chip};
+use ice_flow_frame::{
+    Cause, CommandFile, Done, FileRole, Made, Texts, asc_refusal, bits_refusal, chip_refusal,
+    made_text,
+};
 use ice_pads::PinFault;
 use ice_sim::play_chip;
+use ice_sim_levels::{LevelFault, read_levels};
 use std::alloc::Global;
 
 /// To play the bits of one file on the chip of another, at the pads of a package, with the levels of a third file.

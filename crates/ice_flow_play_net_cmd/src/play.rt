@@ -7,16 +7,16 @@ ghost use Rattle.ice_flow_frame.specs.Rows.{SaidBy, KeptRow};
 ghost use Rattle.ice_flow_play_net_cmd.specs.Played.{Stands, IsMade, play_net};
 ghost use Rattle.ice_flow_play_net_cmd.specs.Requests.{request_view};
 
-use ice_flow_frame::{
-    Cause, CommandFile, Done, FileRole, Made, Making, Texts, blif_refusal, made_text, net_refusal,
-    say_made,
-};
 use ice_base::NoMemory;
 use ice_blif::read_blif;
 use ice_check::check;
 use ice_desk::Desk;
-use ice_sim_levels::{LevelFault, read_levels};
+use ice_flow_frame::{
+    Cause, CommandFile, Done, FileRole, Made, Making, Texts, blif_refusal, made_text, net_refusal,
+    say_made,
+};
 use ice_sim::play;
+use ice_sim_levels::{LevelFault, read_levels};
 use std::alloc::Global;
 
 /// To play the netlist of one file with the levels of another.

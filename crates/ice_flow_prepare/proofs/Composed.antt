@@ -53,6 +53,6 @@ given are_formed promoted_alike tailed_alike parts n name constraints pads forme
     let few : length n.cells < 1073000000 = omega (arith, room) in
     let after = are_formed n free formed few in
     let one = tailed_alike m parts name constraints pads after (few_cells n free room) (promoted_pins parts n name constraints (design_of (prepared_on parts n)) formed ∙ e) in
-    let two = promoted_alike n free parts name constraints (record { ports = pads.ports; pullups = pads.pullups; globals = one.0 }) formed few
+    let two = promoted_alike n free parts name constraints (record { ports = pads.ports; pullups = pads.pullups; globals = one.0.numbers; direct = one.0.direct }) formed few refl
     (sym (promoted_pins parts n name constraints (design_of m) formed) ∙ one.1) in
     (two.0, two.1)

@@ -1,8 +1,8 @@
 //! The laws of prepared netlists, each as the contract of a function that does nothing.
 ghost use Rattle.ice_flow_prepare.specs.PreparedLaws.{PreparedAreGivenAlike, PreparedPinsStay, PreparedReportsStay, PreparedShowTheSame};
 
-use ice_check_promote::laws::{promoted_are_formed, promoted_show_the_same};
 use ice_carry_tails::laws::tailed_show_the_same;
+use ice_check_promote::laws::{promoted_are_formed, promoted_show_the_same};
 
 /// A prepared netlist shows, step by step, what the netlist shows.
 pub fn prepared_show_the_same()

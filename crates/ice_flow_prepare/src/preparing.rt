@@ -5,11 +5,11 @@ ghost use Rattle.ice_check_promote.specs.Promotable.{CanBePromoted};
 ghost use Rattle.ice_flow_prepare.specs.Prepared.{CanBePrepared, prepared_on};
 
 use ice_base::NoMemory;
+use ice_carry_tails::add_tails;
 use ice_check::Sound;
+use ice_check_promote::laws::netlists_with_such_names_can_be_promoted;
 use ice_chip::Chip;
 use ice_flow_globals::promote_clocks;
-use ice_check_promote::laws::netlists_with_such_names_can_be_promoted;
-use ice_carry_tails::add_tails;
 use std::alloc::Global;
 
 // Its clocks can be promoted.

@@ -14,14 +14,16 @@ ghost use Rattle.ice_flow_sample_cmd.specs.Standing.{TaskStands};
 
 use crate::request::SampleRequest;
 use crate::summing::summary_text;
-use ice_flow_frame::{Cause, Made, one_text, pin_refusal, place_refusal};
 use ice_base::NoMemory;
-use ice_flow_build::laws::layouts_stand_on_their_chip;
-use ice_flow_build::{BuildFault, Effort, Layout, arrangement_of, lay_out, nets_in, route, tallies_of};
 use ice_check::Sound;
 use ice_chip::Chip;
 use ice_core::Net;
 use ice_desk::Gate;
+use ice_flow_build::laws::layouts_stand_on_their_chip;
+use ice_flow_build::{
+    BuildFault, Effort, Layout, arrangement_of, lay_out, nets_in, route, tallies_of,
+};
+use ice_flow_frame::{Cause, Made, one_text, pin_refusal, place_refusal};
 use ice_negotiate_defs::{RouteFault, Routed};
 use ice_pcf::{Pcf, read_pcf};
 use std::alloc::Global;

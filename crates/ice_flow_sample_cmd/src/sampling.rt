@@ -16,9 +16,9 @@ ghost use Rattle.ice_flow_sample_cmd.specs.Standing.{BlifStands, Stands};
 use crate::request::SampleRequest;
 use crate::routing::route_sound;
 use crate::texts::{read_sample_chip, read_sample_net};
-use ice_flow_frame::{Cause, Done, Made, end_aloud};
 use ice_chip::Chip;
 use ice_desk::{Desk, Gate};
+use ice_flow_frame::{Cause, Done, Made, end_aloud};
 use std::alloc::Global;
 use std::thread::Threads;
 

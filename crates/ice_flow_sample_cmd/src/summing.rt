@@ -6,11 +6,11 @@ ghost use Rattle.ice_report.specs.Summary.{summary_text};
 ghost use Rattle.ice_flow_sample_cmd.specs.Made.{summary_of};
 
 use ice_base::NoMemory;
-use ice_flow_build::Layout;
 use ice_chip::Chip;
 use ice_core::Net;
-use ice_place_length::wire_length;
+use ice_flow_build::Layout;
 use ice_negotiate_defs::Routed;
+use ice_place_length::wire_length;
 use ice_report::{Summary, sample_report};
 use std::alloc::Global;
 

@@ -8,12 +8,12 @@ ghost use Rattle.ice_chip_read.specs.Whole.{chip_says};
 ghost use Rattle.ice_flow_sample_cmd.specs.Samples.{chip_text, net_text};
 ghost use Rattle.ice_flow_sample_cmd.specs.Standing.{BlifStands, Stands};
 
-use ice_flow_frame::{Cause, blif_refusal, chip_refusal, net_refusal};
 use ice_base::NoMemory;
 use ice_blif::read_blif;
 use ice_check::{Sound, check};
 use ice_chip::Chip;
 use ice_chip_read::read_chip;
+use ice_flow_frame::{Cause, blif_refusal, chip_refusal, net_refusal};
 use ice_net::Netlist;
 use ice_sample::{sample_chip, sample_net};
 use std::alloc::Global;

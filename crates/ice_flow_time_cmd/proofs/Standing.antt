@@ -17,7 +17,7 @@ use Rattle.ice_flow_time_cmd.specs.Timings.{delays_cause, DelaysStand, Stands, I
 
 -- what was made of a circuit that has these bits
 pub timed_is : (name : List ℕ) (t : List (List ℕ)) (parts : Parts) (k configuration : Configuration) (bonded : PackageRows) (delays : Delays) (text : List ℕ) → IsConfigured name t parts k bonded
-    → delays_of (text_at t 3) ≡ Ok delays → configuration ≡ k → IsLongestText parts (bits_of configuration) delays text → IsTimed name t text
+    → delays_of (text_at t 3) ≡ Ok delays → configuration ≡ k → IsLongestText parts (bits_of configuration) configuration.extras delays text → IsTimed name t text
 timed_is name t parts k configuration bonded delays text is said same longest = record {
   parts = parts;
   configuration = k;
@@ -25,7 +25,7 @@ timed_is name t parts k configuration bonded delays text is said same longest = 
   delays = delays;
   is_configured = is;
   delays_are = said;
-  is_longest = subst (λ (c : Configuration). IsLongestText parts (bits_of c) delays text) same longest;
+  is_longest = subst (λ (c : Configuration). IsLongestText parts (bits_of c) c.extras delays text) same longest;
 }
 
 -- a text of delays that is refused

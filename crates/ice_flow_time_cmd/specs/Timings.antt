@@ -54,9 +54,9 @@ pub record HasBadDelays (name : List ℕ) (line : ℕ) (texts : List (List ℕ))
   pub is_line : delays_of (text_at texts 3) ≡ Err (BadLine line)
 
 -- the text of a longest path with these delays, or of none where none leads to an end
-pub record IsLongestText (parts : Parts) (bits : Bits) (delays : DelaysData) (text : List ℕ) : Type 0 where
+pub record IsLongestText (parts : Parts) (bits : Bits) (extras : List (ℕ × ℕ × ℕ)) (delays : DelaysData) (text : List ℕ) : Type 0 where
   pub found : Option TimedPath
-  pub is_found : IsFound parts bits delays found
+  pub is_found : IsFound parts bits extras delays found
   pub is_text : text ≡ path_text found
 
 -- the bits have no fault, and this is the text of a longest path with the delays of the text
@@ -67,7 +67,7 @@ pub record IsTimed (name : List ℕ) (texts : List (List ℕ)) (text : List ℕ)
   pub delays : DelaysData
   pub is_configured : IsConfigured name texts parts configuration bonded
   pub delays_are : delays_of (text_at texts 3) ≡ Ok delays
-  pub is_longest : IsLongestText parts (bits_of configuration) delays text
+  pub is_longest : IsLongestText parts (bits_of configuration) configuration.extras delays text
 
 -- what is made of the texts; nothing is placed or routed
 abbrev pub IsMade : List ℕ → List (List ℕ) → List (List ℕ) → Arrangement → List Shut → Type 0

@@ -11,18 +11,18 @@ ghost use Rattle.ice_flow_chip_frame.specs.Standing.{IsRead};
 ghost use Rattle.ice_flow_time_cmd.specs.Timings.{delays_cause, Stands, IsLongestText, IsMade, time};
 ghost use Rattle.ice_flow_time_cmd.specs.Requests.{request_view};
 
-use ice_flow_frame::{
-    Cause, CommandFile, Done, FileRole, Made, Texts, asc_refusal, bits_refusal, chip_refusal,
-    made_text,
-};
 use ice_asc::read_asc;
 use ice_base::NoMemory;
 use ice_bits::Bits;
 use ice_chip::Chip;
 use ice_chip_read_pieces::ChipReader;
-use ice_flow_chip_frame::{ChipMaking, say_made_on_chip};
 use ice_decode::{Circuit, decode};
 use ice_desk::Desk;
+use ice_flow_chip_frame::{ChipMaking, say_made_on_chip};
+use ice_flow_frame::{
+    Cause, CommandFile, Done, FileRole, Made, Texts, asc_refusal, bits_refusal, chip_refusal,
+    made_text,
+};
 use ice_pads::PinFault;
 use ice_timing::{arrivals_of, longest, path_text};
 use ice_timing_delays::{DelayFault, Delays, read_delays};
@@ -58,7 +58,7 @@ fn longest_text(
     delays: &Delays,
 ) -> Result<Vec<u8>, NoMemory>
     requires { IsCircuitOf chip.now circuit.now.configuration circuit.now }
-    ensures { IfOk result (λ text. IsLongestText chip.now (bits_of circuit.now.configuration) delays.now text.items) }
+    ensures { IfOk result (λ text. IsLongestText chip.now (bits_of circuit.now.configuration) circuit.now.configuration.extras delays.now text.items) }
 {
     let arrivals = arrivals_of(alloc, chip, circuit, delays)?;
     let found = longest(alloc, chip, circuit, delays, &arrivals)?;

@@ -1,70 +1,75 @@
--- Fewer global buffers find their globals, too.
-use Rattle.std.proofs.Common.{◌≡◌, ℕ, ◌≤◌, Bool, true, false, cond, nat_lt, Option, None, Some, Result, Ok, Err, List, length, refl, ap, sym, ◌∙◌, arith, rules, tests}
+-- No more global buffers than globals find theirs, whichever are direct.
+use Rattle.std.proofs.Common.{◌≡◌, ◌≤◌, Option, None, Some, Result, Ok, Err, List, [], length, map, refl, ap, ap₂, sym, ◌∙◌, arith}
 use Rattle.std.specs.List.{range_with_len}
 use Rattle.std.proofs.lemmas.List.{length-map}
 use Rattle.std.proofs.lemmas.List.FromFn.{length-range_with_len}
-use Rattle.ice_base.specs.declared.number.SignalNo.{SignalNo}
-use Rattle.ice_net.specs.declared.kind.CellKind.{CellKind}
-use Rattle.ice_net.specs.declared.kind.CellKind.TheVariants.{Lut, Cover, Carry, Flop, PadCell, Global}
 use Rattle.ice_net.specs.NetlistData.{NetlistData}
 use Rattle.ice_cells.specs.Moves.{renamed_source}
-use Rattle.ice_cells.specs.Packed.{Plan, plan_of, global_by, packed}
+use Rattle.ice_cells.specs.Packed.{plan_of, packed}
 use Rattle.ice_cells.specs.Packed as packs
 use Rattle.ice_cells.specs.Runs.{fed_numbers, moved_numbers, design_of}
+use Rattle.ice_cells.specs.declared.design.Design.{Design}
 use Rattle.ice_chip.specs.Database.{Parts, PackageRows}
+use Rattle.ice_chip.specs.declared.rows.Pad.{Pad}
 use Rattle.ice_pcf.specs.declared.constraint.Constraint.{Constraint}
 use Rattle.ice_pads.specs.declared.fault.PinFault.{PinFault}
-use Rattle.ice_pads.specs.declared.fault.PinFault.TheVariants.{TooManyGlobals}
 use Rattle.ice_pads.specs.declared.given.Chosen.{Chosen}
 use Rattle.ice_pads.specs.declared.want.Want.{Want}
-use Rattle.ice_pads.specs.declared.want.Pins.{Pins}
+use Rattle.ice_pads.specs.declared.want.Buffer.{Buffer}
 use Rattle.ice_pads.specs.Constraints.{◌>>=◌}
-use Rattle.ice_pads.specs.Globals.{globals, chosen_from, globals_of}
-use Rattle.ice_pads.specs.Wants.{pins_of, pins}
-use Rattle.ice_pads.specs.Assign.{PadsData, pads_with, chosen_by, assigned}
+use Rattle.ice_pads.specs.Globals.{globals, direct_choices, left, fed_pins, TakenData, taken_by, globals_of}
+use Rattle.ice_pads.specs.Wants.{buffer_of, buffers}
+use Rattle.ice_pads.specs.Assign.{PadsData, chosen_pads, pads_with, chosen_by, assigned}
+use Rattle.ice_pads.proofs.GlobalLaws.{globals_apart, enough}
+use Rattle.ice_pads.proofs.DirectLaws.{direct_long, left_long, fed_beside}
 
 same_ok : (x y : PadsData) (one two : Result PadsData PinFault) → one ≡ Ok x → two ≡ Ok y → one ≡ two → x ≡ y
 same_ok x y one two is be e = let same : Ok x ≡ Ok y = sym is ∙ e ∙ be in cc
 
--- with these needs of global buffers the ports get the same pads, and the buffers some globals
-abbrev pub IsGiven : Parts → List Constraint → NetlistData → List Want → List Pins → Option PackageRows → PadsData → Type 0
-IsGiven parts constraints n ws ps bonded pads = (globals : List ℕ) × (assigned parts constraints n ws ps bonded ≡ Ok (record { ports = pads.ports; pullups = pads.pullups; globals = globals }))
+-- where global buffers need this the ports get the same pads, and the buffers some globals
+abbrev pub IsGiven : Parts → List Constraint → NetlistData → List Want → (List Pad → List Buffer) → Option PackageRows → PadsData → Type 0
+IsGiven parts constraints n ws bs bonded pads =
+    (taken : TakenData) × (assigned parts constraints n ws bs bonded ≡ Ok (record { ports = pads.ports; pullups = pads.pullups; globals = taken.numbers; direct = taken.direct }))
 
-pub fewer : (parts : Parts) (constraints : List Constraint) (n : NetlistData) (ws : List Want) (more ps : List Pins) (bonded : Option PackageRows) (pads : PadsData) → length ps ≤ length more
-    → assigned parts constraints n ws more bonded ≡ Ok pads → IsGiven parts constraints n ws ps bonded pads
-fewer parts constraints n ws more ps None pads le e = cc e
-fewer parts constraints n ws more ps (Some bonded) pads le e = by (chosen_by parts bonded constraints n ws) refl e
+-- as many buffers as there are globals always find theirs: where one is direct, one buffer less chooses, and there is one global less at most
+room_left : (parts : Parts) (bs : List Buffer) → length bs ≤ length (globals parts) → length (fed_pins (direct_choices parts [] bs) bs) ≤ length (left (direct_choices parts [] bs) (globals parts))
+room_left parts bs le =
+    let direct = direct_choices parts [] bs in
+    let few = left_long direct (globals parts) (globals_apart parts) in
+    let beside = fed_beside direct bs (direct_long parts [] bs) in
+    omega (arith, le, few, beside)
+
+globals_found : (parts : Parts) (bs : List Buffer) → length bs ≤ length (globals parts)
+    → globals_of parts bs ≡ Ok (taken_by parts (direct_choices parts [] bs) (left (direct_choices parts [] bs) (globals parts)) (fed_pins (direct_choices parts [] bs) bs))
+globals_found parts bs le =
+    let direct = direct_choices parts [] bs in
+    enough parts direct (left direct (globals parts)) (fed_pins direct bs) (room_left parts bs le)
+
+pub fewer : (parts : Parts) (constraints : List Constraint) (n : NetlistData) (ws : List Want) (more bs : List Pad → List Buffer) (bonded : Option PackageRows) (pads : PadsData)
+    → ((ports : List Pad) → length (bs ports) ≤ length (globals parts)) → assigned parts constraints n ws more bonded ≡ Ok pads → IsGiven parts constraints n ws bs bonded pads
+fewer parts constraints n ws more bs None pads le e = cc e
+fewer parts constraints n ws more bs (Some bonded) pads le e = by (chosen_by parts bonded constraints n ws) refl e
   where
-    enough : nat_lt (length (globals parts)) (length more) ≡ false → nat_lt (length (globals parts)) (length ps) ≡ false
-    enough f = (let few : length more ≤ length (globals parts) = search (rules, tests) in let fit : length ps ≤ length (globals parts) = omega (arith, few, le) in search (rules, tests))
+    ports_are : (chosen : List Chosen) (said : Result TakenData PinFault) → (said >>= (λ taken. Ok (pads_with chosen taken))) ≡ Ok pads → (chosen_pads chosen ≡ pads.ports) × (map (λ (c : Chosen). c.pullup) chosen ≡ pads.pullups)
+    ports_are chosen (Err fault) g = cc g
+    ports_are chosen (Ok taken) g = let same = same_ok (pads_with chosen taken) pads (Ok (pads_with chosen taken)) (Ok pads) refl refl g in (ap (λ (p : PadsData). p.ports) same, ap (λ (p : PadsData). p.pullups) same)
 
-    there : (chosen : List Chosen) (b : Bool) → nat_lt (length (globals parts)) (length more) ≡ b → chosen_by parts bonded constraints n ws ≡ Ok chosen
-        → (cond b (Err (TooManyGlobals (length more) (length (globals parts)))) (Ok (chosen_from parts (globals parts) more)) >>= (λ globals. Ok (pads_with chosen globals))) ≡ Ok pads
-        → IsGiven parts constraints n ws ps (Some bonded) pads
-    there chosen true f g h = cc h
-    there chosen false f g h = (
-      chosen_from parts (globals parts) ps,
-      ap (λ said. said >>= (λ chosen. globals_of parts ps >>= (λ globals. Ok (pads_with chosen globals)))) g
-          ∙ ap (λ b. cond b (Err (TooManyGlobals (length ps) (length (globals parts)))) (Ok (chosen_from parts (globals parts) ps)) >>= (λ globals. Ok (pads_with chosen globals))) (enough f)
-          ∙ ap (λ (x : PadsData). Ok (record { ports = x.ports; pullups = x.pullups; globals = chosen_from parts (globals parts) ps })) (same_ok (pads_with chosen (chosen_from parts (globals parts) more)) pads (Ok (pads_with chosen (chosen_from parts (globals parts) more))) (Ok pads) refl refl h),
-    )
-
-    by : (said : Result (List Chosen) PinFault) → chosen_by parts bonded constraints n ws ≡ said → (said >>= (λ chosen. globals_of parts more >>= (λ globals. Ok (pads_with chosen globals)))) ≡ Ok pads
-        → IsGiven parts constraints n ws ps (Some bonded) pads
+    by : (said : Result (List Chosen) PinFault) → chosen_by parts bonded constraints n ws ≡ said → (said >>= (λ chosen. globals_of parts (more (chosen_pads chosen)) >>= (λ taken. Ok (pads_with chosen taken)))) ≡ Ok pads
+        → IsGiven parts constraints n ws bs (Some bonded) pads
     by (Err fault) g h = cc h
-    by (Ok chosen) g h = there chosen (nat_lt (length (globals parts)) (length more)) refl g h
+    by (Ok chosen) g h =
+        let own = bs (chosen_pads chosen) in
+        let taken = taken_by parts (direct_choices parts [] own) (left (direct_choices parts [] own) (globals parts)) (fed_pins (direct_choices parts [] own) own) in
+        let same = ports_are chosen (globals_of parts (more (chosen_pads chosen))) h in (
+          taken,
+          ap (λ said. said >>= (λ chosen. globals_of parts (bs (chosen_pads chosen)) >>= (λ taken. Ok (pads_with chosen taken)))) g
+              ∙ ap (λ said. said >>= (λ taken. Ok (pads_with chosen taken))) (globals_found parts own (le (chosen_pads chosen)))
+              ∙ ap₂ (λ ports pullups. Ok (record { ports = ports; pullups = pullups; globals = taken.numbers; direct = taken.direct })) same.0 same.1,
+        )
 
 -- ---- how many global buffers there are
-pub count_same : (p q : Plan) (kind : CellKind) (ins others : List (Option SignalNo)) → length (global_by p kind ins) ≡ length (global_by q kind others)
-count_same p q (Lut t) ins others = refl
-count_same p q (Cover t width) ins others = refl
-count_same p q Carry ins others = refl
-count_same p q (Flop falling enable reset) ins others = refl
-count_same p q (PadCell pin_type pullup) ins others = refl
-count_same p q Global ins others = refl
+pub buffers_long : (d : Design) (ports : List Pad) → length (buffers d ports) ≡ length d.globals
+buffers_long d ports = length-map (range_with_len 0 (length d.globals)) (buffer_of d ports) ∙ length-range_with_len 0 (length d.globals)
 
-pub pins_count : (m : NetlistData) → length (pins (design_of m)) ≡ length (packs.globals_of (plan_of m) m.cells)
-pins_count m =
-    length-map (range_with_len 0 (length (design_of m).globals)) (pins_of (design_of m).cells)
-    ∙ length-range_with_len 0 (length (design_of m).globals)
-    ∙ length-map (packed m).globals (renamed_source (moved_numbers (packed m)) (fed_numbers (packed m)))
+pub globals_count : (m : NetlistData) → length (design_of m).globals ≡ length (packs.globals_of (plan_of m) m.cells)
+globals_count m = length-map (packed m).globals (renamed_source (moved_numbers (packed m)) (fed_numbers (packed m)))

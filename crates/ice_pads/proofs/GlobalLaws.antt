@@ -7,7 +7,7 @@ use Rattle.ice_base.proofs.Keys.{nat_same, nat_self}
 use Rattle.ice_chip.specs.Database.{Parts}
 use Rattle.ice_pads.specs.declared.want.Pins.{Pins}
 use Rattle.ice_pads.specs.declared.fault.PinFault.TheVariants.{TooManyGlobals}
-use Rattle.ice_pads.specs.Globals.{is_global, globals, globals_of, serves, Choices, or_first, picked, with_taken, is_control, choice, first_choices, other_choices, chosen_from}
+use Rattle.ice_pads.specs.Globals.{numbers, is_global, globals, serves, Choices, or_first, picked, with_taken, is_control, choice, first_choices, other_choices, chosen_from, taken_by, taken_with}
 
 -- ---- lists without doubles
 abbrev pub Apart : List ℕ → Type 0
@@ -17,7 +17,7 @@ Apart (x ∷ xs) = (list_any (nat_eq x) xs ≡ false) × Apart xs
 abbrev pub AreDisjoint : List ℕ → List ℕ → Type 0
 AreDisjoint xs ys = (m : ℕ) → list_any (nat_eq m) xs ≡ true → list_any (nat_eq m) ys ≡ false
 
-turned : (m n : ℕ) → nat_eq m n ≡ false → nat_eq n m ≡ false
+pub turned : (m n : ℕ) → nat_eq m n ≡ false → nat_eq n m ≡ false
 turned m n e = by (nat_eq n m) refl
   where
     by : (b : Bool) → nat_eq n m ≡ b → b ≡ false
@@ -25,27 +25,27 @@ turned m n e = by (nat_eq n m) refl
     by false is = refl
 
 -- a number that is in neither of two parts
-neither : (a b : Bool) → a ≡ false → b ≡ false → (a || b) ≡ false
+pub neither : (a b : Bool) → a ≡ false → b ≡ false → (a || b) ≡ false
 neither false b e f = f
 neither true b e f = absurd (true≢false e)
 
-left_fails : (a b : Bool) → (a || b) ≡ false → a ≡ false
+pub left_fails : (a b : Bool) → (a || b) ≡ false → a ≡ false
 left_fails false b e = refl
 left_fails true b e = absurd (true≢false e)
 
-right_fails : (a b : Bool) → (a || b) ≡ false → b ≡ false
+pub right_fails : (a b : Bool) → (a || b) ≡ false → b ≡ false
 right_fails false b e = e
 right_fails true b e = absurd (true≢false e)
 
-right_holds : (a b : Bool) → b ≡ true → (a || b) ≡ true
+pub right_holds : (a b : Bool) → b ≡ true → (a || b) ≡ true
 right_holds true b e = refl
 right_holds false b e = e
 
-left_holds : (a b : Bool) → a ≡ true → (a || b) ≡ true
+pub left_holds : (a b : Bool) → a ≡ true → (a || b) ≡ true
 left_holds true b e = refl
 left_holds false b e = absurd (true≢false (sym e))
 
-filter_less : (p q : ℕ → Bool) (xs : List ℕ) → list_any p xs ≡ false → list_any p (filter q xs) ≡ false
+pub filter_less : (p q : ℕ → Bool) (xs : List ℕ) → list_any p xs ≡ false → list_any p (filter q xs) ≡ false
 filter_less p q [] none = refl
 filter_less p q (x ∷ xs) none = by (q x) (filter_less p q xs (right_fails (p x) (list_any p xs) none))
   where
@@ -53,7 +53,7 @@ filter_less p q (x ∷ xs) none = by (q x) (filter_less p q xs (right_fails (p x
     by true rest = neither (p x) (list_any p (filter q xs)) (left_fails (p x) (list_any p xs) none) rest
     by false rest = rest
 
-filter_apart : (q : ℕ → Bool) (xs : List ℕ) → Apart xs → Apart (filter q xs)
+pub filter_apart : (q : ℕ → Bool) (xs : List ℕ) → Apart xs → Apart (filter q xs)
 filter_apart q [] apart = tt
 filter_apart q (x ∷ xs) apart = by (q x) (filter_less (nat_eq x) q xs apart.0) (filter_apart q xs apart.1)
   where
@@ -61,7 +61,7 @@ filter_apart q (x ∷ xs) apart = by (q x) (filter_less (nat_eq x) q xs apart.0)
     by true none rest = (none, rest)
     by false none rest = rest
 
-filter_all : (p q : ℕ → Bool) (xs : List ℕ) → list_all p xs ≡ true → list_all p (filter q xs) ≡ true
+pub filter_all : (p q : ℕ → Bool) (xs : List ℕ) → list_all p xs ≡ true → list_all p (filter q xs) ≡ true
 filter_all p q [] all = refl
 filter_all p q (x ∷ xs) all = by (q x) (and_parts (p x) (list_all p xs) all).0 (filter_all p q xs (and_parts (p x) (list_all p xs) all).1)
   where
@@ -70,7 +70,7 @@ filter_all p q (x ∷ xs) all = by (q x) (and_parts (p x) (list_all p xs) all).0
     by false here rest = rest
 
 -- what stays passes the test
-filter_both : (p q : ℕ → Bool) (xs : List ℕ) → list_all p xs ≡ true → list_all (λ n. q n && p n) (filter q xs) ≡ true
+pub filter_both : (p q : ℕ → Bool) (xs : List ℕ) → list_all p xs ≡ true → list_all (λ n. q n && p n) (filter q xs) ≡ true
 filter_both p q [] all = refl
 filter_both p q (x ∷ xs) all = by (q x) refl (and_parts (p x) (list_all p xs) all).0 (filter_both p q xs (and_parts (p x) (list_all p xs) all).1)
   where
@@ -79,7 +79,7 @@ filter_both p q (x ∷ xs) all = by (q x) refl (and_parts (p x) (list_all p xs) 
     by false is here rest = rest
 
 -- ---- one number taken out
-out : (n : ℕ) (xs : List ℕ) → list_any (nat_eq n) (filter (λ m. not (m == n)) xs) ≡ false
+pub out : (n : ℕ) (xs : List ℕ) → list_any (nat_eq n) (filter (λ m. not (m == n)) xs) ≡ false
 out n [] = refl
 out n (x ∷ xs) = by (x == n) refl (out n xs)
   where
@@ -95,7 +95,7 @@ stays n (x ∷ xs) none = by (x == n) refl (stays n xs (right_fails (nat_eq n x)
     by true is rest = absurd (true≢false (sym (nat_self n) ∙ ap (nat_eq n) (sym (nat_same x n is)) ∙ left_fails (nat_eq n x) (list_any (nat_eq n) xs) none))
     by false is rest = omega arith
 
-one_less : (n : ℕ) (xs : List ℕ) → Apart xs → length xs ≤ length (filter (λ m. not (m == n)) xs) + 1
+pub one_less : (n : ℕ) (xs : List ℕ) → Apart xs → length xs ≤ length (filter (λ m. not (m == n)) xs) + 1
 one_less n [] apart = omega arith
 one_less n (x ∷ xs) apart = by (x == n) refl (one_less n xs apart.1)
   where
@@ -114,12 +114,12 @@ push_apart (x ∷ xs) n apart none = (
 )
 
 -- ---- what is taken so far
-abbrev somes : List (Option ℕ) → List ℕ
+abbrev pub somes : List (Option ℕ) → List ℕ
 somes [] = []
 somes (None ∷ taken) = somes taken
 somes (Some n ∷ taken) = n ∷ somes taken
 
-abbrev nones : List (Option ℕ) → ℕ
+abbrev pub nones : List (Option ℕ) → ℕ
 nones [] = 0
 nones (None ∷ taken) = 1 + nones taken
 nones (Some n ∷ taken) = nones taken
@@ -153,7 +153,7 @@ pub record AreChoices (test : ℕ → Bool) (choices : Choices) (left : ℕ) : T
   pub disjoint : AreDisjoint (somes choices.taken) choices.free
   pub room : nones choices.taken + left ≤ length choices.free
 
-passes : (test : ℕ → Bool) (xs : List ℕ) (n : ℕ) → list_all test xs ≡ true → list_any (nat_eq n) xs ≡ true → test n ≡ true
+pub passes : (test : ℕ → Bool) (xs : List ℕ) (n : ℕ) → list_all test xs ≡ true → list_any (nat_eq n) xs ≡ true → test n ≡ true
 passes test [] n all any = absurd (true≢false (sym any))
 passes test (x ∷ xs) n all any = by (nat_eq n x) refl (passes test xs n (and_parts (test x) (list_all test xs) all).1) any
   where
@@ -208,7 +208,7 @@ take test choices left n are free = record {
     by m false e is = filter_less (nat_eq m) (λ k. not (k == n)) choices.free (are.disjoint m (among (list_any (nat_eq m) (somes choices.taken)) (nat_eq m n) e is))
 
 -- what is picked is free
-found_in : (p : ℕ → Bool) (xs : List ℕ) (n : ℕ) → find p xs ≡ Some n → list_any (nat_eq n) xs ≡ true
+pub found_in : (p : ℕ → Bool) (xs : List ℕ) (n : ℕ) → find p xs ≡ Some n → list_any (nat_eq n) xs ≡ true
 found_in p [] n e = absurd (cc)
 found_in p (x ∷ xs) n e = by (p x) (found_in p xs n) e
   where
@@ -256,7 +256,7 @@ outside (None ∷ taken) (n ∷ free) m room not_taken not_free =
     neither (nat_eq m n) (list_any (nat_eq m) (other_choices taken free)) (left_fails (nat_eq m n) (list_any (nat_eq m) free) not_free)
     (outside taken free m (omega arith) not_taken (right_fails (nat_eq m n) (list_any (nat_eq m) free) not_free))
 
-others_apart : (taken : List (Option ℕ)) (free : List ℕ) → nones taken ≤ length free → Apart (somes taken) → Apart free → AreDisjoint (somes taken) free → Apart (other_choices taken free)
+pub others_apart : (taken : List (Option ℕ)) (free : List ℕ) → nones taken ≤ length free → Apart (somes taken) → Apart free → AreDisjoint (somes taken) free → Apart (other_choices taken free)
 others_apart [] free room taken_apart free_apart disjoint = tt
 others_apart (Some n ∷ taken) free room taken_apart free_apart disjoint = (
   outside taken free n room taken_apart.0 (disjoint n (left_holds (nat_eq n n) (list_any (nat_eq n) (somes taken)) (nat_self n))),
@@ -268,11 +268,11 @@ others_apart (None ∷ taken) (n ∷ free) room taken_apart free_apart disjoint 
   others_apart taken free (omega arith) taken_apart free_apart.1 (λ m is. right_fails (nat_eq m n) (list_any (nat_eq m) free) (disjoint m is)),
 )
 
-both_hold : (a b : Bool) → a ≡ true → b ≡ true → (a && b) ≡ true
+pub both_hold : (a b : Bool) → a ≡ true → b ≡ true → (a && b) ≡ true
 both_hold true b e f = f
 both_hold false b e f = absurd (true≢false (sym e))
 
-others_pass : (test : ℕ → Bool) (taken : List (Option ℕ)) (free : List ℕ) → nones taken ≤ length free → list_all test (somes taken) ≡ true → list_all test free ≡ true → list_all test (other_choices taken free) ≡ true
+pub others_pass : (test : ℕ → Bool) (taken : List (Option ℕ)) (free : List ℕ) → nones taken ≤ length free → list_all test (somes taken) ≡ true → list_all test free ≡ true → list_all test (other_choices taken free) ≡ true
 others_pass test [] free room taken_pass free_pass = refl
 others_pass test (Some n ∷ taken) free room taken_pass free_pass =
     let parts = and_parts (test n) (list_all test (somes taken)) taken_pass in
@@ -282,7 +282,7 @@ others_pass test (None ∷ taken) (n ∷ free) room taken_pass free_pass =
     let parts = and_parts (test n) (list_all test free) free_pass in
     both_hold (test n) (list_all test (other_choices taken free)) parts.0 (others_pass test taken free (omega arith) taken_pass parts.1)
 
-others_long : (taken : List (Option ℕ)) (free : List ℕ) → length (other_choices taken free) ≡ length taken
+pub others_long : (taken : List (Option ℕ)) (free : List ℕ) → length (other_choices taken free) ≡ length taken
 others_long [] free = refl
 others_long (Some n ∷ taken) free = let e : length (other_choices taken free) ≡ length taken = others_long taken free in omega arith
 others_long (None ∷ taken) [] = let e : length (other_choices taken []) ≡ length taken = others_long taken [] in omega arith
@@ -293,40 +293,48 @@ others_long (None ∷ taken) (n ∷ free) = let e : length (other_choices taken 
 abbrev pub is_one : Parts → ℕ → Bool
 is_one parts n = is_global parts n && nat_lt n 8
 
-pub record AreTakeable (parts : Parts) (numbers : List ℕ) (count : ℕ) : Type 0 where
+-- different globals, each of which passes the test, for each that chooses
+pub record AreChosen (test : ℕ → Bool) (numbers : List ℕ) (count : ℕ) : Type 0 where
   pub apart : Apart numbers
-  pub pass : list_all (is_one parts) numbers ≡ true
+  pub pass : list_all test numbers ≡ true
   pub long : length numbers ≡ count
 
-eight_apart : Apart (0 ∷ 1 ∷ 2 ∷ 3 ∷ 4 ∷ 5 ∷ 6 ∷ 7 ∷ [])
+pub eight_apart : Apart numbers
 eight_apart = (refl, (refl, (refl, (refl, (refl, (refl, (refl, (refl, tt))))))))
 
-eight_pass : list_all (λ n. nat_lt n 8) (0 ∷ 1 ∷ 2 ∷ 3 ∷ 4 ∷ 5 ∷ 6 ∷ 7 ∷ []) ≡ true
+pub eight_pass : list_all (λ n. nat_lt n 8) numbers ≡ true
 eight_pass = refl
 
-pub all_takeable : (parts : Parts) (ps : List Pins) → length ps ≤ length (globals parts) → AreTakeable parts (chosen_from parts (globals parts) ps) (length ps)
-all_takeable parts ps enough =
-    let eight : List ℕ = 0 ∷ 1 ∷ 2 ∷ 3 ∷ 4 ∷ 5 ∷ 6 ∷ 7 ∷ [] in
-    let begin : Choices = record { taken = []; free = globals parts } in
-    let begun : AreChoices (is_one parts) begin (length ps) = record {
-      free_apart = filter_apart (is_global parts) eight eight_apart;
-      free_pass = filter_both (λ n. nat_lt n 8) (is_global parts) eight eight_pass;
+-- what is chosen from different globals that pass a test, where there are enough
+pub all_chosen : (parts : Parts) (test : ℕ → Bool) (free : List ℕ) (ps : List Pins) → Apart free → list_all test free ≡ true → length ps ≤ length free → AreChosen test (chosen_from parts free ps) (length ps)
+all_chosen parts test free ps apart pass enough =
+    let begin : Choices = record { taken = []; free = free } in
+    let begun : AreChoices test begin (length ps) = record {
+      free_apart = apart;
+      free_pass = pass;
       taken_apart = tt;
       taken_pass = refl;
       disjoint = λ m is. absurd (true≢false (sym is));
       room = omega arith;
     } in
-    let first = first_are parts (is_one parts) begin ps begun in
+    let first = first_are parts test begin ps begun in
     let ended = first_choices parts begin ps in
     let room : nones ended.taken ≤ length ended.free = let le : nones ended.taken + 0 ≤ length ended.free = first.0.room in omega arith in
     record {
       apart = others_apart ended.taken ended.free room first.0.taken_apart first.0.free_apart first.0.disjoint;
-      pass = others_pass (is_one parts) ended.taken ended.free room first.0.taken_pass first.0.free_pass;
+      pass = others_pass test ended.taken ended.free room first.0.taken_pass first.0.free_pass;
       long = let e : length ended.taken ≡ length begin.taken + length ps = first.1 in others_long ended.taken ended.free ∙ (let f : length ended.taken ≡ length ps = omega arith in f);
     }
 
+-- all globals that can be taken are such
+pub globals_apart : (parts : Parts) → Apart (globals parts)
+globals_apart parts = filter_apart (is_global parts) numbers eight_apart
+
+pub globals_pass : (parts : Parts) → list_all (is_one parts) (globals parts) ≡ true
+globals_pass parts = filter_both (λ n. nat_lt n 8) (is_global parts) numbers eight_pass
+
 -- ---- too few, or enough
-filter_long : (p : ℕ → Bool) (xs : List ℕ) → length (filter p xs) ≤ length xs
+pub filter_long : (p : ℕ → Bool) (xs : List ℕ) → length (filter p xs) ≤ length xs
 filter_long p [] = omega arith
 filter_long p (x ∷ xs) = by (p x) (filter_long p xs)
   where
@@ -335,22 +343,22 @@ filter_long p (x ∷ xs) = by (p x) (filter_long p xs)
     by false le = omega arith
 
 pub few_globals : (parts : Parts) → length (globals parts) ≤ 8
-few_globals parts = filter_long (is_global parts) (0 ∷ 1 ∷ 2 ∷ 3 ∷ 4 ∷ 5 ∷ 6 ∷ 7 ∷ [])
+few_globals parts = filter_long (is_global parts) numbers
 
-pub too_few : (parts : Parts) (ps : List Pins) (need have : ℕ) → need ≡ length ps → have ≡ length (globals parts) → have < need → globals_of parts ps ≡ Err (TooManyGlobals need have)
-too_few parts ps need have long free lt =
-    let test : nat_lt (length (globals parts)) (length ps) ≡ true = nat_below (length (globals parts)) (length ps) (omega arith) in
-    ap (λ b. if b then Err (TooManyGlobals (length ps) (length (globals parts))) else Ok (chosen_from parts (globals parts) ps)) test
-    ∙ ap (λ n. Err (TooManyGlobals n (length (globals parts)))) (sym long)
-    ∙ ap (λ n. Err (TooManyGlobals need n)) (sym free)
+pub too_few : (parts : Parts) (direct : List (Option ℕ)) (free : List ℕ) (ps : List Pins) (need have : ℕ) → need ≡ length ps → have ≡ length free → have < need → taken_with parts direct free ps ≡ Err (TooManyGlobals need have)
+too_few parts direct free ps need have long few lt =
+    let test : nat_lt (length free) (length ps) ≡ true = nat_below (length free) (length ps) (omega arith) in
+    ap (λ b. if b then Err (TooManyGlobals (length ps) (length free)) else Ok (taken_by parts direct free ps)) test
+    ∙ ap (λ n. Err (TooManyGlobals n (length free))) (sym long)
+    ∙ ap (λ n. Err (TooManyGlobals need n)) (sym few)
   where
     nat_below : (a b : ℕ) → a < b → nat_lt a b ≡ true
     nat_below a b lt = search (rules, tests)
 
-pub enough : (parts : Parts) (ps : List Pins) → length ps ≤ length (globals parts) → globals_of parts ps ≡ Ok (chosen_from parts (globals parts) ps)
-enough parts ps le =
-    let test : nat_lt (length (globals parts)) (length ps) ≡ false = nat_above (length (globals parts)) (length ps) le in
-    ap (λ b. if b then Err (TooManyGlobals (length ps) (length (globals parts))) else Ok (chosen_from parts (globals parts) ps)) test
+pub enough : (parts : Parts) (direct : List (Option ℕ)) (free : List ℕ) (ps : List Pins) → length ps ≤ length free → taken_with parts direct free ps ≡ Ok (taken_by parts direct free ps)
+enough parts direct free ps le =
+    let test : nat_lt (length free) (length ps) ≡ false = nat_above (length free) (length ps) le in
+    ap (λ b. if b then Err (TooManyGlobals (length ps) (length free)) else Ok (taken_by parts direct free ps)) test
   where
     nat_above : (a b : ℕ) → b ≤ a → nat_lt a b ≡ false
     nat_above a b le = search (rules, tests)

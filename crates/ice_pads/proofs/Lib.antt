@@ -11,5 +11,6 @@ mod GivenLaws
 mod ChosenLaws
 mod PackageLaws
 mod GlobalLaws
+mod DirectLaws
 mod AssignLaws
 pub mod Fewer

@@ -1,15 +1,17 @@
 -- Which globals there are to take, and which global buffer takes which.
-use Rattle.std.specs.Prelude.{ℕ, zero, suc, ◌==◌, Bool, true, false, ◌&&◌, ◌||◌, not, is_some, Option, None, Some, Result, Ok, Err, List, [], ◌∷◌, ◌++◌, map, filter, find, length, bytes_eq, nat_lt, if◌then◌else◌}
+use Rattle.std.specs.Prelude.{ℕ, zero, suc, ◌==◌, nat_eq, Bool, true, false, ◌&&◌, ◌||◌, not, is_some, Option, None, Some, Result, Ok, Err, List, [], ◌∷◌, ◌++◌, map, filter, find, length, bytes_eq, nat_lt, if◌then◌else◌}
 use Rattle.std.specs.List.{list_any}
 use Rattle.ice_base.specs.declared.number.TileAt.{TileAt}
 use Rattle.ice_chip.specs.Database.{Parts}
-use Rattle.ice_chip.specs.Lookups.{names_of, global_of, tile_of, wire_named}
-use Rattle.ice_chip.specs.Places.{same_tile}
+use Rattle.ice_chip.specs.Lookups.{names_of, global_of, gbufpin_of, padin_of, tile_of, wire_named}
+use Rattle.ice_chip.specs.Places.{same_pad, same_tile}
 use Rattle.ice_chip.specs.WireNames.{clock_enable_name, set_reset_name, fabout_name, global_name}
+use Rattle.ice_chip.specs.declared.rows.Pad.{Pad}
 use Rattle.ice_chip.specs.declared.tile.Tile.{Tile}
 use Rattle.ice_chip.specs.declared.rows.TileKind.{TileKind}
 use Rattle.ice_chip.specs.declared.rows.TileKind.TheVariants.{Io, Logic, RamBottom, RamTop}
 use Rattle.ice_bits_rows.specs.FirstSound.{is_joined}
+use Rattle.ice_pads.specs.declared.want.Buffer.{Buffer}
 use Rattle.ice_pads.specs.declared.want.Pins.{Pins}
 use Rattle.ice_pads.specs.declared.fault.PinFault.{PinFault}
 use Rattle.ice_pads.specs.declared.fault.PinFault.TheVariants.{TooManyGlobals}
@@ -44,9 +46,13 @@ some_lower parts (suc n) tile = some_lower parts n tile || is_same_tile (global_
 abbrev pub is_global : Parts → ℕ → Bool
 is_global parts n = is_some (global_wire parts n) && is_fed parts (global_of parts n) && not (some_lower parts n (global_of parts n))
 
+-- the numbers of the globals
+abbrev pub numbers : List ℕ
+numbers = 0 ∷ 1 ∷ 2 ∷ 3 ∷ 4 ∷ 5 ∷ 6 ∷ 7 ∷ []
+
 -- the globals that can be taken, by rising number
 abbrev pub globals : Parts → List ℕ
-globals parts = filter (is_global parts) (0 ∷ 1 ∷ 2 ∷ 3 ∷ 4 ∷ 5 ∷ 6 ∷ 7 ∷ [])
+globals parts = filter (is_global parts) numbers
 
 -- ---- which pins a global reaches
 abbrev pub is_joined_to : Parts → Option ℕ → Option ℕ → Bool
@@ -70,7 +76,62 @@ reaches parts wire pins t =
 abbrev pub serves : Parts → Pins → ℕ → Bool
 serves parts pins n = list_any (λ (t : Tile). is_logic_kind t.kind && reaches parts (global_wire parts n) pins t.at) (map tile_of parts.tiles)
 
--- ---- choices
+-- a global buffer that is read as an enable, or as a set or reset
+abbrev pub is_control : Pins → Bool
+is_control pins = pins.enable || pins.reset
+
+-- ---- direct globals: the level of a pad is put on a global by an extra bit, a bank and a place
+abbrev pub is_same_extra : ℕ × ℕ × ℕ → Option (ℕ × ℕ × ℕ) → Bool
+is_same_extra extra None = false
+is_same_extra extra (Some other) = (extra.0 == other.0) && (extra.1 == other.1) && (extra.2 == other.2)
+
+-- the extra bit is that of this global, and another one's too
+abbrev pub is_shared_by : Parts → ℕ → ℕ × ℕ × ℕ → ℕ → Bool
+is_shared_by parts n extra m = not (m == n) && is_same_extra extra (padin_of parts m)
+
+abbrev pub is_own : Parts → ℕ → Option (ℕ × ℕ × ℕ) → Bool
+is_own parts n None = false
+is_own parts n (Some extra) = not (list_any (is_shared_by parts n extra) numbers)
+
+-- the global has an extra bit, which is no other global's
+abbrev pub has_own_extra : Parts → ℕ → Bool
+has_own_extra parts n = is_own parts n (padin_of parts n)
+
+abbrev pub is_pad : Pad → Option Pad → Bool
+is_pad pad None = false
+is_pad pad (Some other) = same_pad pad other
+
+-- the global reaches what the buffer is read as; of a clock nothing is asked
+abbrev pub meets : Parts → Pins → ℕ → Bool
+meets parts pins n = not (is_control pins) || serves parts pins n
+
+-- a global buffer that takes the level of the pad can be direct on the global
+abbrev pub can_be_direct : Parts → Pins → Pad → ℕ → Bool
+can_be_direct parts pins pad n = is_pad pad (gbufpin_of parts n) && has_own_extra parts n && is_some (global_wire parts n) && meets parts pins n
+
+abbrev pub has_number : ℕ → Option ℕ → Bool
+has_number n None = false
+has_number n (Some m) = nat_eq n m
+
+-- one of them took the global
+abbrev pub is_taken : List (Option ℕ) → ℕ → Bool
+is_taken taken n = list_any (has_number n) taken
+
+abbrev pub is_free_for : Parts → List (Option ℕ) → Pins → Pad → ℕ → Bool
+is_free_for parts taken pins pad n = not (is_taken taken n) && can_be_direct parts pins pad n
+
+-- the least global on which it can be direct and which none before took; a buffer that takes the level of no pad has none
+abbrev pub direct_on : Parts → List (Option ℕ) → Pins → Option Pad → Option ℕ
+direct_on parts taken pins None = None
+direct_on parts taken pins (Some pad) = find (is_free_for parts taken pins pad) numbers
+
+-- the global on which each of these is direct, where it is, behind what those before took
+abbrev pub direct_choices : Parts → List (Option ℕ) → List Buffer → List (Option ℕ)
+direct_choices parts taken [] = []
+direct_choices parts taken (buffer ∷ buffers) =
+    direct_on parts taken buffer.pins buffer.pad ∷ direct_choices parts (taken ++ direct_on parts taken buffer.pins buffer.pad ∷ []) buffers
+
+-- ---- choices of the others
 -- what each global buffer has taken so far, and which globals are left
 pub record Choices : Type 0 where
   pub taken : List (Option ℕ)
@@ -92,11 +153,7 @@ without (Some n) free = filter (λ m. not (m == n)) free
 abbrev pub with_taken : Choices → Option ℕ → Choices
 with_taken choices n = record { taken = choices.taken ++ n ∷ []; free = without n choices.free }
 
--- a global buffer that is read as an enable, or as a set or reset
-abbrev pub is_control : Pins → Bool
-is_control pins = pins.enable || pins.reset
-
--- these choose first
+-- those that are read as an enable, or as a set or reset, choose first
 abbrev pub choice : Parts → Pins → List ℕ → Option ℕ
 choice parts p free = if is_control p then picked parts p free else None
 
@@ -119,8 +176,41 @@ all_choices choices = other_choices choices.taken choices.free
 abbrev pub chosen_from : Parts → List ℕ → List Pins → List ℕ
 chosen_from parts free pins = all_choices (first_choices parts (record { taken = []; free = free }) pins)
 
--- the global of each global buffer, or that there are too few
-abbrev pub globals_of : Parts → List Pins → Result (List ℕ) PinFault
-globals_of parts pins =
-    if nat_lt (length (globals parts)) (length pins) then Err (TooManyGlobals (length pins) (length (globals parts)))
-    else Ok (chosen_from parts (globals parts) pins)
+-- ---- all
+-- the free globals that none of these took
+abbrev pub left : List (Option ℕ) → List ℕ → List ℕ
+left [] free = free
+left (n ∷ taken) free = left taken (without n free)
+
+-- as what the global buffers are read that are not direct
+abbrev pub fed_pins : List (Option ℕ) → List Buffer → List Pins
+fed_pins [] buffers = []
+fed_pins (n ∷ direct) [] = []
+fed_pins (None ∷ direct) (buffer ∷ buffers) = buffer.pins ∷ fed_pins direct buffers
+fed_pins (Some n ∷ direct) (buffer ∷ buffers) = fed_pins direct buffers
+
+-- a global for each global buffer, and whether it is direct
+pub record TakenData : Type 0 where
+  pub numbers : List ℕ
+  pub direct : List Bool
+
+abbrev pub is_there : Option ℕ → Bool
+is_there number = is_some number
+
+-- the direct buffers have these globals, and the others, read as these pins, choose among these
+abbrev pub taken_by : Parts → List (Option ℕ) → List ℕ → List Pins → TakenData
+taken_by parts direct free pins = record { numbers = other_choices direct (chosen_from parts free pins); direct = map is_there direct }
+
+-- the same, or that there are too few
+abbrev pub taken_with : Parts → List (Option ℕ) → List ℕ → List Pins → Result TakenData PinFault
+taken_with parts direct free pins =
+    if nat_lt (length free) (length pins) then Err (TooManyGlobals (length pins) (length free))
+    else Ok (taken_by parts direct free pins)
+
+-- the same, where the others choose among the globals that no direct one took
+abbrev pub taken_beside : Parts → List Buffer → List (Option ℕ) → Result TakenData PinFault
+taken_beside parts buffers direct = taken_with parts direct (left direct (globals parts)) (fed_pins direct buffers)
+
+-- the global of each global buffer, or that there are too few: first those that can be direct take theirs
+abbrev pub globals_of : Parts → List Buffer → Result TakenData PinFault
+globals_of parts buffers = taken_beside parts buffers (direct_choices parts [] buffers)

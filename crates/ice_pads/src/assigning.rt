@@ -5,28 +5,29 @@ ghost use Rattle.ice_bits_rows.specs.Index.{IsIndexOf};
 ghost use Rattle.ice_pads.specs.Assign.{pads_with, chosen_by, assign_of};
 ghost use Rattle.ice_pads.specs.Answers.{Answers, Lists};
 
-use crate::choices::globals_of;
+use crate::choices::{Taken, globals_of};
 use crate::choosing::choose_all;
 use crate::lines::give_all;
 use crate::progress::Progress;
 use crate::tables::Tables;
 use crate::{Chosen, PinFault, Want, wants};
 use ice_base::NoMemory;
+use ice_bits_rows::{Index, index_of};
 use ice_cells::Design;
 use ice_chip::{Chip, Package, Pad};
 use ice_net::Netlist;
 use ice_pcf::{Constraint, Pcf};
-use ice_bits_rows::{Index, index_of};
 use std::alloc::Global;
 use std::marker::Model;
 
-/// The pads and pull-ups of the ports of a design, and the globals of its global buffers. Contracts see it as a record of
-/// three lists.
+/// The pads and pull-ups of the ports of a design, the globals of its global buffers, and whether these are direct. Contracts
+/// see it as a record of four lists.
 #[derive(Drop)]
 pub struct Pads {
     ports: Vec<Pad>,
     pullups: Vec<bool>,
     globals: Vec<u8>,
+    direct: Vec<bool>,
 }
 
 impl Model for Pads {
@@ -34,7 +35,7 @@ impl Model for Pads {
 
     ghost Value = { PadsData };
 
-    ghost view = { λ pads. record { ports = pads.ports.items; pullups = pads.pullups.items; globals = pads.globals.items } };
+    ghost view = { λ pads. record { ports = pads.ports.items; pullups = pads.pullups.items; globals = pads.globals.items; direct = pads.direct.items } };
 }
 
 impl Pads {
@@ -58,11 +59,19 @@ impl Pads {
     {
         self.globals.as_slice()
     }
+
+    /// Whether each global buffer is direct, by the buffers' numbers: its global has the level of a port's pad without a way
+    /// through the tile that feeds the global.
+    pub fn direct(&self) -> &[bool]
+        ensures { result.now ≡ self.now.direct }
+    {
+        self.direct.as_slice()
+    }
 }
 
 // The pads and pull-ups of what the ports have, with these globals.
-fn pads_with(alloc: Global, chosen: &[Chosen], globals: Vec<u8>) -> Result<Pads, NoMemory>
-    ensures { IfOk result (λ pads. pads ≡ pads_with chosen.now globals.items) }
+fn pads_with(alloc: Global, chosen: &[Chosen], taken: Taken) -> Result<Pads, NoMemory>
+    ensures { IfOk result (λ pads. pads ≡ pads_with chosen.now taken) }
 {
     let mut ports = Vec::new(alloc);
     let mut pullups = Vec::new(alloc);
@@ -70,10 +79,12 @@ fn pads_with(alloc: Global, chosen: &[Chosen], globals: Vec<u8>) -> Result<Pads,
         ports.push(port.pad)?;
         pullups.push(port.pullup)?;
     }
+    let Taken { numbers, direct } = taken;
     Ok(Pads {
         ports,
         pullups,
-        globals,
+        globals: numbers,
+        direct,
     })
 }
 
@@ -129,8 +140,8 @@ pub fn indexed_assign(
     };
     let wants = wants(alloc, design)?;
     let chosen = chosen_by(alloc, chip, bonded, pcf.constraints(), netlist, &wants)?;
-    let globals = globals_of(alloc, chip, index, design)?;
-    Ok(pads_with(alloc, &chosen, globals)?)
+    let taken = globals_of(alloc, chip, index, design, &chosen)?;
+    Ok(pads_with(alloc, &chosen, taken)?)
 }
 
 /// The pads, pull-ups and globals of a design of the netlist, or the fault. Want of memory may be answered at any time;

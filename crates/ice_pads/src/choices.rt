@@ -1,27 +1,37 @@
 //! The globals that the global buffers of a design take.
-ghost use Rattle.std.specs.Prelude.{◌≡◌, [], map, find, length, option_map, IfOk};
-ghost use Rattle.std.specs.List.{range_with_len};
+ghost use Rattle.std.specs.Prelude.{◌≡◌, ◌≤◌, [], map, find, length, IfOk};
 ghost use Rattle.ice_bits_rows.specs.Index.{IsIndexOf};
-ghost use Rattle.ice_pads.specs.Wants.{pins_of, pins};
-ghost use Rattle.ice_pads.specs.Globals.{serves, picked, or_first, without, choice, other_choices, chosen_from, globals_of};
-ghost use Rattle.ice_pads.specs.Answers.{Lists};
+ghost use Rattle.ice_pads.specs.Wants.{buffers};
+ghost use Rattle.ice_pads.specs.Assign.{chosen_pads};
+ghost use Rattle.ice_pads.specs.Globals.{serves, picked, or_first, without, choice, other_choices, chosen_from, globals, left, fed_pins, is_there, taken_with, globals_of};
+ghost use Rattle.ice_pads.specs.Answers.{Answers};
 
-use crate::{PinFault, Pins, globals, pins_of, serves};
+use crate::direct::direct_choices;
+use crate::free_globals::all_globals;
+use crate::needs::buffers;
+use crate::{Buffer, Chosen, PinFault, Pins, serves};
 use ice_base::NoMemory;
-use ice_cells::{Design, LogicCell};
-use ice_chip::Chip;
 use ice_bits_rows::Index;
+use ice_cells::Design;
+use ice_chip::Chip;
 use std::alloc::Global;
+use std::marker::Model;
 
-// As what each of so many global buffers is read by the flip-flops of these cells.
-fn pins(alloc: Global, cells: &[LogicCell], buffers: u32) -> Result<Vec<Pins>, NoMemory>
-    ensures { IfOk result (λ found. found.items ≡ map (pins_of cells.now) (range_with_len 0 buffers)) }
-{
-    let mut found = Vec::new(alloc);
-    for number in 0..buffers {
-        found.push(pins_of(cells, number))?;
-    }
-    Ok(found)
+/// A global for each global buffer, and whether it is direct. Contracts see it as a record of two lists.
+#[derive(Drop)]
+pub struct Taken {
+    /// The globals.
+    pub numbers: Vec<u8>,
+    /// Whether each is direct.
+    pub direct: Vec<bool>,
+}
+
+impl Model for Taken {
+    ghost use Rattle.ice_pads.specs.Globals.{TakenData};
+
+    ghost Value = { TakenData };
+
+    ghost view = { λ taken. record { numbers = taken.numbers.items; direct = taken.direct.items } };
 }
 
 // The first of these globals that serves the pins.
@@ -115,24 +125,83 @@ fn chosen_from(
     other_choices(alloc, &taken, &free)
 }
 
-/// The global of each global buffer, or that there are too few.
-pub fn globals_of(
+// The globals of a chip that none of these took.
+fn left(alloc: Global, chip: &Chip, direct: &[Option<u8>]) -> Result<Vec<u8>, NoMemory>
+    ensures { IfOk result (λ free. free.items ≡ left direct.now (globals chip.now)) }
+{
+    let mut free = all_globals(alloc, chip)?;
+    for number in direct {
+        free = without(alloc, *number, &free)?;
+    }
+    Ok(free)
+}
+
+// As what those of the buffers are read that are not direct.
+fn fed_pins(alloc: Global, direct: &[Option<u8>], buffers: &[Buffer]) -> Result<Vec<Pins>, NoMemory>
+    ensures { IfOk result (λ pins. pins.items ≡ fed_pins direct.now buffers.now) }
+{
+    let mut pins = Vec::new(alloc);
+    for k in 0..direct.len().min(buffers.len()) {
+        let number = direct[k];
+        match number {
+            None => pins.push(buffers[k].pins)?,
+            Some(_) => {}
+        }
+    }
+    Ok(pins)
+}
+
+// Whether each of these is there.
+fn are_there(alloc: Global, numbers: &[Option<u8>]) -> Result<Vec<bool>, NoMemory>
+    ensures { IfOk result (λ there. there.items ≡ map is_there numbers.now) }
+{
+    let mut there = Vec::new(alloc);
+    for number in numbers {
+        there.push(number.is_some())?;
+    }
+    Ok(there)
+}
+
+// The globals of all buffers, of which the direct ones have these, and the others choose.
+fn taken_with(
     alloc: Global,
     chip: &Chip,
     index: &Index,
-    design: &Design,
-) -> Result<Vec<u8>, PinFault>
-    requires { IsIndexOf chip.now index.now }
-    ensures { Lists result (globals_of chip.now (pins design.now)) }
+    direct: &[Option<u8>],
+    free: Vec<u8>,
+    pins: &[Pins],
+) -> Result<Taken, PinFault>
+    requires few { length free.items ≤ 8 }
+    requires index { IsIndexOf chip.now index.now }
+    ensures { Answers result (taken_with chip.now direct.now free.items pins.now) }
 {
-    let free = globals(alloc, chip)?;
-    let Ok(need) = u32::try_from(design.globals().len()) else {
+    let Ok(need) = u32::try_from(pins.len()) else {
         return Err(PinFault::NoMemory);
     };
     let have = free.len() as u32;
     if have < need {
         return Err(PinFault::TooManyGlobals { need, have });
     }
-    let pins = pins(alloc, design.cells(), need)?;
-    Ok(chosen_from(alloc, chip, index, &pins, free)?)
+    let others = chosen_from(alloc, chip, index, pins, free)?;
+    let numbers = other_choices(alloc, direct, &others)?;
+    let direct = are_there(alloc, direct)?;
+    Ok(Taken { numbers, direct })
+}
+
+/// The global of each global buffer of a design whose ports have these pads, or that there are too few.
+pub fn globals_of(
+    alloc: Global,
+    chip: &Chip,
+    index: &Index,
+    design: &Design,
+    ports: &[Chosen],
+) -> Result<Taken, PinFault>
+    requires { IsIndexOf chip.now index.now }
+    ensures { Answers result (globals_of chip.now (buffers design.now (chosen_pads ports.now))) }
+{
+    let buffers = buffers(alloc, design, ports)?;
+    let direct = direct_choices(alloc, chip, index, &buffers)?;
+    let free = left(alloc, chip, &direct)?;
+    let pins = fed_pins(alloc, &direct, &buffers)?;
+    taken_with(alloc, chip, index, &direct, free, &pins)
 }

@@ -1,5 +1,5 @@
 //! The globals of a chip that can be taken.
-ghost use Rattle.std.specs.Prelude.{◌≡◌, ◌<◌, filter, option_map, IfOk};
+ghost use Rattle.std.specs.Prelude.{◌≡◌, ◌<◌, ◌≤◌, filter, length, option_map, IfOk};
 ghost use Rattle.ice_chip.specs.Lookups.{wire_named};
 ghost use Rattle.ice_chip.specs.WireNames.{clock_enable_name, set_reset_name};
 ghost use Rattle.ice_bits_rows.specs.Index.{IsIndexOf};
@@ -9,8 +9,8 @@ ghost use Rattle.ice_pads.specs.Globals.{has_name, global_wire, is_same_tile, is
 use crate::Pins;
 use crate::wires::has_io_wire;
 use ice_base::{NoMemory, TileAt, WireNo};
-use ice_chip::{Chip, TileKind, clock_enable_name, fabout_name, global_name, set_reset_name};
 use ice_bits_rows::{Index, is_joined};
+use ice_chip::{Chip, TileKind, clock_enable_name, fabout_name, global_name, set_reset_name};
 use std::alloc::Global;
 
 // Whether one of the wire's names is this one.
@@ -98,11 +98,34 @@ fn takeable(alloc: Global, chip: &Chip, numbers: &[u8]) -> Result<Vec<u8>, NoMem
     Ok(found)
 }
 
-/// The globals that can be taken, by rising number.
-pub fn globals(alloc: Global, chip: &Chip) -> Result<Vec<u8>, NoMemory>
+// The globals that can be taken, by rising number.
+pub fn all_globals(alloc: Global, chip: &Chip) -> Result<Vec<u8>, NoMemory>
     ensures { IfOk result (λ found. found.items ≡ globals chip.now) }
 {
     takeable(alloc, chip, &[0, 1, 2, 3, 4, 5, 6, 7])
+}
+
+// How many of these globals can be taken.
+fn count_takeable(chip: &Chip, numbers: &[u8]) -> u32
+    requires { length numbers.now ≤ 8 }
+    ensures { result ≡ length (filter (is_global chip.now) numbers.now) }
+{
+    let mut count = 0;
+    for number in numbers {
+        if is_global(chip, *number) {
+            count += 1;
+        }
+    }
+    count
+}
+
+/// How many globals can be taken, at most 8. It takes no memory.
+#[tactic(auto, using(crate::proofs::GlobalLaws::few_globals))]
+pub fn globals(chip: &Chip) -> u32
+    ensures count { result ≡ length (globals chip.now) }
+    ensures few { result ≤ 8 }
+{
+    count_takeable(chip, &[0, 1, 2, 3, 4, 5, 6, 7])
 }
 
 // Whether a usable row leads from the one wire to the other, where both are there.

@@ -4,6 +4,7 @@
 mod assigning;
 mod choices;
 mod choosing;
+mod direct;
 mod fault;
 mod free_globals;
 mod given;
@@ -22,5 +23,5 @@ pub use free_globals::{global_wire, globals, serves};
 pub use given::{Chosen, Given};
 pub use laws::assigned_pads_fit;
 pub use needs::{pins_of, wants};
-pub use want::{Pins, Want};
+pub use want::{Buffer, Pins, Want};
 pub use wires::suits;

@@ -2,11 +2,13 @@
 ghost use Rattle.std.specs.Prelude.{◌≡◌, map, IfOk};
 ghost use Rattle.std.specs.List.{list_any};
 ghost use Rattle.ice_cells.specs.declared.cell.LogicCell.{LogicCell};
-ghost use Rattle.ice_pads.specs.Wants.{want_at, wants, is_of_global, enables, resets, pins_of};
+ghost use Rattle.ice_pads.specs.Assign.{chosen_pads};
+ghost use Rattle.ice_pads.specs.Wants.{want_at, wants, is_of_global, enables, resets, pins_of, pad_of, buffer_of, buffers};
 
-use crate::{Pins, Want};
+use crate::{Buffer, Chosen, Pins, Want};
 use ice_base::NoMemory;
 use ice_cells::{Control, Design, DesignPad, LogicCell, Root};
+use ice_chip::Pad;
 use ice_net::Reset;
 use std::alloc::Global;
 
@@ -95,4 +97,40 @@ pub fn pins_of(cells: &[LogicCell], number: u32) -> Pins
         enable: some_enables(cells, number),
         reset: some_resets(cells, number),
     }
+}
+
+// The pad whose level a root has, where the ports have these pads.
+fn pad_of(ports: &[Chosen], root: Option<Root>) -> Option<Pad>
+    ensures { result ≡ pad_of (chosen_pads ports.now) root }
+{
+    match root {
+        Some(Root::PadIn(port)) => Some(ports.get(port as usize)?.pad),
+        _ => None,
+    }
+}
+
+// What decides which globals the global buffer of this number can take.
+fn buffer_of(design: &Design, ports: &[Chosen], number: u32) -> Buffer
+    ensures { result ≡ buffer_of design.now (chosen_pads ports.now) number }
+{
+    let roots = design.globals();
+    let root = roots.get(number as usize).copied().unwrap_or(None);
+    Buffer {
+        pad: pad_of(ports, root),
+        pins: pins_of(design.cells(), number),
+    }
+}
+
+/// What decides which globals each global buffer of a design can take.
+pub fn buffers(alloc: Global, design: &Design, ports: &[Chosen]) -> Result<Vec<Buffer>, NoMemory>
+    ensures { IfOk result (λ found. found.items ≡ buffers design.now (chosen_pads ports.now)) }
+{
+    let Ok(count) = u32::try_from(design.globals().len()) else {
+        return Err(NoMemory);
+    };
+    let mut found = Vec::new(alloc);
+    for number in 0..count {
+        found.push(buffer_of(design, ports, number))?;
+    }
+    Ok(found)
 }

@@ -1,4 +1,5 @@
 //! What the ports and the global buffers of a design need.
+use ice_chip::Pad;
 
 /// The wires that a port needs at its pad, and whether it wants a pull-up where no constraint says so.
 #[derive(Clone, Copy)]
@@ -20,4 +21,13 @@ pub struct Pins {
     pub enable: bool,
     /// As a set or reset.
     pub reset: bool,
+}
+
+/// What decides which globals a global buffer can take.
+#[derive(Clone, Copy)]
+pub struct Buffer {
+    /// The pad whose level it takes, where it takes that of a port.
+    pub pad: Option<Pad>,
+    /// As what it is read.
+    pub pins: Pins,
 }

@@ -5,8 +5,10 @@ use Rattle.ice_net.specs.NetlistData.{NetlistData}
 use Rattle.ice_chip.specs.Database.{Parts}
 use Rattle.ice_pcf.specs.declared.constraint.Constraint.{Constraint}
 use Rattle.ice_cells.specs.Runs.{design_of}
+use Rattle.ice_pads.specs.Globals.{globals}
 use Rattle.ice_pads.specs.Wants.{wants}
 use Rattle.ice_pads.specs.Assign.{IsGivenAlike, PadsData, assign_of}
+use Rattle.ice_check_promote.specs.Free.{free_beside}
 use Rattle.ice_check_promote.specs.Promoted.{promoted}
 use Rattle.ice_check_promote.specs.PromotionLaws.{most_cells_before}
 
@@ -14,7 +16,8 @@ use Rattle.ice_check_promote.specs.PromotionLaws.{most_cells_before}
 abbrev pub PadsAreWantedAlike : Type 0
 PadsAreWantedAlike = (n : NetlistData) (free : ℕ) → IsFormed n → length n.cells < most_cells_before → wants (design_of (promoted n free)) ≡ wants (design_of n)
 
--- where the constraints give ports pads by the design of the netlist with promoted clocks, they give the same pads by that of the netlist itself
+-- where clocks take the globals that the netlist leaves free, and the constraints give ports pads by the design of the netlist with promoted clocks, they
+-- give the same pads by that of the netlist itself
 abbrev pub PadsAreGivenAlike : Type 0
 PadsAreGivenAlike = (n : NetlistData) (free : ℕ) (parts : Parts) (name : List ℕ) (constraints : List Constraint) (pads : PadsData) → IsFormed n → length n.cells < most_cells_before
-    → assign_of parts name constraints n (design_of (promoted n free)) ≡ Ok pads → IsGivenAlike parts name constraints n pads
+    → free ≡ free_beside (length (globals parts)) n → assign_of parts name constraints n (design_of (promoted n free)) ≡ Ok pads → IsGivenAlike parts name constraints n pads

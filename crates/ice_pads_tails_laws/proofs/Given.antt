@@ -1,38 +1,19 @@
 -- The constraints give the ports of a netlist in which the ends of carry chains stand in their runs the pads that they give by the design of the netlist itself.
-use Rattle.std.proofs.Common.{◌≡◌, ℕ, ◌≤◌, Ok, List, [], ◌∷◌, ◌++◌, length, map, ap, sym, ◌∙◌, arith, length-append}
-use Rattle.ice_net.specs.declared.cell.Cell.{Cell}
+use Rattle.std.proofs.Common.{◌≡◌, Ok, List, ap₂, sym, ◌∙◌, ℕ}
 use Rattle.ice_net.specs.Formed.{IsFormed}
 use Rattle.ice_net.specs.NetlistData.{NetlistData}
 use Rattle.ice_chip.specs.Database.{Parts}
 use Rattle.ice_chip.specs.Lookups.{package_of}
 use Rattle.ice_pcf.specs.declared.constraint.Constraint.{Constraint}
-use Rattle.ice_cells.specs.Packed.{Plan, plan_of, global_by}
-use Rattle.ice_cells.specs.Packed as packs
 use Rattle.ice_cells.specs.Runs.{design_of}
-use Rattle.ice_pads.specs.Globals.{globals, globals_of}
-use Rattle.ice_pads.specs.Wants.{wants, pins}
-use Rattle.ice_pads.specs.Assign.{PadsData, assigned, assign_of}
-use Rattle.ice_carry_tails.specs.Tails.{tails, read_behind}
-use Rattle.ice_carry_tails.specs.Ends.{tables_of, tailed}
-use Rattle.ice_pads.proofs.Fewer.{count_same, fewer, pins_count}
+use Rattle.ice_pads.specs.Assign.{IsGivenAlike, PadsData, assigned, assign_of}
+use Rattle.ice_carry_tails.specs.Ends.{tailed}
+use Rattle.ice_pads_tails_laws.proofs.SameBuffers.{buffers_same}
 use Rattle.ice_pads_tails_laws.proofs.Wanted.{wants_same}
 
--- ---- carries add no buffers
-count_more : (p q : Plan) (extra cells : List Cell) → length (packs.globals_of p cells) ≤ length (packs.globals_of q (cells ++ extra))
-count_more p q extra [] = omega arith
-count_more p q extra (cell ∷ cells) =
-    let same = count_same p q cell.kind cell.ins cell.ins in
-    let one = length-append (global_by p cell.kind cell.ins) (packs.globals_of p cells) in
-    let two = length-append (global_by q cell.kind cell.ins) (packs.globals_of q (cells ++ extra)) in
-    let rest = count_more p q extra cells in
-    omega (arith, same, one, two, rest)
-
 pub given_same : (n : NetlistData) (parts : Parts) (name : List ℕ) (constraints : List Constraint) (pads : PadsData) → IsFormed n → IsFormed (tailed n)
-    → assign_of parts name constraints n (design_of (tailed n)) ≡ Ok pads
-    → (globals : List ℕ) × (assign_of parts name constraints n (design_of n) ≡ Ok (record { ports = pads.ports; pullups = pads.pullups; globals = globals }))
-given_same n parts name constraints pads formed after e =
-    let more = count_more (plan_of n) (plan_of (tailed n)) (tails (length n.names) (map (read_behind n.cells) (tables_of n))) n.cells in
-    let old = pins_count n in
-    let new = pins_count (tailed n) in
-    fewer parts constraints n (wants (design_of n)) (pins (design_of (tailed n))) (pins (design_of n)) (package_of parts name) pads (omega (arith, more, old, new))
-    (ap (λ ws. assigned parts constraints n ws (pins (design_of (tailed n))) (package_of parts name)) (sym (wants_same n formed after)) ∙ e)
+    → assign_of parts name constraints n (design_of (tailed n)) ≡ Ok pads → IsGivenAlike parts name constraints n pads
+given_same n parts name constraints pads formed after e = (
+  record { numbers = pads.globals; direct = pads.direct },
+  ap₂ (λ ws bs. assigned parts constraints n ws bs (package_of parts name)) (sym (wants_same n formed after)) (sym (buffers_same n formed after)) ∙ e,
+)

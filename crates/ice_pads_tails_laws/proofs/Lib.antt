@@ -1,4 +1,6 @@
 mod NewOrigins
 mod NewReaders
 mod Wanted
+mod FlopReaders
+mod SameBuffers
 mod Given

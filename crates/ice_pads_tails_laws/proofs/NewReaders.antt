@@ -50,7 +50,7 @@ module _ (n : NetlistData) (names : List (List ℕ)) (lists : List Ins) (formed 
       by (inl here) = inl here
       by (inr (i, e, there)) = let back = at_tail count lists i cell there in inr (i, back.0, back.1, back.2)
 
-  formed_at : (j : ℕ) (cell : Cell) → At n.cells j cell → IsFormedCell count cell
+  pub formed_at : (j : ℕ) (cell : Cell) → At n.cells j cell → IsFormedCell count cell
   formed_at j cell at =
       subst (IsFormedCell count) (get_or_from_slice_get n.cells j cell cell at)
       (All-get_or (IsFormedCell count) n.cells j cell (slice_get_within n.cells j cell at) formed.cells)
@@ -59,7 +59,7 @@ module _ (n : NetlistData) (names : List (List ℕ)) (lists : List Ins) (formed 
   no_pad t u e = cc e
 
   -- ---- origins
-  same_input : (input : Option SignalNo) → IsBelow count input → input_origin (origins new) input ≡ input_origin (origins n) input
+  pub same_input : (input : Option SignalNo) → IsBelow count input → input_origin (origins new) input ≡ input_origin (origins n) input
   same_input None below = refl
   same_input (Some signal) below =
       let long = length-append n.names names in
@@ -96,10 +96,10 @@ module _ (n : NetlistData) (names : List (List ℕ)) (lists : List Ins) (formed 
   ]
 
   -- ---- inputs
-  at_new : (input : Option SignalNo) → IsBelow count input → IsAtPad n k input → IsAtPad new k input
+  pub at_new : (input : Option SignalNo) → IsBelow count input → IsAtPad n k input → IsAtPad new k input
   at_new input below has = subst (IsOfPad (origins new) new.cells k) (sym (same_input input below)) (to_new (input_origin (origins n) input) has)
 
-  at_old : (input : Option SignalNo) → IsBelow count input → IsAtPad new k input → IsAtPad n k input
+  pub at_old : (input : Option SignalNo) → IsBelow count input → IsAtPad new k input → IsAtPad n k input
   at_old input below has = to_old (input_origin (origins n) input) (subst (IsOfPad (origins new) new.cells k) (same_input input below) has)
 
   -- what a cell reads are its inputs

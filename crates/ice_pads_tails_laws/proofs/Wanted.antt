@@ -41,7 +41,7 @@ same_pad k (Some (CellOut j)) e = cc e
 same_pad k (Some (GlobalOut j)) e = cc e
 same_pad k (Some (CarryOut j)) e = cc e
 
-both_true : (a b : Bool) → (a ≡ true → b ≡ true) → (b ≡ true → a ≡ true) → a ≡ b
+pub both_true : (a b : Bool) → (a ≡ true → b ≡ true) → (b ≡ true → a ≡ true) → a ≡ b
 both_true true b f g = sym (f refl)
 both_true false true f g = g refl
 both_true false false f g = refl

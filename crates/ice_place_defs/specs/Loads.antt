@@ -1,5 +1,5 @@
 -- The loads of a placed design: the pins of tiles that read roots, in the order in which nets join them.
-use Rattle.std.specs.Prelude.{ℕ, ◌+◌, Option, None, Some, List, [], ◌∷◌, ◌++◌, slice_get, slice_index_or}
+use Rattle.std.specs.Prelude.{ℕ, ◌+◌, Bool, if◌then◌else◌, Option, None, Some, List, [], ◌∷◌, ◌++◌, slice_get, slice_index_or}
 use Rattle.std.specs.Option.{option_map_or}
 use Rattle.ice_base.specs.declared.number.TileAt.{TileAt}
 use Rattle.ice_chip.specs.Database.{Parts}
@@ -57,6 +57,16 @@ pads_loads (place ∷ places) [] = []
 pads_loads (place ∷ places) (pad ∷ pads) = pad_loads place pad ++ pads_loads places pads
 
 -- ---- global buffers
+-- what a global buffer reads in the tile that feeds its global: nothing where it is direct
+abbrev pub fed_root : Bool → Option Root → Option Root
+fed_root direct root = if direct then None else root
+
+-- the same of each
+abbrev pub fed_roots : List Bool → List (Option Root) → List (Option Root)
+fed_roots [] roots = roots
+fed_roots (d ∷ direct) [] = []
+fed_roots (d ∷ direct) (root ∷ roots) = fed_root d root ∷ fed_roots direct roots
+
 abbrev pub feed_load : Option Root → TileAt → List Load
 feed_load root t = load_at t Feed root
 
@@ -97,5 +107,5 @@ clusters_give of_cell of_control cells (t ∷ at) (cluster ∷ clusters) =
 -- ---- all loads
 abbrev pub loads : Parts → Plan → List Load
 loads parts plan =
-    pads_loads plan.ports plan.design.pads ++ globals_loads parts plan.globals plan.design.globals
+    pads_loads plan.ports plan.design.pads ++ globals_loads parts plan.globals (fed_roots plan.direct plan.design.globals)
     ++ clusters_give cell_loads control_loads plan.design.cells plan.at plan.clusters

@@ -1,5 +1,5 @@
 -- A placed design: the tile of each cluster, the pad of each port, the global of each global buffer; and where each root stands.
-use Rattle.std.specs.Prelude.{ℕ, Option, None, Some, List, [], ◌∷◌, position, option_map, slice_get}
+use Rattle.std.specs.Prelude.{ℕ, Bool, false, Option, None, Some, List, [], ◌∷◌, position, option_map, slice_get, slice_index_or}
 use Rattle.ice_base.specs.declared.number.TileAt.{TileAt}
 use Rattle.ice_chip.specs.declared.rows.Pad.{Pad}
 use Rattle.ice_cells.specs.declared.cluster.Cluster.{Cluster}
@@ -16,8 +16,13 @@ pub record Plan : Type 0 where
   pub at : List TileAt
   -- the pad of each port
   pub ports : List Pad
-  -- the number of the global of each global buffer
+  -- the number of the global of each global buffer, and whether the buffer is direct: its global has the level of a pad by itself
   pub globals : List ℕ
+  pub direct : List Bool
+
+-- the global buffer of this number is direct
+abbrev pub is_direct : Plan → ℕ → Bool
+is_direct plan g = slice_index_or plan.direct g false
 
 -- its clusters, as they are made
 abbrev pub listed : Plan → Clusters

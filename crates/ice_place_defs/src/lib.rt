@@ -1,3 +1,7 @@
 //! Placed designs: where each root stands, which pins read it, and how long the nets are. `specs/` has the definitions, which
 //! nets, bits and reports share.
 #![tactic(auto)]
+
+mod fed;
+
+pub use fed::fed_root;

@@ -17,7 +17,7 @@ grown root box loads = fold with_tile box (map load_tile (filter (is_of_root roo
 
 -- a placed design, without its chip
 abbrev pub plan_in : Placed → Plan
-plan_in placed = record { design = placed.design.now; clusters = placed.clusters.now; at = placed.tiles.now; ports = placed.ports.now; globals = placed.globals.now }
+plan_in placed = record { design = placed.design.now; clusters = placed.clusters.now; at = placed.tiles.now; ports = placed.ports.now; globals = placed.globals.now; direct = placed.direct.now }
 
 abbrev pub loads_in : Placed → List Load
 loads_in placed = loads placed.chip.now (plan_in placed)

@@ -8,4 +8,4 @@ use Rattle.ice_place_defs.specs.Plan.{Plan}
 
 -- a design with its clusters, the tile of each, and its pads and globals
 abbrev pub plan_of : Clusters → Design → List TileAt → PadsData → Plan
-plan_of clusters d at pads = record { design = d; clusters = clusters.list; at = at; ports = pads.ports; globals = pads.globals }
+plan_of clusters d at pads = record { design = d; clusters = clusters.list; at = at; ports = pads.ports; globals = pads.globals; direct = pads.direct }

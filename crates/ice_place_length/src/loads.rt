@@ -1,6 +1,6 @@
 //! The loads of a placed design, in the box of a root's net.
 ghost use Rattle.std.specs.Prelude.{◌≡◌, ℕ, Some};
-ghost use Rattle.ice_place_defs.specs.Loads.{pad_loads, pads_loads, global_loads, globals_loads, cell_loads, control_loads, slot_gives, slots_give, clusters_give};
+ghost use Rattle.ice_place_defs.specs.Loads.{pad_loads, pads_loads, global_loads, fed_roots, globals_loads, cell_loads, control_loads, slot_gives, slots_give, clusters_give};
 ghost use Rattle.ice_place_length.specs.Grown.{box_in, grown, loads_in};
 
 use crate::boxes::{Span, grown_at};
@@ -8,6 +8,7 @@ use crate::placed::Placed;
 use ice_base::TileAt;
 use ice_cells::{Cluster, Control, DesignPad, LogicCell, Root};
 use ice_chip::{Chip, Pad};
+use ice_place_defs::fed_root;
 
 // The box with a pad that the root drives or enables.
 fn with_pad(span: Span, root: Root, place: Pad, pad: &DesignPad) -> Span
@@ -38,13 +39,21 @@ fn with_global(span: Span, root: Root, chip: &Chip, number: u8, reads: Option<Ro
     }
 }
 
-// The same of all global buffers.
-fn with_globals(span: Span, root: Root, chip: &Chip, numbers: &[u8], reads: &[Option<Root>]) -> Span
-    ensures { box_in result ≡ grown root (box_in span) (globals_loads chip.now numbers.now reads.now) }
+// The same of all global buffers; a direct one reads in no tile.
+fn with_globals(
+    span: Span,
+    root: Root,
+    chip: &Chip,
+    numbers: &[u8],
+    direct: &[bool],
+    reads: &[Option<Root>],
+) -> Span
+    ensures { box_in result ≡ grown root (box_in span) (globals_loads chip.now numbers.now (fed_roots direct.now reads.now)) }
 {
     let mut wide = span;
     for k in 0..numbers.len().min(reads.len()) {
-        wide = with_global(wide, root, chip, numbers[k], reads[k]);
+        let read = fed_root(direct, k, reads[k]);
+        wide = with_global(wide, root, chip, numbers[k], read);
     }
     wide
 }
@@ -138,6 +147,7 @@ pub fn with_loads(span: Span, root: Root, placed: &Placed<'_>) -> Span
         root,
         placed.chip,
         placed.globals,
+        placed.direct,
         placed.design.globals(),
     );
     with_clusters(

@@ -10,7 +10,7 @@ use ice_pads::Pads;
 use ice_place::Placement;
 
 /// The wire length of a placement: over the nets whose root is no global, the half perimeters, in tiles, of the boxes of the
-/// root's and the sinks' tiles. The chip gives the tile of what feeds each global. Takes no memory, and the time of the number
+/// root's and the sinks' tiles. The chip gives the tile of what feeds each global; a direct global buffer is no sink. Takes no memory, and the time of the number
 /// of nets by that of pins.
 pub fn wire_length(
     chip: &Chip,
@@ -30,5 +30,6 @@ pub fn wire_length(
         tiles: placement.tiles(),
         ports: pads.ports(),
         globals: pads.globals(),
+        direct: pads.direct(),
     })
 }

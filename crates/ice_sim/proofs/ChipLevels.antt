@@ -1,8 +1,8 @@
 -- The levels of the points of a chip are those in their slots.
-use Rattle.std.proofs.Common.{◌≡◌, ℕ, ◌+◌, ◌<◌, ◌≤◌, Bool, true, false, cond, List, [], ◌∷◌, length, map, Option, Some, None, refl, ap, sym, ◌∙◌, subst, arith, length-append}
-use Rattle.std.specs.Prelude.{◌==◌, ◌/◌, option_map, unwrap_or}
+use Rattle.std.proofs.Common.{◌≡◌, ℕ, suc, ◌+◌, ◌<◌, ◌≤◌, Bool, true, false, cond, List, [], ◌∷◌, ◌++◌, length, map, Option, Some, None, refl, ap, sym, ◌∙◌, subst, arith, length-append}
+use Rattle.std.specs.Prelude.{◌==◌, ◌/◌, ◌&&◌, option_map, unwrap_or}
 use Rattle.std.specs.List.{range_with_len}
-use Rattle.std.proofs.lemmas.List.{length-map}
+use Rattle.std.proofs.lemmas.List.{length-map, get_or-append-add}
 use Rattle.std.proofs.lemmas.List.FromFn.{length-range_with_len}
 use Rattle.std.proofs.lemmas.List.Elements.{All-map, All-filter}
 use Rattle.std.proofs.lemmas.Option.{same_Some, slice_get_within}
@@ -26,17 +26,20 @@ use Rattle.ice_decode.specs.declared.point.Point.{Point}
 use Rattle.ice_chip.specs.WireNames.{input_name, pad_output_name, output_enable_name}
 use Rattle.ice_decode.specs.Cells.{cells, logic_tiles, looked_up}
 use Rattle.ice_decode.specs.Reads.{wire_point, carry_point, points, count_points, at_pin, reads}
-use Rattle.ice_decode.specs.Pads.{pin_type, pin_level, part_drive, drive_at}
+use Rattle.ice_decode.specs.Pads.{is_enabled, level_of, pad_gives, pin_type, pin_level, part_drive}
+use Rattle.ice_decode.specs.Registers.{stores, register_place, output_kept, has_output_register}
 use Rattle.ice_decode.specs.Faults.{IsOrderOf}
-use Rattle.ice_decode.specs.Meaning.{makes, system_of, point_level, table_level}
+use Rattle.ice_decode.specs.Meaning.{makes, system_of, point_level, table_level, drive_at}
 use Rattle.ice_decode.proofs.PointPlaces.{wire_at}
 use Rattle.ice_sim_sweep.specs.Slots.{level_at}
 use Rattle.ice_sim_sweep.specs.Sweeps.{gate_level, tap_drive}
-use Rattle.ice_sim_sweep.specs.Arrays.{Obeys}
-use Rattle.ice_sim.specs.ChipSlots.{slot_in, pin_slot, cell_gate}
-use Rattle.ice_sim.specs.Layouts.{Layout, part_tap, pad_tap}
-use Rattle.ice_sim.proofs.PointLevels.{cell_makes}
-use Rattle.ice_sim.proofs.Laying.{IsLaid, zero_level, one_level}
+use Rattle.ice_sim_sweep.specs.declared.parts.Feed.{Feed}
+use Rattle.ice_sim_sweep.specs.declared.parts.Feed.TheVariants.{Nothing}
+use Rattle.ice_sim_sweep.specs.Arrays.{feed_level, feed_at, Obeys}
+use Rattle.ice_sim.specs.ChipSlots.{slot_in, pin_slot, cell_gate, pad_place, pad_register}
+use Rattle.ice_sim.specs.Layouts.{Layout, level_feed, input_feed, output_feed, part_tap, pad_tap, taps_from}
+use Rattle.ice_sim.proofs.PointLevels.{place_level, level_is as pad_level_is, register_is, cell_makes}
+use Rattle.ice_sim.proofs.Laying.{IsLaid, zero_level, one_level, feed_left}
 
 -- ---- points of the chip
 pub points_long : (parts : Parts) → length (points parts) ≡ count_points parts
@@ -62,28 +65,67 @@ four_list : (parts : Parts) (bits : Bits) (t : TileAt) (i : ℕ) (a b c d w x y 
     → looked_up parts bits t i (a ∷ b ∷ c ∷ d ∷ []) ≡ looked_up parts bits t i (w ∷ x ∷ y ∷ z ∷ [])
 four_list parts bits t i a b c d w x y z e f g h = rw (e, f, g, h) refl
 
-module _ (parts : Parts) (bits : Bits) (bonded : List Pad) (order : List Point) (o : IsOrderOf parts bits order) (read : IsRead parts) (l : Layout)
-    (laid_ : IsLaid parts bits bonded order (length order) l) (levels kept values : List Bool) (obeys : Obeys l.feeds levels kept values) where
+-- ---- slots with feeds
+-- slots from `next` on have the levels that these feeds give them
+abbrev pub Holds : List Bool → List Bool → List Bool → ℕ → List Feed → Type 0
+Holds levels kept values next feeds = (s : ℕ) → s < length feeds → level_at values (next + s) ≡ feed_level levels kept values (feed_at feeds s)
+
+module _ (levels kept values : List Bool) where
+  pub holds_head : (next : ℕ) (feed : Feed) (feeds : List Feed) → Holds levels kept values next (feed ∷ feeds) → level_at values next ≡ feed_level levels kept values feed
+  holds_head next feed feeds holds =
+      let e : next + 0 ≡ next = omega arith in
+      subst (λ n. level_at values n ≡ feed_level levels kept values feed) e (holds 0 (omega arith))
+
+  pub holds_tail : (next : ℕ) (feed : Feed) (feeds : List Feed) → Holds levels kept values next (feed ∷ feeds) → Holds levels kept values (suc next) feeds
+  holds_tail next feed feeds holds = λ s lt.
+      let e : next + suc s ≡ suc next + s = omega arith in
+      subst (λ n. level_at values n ≡ feed_level levels kept values (feed_at feeds s)) e (holds (suc s) (omega arith))
+
+  pub holds_left : (next : ℕ) (feeds more : List Feed) → Holds levels kept values next (feeds ++ more) → Holds levels kept values next feeds
+  holds_left next feeds more holds = λ s lt.
+      holds s (let long = length-append feeds more in omega arith) ∙ ap (feed_level levels kept values) (feed_left feeds more s lt)
+
+  pub holds_right : (next : ℕ) (feeds more : List Feed) → Holds levels kept values next (feeds ++ more) → Holds levels kept values (next + length feeds) more
+  holds_right next feeds more holds = λ s lt.
+      let e : next + (length feeds + s) ≡ next + length feeds + s = omega arith in
+      ap (level_at values) (sym e)
+      ∙ holds (length feeds + s) (let long = length-append feeds more in omega arith)
+      ∙ ap (feed_level levels kept values) (get_or-append-add feeds more s Nothing)
+
+  place_given : (o : Option ℕ) → feed_level levels kept values (level_feed o) ≡ place_level levels o
+  place_given None = refl
+  place_given (Some k) = refl
+
+  -- what a pad gives to its register
+  pub input_is : (parts : Parts) (bits : Bits) (bonded : List Pad) (pad : Pad) → feed_level levels kept values (input_feed parts bits bonded pad) ≡ pad_gives parts bits bonded levels pad
+  input_is parts bits bonded pad = of (is_enabled parts bits pad)
+    where
+      of : (b : Bool) → feed_level levels kept values (cond b (level_feed (pad_place bonded pad)) Nothing) ≡ b && level_of bonded levels pad
+      of true = place_given (pad_place bonded pad) ∙ sym (pad_level_is bonded levels pad)
+      of false = refl
+
+module _ (parts : Parts) (bits : Bits) (extras : List (ℕ × ℕ × ℕ)) (bonded : List Pad) (order : List Point) (o : IsOrderOf parts bits extras order) (read : IsRead parts) (l : Layout)
+    (laid_ : IsLaid parts bits extras bonded order (length order) l) (levels kept values : List Bool) (kept_long : length kept ≡ length (stores parts)) (obeys : Obeys l.feeds levels kept values) where
   abbrev v : Point → Bool
   v q = level_at values (slot_in parts l.slots q)
 
   -- the level of a point by its meaning
   abbrev pub w : Point → Bool
-  w = point_level parts bits bonded levels kept
+  w = point_level parts bits extras bonded levels kept
 
-  zero_is : level_at values 0 ≡ false
+  pub zero_is : level_at values 0 ≡ false
   zero_is = zero_level l.feeds levels kept values laid_.some laid_.first obeys
 
   one_is : level_at values 1 ≡ true
   one_is = one_level l.feeds levels kept values laid_.some laid_.first laid_.second obeys
 
   abbrev system : System Point Bool
-  system = system_of parts bits bonded levels kept
+  system = system_of parts bits extras bonded levels kept
 
   meets : (j : ℕ) (p : Point) → At order j p → MeetsEquation system v p
   meets j p at =
-      (laid_.meets j p at (slice_get_within order j p at)).is levels kept values obeys
-      ∙ sym (local_gapped (reads parts bits) false (makes parts bits bonded levels kept) v p)
+      (laid_.meets j p at (slice_get_within order j p at)).is levels kept values kept_long obeys
+      ∙ sym (local_gapped (reads parts bits extras) false (makes parts bits extras bonded levels kept) v p)
 
   -- each point of the chip has its level in its slot
   pub level_is : (p : Point) → Has (points parts) p → w p ≡ v p
@@ -127,24 +169,36 @@ module _ (parts : Parts) (bits : Bits) (bonded : List Pad) (order : List Point) 
       (input_same t i 0) (input_same t i 1) (input_same t i 2) (input_same t i 3)
 
   -- ---- pads
-  part_is : (part level enable : ℕ) (x y : Bool) → x ≡ level_at values level → y ≡ level_at values enable → tap_drive values (part_tap part level enable) ≡ part_drive part x y
-  part_is part level enable x y e f = by (part == 6) (part == 10)
+  part_is : (part own level enable : ℕ) (x y z : Bool) → x ≡ level_at values level → y ≡ level_at values enable → ((part == 5) ≡ true → z ≡ level_at values own)
+      → tap_drive values (part_tap part own level enable) ≡ part_drive part x y z
+  part_is part own level enable x y z e f g = by (part == 5) (part == 6) (part == 10) g
     where
-      by : (always enabled : Bool)
-          → tap_drive values (cond always (record { level = level; enable = 1 }) (cond enabled (record { level = level; enable = enable }) (record { level = 0; enable = 0 })))
-          ≡ cond always (level_drive x) (cond enabled (cond y (level_drive x) Off) Off)
-      by true enabled = ap (λ b. cond b (level_drive (level_at values level)) Off) one_is ∙ ap level_drive (sym e)
-      by false true = ap (λ z. cond (level_at values enable) (level_drive z) Off) (sym e) ∙ ap (λ b. cond b (level_drive x) Off) (sym f)
-      by false false = ap (λ b. cond b (level_drive (level_at values 0)) Off) zero_is
+      by : (kept_there always enabled : Bool) → (kept_there ≡ true → z ≡ level_at values own)
+          → tap_drive values (cond kept_there (record { level = own; enable = 1 })
+          (cond always (record { level = level; enable = 1 }) (cond enabled (record { level = level; enable = enable }) (record { level = 0; enable = 0 }))))
+          ≡ cond kept_there (level_drive z) (cond always (level_drive x) (cond enabled (cond y (level_drive x) Off) Off))
+      by true always enabled h = ap (λ b. cond b (level_drive (level_at values own)) Off) one_is ∙ ap level_drive (sym (h refl))
+      by false true enabled h = ap (λ b. cond b (level_drive (level_at values level)) Off) one_is ∙ ap level_drive (sym e)
+      by false false true h = ap (λ w. cond (level_at values enable) (level_drive w) Off) (sym e) ∙ ap (λ b. cond b (level_drive x) Off) (sym f)
+      by false false false h = ap (λ b. cond b (level_drive (level_at values 0)) Off) zero_is
 
-  pad_is : (pad : Pad) → tap_drive values (pad_tap parts bits l.slots pad) ≡ drive_at parts bits w pad
-  pad_is pad =
-      part_is (pin_type parts bits pad / 4) (pin_slot 0 parts l.slots pad.tile (pad_output_name pad.pio)) (pin_slot 0 parts l.slots pad.tile (output_enable_name pad.pio))
-      (pin_level false parts w pad.tile (pad_output_name pad.pio)) (pin_level false parts w pad.tile (output_enable_name pad.pio))
-      (pin_zero pad.tile (pad_output_name pad.pio)) (pin_zero pad.tile (output_enable_name pad.pio))
+  -- what a pad is driven with that is driven with what a register keeps
+  output_is : (pad : Pad) → has_output_register parts bits pad ≡ true → feed_level levels kept values (output_feed parts bits pad) ≡ output_kept parts kept pad
+  output_is pad e =
+      ap (λ b. feed_level levels kept values (cond b (pad_register parts pad 1) Nothing)) e
+      ∙ register_is levels kept values (length (stores parts)) kept_long (register_place parts pad) 1
 
-  pub pads_are : (pads : List Pad) → map (tap_drive values) (map (pad_tap parts bits l.slots) pads) ≡ map (drive_at parts bits w) pads
-  pads_are [] = refl
-  pads_are (pad ∷ pads) =
-      ap (λ d. d ∷ map (tap_drive values) (map (pad_tap parts bits l.slots) pads)) (pad_is pad)
-      ∙ ap (λ ds. drive_at parts bits w pad ∷ ds) (pads_are pads)
+  pad_is : (own : ℕ) (pad : Pad) → level_at values own ≡ feed_level levels kept values (output_feed parts bits pad)
+      → tap_drive values (pad_tap parts bits l.slots own pad) ≡ drive_at parts bits kept w pad
+  pad_is own pad fed =
+      part_is (pin_type parts bits pad / 4) own (pin_slot 0 parts l.slots pad.tile (pad_output_name pad.pio)) (pin_slot 0 parts l.slots pad.tile (output_enable_name pad.pio))
+      (pin_level false parts w pad.tile (pad_output_name pad.pio)) (pin_level false parts w pad.tile (output_enable_name pad.pio)) (output_kept parts kept pad)
+      (pin_zero pad.tile (pad_output_name pad.pio)) (pin_zero pad.tile (output_enable_name pad.pio)) (λ e. sym (fed ∙ output_is pad e))
+
+  pub pads_are : (pads : List Pad) (own : ℕ) → Holds levels kept values own (map (output_feed parts bits) pads)
+      → map (tap_drive values) (taps_from parts bits l.slots own pads) ≡ map (drive_at parts bits kept w) pads
+  pads_are [] own holds = refl
+  pads_are (pad ∷ pads) own holds =
+      ap (λ d. d ∷ map (tap_drive values) (taps_from parts bits l.slots (suc own) pads))
+      (pad_is own pad (holds_head levels kept values own (output_feed parts bits pad) (map (output_feed parts bits) pads) holds))
+      ∙ ap (λ ds. drive_at parts bits kept w pad ∷ ds) (pads_are pads (suc own) (holds_tail levels kept values own (output_feed parts bits pad) (map (output_feed parts bits) pads) holds))

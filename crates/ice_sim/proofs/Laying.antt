@@ -1,17 +1,19 @@
 -- The layout of a chip's points, as it grows in an order of evaluation.
 use Rattle.std.proofs.Common.{◌≡◌, ◌≢◌, ℕ, suc, ◌+◌, ◌<◌, ◌≤◌, Bool, true, false, cond, List, [], ◌∷◌, ◌++◌, length, map, set, get_or, drop, replicate, Option, Some, None, refl, ap, sym, ◌∙◌, subst, inl, inr, arith, get_or-set_same, get_or-set_other, length-append, append-nil}
-use Rattle.std.specs.Prelude.{◌==◌, codes, option_map, slice_get, slice_index_or}
-use Rattle.std.proofs.lemmas.List.{length-set, drop_more, length-drop, length-replicate, get_or-replicate, get_or_append_left}
+use Rattle.std.specs.Prelude.{◌==◌, codes, nat_lt, option_map, slice_get, slice_index_or}
+use Rattle.std.specs.List.{flat_map}
+use Rattle.std.proofs.lemmas.List.{length-set, drop_more, length-drop, length-map, length-replicate, get_or-replicate, get_or_append_left}
 use Rattle.std.proofs.Math.Seq.{get_or-append_seam}
 use Rattle.std.proofs.Math.ListN.{get_or-eq_default}
 use Rattle.std.proofs.lemmas.Option.{same_Some}
-use Rattle.std.proofs.lemmas.Bool.{cases_lt}
+use Rattle.std.proofs.lemmas.Bool.{cases_lt, ltb-true}
 use Rattle.std.proofs.lemmas.Bool.Decides.{eqb_tells}
 use Rattle.ice_base.specs.declared.number.TileAt.{TileAt}
 use Rattle.ice_base_values.specs.Inputs.{present, reading}
 use Rattle.ice_base_values.specs.Order.{At, Has}
 use Rattle.ice_base_values.proofs.Places.{At_same, At_drop}
 use Rattle.ice_chip.specs.Database.{Parts}
+use Rattle.ice_chip.specs.Lookups.{gbufpin_of}
 use Rattle.ice_chip.specs.Places.{same_pad}
 use Rattle.ice_chip.specs.declared.rows.Pad.{Pad}
 use Rattle.ice_bits.specs.Configuration.{Bits}
@@ -28,16 +30,18 @@ use Rattle.ice_decode.specs.Drivers.{driver as driver_of}
 use Rattle.ice_chip.specs.WireNames.{input_name}
 use Rattle.ice_decode.specs.Cells.{cells, has_carry, has_flop}
 use Rattle.ice_decode.specs.Reads.{count_points, at_pin, carry_into, global_feed, reads}
-use Rattle.ice_decode.specs.Pads.{is_enabled}
+use Rattle.ice_decode.specs.Direct.{takes_pad}
+use Rattle.ice_decode.specs.Pads.{is_enabled, pads}
+use Rattle.ice_decode.specs.Registers.{cell_store, pad_stores, stores, register_place, has_input_register}
 use Rattle.ice_decode.specs.Faults.{IsOrderOf}
 use Rattle.ice_decode.specs.Meaning.{passes, makes}
 use Rattle.ice_sim_sweep.specs.declared.parts.Feed.{Feed}
-use Rattle.ice_sim_sweep.specs.declared.parts.Feed.TheVariants.{Nothing, Made}
+use Rattle.ice_sim_sweep.specs.declared.parts.Feed.TheVariants.{Nothing, Kept, Made}
 use Rattle.ice_sim.specs.declared.points.PointSlot.{PointSlot}
 use Rattle.ice_sim.specs.declared.points.PointSlot.TheVariants.{Shared, Own}
 use Rattle.ice_sim_sweep.specs.Slots.{level_at}
 use Rattle.ice_sim_sweep.specs.Arrays.{feed_level, feed_at, Obeys, IsGateAt, IsFed, AreFed}
-use Rattle.ice_sim.specs.ChipSlots.{cell_place, number, slot_in, slots_gate, cell_gate, carry_gate, table_of, table_slot, pad_place, level_slot, kept_slot, role_slot, driven_slot, point_slot}
+use Rattle.ice_sim.specs.ChipSlots.{cell_place, number, slot_in, slots_gate, cell_gate, carry_gate, table_of, table_slot, pad_place, level_slot, pad_slot, fed_slot, register_feed, pad_register, kept_slot, role_slot, driven_slot, point_slot}
 use Rattle.ice_sim.specs.Layouts.{Layout, placed, laid, ones_table, bare_layout}
 use Rattle.ice_sim.proofs.PointLevels.{slot_level, point_is}
 use Rattle.ice_sim.proofs.PointNumbers.{IsIn, is_in, cell_within, number_within, number_once}
@@ -61,7 +65,7 @@ obeys_left feeds more levels kept values obeys = record {
 }
 
 -- ---- bounds
-place_within : (bonded : List Pad) (pad : Pad) (k : ℕ) → pad_place bonded pad ≡ Some k → k < length bonded
+pub place_within : (bonded : List Pad) (pad : Pad) (k : ℕ) → pad_place bonded pad ≡ Some k → k < length bonded
 place_within [] pad k e = cc e
 place_within (p ∷ bonded) pad k e = of (same_pad p pad) e (λ m f. place_within bonded pad m f)
   where
@@ -73,12 +77,28 @@ place_within (p ∷ bonded) pad k e = of (same_pad p pad) e (λ m f. place_withi
     of true f rec = let same : 0 ≡ k = same_Some _ _ f in omega arith
     of false f rec = next (pad_place bonded pad) f rec
 
+-- there are no fewer stores than cells
+pub cells_few : (parts : Parts) → length (cells parts) ≤ length (stores parts)
+cells_few parts =
+    let long = length-append (map cell_store (cells parts)) (flat_map pad_stores (pads parts)) in
+    let same = length-map (cells parts) cell_store in
+    omega arith
+
+-- what a register of a pad keeps is one of the stores'
+pub register_fits : (ports count s : ℕ) (o : Option ℕ) (which : ℕ) → IsFed ports count s (register_feed count o which)
+register_fits ports count s None which = tt
+register_fits ports count s (Some k) which = of (nat_lt (k + which) count) refl
+  where
+    of : (b : Bool) → nat_lt (k + which) count ≡ b → IsFed ports count s (cond b (Kept (k + which)) Nothing)
+    of true e = ltb-true (k + which) count e
+    of false e = tt
+
 -- what a slot of a point may be, where the next slot is `next`
 abbrev pub IsSlot : ℕ → ℕ → ℕ → PointSlot → Type 0
 IsSlot ports cells next (Shared s) = s < next
 IsSlot ports cells next (Own feed) = IsFed ports cells next feed
 
-module _ (parts : Parts) (bits : Bits) (bonded : List Pad) (slots : List ℕ) (next : ℕ) (some : 1 < next) (low : (n : ℕ) → slice_index_or slots n 0 < next) where
+module _ (parts : Parts) (bits : Bits) (extras : List (ℕ × ℕ × ℕ)) (bonded : List Pad) (slots : List ℕ) (next : ℕ) (some : 1 < next) (low : (n : ℕ) → slice_index_or slots n 0 < next) where
   read_low : (o : Option Point) → reading 0 (slot_in parts slots) o < next
   read_low None = omega arith
   read_low (Some p) = low (number parts p)
@@ -102,7 +122,7 @@ module _ (parts : Parts) (bits : Bits) (bonded : List Pad) (slots : List ℕ) (n
   }
 
   abbrev Fits : PointSlot → Type 0
-  Fits slot = IsSlot (length bonded) (length (cells parts)) next slot
+  Fits slot = IsSlot (length bonded) (length (stores parts)) next slot
 
   table_fits : (t : TileAt) (i : ℕ) → Fits (table_slot parts bits slots next t i)
   table_fits t i = of (table_of parts bits t i == 0)
@@ -116,7 +136,7 @@ module _ (parts : Parts) (bits : Bits) (bonded : List Pad) (slots : List ℕ) (n
     where
       of : (o : Option ℕ) → cell_place parts t i ≡ o → Fits (kept_slot o)
       of None e = omega arith
-      of (Some c) e = cell_within parts t i c lt e
+      of (Some c) e = let within = cell_within parts t i c lt e in let few = cells_few parts in omega arith
 
   level_fits : (pad : Pad) → Fits (level_slot (pad_place bonded pad))
   level_fits pad = of (pad_place bonded pad) refl
@@ -125,7 +145,18 @@ module _ (parts : Parts) (bits : Bits) (bonded : List Pad) (slots : List ℕ) (n
       of None e = omega arith
       of (Some k) e = place_within bonded pad k e
 
-  role_fits : (role : Role) → IsSmall role → Fits (role_slot parts bits bonded slots next role)
+  pad_fits : (pad : Pad) → Fits (pad_slot parts bits bonded pad)
+  pad_fits pad = of (is_enabled parts bits pad)
+    where
+      of : (b : Bool) → Fits (cond b (level_slot (pad_place bonded pad)) (Shared 0))
+      of true = level_fits pad
+      of false = omega arith
+
+  fed_fits : (o : Option Pad) → Fits (fed_slot parts bits bonded o)
+  fed_fits None = omega arith
+  fed_fits (Some pad) = pad_fits pad
+
+  role_fits : (role : Role) → IsSmall role → Fits (role_slot parts bits extras bonded slots next role)
   role_fits Plain small = omega arith
   role_fits (Output t i) small = of (has_flop parts bits t i)
     where
@@ -134,12 +165,16 @@ module _ (parts : Parts) (bits : Bits) (bonded : List Pad) (slots : List ℕ) (n
       of false = table_fits t i
   role_fits (LookUp t i) small = table_fits t i
   role_fits (CarryOut t i) small = low (number parts (Carry t i))
-  role_fits (PadInput pad) small = of (is_enabled parts bits pad)
+  role_fits (PadInput pad) small = of (has_input_register parts bits pad)
     where
-      of : (b : Bool) → Fits (cond b (level_slot (pad_place bonded pad)) (Shared 0))
-      of true = level_fits pad
-      of false = omega arith
-  role_fits (Global n) small = read_low (global_feed parts n)
+      of : (b : Bool) → Fits (cond b (Own (pad_register parts pad 0)) (pad_slot parts bits bonded pad))
+      of true = register_fits (length bonded) (length (stores parts)) next (register_place parts pad) 0
+      of false = pad_fits pad
+  role_fits (Global n) small = of (takes_pad parts extras n)
+    where
+      of : (b : Bool) → Fits (cond b (fed_slot parts bits bonded (gbufpin_of parts n)) (Shared (reading 0 (slot_in parts slots) (global_feed parts n))))
+      of true = fed_fits (gbufpin_of parts n)
+      of false = read_low (global_feed parts n)
   role_fits (CarryIn t) small = of (set_at parts bits t (codes "CarryInSet") 0)
     where
       of : (b : Bool) → cond b 1 0 < next
@@ -147,7 +182,7 @@ module _ (parts : Parts) (bits : Bits) (bonded : List Pad) (slots : List ℕ) (n
       of false = omega arith
   role_fits ClockEnable small = some
 
-  driven_fits : (role : Role) (d : Driver) → IsSmall role → Fits (driven_slot parts bits bonded slots next role d)
+  driven_fits : (role : Role) (d : Driver) → IsSmall role → Fits (driven_slot parts bits extras bonded slots next role d)
   driven_fits role driver.Nothing small = role_fits role small
   driven_fits role (driver.By s) small = of (passes parts bits s)
     where
@@ -156,7 +191,7 @@ module _ (parts : Parts) (bits : Bits) (bonded : List Pad) (slots : List ℕ) (n
       of false = omega arith
   driven_fits role (driver.Several first second) small = omega arith
 
-  pub point_fits : (p : Point) → Fits (point_slot parts bits bonded slots next p)
+  pub point_fits : (p : Point) → Fits (point_slot parts bits extras bonded slots next p)
   point_fits (Wire w) = driven_fits (role_of parts w.0) (driver_of parts bits w.0) (role_small parts w.0)
   point_fits (Carry t i) = of (has_carry parts bits t i)
     where
@@ -176,19 +211,19 @@ reads_same bare v w (Some p ∷ inputs) same =
 
 -- ---- the layout
 -- the slot of a point has the level that the point makes of the levels in the slots of what it reads
-pub record Meets (parts : Parts) (bits : Bits) (bonded : List Pad) (l : Layout) (p : Point) : Type 0 where
-  pub is : (levels kept values : List Bool) → Obeys l.feeds levels kept values
-      → level_at values (slot_in parts l.slots p) ≡ makes parts bits bonded levels kept p (map (reading false (λ q. level_at values (slot_in parts l.slots q))) (reads parts bits p))
+pub record Meets (parts : Parts) (bits : Bits) (extras : List (ℕ × ℕ × ℕ)) (bonded : List Pad) (l : Layout) (p : Point) : Type 0 where
+  pub is : (levels kept values : List Bool) → length kept ≡ length (stores parts) → Obeys l.feeds levels kept values
+      → level_at values (slot_in parts l.slots p) ≡ makes parts bits extras bonded levels kept p (map (reading false (λ q. level_at values (slot_in parts l.slots q))) (reads parts bits extras p))
 
 -- the slots of the first i points of the order
-pub record IsLaid (parts : Parts) (bits : Bits) (bonded : List Pad) (order : List Point) (i : ℕ) (l : Layout) : Type 0 where
+pub record IsLaid (parts : Parts) (bits : Bits) (extras : List (ℕ × ℕ × ℕ)) (bonded : List Pad) (order : List Point) (i : ℕ) (l : Layout) : Type 0 where
   pub long : length l.slots ≡ count_points parts
   pub some : 1 < length l.feeds
   pub low : (n : ℕ) → slice_index_or l.slots n 0 < length l.feeds
-  pub fed : AreFed (length bonded) (length (cells parts)) 0 l.feeds
+  pub fed : AreFed (length bonded) (length (stores parts)) 0 l.feeds
   pub first : feed_at l.feeds 0 ≡ Nothing
   pub second : feed_at l.feeds 1 ≡ Made (slots_gate ones_table [] 1)
-  pub meets : (j : ℕ) (p : Point) → At order j p → j < i → Meets parts bits bonded l p
+  pub meets : (j : ℕ) (p : Point) → At order j p → j < i → Meets parts bits extras bonded l p
 
 -- the levels of the first two slots
 pub zero_level : (feeds : List Feed) (levels kept values : List Bool) → 1 < length feeds → feed_at feeds 0 ≡ Nothing → Obeys feeds levels kept values → level_at values 0 ≡ false
@@ -202,7 +237,7 @@ pub one_level : (feeds : List Feed) (levels kept values : List Bool) → 1 < len
 one_level feeds levels kept values some first second obeys =
     obeys.each 1 some ∙ ap (feed_level levels kept values) second ∙ ones (level_at values 0) (zero_level feeds levels kept values some first obeys)
 
-module _ (parts : Parts) (bits : Bits) (bonded : List Pad) (order : List Point) (o : IsOrderOf parts bits order) where
+module _ (parts : Parts) (bits : Bits) (extras : List (ℕ × ℕ × ℕ)) (bonded : List Pad) (order : List Point) (o : IsOrderOf parts bits extras order) where
   in_order : (j : ℕ) (p : Point) → At order j p → IsIn parts p
   in_order j p at = is_in parts p (o.within p (j, at))
 
@@ -222,10 +257,10 @@ module _ (parts : Parts) (bits : Bits) (bonded : List Pad) (order : List Point) 
 
   -- what a point at place j reads has slots that a write for the point at place i, from j on, leaves
   reads_kept : (slots values : List ℕ) (i j s : ℕ) (p q : Point) → At order i p → At order j q → j ≤ i → (levels : List Bool)
-      → map (reading false (λ r. level_at levels (slot_in parts slots r))) (reads parts bits q)
-      ≡ map (reading false (λ r. level_at levels (slot_in parts (set slots (number parts p) s) r))) (reads parts bits q)
+      → map (reading false (λ r. level_at levels (slot_in parts slots r))) (reads parts bits extras q)
+      ≡ map (reading false (λ r. level_at levels (slot_in parts (set slots (number parts p) s) r))) (reads parts bits extras q)
   reads_kept slots values i j s p q a b le levels =
-      reads_same false (λ r. level_at levels (slot_in parts slots r)) (λ r. level_at levels (slot_in parts (set slots (number parts p) s) r)) (reads parts bits q)
+      reads_same false (λ r. level_at levels (slot_in parts slots r)) (λ r. level_at levels (slot_in parts (set slots (number parts p) s) r)) (reads parts bits extras q)
       (λ r has. let before = o.after j q r b has in
       ap (level_at levels) (sym (slot_other slots i before.0 s p r a before.2 (λ e. let lt : before.0 < j = before.1 in absurd (omega arith)))))
 
@@ -236,7 +271,7 @@ module _ (parts : Parts) (bits : Bits) (bonded : List Pad) (order : List Point) 
     | inr other ↦ rw (get_or-set_other slots n m s 0 other.1) old
   ]
 
-  module _ (i : ℕ) (p : Point) (l : Layout) (at : At order i p) (laid_ : IsLaid parts bits bonded order i l) where
+  module _ (i : ℕ) (p : Point) (l : Layout) (at : At order i p) (laid_ : IsLaid parts bits extras bonded order i l) where
     abbrev here : ℕ
     here = number parts p
 
@@ -245,43 +280,43 @@ module _ (parts : Parts) (bits : Bits) (bonded : List Pad) (order : List Point) 
 
     -- the points before keep their levels
     old_meets : (s : ℕ) (more : List Feed) (j : ℕ) (q : Point) → At order j q → j < i
-        → Meets parts bits bonded (record { slots = set l.slots here s; feeds = l.feeds ++ more }) q
+        → Meets parts bits extras bonded (record { slots = set l.slots here s; feeds = l.feeds ++ more }) q
     old_meets s more j q there lt = record {
-      is = λ levels kept values obeys.
+      is = λ levels kept values kept_long obeys.
           ap (level_at values) (slot_other l.slots i j s p q at there (λ e. absurd (omega arith)))
-          ∙ (laid_.meets j q there lt).is levels kept values (obeys_left l.feeds more levels kept values obeys)
-          ∙ ap (makes parts bits bonded levels kept q) (reads_kept l.slots [] i j s p q at there (omega arith) values);
+          ∙ (laid_.meets j q there lt).is levels kept values kept_long (obeys_left l.feeds more levels kept values obeys)
+          ∙ ap (makes parts bits extras bonded levels kept q) (reads_kept l.slots [] i j s p q at there (omega arith) values);
     }
 
     -- and this one has its own
-    new_meets : (s : ℕ) (more : List Feed) (slot : PointSlot) → point_slot parts bits bonded l.slots (length l.feeds) p ≡ slot
-        → ((levels kept values : List Bool) → Obeys (l.feeds ++ more) levels kept values
-        → (zero_is : level_at values 0 ≡ false) → (one_is : level_at values 1 ≡ true) → level_at values s ≡ slot_level parts bits l.slots values zero_is bonded levels kept one_is slot)
-        → Meets parts bits bonded (record { slots = set l.slots here s; feeds = l.feeds ++ more }) p
+    new_meets : (s : ℕ) (more : List Feed) (slot : PointSlot) → point_slot parts bits extras bonded l.slots (length l.feeds) p ≡ slot
+        → ((levels kept values : List Bool) → (kept_long : length kept ≡ length (stores parts)) → Obeys (l.feeds ++ more) levels kept values → (zero_is : level_at values 0 ≡ false)
+        → (one_is : level_at values 1 ≡ true) → level_at values s ≡ slot_level parts bits l.slots values zero_is extras bonded levels kept kept_long one_is slot)
+        → Meets parts bits extras bonded (record { slots = set l.slots here s; feeds = l.feeds ++ more }) p
     new_meets s more slot e level = record {
-      is = λ levels kept values obeys.
+      is = λ levels kept values kept_long obeys.
           let old = obeys_left l.feeds more levels kept values obeys in
           let zero_is = zero_level l.feeds levels kept values laid_.some laid_.first old in
           let one_is = one_level l.feeds levels kept values laid_.some laid_.first laid_.second old in
           ap (level_at values) (slot_same l.slots i s p at laid_.long)
-          ∙ level levels kept values obeys zero_is one_is
-          ∙ ap (slot_level parts bits l.slots values zero_is bonded levels kept one_is) (sym e)
-          ∙ point_is parts bits l.slots values zero_is bonded levels kept one_is (length l.feeds) p
-          ∙ ap (makes parts bits bonded levels kept p) (reads_kept l.slots [] i i s p p at at (omega arith) values);
+          ∙ level levels kept values kept_long obeys zero_is one_is
+          ∙ ap (slot_level parts bits l.slots values zero_is extras bonded levels kept kept_long one_is) (sym e)
+          ∙ point_is parts bits l.slots values zero_is extras bonded levels kept kept_long one_is (length l.feeds) p
+          ∙ ap (makes parts bits extras bonded levels kept p) (reads_kept l.slots [] i i s p p at at (omega arith) values);
     }
 
-    all_meet : (s : ℕ) (more : List Feed) → Meets parts bits bonded (record { slots = set l.slots here s; feeds = l.feeds ++ more }) p
-        → (j : ℕ) (q : Point) → At order j q → j < i + 1 → Meets parts bits bonded (record { slots = set l.slots here s; feeds = l.feeds ++ more }) q
+    all_meet : (s : ℕ) (more : List Feed) → Meets parts bits extras bonded (record { slots = set l.slots here s; feeds = l.feeds ++ more }) p
+        → (j : ℕ) (q : Point) → At order j q → j < i + 1 → Meets parts bits extras bonded (record { slots = set l.slots here s; feeds = l.feeds ++ more }) q
     all_meet s more new j q there lt = elim (cases_lt j i) [
       | inl below ↦ old_meets s more j q there below
       | inr above ↦ (let e : i ≡ j = omega arith in
           let same : p ≡ q = At_same order j p q (subst (λ k. At order k p) e at) there in
-          subst (Meets parts bits bonded (record { slots = set l.slots here s; feeds = l.feeds ++ more })) same new)
+          subst (Meets parts bits extras bonded (record { slots = set l.slots here s; feeds = l.feeds ++ more })) same new)
     ]
 
-    grown : (s : ℕ) (more : List Feed) → s < length (l.feeds ++ more) → AreFed (length bonded) (length (cells parts)) 0 (l.feeds ++ more)
-        → Meets parts bits bonded (record { slots = set l.slots here s; feeds = l.feeds ++ more }) p
-        → IsLaid parts bits bonded order (i + 1) (record { slots = set l.slots here s; feeds = l.feeds ++ more })
+    grown : (s : ℕ) (more : List Feed) → s < length (l.feeds ++ more) → AreFed (length bonded) (length (stores parts)) 0 (l.feeds ++ more)
+        → Meets parts bits extras bonded (record { slots = set l.slots here s; feeds = l.feeds ++ more }) p
+        → IsLaid parts bits extras bonded order (i + 1) (record { slots = set l.slots here s; feeds = l.feeds ++ more })
     grown s more lt fed new =
         let long = length-append l.feeds more in
         let some = laid_.some in
@@ -299,23 +334,23 @@ module _ (parts : Parts) (bits : Bits) (bonded : List Pad) (order : List Point) 
     no_more = append-nil l.feeds
 
     -- one step of the layout
-    pub laid_one : IsLaid parts bits bonded order (i + 1) (placed (point_slot parts bits bonded l.slots (length l.feeds) p) here l)
-    laid_one = of (point_slot parts bits bonded l.slots (length l.feeds) p) refl (point_fits parts bits bonded l.slots (length l.feeds) laid_.some laid_.low p)
+    pub laid_one : IsLaid parts bits extras bonded order (i + 1) (placed (point_slot parts bits extras bonded l.slots (length l.feeds) p) here l)
+    laid_one = of (point_slot parts bits extras bonded l.slots (length l.feeds) p) refl (point_fits parts bits extras bonded l.slots (length l.feeds) laid_.some laid_.low p)
       where
-        of : (slot : PointSlot) → point_slot parts bits bonded l.slots (length l.feeds) p ≡ slot → IsSlot (length bonded) (length (cells parts)) (length l.feeds) slot
-            → IsLaid parts bits bonded order (i + 1) (placed slot here l)
+        of : (slot : PointSlot) → point_slot parts bits extras bonded l.slots (length l.feeds) p ≡ slot → IsSlot (length bonded) (length (stores parts)) (length l.feeds) slot
+            → IsLaid parts bits extras bonded order (i + 1) (placed slot here l)
         of (Shared s) e fits =
-            subst (λ feeds. IsLaid parts bits bonded order (i + 1) (record { slots = set l.slots here s; feeds = feeds })) no_more
-            (grown s [] (rw no_more fits) (rw no_more laid_.fed) (new_meets s [] (Shared s) e (λ levels kept values obeys zero_is one_is. refl)))
+            subst (λ feeds. IsLaid parts bits extras bonded order (i + 1) (record { slots = set l.slots here s; feeds = feeds })) no_more
+            (grown s [] (rw no_more fits) (rw no_more laid_.fed) (new_meets s [] (Shared s) e (λ levels kept values kept_long obeys zero_is one_is. refl)))
         of (Own feed) e fits =
             grown (length l.feeds) (feed ∷ []) (let long = length-append l.feeds (feed ∷ []) in omega arith)
-            (fed_push (length bonded) (length (cells parts)) 0 l.feeds feed laid_.fed (let zero_more : 0 + length l.feeds ≡ length l.feeds = omega arith in rw zero_more fits))
-            (new_meets (length l.feeds) (feed ∷ []) (Own feed) e (λ levels kept values obeys zero_is one_is.
+            (fed_push (length bonded) (length (stores parts)) 0 l.feeds feed laid_.fed (let zero_more : 0 + length l.feeds ≡ length l.feeds = omega arith in rw zero_more fits))
+            (new_meets (length l.feeds) (feed ∷ []) (Own feed) e (λ levels kept values kept_long obeys zero_is one_is.
             obeys.each (length l.feeds) (let long = length-append l.feeds (feed ∷ []) in omega arith)
             ∙ ap (feed_level levels kept values) (get_or-append_seam l.feeds feed [] Nothing)))
 
   -- ---- all points
-  end : (i : ℕ) (l : Layout) → length order ≤ i → IsLaid parts bits bonded order i l → IsLaid parts bits bonded order (length order) l
+  end : (i : ℕ) (l : Layout) → length order ≤ i → IsLaid parts bits extras bonded order i l → IsLaid parts bits extras bonded order (length order) l
   end i l le laid_ = record {
     long = laid_.long;
     some = laid_.some;
@@ -326,13 +361,13 @@ module _ (parts : Parts) (bits : Bits) (bonded : List Pad) (order : List Point) 
     meets = λ j p at lt. laid_.meets j p at (omega arith);
   }
 
-  laid_from : (rest : List Point) (i : ℕ) (l : Layout) → drop i order ≡ rest → IsLaid parts bits bonded order i l
-      → IsLaid parts bits bonded order (length order) (laid parts bits bonded rest l)
+  laid_from : (rest : List Point) (i : ℕ) (l : Layout) → drop i order ≡ rest → IsLaid parts bits extras bonded order i l
+      → IsLaid parts bits extras bonded order (length order) (laid parts bits extras bonded rest l)
   laid_from [] i l is laid_ =
       let none : length (drop i order) ≡ 0 = ap length is in
       end i l (omega (arith, length-drop i order)) laid_
   laid_from (p ∷ rest) i l is laid_ =
-      laid_from rest (i + 1) (placed (point_slot parts bits bonded l.slots (length l.feeds) p) (number parts p) l) behind (laid_one i p l at laid_)
+      laid_from rest (i + 1) (placed (point_slot parts bits extras bonded l.slots (length l.feeds) p) (number parts p) l) behind (laid_one i p l at laid_)
     where
       lt : i < length order
       lt = let some : length (drop i order) ≡ suc (length rest) = ap length is in omega (arith, length-drop i order)
@@ -356,7 +391,7 @@ module _ (parts : Parts) (bits : Bits) (bonded : List Pad) (order : List Point) 
     | inr ge ↦ get_or-eq_default (replicate count 0) 0 (past count n ge)
   ])
 
-  laid_bare : IsLaid parts bits bonded order 0 (bare_layout parts)
+  laid_bare : IsLaid parts bits extras bonded order 0 (bare_layout parts)
   laid_bare = record {
     long = length-replicate (count_points parts) 0;
     some = omega arith;
@@ -368,5 +403,5 @@ module _ (parts : Parts) (bits : Bits) (bonded : List Pad) (order : List Point) 
   }
 
   -- all points have their slots
-  pub all_laid : IsLaid parts bits bonded order (length order) (laid parts bits bonded order (bare_layout parts))
+  pub all_laid : IsLaid parts bits extras bonded order (length order) (laid parts bits extras bonded order (bare_layout parts))
   all_laid = laid_from order 0 (bare_layout parts) refl laid_bare

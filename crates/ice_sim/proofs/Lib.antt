@@ -8,7 +8,8 @@ pub mod ChipStates
 pub mod ChipBounds
 pub mod ChipRunning
 pub mod TilePlaces
-pub mod FlopSteps
+pub mod StoreLists
+pub mod StoreSteps
 pub mod Compiling
 pub mod ChipPlaying
 pub mod Turns

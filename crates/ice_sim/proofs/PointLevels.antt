@@ -1,10 +1,13 @@
 -- What the slot of a point has is what the point makes of the levels in the slots of what it reads.
-use Rattle.std.proofs.Common.{◌≡◌, ℕ, suc, ◌+◌, ◌*◌, Bool, true, false, cond, List, [], ◌∷◌, map, Option, Some, None, refl, ap, sym, ◌∙◌, eqb-true}
-use Rattle.std.specs.Prelude.{◌==◌, ◌&&◌, codes, option_map, slice_index_or}
+use Rattle.std.proofs.Common.{◌≡◌, ℕ, suc, ◌+◌, ◌*◌, ◌≤◌, Bool, true, false, cond, List, [], ◌∷◌, map, length, Option, Some, None, refl, ap, sym, ◌∙◌, eqb-true, arith}
+use Rattle.std.specs.Prelude.{◌==◌, ◌&&◌, codes, nat_lt, option_map, slice_index_or}
 use Rattle.std.specs.Option.{option_map_or}
+use Rattle.std.proofs.Math.ListN.{get_or-eq_default}
+use Rattle.std.proofs.lemmas.Bool.{ltb-false}
 use Rattle.ice_base.specs.declared.number.TileAt.{TileAt}
 use Rattle.ice_base_values.specs.Inputs.{reading}
 use Rattle.ice_chip.specs.Database.{Parts}
+use Rattle.ice_chip.specs.Lookups.{gbufpin_of}
 use Rattle.ice_chip.specs.Places.{same_pad}
 use Rattle.ice_chip.specs.declared.rows.Pad.{Pad}
 use Rattle.ice_bits.specs.Configuration.{Bits}
@@ -18,23 +21,25 @@ use Rattle.ice_decode.specs.declared.role.Role.{Role}
 use Rattle.ice_decode.specs.declared.role.Role.TheVariants.{Plain, Output, LookUp, CarryOut, PadInput, Global, CarryIn, ClockEnable}
 use Rattle.ice_decode.specs.Roles.{role_of}
 use Rattle.ice_decode.specs.Drivers.{driver as driver_of}
-use Rattle.ice_decode.specs.Cells.{logic_tiles, has_carry, has_flop, table_entry, looked_up}
+use Rattle.ice_decode.specs.Cells.{logic_tiles, tile_place, has_carry, has_flop, table_entry, looked_up}
+use Rattle.ice_decode.specs.Direct.{takes_pad}
 use Rattle.ice_decode.specs.Reads.{at_pin, cell_inputs, carry_into, carry_inputs, global_feed, role_reads, driven_reads, reads}
-use Rattle.ice_decode.specs.Pads.{is_enabled, level_of}
+use Rattle.ice_decode.specs.Pads.{is_enabled, level_of, pad_gives}
+use Rattle.ice_decode.specs.Registers.{stores, kept_at, register_place, register_at, input_kept, has_input_register}
 use Rattle.ice_chip.specs.WireNames.{input_name}
-use Rattle.ice_decode.specs.Meaning.{passes, tile_place, kept_at, role_makes, driven_makes, makes}
-use Rattle.ice_sim_sweep.specs.declared.parts.Feed.TheVariants.{Made}
+use Rattle.ice_decode.specs.Meaning.{passes, global_gives, role_makes, driven_makes, makes}
+use Rattle.ice_sim_sweep.specs.declared.parts.Feed.TheVariants.{Nothing, Kept, Made}
 use Rattle.ice_sim.specs.declared.points.PointSlot.{PointSlot}
 use Rattle.ice_sim.specs.declared.points.PointSlot.TheVariants.{Shared, Own}
 use Rattle.ice_sim_sweep.specs.Slots.{level_at}
 use Rattle.ice_sim_sweep.specs.Sweeps.{gate_level}
 use Rattle.ice_sim_sweep.specs.Arrays.{feed_level}
-use Rattle.ice_sim.specs.ChipSlots.{cell_place, slot_in, table_of, cell_gate, carry_gate, table_slot, pad_place, level_slot, kept_slot, role_slot, driven_slot, point_slot}
+use Rattle.ice_sim.specs.ChipSlots.{cell_place, slot_in, table_of, cell_gate, carry_gate, table_slot, pad_place, level_slot, pad_slot, fed_slot, register_feed, pad_register, kept_slot, role_slot, driven_slot, point_slot}
 use Rattle.ice_sim_sweep.proofs.Feeding.{majority_bits}
 use Rattle.ice_sim.proofs.TableBits.{bits_are, entry_is}
 
 -- ---- pads
-abbrev place_level : List Bool → Option ℕ → Bool
+abbrev pub place_level : List Bool → Option ℕ → Bool
 place_level levels None = false
 place_level levels (Some k) = slice_index_or levels k false
 
@@ -46,7 +51,7 @@ nowhere : (o : Option ℕ) → false ≡ place_level [] o
 nowhere None = refl
 nowhere (Some k) = refl
 
-level_is : (bonded : List Pad) (levels : List Bool) (pad : Pad) → level_of bonded levels pad ≡ place_level levels (pad_place bonded pad)
+pub level_is : (bonded : List Pad) (levels : List Bool) (pad : Pad) → level_of bonded levels pad ≡ place_level levels (pad_place bonded pad)
 level_is [] levels pad = refl
 level_is (p ∷ bonded) [] pad = nowhere (pad_place (p ∷ bonded) pad)
 level_is (p ∷ bonded) (x ∷ levels) pad = of (same_pad p pad) (level_is bonded levels pad)
@@ -55,6 +60,17 @@ level_is (p ∷ bonded) (x ∷ levels) pad = of (same_pad p pad) (level_is bonde
         → cond b x (level_of bonded levels pad) ≡ place_level (x ∷ levels) (cond b (Some 0) (option_map suc (pad_place bonded pad)))
     of true rec = refl
     of false rec = rec ∙ behind x levels (pad_place bonded pad)
+
+-- ---- registers of pads
+-- what a register of a pad keeps, where all stores have levels
+pub register_is : (levels kept values : List Bool) (count : ℕ) → length kept ≡ count → (o : Option ℕ) (which : ℕ)
+    → feed_level levels kept values (register_feed count o which) ≡ option_map_or (λ k. slice_index_or kept (k + which) false) o false
+register_is levels kept values count long None which = refl
+register_is levels kept values count long (Some k) which = of (nat_lt (k + which) count) refl
+  where
+    of : (b : Bool) → nat_lt (k + which) count ≡ b → feed_level levels kept values (cond b (Kept (k + which)) Nothing) ≡ slice_index_or kept (k + which) false
+    of true e = refl
+    of false e = let past : length kept ≤ k + which = (let le = ltb-false (k + which) count e in omega arith) in sym (get_or-eq_default kept false past)
 
 -- ---- tables
 -- what the table of a cell gives is a bit of its number
@@ -101,7 +117,7 @@ module _ (parts : Parts) (bits : Bits) (slots : List ℕ) (values : List Bool) (
       (read_level (at_pin parts t (input_name i 1))) (read_level (at_pin parts t (input_name i 2))) (read_level (carry_into parts t i)) zero_is
       ∙ sym (majority_bits (reading false v (at_pin parts t (input_name i 1))) (reading false v (at_pin parts t (input_name i 2))) (reading false v (carry_into parts t i)))
 
-  module _ (bonded : List Pad) (levels kept : List Bool) (one_is : level_at values 1 ≡ true) where
+  module _ (extras : List (ℕ × ℕ × ℕ)) (bonded : List Pad) (levels kept : List Bool) (long : length kept ≡ length (stores parts)) (one_is : level_at values 1 ≡ true) where
     -- the level that a slot is to have
     abbrev pub slot_level : PointSlot → Bool
     slot_level (Shared s) = level_at values s
@@ -129,7 +145,18 @@ module _ (parts : Parts) (bits : Bits) (slots : List ℕ) (values : List Bool) (
     place_is None = zero_is
     place_is (Some k) = refl
 
-    role_is : (next : ℕ) (role : Role) → slot_level (role_slot parts bits bonded slots next role) ≡ role_makes parts bits bonded levels kept role (map (reading false v) (role_reads parts bits role))
+    pad_is : (pad : Pad) → slot_level (pad_slot parts bits bonded pad) ≡ pad_gives parts bits bonded levels pad
+    pad_is pad = of (is_enabled parts bits pad)
+      where
+        of : (b : Bool) → slot_level (cond b (level_slot (pad_place bonded pad)) (Shared 0)) ≡ b && level_of bonded levels pad
+        of true = place_is (pad_place bonded pad) ∙ sym (level_is bonded levels pad)
+        of false = zero_is
+
+    fed_is : (o : Option Pad) → slot_level (fed_slot parts bits bonded o) ≡ global_gives parts bits bonded levels o
+    fed_is None = zero_is
+    fed_is (Some pad) = pad_is pad
+
+    role_is : (next : ℕ) (role : Role) → slot_level (role_slot parts bits extras bonded slots next role) ≡ role_makes parts bits extras bonded levels kept role (map (reading false v) (role_reads parts bits extras role))
     role_is next Plain = zero_is
     role_is next (Output t i) = of (has_flop parts bits t i)
       where
@@ -139,12 +166,17 @@ module _ (parts : Parts) (bits : Bits) (slots : List ℕ) (values : List Bool) (
         of false = table_makes t i next
     role_is next (LookUp t i) = table_makes t i next
     role_is next (CarryOut t i) = refl
-    role_is next (PadInput pad) = of (is_enabled parts bits pad)
+    role_is next (PadInput pad) = of (has_input_register parts bits pad)
       where
-        of : (b : Bool) → slot_level (cond b (level_slot (pad_place bonded pad)) (Shared 0)) ≡ b && level_of bonded levels pad
-        of true = place_is (pad_place bonded pad) ∙ sym (level_is bonded levels pad)
-        of false = zero_is
-    role_is next (Global n) = read_level (global_feed parts n)
+        of : (b : Bool) → slot_level (cond b (Own (pad_register parts pad 0)) (pad_slot parts bits bonded pad)) ≡ cond b (input_kept parts kept pad) (pad_gives parts bits bonded levels pad)
+        of true = register_is levels kept values (length (stores parts)) long (register_place parts pad) 0
+        of false = pad_is pad
+    role_is next (Global n) = of (takes_pad parts extras n)
+      where
+        of : (b : Bool) → slot_level (cond b (fed_slot parts bits bonded (gbufpin_of parts n)) (Shared (reading 0 (slot_in parts slots) (global_feed parts n))))
+            ≡ cond b (global_gives parts bits bonded levels (gbufpin_of parts n)) (slice_index_or (map (reading false v) (cond b [] (global_feed parts n ∷ []))) 0 false)
+        of true = fed_is (gbufpin_of parts n)
+        of false = read_level (global_feed parts n)
     role_is next (CarryIn t) = of (set_at parts bits t (codes "CarryInSet") 0)
       where
         of : (b : Bool) → level_at values (cond b 1 0) ≡ b
@@ -153,7 +185,7 @@ module _ (parts : Parts) (bits : Bits) (slots : List ℕ) (values : List Bool) (
     role_is next ClockEnable = one_is
 
     driven_is : (next : ℕ) (role : Role) (d : Driver)
-        → slot_level (driven_slot parts bits bonded slots next role d) ≡ driven_makes parts bits bonded levels kept role d (map (reading false v) (driven_reads parts bits role d))
+        → slot_level (driven_slot parts bits extras bonded slots next role d) ≡ driven_makes parts bits extras bonded levels kept role d (map (reading false v) (driven_reads parts bits extras role d))
     driven_is next role driver.Nothing = role_is next role
     driven_is next role (driver.By s) = of (passes parts bits s)
       where
@@ -168,7 +200,7 @@ module _ (parts : Parts) (bits : Bits) (slots : List ℕ) (values : List Bool) (
 
     -- what gives a point its level
     pub point_is : (next : ℕ) (p : Point)
-        → slot_level (point_slot parts bits bonded slots next p) ≡ makes parts bits bonded levels kept p (map (reading false v) (reads parts bits p))
+        → slot_level (point_slot parts bits extras bonded slots next p) ≡ makes parts bits extras bonded levels kept p (map (reading false v) (reads parts bits extras p))
     point_is next (Wire w) = driven_is next (role_of parts w.0) (driver_of parts bits w.0)
     point_is next (Carry t i) = of (has_carry parts bits t i)
       where

@@ -10,9 +10,8 @@ use Rattle.ice_chip.specs.Database.{Parts}
 use Rattle.ice_chip.specs.Places.{same_tile}
 use Rattle.ice_decode.specs.declared.point.Point.{Point}
 use Rattle.ice_decode.specs.declared.point.Point.TheVariants.{Wire, Carry}
-use Rattle.ice_decode.specs.Cells.{cells_in, logic_tiles}
+use Rattle.ice_decode.specs.Cells.{cells_in, logic_tiles, tile_place}
 use Rattle.ice_decode.specs.Reads.{points, count_points}
-use Rattle.ice_decode.specs.Meaning.{tile_place}
 use Rattle.ice_decode.proofs.KeptLevels.{tile_at}
 use Rattle.ice_decode.proofs.PointPlaces.{cells_long}
 use Rattle.ice_base.proofs.Keys.{tile_self}

@@ -6,6 +6,7 @@ use Rattle.ice_base.specs.declared.number.TileAt.{TileAt}
 use Rattle.ice_chip.specs.Database.{Parts}
 use Rattle.ice_chip.specs.Lookups.{kind_at, names_of}
 use Rattle.ice_chip.specs.PinNames.{cell_pin, is_global_name}
+use Rattle.ice_chip.specs.WireNames.{in_out_enable_name}
 use Rattle.ice_chip.specs.declared.rows.TileKind.{TileKind}
 use Rattle.ice_chip.specs.declared.rows.TileKind.TheVariants.{Io, Logic, RamBottom, RamTop}
 use Rattle.ice_chip.specs.declared.placed.PlacedName.{PlacedName}
@@ -68,7 +69,8 @@ logic_small t name =
 io_small : (t : TileAt) (name : List ℕ) → IsSmallIf (io_role t name)
 io_small t name =
     cond_both (bytes_eq name (codes "io_0/D_IN_0")) (Some (PadInput (record { tile = t; pio = 0 }))) _ IsSmallIf (λ e. tt)
-    (λ e. cond_both (bytes_eq name (codes "io_1/D_IN_0")) (Some (PadInput (record { tile = t; pio = 1 }))) _ IsSmallIf (λ f. tt) (λ f. global_small name))
+    (λ e. cond_both (bytes_eq name (codes "io_1/D_IN_0")) (Some (PadInput (record { tile = t; pio = 1 }))) _ IsSmallIf (λ f. tt)
+    (λ f. cond_both (bytes_eq name in_out_enable_name) (Some ClockEnable) _ IsSmallIf (λ g. tt) (λ g. global_small name)))
 
 in_small : (t : TileAt) (kind : Option TileKind) (name : List ℕ) → IsSmallIf (role_in t kind name)
 in_small t None name = tt

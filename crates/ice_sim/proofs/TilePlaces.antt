@@ -13,9 +13,8 @@ use Rattle.ice_bits.specs.Configuration.{Bits}
 use Rattle.ice_decode.specs.declared.driver.Driver.{Driver}
 use Rattle.ice_decode.specs.declared.driver.Driver.TheVariants.{Nothing, By, Several}
 use Rattle.ice_decode.specs.Drivers.{driver}
-use Rattle.ice_decode.specs.Cells.{logic_tiles}
+use Rattle.ice_decode.specs.Cells.{tile_place}
 use Rattle.ice_decode.specs.Faults.{or_else}
-use Rattle.ice_decode.specs.Meaning.{tile_place}
 use Rattle.ice_decode.specs.Refusals.{AreDrivers}
 use Rattle.ice_base.proofs.Keys.{tile_same}
 use Rattle.ice_decode.proofs.Switches.{driver_between}
@@ -94,8 +93,8 @@ from_zero : (o : Option ℕ) → option_map (λ m. 0 + m) o ≡ o
 from_zero None = refl
 from_zero (Some m) = let e : 0 + m ≡ m = omega arith in ap (λ n. Some n) e
 
-pub tile_found : (parts : Parts) (entries : List (TileAt × ℕ)) (t : TileAt) → entries ≡ with_places 0 (logic_tiles parts) [] → lookup (same_tile t) entries ≡ tile_place t (logic_tiles parts)
-tile_found parts entries t e = ap (lookup (same_tile t)) e ∙ lookup_places t 0 (logic_tiles parts) [] ∙ from_zero (tile_place t (logic_tiles parts))
+pub tile_found : (tiles : List TileAt) (entries : List (TileAt × ℕ)) (t : TileAt) → entries ≡ with_places 0 tiles [] → lookup (same_tile t) entries ≡ tile_place t tiles
+tile_found tiles entries t e = ap (lookup (same_tile t)) e ∙ lookup_places t 0 tiles [] ∙ from_zero (tile_place t tiles)
 
 -- ---- pads
 pub pad_found : (bonded : List Pad) (pad : Pad) → position (same_pad pad) bonded ≡ pad_place bonded pad

@@ -1,13 +1,12 @@
 -- What a run of a configured chip holds.
 use Rattle.std.specs.Prelude.{◌≡◌, ℕ, ◌<◌, Bool, true, false, List, [], ◌∷◌, ◌++◌, length, map, replicate}
-use Rattle.ice_base.specs.declared.number.TileAt.{TileAt}
 use Rattle.ice_chip.specs.Database.{Parts}
 use Rattle.ice_chip.specs.IsRead.{IsChip}
 use Rattle.ice_chip.specs.declared.rows.Pad.{Pad}
 use Rattle.ice_bits.specs.Configuration.{Bits, Configuration}
 use Rattle.ice_net.specs.Meaning.{State}
 use Rattle.ice_decode.specs.declared.point.Point.{Point}
-use Rattle.ice_decode.specs.Cells.{cells, has_flop}
+use Rattle.ice_decode.specs.Registers.{Store, stores}
 use Rattle.ice_decode.specs.Faults.{IsOrderOf}
 use Rattle.ice_sim_sweep.specs.declared.parts.Feed.{Feed}
 use Rattle.ice_sim_sweep.specs.declared.parts.Feed.TheVariants.{Nothing}
@@ -16,7 +15,7 @@ use Rattle.ice_sim_sweep.specs.declared.plan.Plan.{Plan}
 use Rattle.ice_sim_sweep.specs.Slots.{level_at}
 use Rattle.ice_sim_sweep.specs.Sweeps.{blank}
 use Rattle.ice_sim_sweep.specs.Arrays.{feed_at, IsWired}
-use Rattle.ice_sim.specs.Layouts.{Layout, laid, bare_layout, flops_from, tables_from, pad_tap}
+use Rattle.ice_sim.specs.Layouts.{Layout, laid, bare_layout, is_used, keepers_from, feeds_from, output_feed, taps_from}
 
 -- a chip with bits, seen at the pads of a package, between two steps
 pub record ChipRunData : Type 0 where
@@ -26,41 +25,44 @@ pub record ChipRunData : Type 0 where
   pub state : State
 
 -- ---- what is compiled
--- bits of a chip, compiled
-pub record IsChipPlan (parts : Parts) (bits : Bits) (bonded : List Pad) (feeds : List Feed) (plan : Plan) : Type 0 where
+-- bits of a chip, compiled: behind the slots of points stand those of the stores, and behind them those of the pads of the package
+pub record IsChipPlan (parts : Parts) (bits : Bits) (extras : List (ℕ × ℕ × ℕ)) (bonded : List Pad) (feeds : List Feed) (plan : Plan) : Type 0 where
   pub chip : IsChip parts
   pub order : List Point
-  pub ordered : IsOrderOf parts bits order
+  pub ordered : IsOrderOf parts bits extras order
   pub layout : Layout
-  pub laid_out : layout ≡ laid parts bits bonded order (bare_layout parts)
-  pub feeds_are : feeds ≡ layout.feeds ++ tables_from parts bits layout.slots (length layout.feeds) (cells parts)
+  pub laid_out : layout ≡ laid parts bits extras bonded order (bare_layout parts)
+  pub own : List Feed
+  pub own_are : own ≡ feeds_from parts bits bonded layout.slots (length layout.feeds) (stores parts)
+  pub feeds_are : feeds ≡ (layout.feeds ++ own) ++ map (output_feed parts bits) bonded
   pub wired : IsWired feeds plan
-  pub keepers_are : plan.keepers.items ≡ flops_from parts bits layout.slots 0 (length layout.feeds) (cells parts)
-  pub taps_are : plan.taps.items ≡ map (pad_tap parts bits layout.slots) bonded
+  pub keepers_are : plan.keepers.items ≡ keepers_from parts bits bonded layout.slots 0 (length layout.feeds) (stores parts)
+  pub taps_are : plan.taps.items ≡ taps_from parts bits layout.slots (length (layout.feeds ++ own)) bonded
 
 -- ---- what is kept from step to step
--- a cell whose output is its table keeps nothing
+-- a store that isn't used keeps nothing
 abbrev pub IsBlankUnless : Bool → Memory → Type 0
 IsBlankUnless true memory = Unit {0}
 IsBlankUnless false memory = memory ≡ blank
 
-abbrev pub AreKept : Parts → Bits → List (TileAt × ℕ) → List Memory → Type 0
+abbrev pub AreKept : Parts → Bits → List Store → List Memory → Type 0
 AreKept parts bits [] [] = Unit {0}
 AreKept parts bits [] (memory ∷ memories) = ⊥
-AreKept parts bits (cell ∷ cells) [] = ⊥
-AreKept parts bits (cell ∷ cells) (memory ∷ memories) = IsBlankUnless (has_flop parts bits cell.0 cell.1) memory × AreKept parts bits cells memories
+AreKept parts bits (s ∷ stores) [] = ⊥
+AreKept parts bits (s ∷ stores) (memory ∷ memories) = IsBlankUnless (is_used parts bits s) memory × AreKept parts bits stores memories
 
 -- what a run holds between two steps
-pub record IsChipRun (parts : Parts) (bits : Bits) (bonded : List Pad) (feeds : List Feed) (plan : Plan) (memories : List Memory) (values : List Bool) : Type 0 where
-  pub planned : IsChipPlan parts bits bonded feeds plan
-  pub remembers : AreKept parts bits (cells parts) memories
+pub record IsChipRun (parts : Parts) (bits : Bits) (extras : List (ℕ × ℕ × ℕ)) (bonded : List Pad) (feeds : List Feed) (plan : Plan) (memories : List Memory) (values : List Bool)
+    : Type 0 where
+  pub planned : IsChipPlan parts bits extras bonded feeds plan
+  pub remembers : AreKept parts bits (stores parts) memories
   pub long : length values ≡ length feeds
   pub unfed : (s : ℕ) → s < length feeds → feed_at feeds s ≡ Nothing → level_at values s ≡ false
 
 -- a plan just compiled, with the array for it
-pub record IsCompiled (parts : Parts) (bits : Bits) (bonded : List Pad) (plan : Plan) (values : List Bool) : Type 0 where
+pub record IsCompiled (parts : Parts) (bits : Bits) (extras : List (ℕ × ℕ × ℕ)) (bonded : List Pad) (plan : Plan) (values : List Bool) : Type 0 where
   pub feeds : List Feed
-  pub planned : IsChipPlan parts bits bonded feeds plan
+  pub planned : IsChipPlan parts bits extras bonded feeds plan
   pub empty : values ≡ replicate (length feeds) false
 
 -- the same run in another state

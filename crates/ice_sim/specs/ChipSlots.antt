@@ -1,10 +1,11 @@
 -- Slots of the points of a configured chip. Slot 0 always has the level 0, and slot 1 the level 1. Every other slot belongs to what
--- has a level of its own: the input of a pad, a flip-flop, a table or a carry that is in use.
-use Rattle.std.specs.Prelude.{ℕ, ◌+◌, ◌*◌, ◌==◌, Option, None, Some, List, [], ◌∷◌, map, option_map, if◌then◌else◌, codes, slice_index_or, unwrap_or}
+-- has a level of its own: the input of a pad, a flip-flop, a register of a pad, a table or a carry that is in use.
+use Rattle.std.specs.Prelude.{ℕ, ◌+◌, ◌*◌, ◌==◌, nat_lt, Option, None, Some, List, [], ◌∷◌, map, length, option_map, if◌then◌else◌, codes, slice_index_or, unwrap_or}
 use Rattle.std.proofs.Common.{suc}
 use Rattle.ice_base.specs.declared.number.TileAt.{TileAt}
 use Rattle.ice_base_values.specs.Inputs.{reading}
 use Rattle.ice_chip.specs.Database.{Parts}
+use Rattle.ice_chip.specs.Lookups.{gbufpin_of}
 use Rattle.ice_chip.specs.Places.{same_pad}
 use Rattle.ice_chip.specs.declared.rows.Pad.{Pad}
 use Rattle.ice_bits.specs.Configuration.{Bits}
@@ -18,12 +19,15 @@ use Rattle.ice_decode.specs.declared.role.Role.{Role}
 use Rattle.ice_decode.specs.declared.role.Role.TheVariants.{Plain, Output, LookUp, CarryOut, PadInput, Global, CarryIn, ClockEnable}
 use Rattle.ice_decode.specs.Roles.{role_of}
 use Rattle.ice_decode.specs.Drivers.{driver as driver_of}
-use Rattle.ice_decode.specs.Cells.{logic_tiles, has_carry, has_flop, table_entry}
+use Rattle.ice_decode.specs.Cells.{logic_tiles, tile_place, has_carry, has_flop, table_entry}
+use Rattle.ice_decode.specs.Direct.{takes_pad}
 use Rattle.ice_decode.specs.Reads.{at_pin, cell_inputs, carry_inputs, global_feed}
 use Rattle.ice_decode.specs.Pads.{is_enabled}
-use Rattle.ice_decode.specs.Meaning.{passes, tile_place}
+use Rattle.ice_decode.specs.Registers.{stores, register_place, has_input_register}
+use Rattle.ice_decode.specs.Meaning.{passes}
 use Rattle.ice_sim_sweep.specs.declared.parts.Gate.{Gate}
-use Rattle.ice_sim_sweep.specs.declared.parts.Feed.TheVariants.{Port as FromPort, Kept, Made}
+use Rattle.ice_sim_sweep.specs.declared.parts.Feed.{Feed}
+use Rattle.ice_sim_sweep.specs.declared.parts.Feed.TheVariants.{Nothing, Port as FromPort, Kept, Made}
 use Rattle.ice_sim.specs.declared.points.PointSlot.{PointSlot}
 use Rattle.ice_sim.specs.declared.points.PointSlot.TheVariants.{Shared, Own}
 use Rattle.ice_sim_sweep.specs.Feeds.{majority_table}
@@ -92,29 +96,43 @@ level_slot (Some k) = Own (FromPort k)
 abbrev pub pad_slot : Parts → Bits → List Pad → Pad → PointSlot
 pad_slot parts bits bonded pad = if is_enabled parts bits pad then level_slot (pad_place bonded pad) else Shared 0
 
+-- the level of the pad that feeds a global; 0 where no row of the database names one
+abbrev pub fed_slot : Parts → Bits → List Pad → Option Pad → PointSlot
+fed_slot parts bits bonded None = Shared 0
+fed_slot parts bits bonded (Some pad) = pad_slot parts bits bonded pad
+
+-- what a register of a pad keeps, where the pad's first has this place among so many stores; nothing where it isn't one of them
+abbrev pub register_feed : ℕ → Option ℕ → ℕ → Feed
+register_feed count None which = Nothing
+register_feed count (Some k) which = if nat_lt (k + which) count then Kept (k + which) else Nothing
+
+abbrev pub pad_register : Parts → Pad → ℕ → Feed
+pad_register parts pad which = register_feed (length (stores parts)) (register_place parts pad) which
+
 -- what the flip-flop of the cell at a place keeps
 abbrev pub kept_slot : Option ℕ → PointSlot
 kept_slot None = Shared 0
 kept_slot (Some c) = Own (Kept c)
 
 -- a wire without a row that is on, by its role
-abbrev pub role_slot : Parts → Bits → List Pad → List ℕ → ℕ → Role → PointSlot
-role_slot parts bits bonded slots next Plain = Shared 0
-role_slot parts bits bonded slots next (Output t i) = if has_flop parts bits t i then kept_slot (cell_place parts t i) else table_slot parts bits slots next t i
-role_slot parts bits bonded slots next (LookUp t i) = table_slot parts bits slots next t i
-role_slot parts bits bonded slots next (CarryOut t i) = Shared (slot_in parts slots (Carry t i))
-role_slot parts bits bonded slots next (PadInput pad) = pad_slot parts bits bonded pad
-role_slot parts bits bonded slots next (Global n) = Shared (reading 0 (slot_in parts slots) (global_feed parts n))
-role_slot parts bits bonded slots next (CarryIn t) = Shared (if set_at parts bits t (codes "CarryInSet") 0 then 1 else 0)
-role_slot parts bits bonded slots next ClockEnable = Shared 1
+abbrev pub role_slot : Parts → Bits → List (ℕ × ℕ × ℕ) → List Pad → List ℕ → ℕ → Role → PointSlot
+role_slot parts bits extras bonded slots next Plain = Shared 0
+role_slot parts bits extras bonded slots next (Output t i) = if has_flop parts bits t i then kept_slot (cell_place parts t i) else table_slot parts bits slots next t i
+role_slot parts bits extras bonded slots next (LookUp t i) = table_slot parts bits slots next t i
+role_slot parts bits extras bonded slots next (CarryOut t i) = Shared (slot_in parts slots (Carry t i))
+role_slot parts bits extras bonded slots next (PadInput pad) = if has_input_register parts bits pad then Own (pad_register parts pad 0) else pad_slot parts bits bonded pad
+role_slot parts bits extras bonded slots next (Global n) =
+    if takes_pad parts extras n then fed_slot parts bits bonded (gbufpin_of parts n) else Shared (reading 0 (slot_in parts slots) (global_feed parts n))
+role_slot parts bits extras bonded slots next (CarryIn t) = Shared (if set_at parts bits t (codes "CarryInSet") 0 then 1 else 0)
+role_slot parts bits extras bonded slots next ClockEnable = Shared 1
 
 -- a wire, by what drives it: behind a row that is on it shares the source's slot
-abbrev pub driven_slot : Parts → Bits → List Pad → List ℕ → ℕ → Role → Driver → PointSlot
-driven_slot parts bits bonded slots next role driver.Nothing = role_slot parts bits bonded slots next role
-driven_slot parts bits bonded slots next role (driver.By s) = Shared (if passes parts bits s then slot_in parts slots (Wire s.source) else 0)
-driven_slot parts bits bonded slots next role (driver.Several first second) = Shared 0
+abbrev pub driven_slot : Parts → Bits → List (ℕ × ℕ × ℕ) → List Pad → List ℕ → ℕ → Role → Driver → PointSlot
+driven_slot parts bits extras bonded slots next role driver.Nothing = role_slot parts bits extras bonded slots next role
+driven_slot parts bits extras bonded slots next role (driver.By s) = Shared (if passes parts bits s then slot_in parts slots (Wire s.source) else 0)
+driven_slot parts bits extras bonded slots next role (driver.Several first second) = Shared 0
 
 -- a point, where `slots` has those of the points that it reads
-abbrev pub point_slot : Parts → Bits → List Pad → List ℕ → ℕ → Point → PointSlot
-point_slot parts bits bonded slots next (Wire w) = driven_slot parts bits bonded slots next (role_of parts w.0) (driver_of parts bits w.0)
-point_slot parts bits bonded slots next (Carry t i) = if has_carry parts bits t i then Own (Made (carry_gate parts slots next t i)) else Shared 0
+abbrev pub point_slot : Parts → Bits → List (ℕ × ℕ × ℕ) → List Pad → List ℕ → ℕ → Point → PointSlot
+point_slot parts bits extras bonded slots next (Wire w) = driven_slot parts bits extras bonded slots next (role_of parts w.0) (driver_of parts bits w.0)
+point_slot parts bits extras bonded slots next (Carry t i) = if has_carry parts bits t i then Own (Made (carry_gate parts slots next t i)) else Shared 0

@@ -11,4 +11,4 @@ run_view r = record { parts = r.chip.now; configuration = r.circuit.now.configur
 
 pub record IsRunning (r : Inside) : Type 0 where
   pub feeds : List Feed
-  pub run : IsChipRun r.chip.now (bits_of r.circuit.now.configuration) r.«package».now.pads.keys feeds r.plan r.memories.items r.values.items
+  pub run : IsChipRun r.chip.now (bits_of r.circuit.now.configuration) r.circuit.now.configuration.extras r.«package».now.pads.keys feeds r.plan r.memories.items r.values.items

@@ -1,5 +1,5 @@
 -- A configured chip while it is compiled, seen at the pads of a package.
-use Rattle.std.specs.Prelude.{◌≡◌, ℕ, ◌<◌, Option, None, Some, List, [], ◌∷◌, ◌++◌}
+use Rattle.std.specs.Prelude.{◌≡◌, ℕ, ◌<◌, Option, None, Some, List, [], ◌∷◌, ◌++◌, length}
 use Rattle.std.specs.Map.{lookup}
 use Rattle.std.proofs.Common.{suc}
 use Rattle.ice_base.specs.declared.number.TileAt.{TileAt}
@@ -7,12 +7,15 @@ use Rattle.ice_chip.specs.Database.{Parts}
 use Rattle.ice_chip.specs.IsRead.{IsChip}
 use Rattle.ice_chip.specs.Places.{same_tile}
 use Rattle.ice_chip.specs.declared.rows.Pad.{Pad}
-use Rattle.ice_bits.specs.Configuration.{Configuration, bits_of}
+use Rattle.ice_bits.specs.Configuration.{Configuration}
 use Rattle.ice_decode.specs.declared.driver.Driver.{Driver}
 use Rattle.ice_decode.specs.declared.driver.Driver.TheVariants.{Nothing, By, Several}
-use Rattle.ice_decode.specs.Cells.{logic_tiles}
-use Rattle.ice_decode.specs.Refusals.{AreDrivers}
+use Rattle.ice_decode.specs.Cells.{cells, logic_tiles}
+use Rattle.ice_decode.specs.Pads.{io_tiles, pads}
+use Rattle.ice_decode.specs.Refusals.{IsCircuitOf}
+use Rattle.ice_decode.specs.Registers.{stores}
 use Rattle.ice_sim.specs.declared.configured.ConfiguredChip.TheInside.{Inside}
+use Rattle.ice_sim.specs.declared.stores.Stores.{Stores}
 
 -- the chip, its bits, and the pads of the package
 pub record ConfiguredData : Type 0 where
@@ -45,6 +48,15 @@ with_places k (tile ∷ tiles) entries = with_places (suc k) tiles (with_place t
 
 pub record IsConfiguredChip (s : Inside) : Type 0 where
   pub chip : IsChip s.chip.now
+  pub circuit : IsCircuitOf s.chip.now s.circuit.now.configuration s.circuit.now
   pub wires : s.wires ≡ s.chip.now.wires
-  pub drivers : AreDrivers s.chip.now (bits_of s.circuit.now.configuration) s.circuit.now.drivers
-  pub places : s.places.entries ≡ with_places 0 (logic_tiles s.chip.now) []
+  pub logic_places : s.logic_places.entries ≡ with_places 0 (logic_tiles s.chip.now) []
+  pub io_places : s.io_places.entries ≡ with_places 0 (io_tiles s.chip.now) []
+  pub cells : s.cells ≡ length (cells s.chip.now)
+  pub stores : s.stores ≡ length (stores s.chip.now)
+
+-- ---- what keeps levels
+-- the logic cells of a chip and its pads
+pub record AreStoresOf (parts : Parts) (s : Stores) : Type 0 where
+  pub cells : s.cells.items ≡ cells parts
+  pub pads : s.pads.items ≡ pads parts

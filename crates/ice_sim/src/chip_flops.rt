@@ -1,55 +1,18 @@
 //! The flip-flops of a configured chip.
-ghost use Rattle.std.specs.Prelude.{◌≡◌, ◌++◌, ◌∷◌, [], length, codes, OnOk, IfOk};
+ghost use Rattle.std.specs.Prelude.{◌≡◌, ◌++◌, [], length, OnOk};
 ghost use Rattle.std.specs.List.{flat_map};
 ghost use Rattle.ice_bits.specs.Configuration.{bits_of};
-ghost use Rattle.ice_decode.specs.Cells.{cells, cells_in, reset_by, reset_of};
-ghost use Rattle.ice_sim.specs.Layouts.{keeper_of, flops_from, tables_from};
+ghost use Rattle.ice_decode.specs.Cells.{reset_by, reset_of};
+ghost use Rattle.ice_decode.specs.Registers.{cell_store};
+ghost use Rattle.ice_sim.specs.Layouts.{cell_stores, keeper_of, store_feeds, store_keepers, feeds_from, keepers_from};
 
+use crate::configured::ConfiguredChip;
 use crate::gates::{cell_gate, table};
-use crate::configured::{ConfiguredChip, small};
+use crate::stores::small;
 use ice_base::{NoMemory, TileAt};
-use ice_chip::Chip;
-use ice_decode::{cell_bit, has_flop, logic_tiles, setting};
+use ice_decode::{cell_bit, has_flop, setting};
 use ice_net::Reset;
 use ice_sim_sweep::{Feed, Keeper};
-use std::alloc::Global;
-
-// Adds the cells of a tile.
-fn add_cells(cells: &mut Vec<(TileAt, u8)>, tile: TileAt) -> Result<(), NoMemory>
-    ensures { OnOk result (cells.new.items ≡ cells.old.items ++ cells_in tile) }
-{
-    cells.extend_from_slice(&[
-        (tile, 0),
-        (tile, 1),
-        (tile, 2),
-        (tile, 3),
-        (tile, 4),
-        (tile, 5),
-        (tile, 6),
-        (tile, 7),
-    ])?;
-    Ok(())
-}
-
-// The cells of these tiles, tile by tile.
-fn cells_of(alloc: Global, tiles: &[TileAt]) -> Result<Vec<(TileAt, u8)>, NoMemory>
-    ensures { IfOk result (λ cells. cells.items ≡ flat_map cells_in tiles.now) }
-{
-    let mut cells = Vec::new(alloc);
-    for tile in tiles {
-        add_cells(&mut cells, *tile)?;
-    }
-    Ok(cells)
-}
-
-/// The logic cells of a chip.
-pub(crate) fn chip_cells(alloc: Global, chip: &Chip) -> Result<Vec<(TileAt, u8)>, NoMemory>
-    ensures { IfOk result (λ all. all.items ≡ cells chip.now) }
-{
-    let tiles = logic_tiles(alloc, chip)?;
-    let cells = cells_of(alloc, &tiles)?;
-    Ok(cells)
-}
 
 // Which way a flip-flop is set or reset.
 fn reset_by(set: bool, at_once: bool) -> Reset
@@ -73,7 +36,14 @@ fn reset(configured: &ConfiguredChip<'_>, tile: TileAt, cell: u8) -> Reset
 }
 
 // The flip-flop of a cell of a tile, which is the cell of this place, and whose table has the slot `datum`.
-fn keeper(configured: &ConfiguredChip<'_>, slots: &[u32], place: u32, datum: u32, tile: TileAt, cell: u8) -> Keeper
+fn keeper(
+    configured: &ConfiguredChip<'_>,
+    slots: &[u32],
+    place: u32,
+    datum: u32,
+    tile: TileAt,
+    cell: u8,
+) -> Keeper
     ensures { result ≡ keeper_of configured.now.parts (bits_of configured.now.configuration) slots.now place datum (tile, cell) }
 {
     Keeper {
@@ -96,8 +66,8 @@ fn add_flop(
     feeds: &mut Vec<Feed>,
     keepers: &mut Vec<Keeper>,
 ) -> Result<(), NoMemory>
-    ensures feeds { OnOk result (feeds.new.items ≡ feeds.old.items ++ tables_from configured.now.parts (bits_of configured.now.configuration) slots.now (length feeds.old.items) (cell ∷ [])) }
-    ensures keepers { OnOk result (keepers.new.items ≡ keepers.old.items ++ flops_from configured.now.parts (bits_of configured.now.configuration) slots.now place (length feeds.old.items) (cell ∷ [])) }
+    ensures feeds { OnOk result (feeds.new.items ≡ feeds.old.items ++ store_feeds configured.now.parts (bits_of configured.now.configuration) configured.now.bonded slots.now (length feeds.old.items) (cell_store cell)) }
+    ensures keepers { OnOk result (keepers.new.items ≡ keepers.old.items ++ store_keepers configured.now.parts (bits_of configured.now.configuration) slots.now place (length feeds.old.items) (cell_store cell)) }
 {
     let (tile, number) = cell;
     if !has_flop(configured.chip(), configured.bits(), tile, number) {
@@ -121,8 +91,8 @@ pub(crate) fn add_flops(
     keepers: &mut Vec<Keeper>,
 ) -> Result<(), NoMemory>
     requires { keepers.old.items ≡ [] }
-    ensures feeds { OnOk result (feeds.new.items ≡ feeds.old.items ++ tables_from configured.now.parts (bits_of configured.now.configuration) slots.now (length feeds.old.items) cells.now) }
-    ensures keepers { OnOk result (keepers.new.items ≡ flops_from configured.now.parts (bits_of configured.now.configuration) slots.now 0 (length feeds.old.items) cells.now) }
+    ensures feeds { OnOk result (feeds.new.items ≡ feeds.old.items ++ feeds_from configured.now.parts (bits_of configured.now.configuration) configured.now.bonded slots.now (length feeds.old.items) (flat_map cell_stores cells.now)) }
+    ensures keepers { OnOk result (keepers.new.items ≡ keepers_from configured.now.parts (bits_of configured.now.configuration) configured.now.bonded slots.now 0 (length feeds.old.items) (flat_map cell_stores cells.now)) }
 {
     for (place, cell) in cells.iter().enumerate() {
         add_flop(configured, slots, place, *cell, feeds, keepers)?;

@@ -5,8 +5,8 @@ ghost use Rattle.ice_decode.specs.Meaning.{start, step};
 ghost use Rattle.ice_decode.specs.Refusals.{IsCircuitOf};
 ghost use Rattle.ice_sim.specs.ChipRuns.{with_state};
 
-use crate::chip_flops::chip_cells;
 use crate::chip_plan::compile_chip;
+use crate::stores::chip_stores;
 use ice_base::NoMemory;
 use ice_chip::{Chip, Package};
 use ice_decode::Circuit;
@@ -22,7 +22,7 @@ pub struct ChipRun<'a> {
     circuit: &'a Circuit,
     package: &'a Package,
     plan: Plan,
-    // What each logic cell keeps.
+    // What each store keeps: the flip-flops of logic cells, and the registers of pads.
     memories: Vec<Memory>,
     // The level of each slot in the last step.
     values: Vec<bool>,
@@ -40,10 +40,11 @@ impl<'a> Model for ChipRun<'a> {
 }
 
 impl<'a> ChipRun<'a> {
-    /// A run before its first step: all flip-flops are 0, and no clock has been seen. All memory that its steps need is taken here.
+    /// A run before its first step: all flip-flops and registers are 0, and no clock has been seen. All memory that its steps need is taken
+    /// here.
     ///
     /// # Errors
-    /// Want of memory alone; more than 2^32 logic cells, or levels to be kept, count as that.
+    /// Want of memory alone; more than 2^32 logic cells, pads, or levels to be kept, count as that.
     pub fn new(
         alloc: Global,
         chip: &'a Chip,
@@ -53,9 +54,9 @@ impl<'a> ChipRun<'a> {
         requires { IsCircuitOf chip.now circuit.now.configuration circuit.now }
         ensures { IfOk result (λ run. run ≡ record { parts = chip.now; configuration = circuit.now.configuration; bonded = «package».now.pads.keys; state = start chip.now }) }
     {
-        let cells = chip_cells(alloc, chip)?;
-        let (plan, values) = compile_chip(alloc, chip, circuit, package, &cells)?;
-        let memories = blanks(alloc, cells.len())?;
+        let stores = chip_stores(alloc, chip)?;
+        let (plan, values) = compile_chip(alloc, chip, circuit, package, &stores)?;
+        let memories = blanks(alloc, stores.count()? as usize)?;
         Ok(ChipRun {
             chip,
             circuit,
@@ -67,12 +68,12 @@ impl<'a> ChipRun<'a> {
     }
 
     /// One step: `levels` has the level of each pad of the package, and `out` becomes what the chip drives each of them with. Its time
-    /// is linear in the numbers of these pads and of the flip-flops, tables and carries in use, and it takes no memory.
+    /// is linear in the numbers of these pads and of the flip-flops, registers, tables and carries in use, and it takes no memory.
     pub fn step(&mut self, levels: &[bool], out: &mut [Drive])
         requires levels { length levels.now ≡ length self.old.bonded }
         requires out { length out.old ≡ length self.old.bonded }
-        ensures run { self.new ≡ with_state self.old (step self.old.parts (bits_of self.old.configuration) self.old.bonded self.old.bonded self.old.state levels.now).0 }
-        ensures out { out.new ≡ (step self.old.parts (bits_of self.old.configuration) self.old.bonded self.old.bonded self.old.state levels.now).1 }
+        ensures run { self.new ≡ with_state self.old (step self.old.parts (bits_of self.old.configuration) self.old.configuration.extras self.old.bonded self.old.bonded self.old.state levels.now).0 }
+        ensures out { out.new ≡ (step self.old.parts (bits_of self.old.configuration) self.old.configuration.extras self.old.bonded self.old.bonded self.old.state levels.now).1 }
     {
         sweep(
             &self.plan,

@@ -1,47 +1,74 @@
 //! What the pads of a configured chip drive.
-ghost use Rattle.std.specs.Prelude.{◌≡◌, ◌++◌, map, IfOk};
+ghost use Rattle.std.specs.Prelude.{◌≡◌, ◌++◌, [], length, map, OnOk};
 ghost use Rattle.ice_bits.specs.Configuration.{bits_of};
-ghost use Rattle.ice_sim.specs.Layouts.{part_tap, pad_tap};
+ghost use Rattle.ice_sim.specs.Layouts.{output_feed, part_tap, pad_tap, taps_from};
 
 use crate::configured::ConfiguredChip;
+use crate::stores::small;
 use ice_base::NoMemory;
 use ice_chip::{Pad, output_enable_name, pad_output_name};
-use ice_decode::pin_type;
-use ice_sim_sweep::Tap;
-use std::alloc::Global;
+use ice_decode::{has_output_register, pin_type};
+use ice_sim_sweep::{Feed, Tap};
 
-// What drives a pad, by its output part.
-fn part_tap(part: u8, level: u32, enable: u32) -> Tap
-    ensures { result ≡ part_tap part level enable }
+// What drives a pad, by its output part, where `own` is the slot of what its register keeps.
+fn part_tap(part: u8, own: u32, level: u32, enable: u32) -> Tap
+    ensures { result ≡ part_tap part own level enable }
 {
-    if part == 6 {
-        return Tap { level, enable: 1 };
-    }
-    if part == 10 {
-        return Tap { level, enable };
-    }
-    Tap {
-        level: 0,
-        enable: 0,
+    match part {
+        0b0101 => Tap {
+            level: own,
+            enable: 1,
+        },
+        0b0110 => Tap { level, enable: 1 },
+        0b1010 => Tap { level, enable },
+        _ => Tap {
+            level: 0,
+            enable: 0,
+        },
     }
 }
 
 // What drives a pad.
-fn pad_tap(configured: &ConfiguredChip<'_>, slots: &[u32], pad: Pad) -> Tap
-    ensures { result ≡ pad_tap configured.now.parts (bits_of configured.now.configuration) slots.now pad }
+fn pad_tap(configured: &ConfiguredChip<'_>, slots: &[u32], own: u32, pad: Pad) -> Tap
+    ensures { result ≡ pad_tap configured.now.parts (bits_of configured.now.configuration) slots.now own pad }
 {
     let level = configured.pin_slot(0, slots, pad.tile, &pad_output_name(pad.pio));
     let enable = configured.pin_slot(0, slots, pad.tile, &output_enable_name(pad.pio));
-    part_tap(pin_type(configured.chip(), configured.bits(), pad) / 4, level, enable)
+    part_tap(
+        pin_type(configured.chip(), configured.bits(), pad) / 4,
+        own,
+        level,
+        enable,
+    )
 }
 
-/// What drives each pad of the package.
-pub(crate) fn pad_taps(alloc: Global, configured: &ConfiguredChip<'_>, slots: &[u32]) -> Result<Vec<Tap>, NoMemory>
-    ensures { IfOk result (λ taps. taps.items ≡ map (pad_tap configured.now.parts (bits_of configured.now.configuration) slots.now) configured.now.bonded) }
+// What a pad is driven with that is driven with what a register keeps.
+fn output_feed(configured: &ConfiguredChip<'_>, pad: Pad) -> Feed
+    ensures { result ≡ output_feed configured.now.parts (bits_of configured.now.configuration) pad }
 {
-    let mut taps = Vec::new(alloc);
-    for pad in configured.pads().iter() {
-        taps.push(pad_tap(configured, slots, *pad))?;
+    if has_output_register(configured.chip(), configured.bits(), pad) {
+        configured.register_feed(pad, 1)
+    } else {
+        Feed::Nothing
     }
-    Ok(taps)
+}
+
+/// Adds what drives each pad of the package, and what feeds the slots of their registers. It fails for want of memory alone; more than
+/// 2^32 slots count as that.
+pub(crate) fn add_taps(
+    configured: &ConfiguredChip<'_>,
+    slots: &[u32],
+    feeds: &mut Vec<Feed>,
+    taps: &mut Vec<Tap>,
+) -> Result<(), NoMemory>
+    requires { taps.old.items ≡ [] }
+    ensures feeds { OnOk result (feeds.new.items ≡ feeds.old.items ++ map (output_feed configured.now.parts (bits_of configured.now.configuration)) configured.now.bonded) }
+    ensures taps { OnOk result (taps.new.items ≡ taps_from configured.now.parts (bits_of configured.now.configuration) slots.now (length feeds.old.items) configured.now.bonded) }
+{
+    for pad in configured.pads().iter() {
+        let own = small(feeds.len())?;
+        feeds.push(output_feed(configured, *pad))?;
+        taps.push(pad_tap(configured, slots, own, *pad))?;
+    }
+    Ok(())
 }

@@ -2,16 +2,20 @@
 ghost use Rattle.std.specs.Prelude.{◌≡◌, ◌<◌, ◌^◌, [], IfOk, IfSome, OnOk};
 ghost use Rattle.ice_bits.specs.Configuration.{bits_of};
 ghost use Rattle.ice_decode.specs.Drivers.{driver};
-ghost use Rattle.ice_decode.specs.Refusals.{AreDrivers};
-ghost use Rattle.ice_decode.specs.Cells.{logic_tiles};
-ghost use Rattle.ice_decode.specs.Meaning.{tile_place};
-ghost use Rattle.ice_sim.specs.ChipSlots.{pad_place, cell_place, number, slot_in, pin_slot};
-ghost use Rattle.ice_sim.specs.ConfiguredChips.{ComesFrom, with_place, with_places};
+ghost use Rattle.ice_decode.specs.Refusals.{IsCircuitOf};
+ghost use Rattle.ice_decode.specs.Cells.{logic_tiles, tile_place};
+ghost use Rattle.ice_decode.specs.Direct.{takes_pad};
+ghost use Rattle.ice_decode.specs.Pads.{io_tiles};
+ghost use Rattle.ice_decode.specs.Registers.{register_place};
+ghost use Rattle.ice_sim.specs.ChipSlots.{pad_place, cell_place, number, slot_in, pin_slot, pad_register};
+ghost use Rattle.ice_sim.specs.ConfiguredChips.{ComesFrom, AreStoresOf, with_place, with_places};
 
+use crate::stores::{Stores, io_tiles, small};
 use ice_base::{NoMemory, TileAt, WireNo};
 use ice_bits::Bits;
 use ice_chip::{Chip, Package, Pad};
 use ice_decode::{Circuit, Driver, Point, at_pin, logic_tiles};
+use ice_sim_sweep::Feed;
 use indexmap::{IndexMap, IndexSet};
 use std::alloc::Global;
 use std::marker::Model;
@@ -25,7 +29,13 @@ pub struct ConfiguredChip<'a> {
     // The number of the wires.
     wires: u32,
     // The place of each logic tile among them.
-    places: IndexMap<TileAt, u32>,
+    logic_places: IndexMap<TileAt, u32>,
+    // The place of each IO tile among them.
+    io_places: IndexMap<TileAt, u32>,
+    // The number of the logic cells.
+    cells: u32,
+    // The number of the stores.
+    stores: u32,
 }
 
 impl<'a> Model for ConfiguredChip<'a> {
@@ -48,17 +58,7 @@ fn note_place(places: &mut IndexMap<TileAt, u32>, tile: TileAt, place: u32) -> R
     Ok(())
 }
 
-/// A number as a slot or a place; more than 2^32 places count as want of memory.
-pub(crate) fn small(number: usize) -> Result<u32, NoMemory>
-    ensures { IfOk result (λ small. small ≡ number) }
-{
-    match u32::try_from(number) {
-        Ok(small) => Ok(small),
-        Err(_) => Err(NoMemory),
-    }
-}
-
-// The place of each logic tile among them.
+// The place of each of these tiles among them.
 fn tile_places(alloc: Global, tiles: &[TileAt]) -> Result<IndexMap<TileAt, u32>, NoMemory>
     ensures { IfOk result (λ places. places.entries ≡ with_places 0 tiles.now []) }
 {
@@ -69,25 +69,51 @@ fn tile_places(alloc: Global, tiles: &[TileAt]) -> Result<IndexMap<TileAt, u32>,
     Ok(places)
 }
 
+// The place of each logic tile among them.
+fn logic_places(alloc: Global, chip: &Chip) -> Result<IndexMap<TileAt, u32>, NoMemory>
+    ensures { IfOk result (λ places. places.entries ≡ with_places 0 (logic_tiles chip.now) []) }
+{
+    let tiles = logic_tiles(alloc, chip)?;
+    let places = tile_places(alloc, &tiles)?;
+    Ok(places)
+}
+
+// The place of each IO tile among them.
+fn io_places(alloc: Global, chip: &Chip) -> Result<IndexMap<TileAt, u32>, NoMemory>
+    ensures { IfOk result (λ places. places.entries ≡ with_places 0 (io_tiles chip.now) []) }
+{
+    let tiles = io_tiles(alloc, chip)?;
+    let places = tile_places(alloc, &tiles)?;
+    Ok(places)
+}
+
 impl<'a> ConfiguredChip<'a> {
-    /// The chip of a circuit. It fails for want of memory alone; more than 2^32 logic tiles count as that.
+    /// The chip of a circuit, of which is given what keeps levels. It fails for want of memory alone; more than 2^32 tiles, cells or
+    /// stores count as that.
     pub(crate) fn new(
         alloc: Global,
         chip: &'a Chip,
         circuit: &'a Circuit,
         package: &'a Package,
+        stores: &Stores,
     ) -> Result<ConfiguredChip<'a>, NoMemory>
-        requires { AreDrivers chip.now (bits_of circuit.now.configuration) circuit.now.drivers }
+        requires circuit { IsCircuitOf chip.now circuit.now.configuration circuit.now }
+        requires stores { AreStoresOf chip.now stores.now }
         ensures { IfOk result (λ configured. configured ≡ record { parts = chip.now; configuration = circuit.now.configuration; bonded = «package».now.pads.keys }) }
     {
-        let tiles = logic_tiles(alloc, chip)?;
-        let places = tile_places(alloc, &tiles)?;
+        let cells = small(stores.cells.len())?;
+        let stores = stores.count()?;
+        let logic_places = logic_places(alloc, chip)?;
+        let io_places = io_places(alloc, chip)?;
         Ok(ConfiguredChip {
             chip,
             circuit,
             package,
             wires: chip.wires(),
-            places,
+            logic_places,
+            io_places,
+            cells,
+            stores,
         })
     }
 
@@ -135,7 +161,15 @@ impl<'a> ConfiguredChip<'a> {
     fn tile_place(&self, tile: TileAt) -> Option<u32>
         ensures { result ≡ tile_place tile (logic_tiles self.now.parts) }
     {
-        self.places.get(&tile).copied()
+        self.logic_places.get(&tile).copied()
+    }
+
+    // The place of a tile among the IO tiles.
+    #[tactic(auto, using(crate::proofs::TilePlaces::tile_found))]
+    fn io_place(&self, tile: TileAt) -> Option<u32>
+        ensures { result ≡ tile_place tile (io_tiles self.now.parts) }
+    {
+        self.io_places.get(&tile).copied()
     }
 
     /// The place of a cell among the logic cells; None where its tile is no logic tile.
@@ -147,6 +181,42 @@ impl<'a> ConfiguredChip<'a> {
             Some(place) => Some(8 * place as usize + cell as usize),
             None => None,
         }
+    }
+
+    // The place of the first register of a pad among the stores; None where its tile is no IO tile.
+    fn register_place(&self, pad: Pad) -> Option<usize>
+        ensures place { result ≡ register_place self.now.parts pad }
+        ensures small { IfSome result (λ place. place < 2 ^ 36) }
+    {
+        match self.io_place(pad.tile) {
+            Some(place) => {
+                Some(self.cells as usize + (4 * place as usize + 2 * pad.pio as usize))
+            }
+            None => None,
+        }
+    }
+
+    /// What feeds a slot with what a register of a pad keeps: the one that takes what the pad gives, for 0, or the one that the pad is
+    /// driven with, for 1.
+    pub(crate) fn register_feed(&self, pad: Pad, which: u8) -> Feed
+        ensures { result ≡ pad_register self.now.parts pad which }
+    {
+        let Some(first) = self.register_place(pad) else {
+            return Feed::Nothing;
+        };
+        let place = first + which as usize;
+        if place < self.stores as usize {
+            Feed::Kept(place)
+        } else {
+            Feed::Nothing
+        }
+    }
+
+    /// Whether a global has the level of a pad.
+    pub(crate) fn takes_pad(&self, global: u8) -> bool
+        ensures { result ≡ takes_pad self.now.parts self.now.configuration.extras global }
+    {
+        self.circuit.takes_pad(global)
     }
 
     /// The number of a point: wires have theirs, and behind them stand the carries of the logic cells.

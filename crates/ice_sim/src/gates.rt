@@ -54,7 +54,13 @@ pub(crate) fn table(configured: &ConfiguredChip<'_>, tile: TileAt, cell: u8) -> 
 }
 
 // The slot of an input of a cell.
-fn input_slot(configured: &ConfiguredChip<'_>, slots: &[u32], tile: TileAt, cell: u8, input: u8) -> u32
+fn input_slot(
+    configured: &ConfiguredChip<'_>,
+    slots: &[u32],
+    tile: TileAt,
+    cell: u8,
+    input: u8,
+) -> u32
     ensures { result ≡ pin_slot 0 configured.now.parts slots.now tile (input_name cell input) }
 {
     configured.pin_slot(0, slots, tile, &input_name(cell, input))
@@ -97,7 +103,13 @@ fn carry_into(configured: &ConfiguredChip<'_>, slots: &[u32], tile: TileAt, cell
 }
 
 /// The carry of a cell over slots.
-pub(crate) fn carry_gate(configured: &ConfiguredChip<'_>, slots: &[u32], tile: TileAt, cell: u8, out: u32) -> Gate
+pub(crate) fn carry_gate(
+    configured: &ConfiguredChip<'_>,
+    slots: &[u32],
+    tile: TileAt,
+    cell: u8,
+    out: u32,
+) -> Gate
     ensures { result ≡ carry_gate configured.now.parts slots.now out tile cell }
 {
     Gate {

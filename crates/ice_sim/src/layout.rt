@@ -5,9 +5,10 @@ ghost use Rattle.ice_decode.specs.Points.{HasWire};
 ghost use Rattle.ice_sim.specs.ChipSlots.{number, point_slot};
 ghost use Rattle.ice_sim.specs.Layouts.{layout_of, placed, laid, constant_feeds, IsPointBelow};
 
+use crate::configured::ConfiguredChip;
 use crate::point_slots::point_slot;
 use crate::points::PointSlot;
-use crate::configured::{ConfiguredChip, small};
+use crate::stores::small;
 use ice_base::NoMemory;
 use ice_decode::Point;
 use ice_sim_sweep::{Feed, Gate};
@@ -63,7 +64,7 @@ fn lay_point(
     feeds: &mut Vec<Feed>,
 ) -> Result<(), NoMemory>
     requires { IsPointBelow configured.now.parts (length slots.old) point }
-    ensures { OnOk result (layout_of slots.new feeds.new.items ≡ placed (point_slot configured.now.parts (bits_of configured.now.configuration) configured.now.bonded slots.old (length feeds.old.items) point) (number configured.now.parts point) (layout_of slots.old feeds.old.items)) }
+    ensures { OnOk result (layout_of slots.new feeds.new.items ≡ placed (point_slot configured.now.parts (bits_of configured.now.configuration) configured.now.configuration.extras configured.now.bonded slots.old (length feeds.old.items) point) (number configured.now.parts point) (layout_of slots.old feeds.old.items)) }
 {
     let next = small(feeds.len())?;
     let slot = point_slot(configured, slots, next, point);
@@ -78,7 +79,7 @@ pub(crate) fn lay(
     feeds: &mut Vec<Feed>,
 ) -> Result<(), NoMemory>
     requires { All (IsPointBelow configured.now.parts (length slots.old)) order.now }
-    ensures { OnOk result (layout_of slots.new feeds.new.items ≡ laid configured.now.parts (bits_of configured.now.configuration) configured.now.bonded order.now (layout_of slots.old feeds.old.items)) }
+    ensures { OnOk result (layout_of slots.new feeds.new.items ≡ laid configured.now.parts (bits_of configured.now.configuration) configured.now.configuration.extras configured.now.bonded order.now (layout_of slots.old feeds.old.items)) }
 {
     for point in order {
         lay_point(configured, *point, slots, feeds)?;

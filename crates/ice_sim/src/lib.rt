@@ -4,13 +4,15 @@
 mod chip_flops;
 mod chip_plan;
 mod chip_playing;
+mod chip_registers;
 mod chip_run;
 mod chip_taps;
+mod configured;
 mod gates;
 mod layout;
 mod point_slots;
 mod points;
-mod configured;
+mod stores;
 
 pub use chip_playing::play_chip;
 pub use chip_run::ChipRun;

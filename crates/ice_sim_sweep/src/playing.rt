@@ -7,8 +7,8 @@ ghost use Rattle.ice_sim_levels.specs.DriveTexts.{drives_line, drives_text};
 use crate::NetRun;
 use ice_base::NoMemory;
 use ice_check::Sound;
-use ice_sim_levels::{Levels, put_drives};
 use ice_net::Drive;
+use ice_sim_levels::{Levels, put_drives};
 use std::alloc::Global;
 
 // One step, and the line of what the ports drive in it.

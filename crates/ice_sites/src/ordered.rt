@@ -6,8 +6,8 @@ ghost use Rattle.ice_sites.specs.Stretches.{column, sites_in_order};
 
 use crate::site::is_site;
 use ice_base::{NoMemory, TileAt};
-use ice_chip::Chip;
 use ice_bits_rows::Index;
+use ice_chip::Chip;
 use std::alloc::Global;
 
 // Adds the sites of a column, from below.

@@ -6,11 +6,11 @@ ghost use Rattle.ice_bits_rows.specs.Index.{IsIndexOf};
 ghost use Rattle.ice_sites.specs.Site.{has_wire, leads, is_same_wire, is_logic, all_below, has_cell, has_chain, has_controls, has_entry, is_site, is_above, is_link};
 
 use ice_base::{TileAt, WireNo};
+use ice_bits_rows::{Index, first_sound};
 use ice_chip::{
     Chip, TileKind, carry_in_name, carry_out_name, clock_enable_name, clock_name, first_carry_name,
     input_name, output_name, set_reset_name,
 };
-use ice_bits_rows::{Index, first_sound};
 
 // Whether a wire has the name in a tile.
 fn has_wire(chip: &Chip, tile: TileAt, name: &[u8]) -> bool

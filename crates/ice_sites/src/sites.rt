@@ -6,8 +6,8 @@ ghost use Rattle.ice_sites.specs.Stretches.{stretches_of};
 use crate::ordered::sites_in_order;
 use crate::stretches::stretches_in;
 use ice_base::{NoMemory, TileAt};
-use ice_chip::Chip;
 use ice_bits_rows::{Index, index_of};
+use ice_chip::Chip;
 use std::alloc::Global;
 use std::marker::Model;
 

@@ -7,8 +7,8 @@ ghost use Rattle.ice_sites.specs.Stretches.{goes_on, cut};
 use crate::Stretch;
 use crate::site::is_link;
 use ice_base::{NoMemory, TileAt};
-use ice_chip::Chip;
 use ice_bits_rows::Index;
+use ice_chip::Chip;
 use std::alloc::Global;
 
 // Whether the next site is linked to this one.

@@ -1,12 +1,12 @@
 //! The runs of a case, and what is said of them.
-use ice_flow_frame::{Cause, Done};
 use ice_base::TileAt;
+use ice_desk::MemoryDesk;
+use ice_flow::run;
+use ice_flow_frame::{Cause, Done};
 use ice_tests_texts::{
     CaseGate, Setting, Text, add_lines, add_meeting, add_number, add_shown, desk_of, runs_in,
     words_of_run,
 };
-use ice_desk::MemoryDesk;
-use ice_flow::run;
 use std::alloc::{AllocError, Global};
 use std::thread::Threads;
 

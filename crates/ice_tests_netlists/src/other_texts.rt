@@ -1,8 +1,8 @@
 //! Pin constraints and levels that are read.
 use crate::claims::expect_that;
 use ice_base::words_of;
-use ice_sim_levels::{Levels, read_levels};
 use ice_pcf::{Constraint, read_pcf};
+use ice_sim_levels::{Levels, read_levels};
 use std::alloc::Global;
 use std::process::Abort;
 

@@ -1,8 +1,8 @@
 //! Chip texts whole and in pieces. The numbers and the faults that are expected were worked out by hand.
 use crate::claims::expect_that;
 use ice_chip::{Chip, ChipFault};
-use ice_chip_read_pieces::ChipReader;
 use ice_chip_read::read_chip;
+use ice_chip_read_pieces::ChipReader;
 use ice_tests_small_chips::{Change, Sample, text_with};
 use rand_core::SeedableRng;
 use rand_core::utils::NextWord;

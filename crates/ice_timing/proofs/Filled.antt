@@ -34,8 +34,8 @@ nothing_within n = λ i. (let e : 0 * 2 ^ 32 ≡ 0 = omega arith in subst (λ k.
 pub well_within : (count : ℕ) (at : List ℕ) → count < 2 ^ 31 → AreWithin (count * 2 ^ 32) at → AreWithin (2 ^ 63) at
 well_within count at lt within = λ i. (let le = within i in omega (arith, lt, le))
 
-module _ (parts : Parts) (bits : Bits) (d : Delays) (points order : List Point) (all : AreAllPoints parts points) (o : IsOrderOf parts bits order) where
-  pub none_filled : (at : List ℕ) (n : ℕ) → n ≡ length points → at ≡ replicate n 0 → AreFilled parts bits d points order 0 at
+module _ (parts : Parts) (bits : Bits) (extras : List (ℕ × ℕ × ℕ)) (d : Delays) (points order : List Point) (all : AreAllPoints parts points) (o : IsOrderOf parts bits extras order) where
+  pub none_filled : (at : List ℕ) (n : ℕ) → n ≡ length points → at ≡ replicate n 0 → AreFilled parts bits extras d points order 0 at
   none_filled at n long e = record {
     long = ap length e ∙ length-replicate n 0 ∙ long;
     right = λ j p m below. absurd (omega (arith, below));
@@ -47,29 +47,29 @@ module _ (parts : Parts) (bits : Bits) (d : Delays) (points order : List Point) 
   order_numbered k e lt = all.each (get_or order k e) (o.within (get_or order k e) (k, slice_get-get_or order k e lt))
 
   -- a point behind those that are filled
-  reached_right : (k : ℕ) (at : List ℕ) (p : Point) (moment : ℕ) → AreFilled parts bits d points order k at → At order k p → IsReached parts bits d points at p moment → IsArrivalAt parts bits d p moment
+  reached_right : (k : ℕ) (at : List ℕ) (p : Point) (moment : ℕ) → AreFilled parts bits extras d points order k at → At order k p → IsReached parts bits extras d points at p moment → IsArrivalAt parts bits extras d p moment
   reached_right k at p moment filled stands (inl start) =
-      subst (IsArrivalAt parts bits d p) (sym start.is) (first_arrival (depends_on parts bits) (start_of parts bits d) (delay_of parts bits d) p start.free)
+      subst (IsArrivalAt parts bits extras d p) (sym start.is) (first_arrival (depends_on parts bits extras) (start_of parts bits extras d) (delay_of parts bits d) p start.free)
   reached_right k at p moment filled stands (inr behind) =
       let latest = behind.latest in
       let before = o.after k p latest.point stands latest.one in
-      subst (IsArrivalAt parts bits d p) (sym behind.is)
-      (later_arrival (depends_on parts bits) (start_of parts bits d) (delay_of parts bits d) p latest.point (slice_index_or at behind.number 0) latest.one
+      subst (IsArrivalAt parts bits extras d p) (sym behind.is)
+      (later_arrival (depends_on parts bits extras) (start_of parts bits extras d) (delay_of parts bits d) p latest.point (slice_index_or at behind.number 0) latest.one
       (filled.right before.0 latest.point behind.number before.1 before.2 latest.stands)
       (λ q has.
       (let there = o.after k p q stands has in
       let number = all.each q (o.within q (there.0, there.2)) in
       (slice_index_or at number.0 0, filled.right there.0 q number.0 there.1 there.2 number.1, latest.most q number.0 has number.1))))
 
-  pub one_filled : (k : ℕ) (at next : List ℕ) (p : Point) (n moment : ℕ) → AreFilled parts bits d points order k at → At order k p → At points n p
-      → IsReached parts bits d points at p moment → IsSoon at moment → next ≡ set at n moment → AreFilled parts bits d points order (k + 1) next
-  one_filled k at next p n moment filled stands number reached soon e = subst (AreFilled parts bits d points order (k + 1)) (sym e) (record {
+  pub one_filled : (k : ℕ) (at next : List ℕ) (p : Point) (n moment : ℕ) → AreFilled parts bits extras d points order k at → At order k p → At points n p
+      → IsReached parts bits extras d points at p moment → IsSoon at moment → next ≡ set at n moment → AreFilled parts bits extras d points order (k + 1) next
+  one_filled k at next p n moment filled stands number reached soon e = subst (AreFilled parts bits extras d points order (k + 1)) (sym e) (record {
     long = length-set at n moment ∙ filled.long;
     right = λ j q m below there its. elim (cases_eq m n) [
       | inl same ↦ (let one : p ≡ q = At_same points n p q number (subst (λ i. At points i q) same its) in
-          subst (IsArrivalAt parts bits d q) (sym (ap (λ i. slice_index_or (set at n moment) i 0) same ∙ get_or-set_same at n moment 0 inside))
-          (subst (λ (r : Point). IsArrivalAt parts bits d r moment) one (reached_right k at p moment filled stands reached)))
-      | inr other ↦ subst (IsArrivalAt parts bits d q) (sym (get_or-set_other at n m moment 0 other)) (filled.right j q m (before j q m below there its other) there its)
+          subst (IsArrivalAt parts bits extras d q) (sym (ap (λ i. slice_index_or (set at n moment) i 0) same ∙ get_or-set_same at n moment 0 inside))
+          (subst (λ (r : Point). IsArrivalAt parts bits extras d r moment) one (reached_right k at p moment filled stands reached)))
+      | inr other ↦ subst (IsArrivalAt parts bits extras d q) (sym (get_or-set_other at n m moment 0 other)) (filled.right j q m (before j q m below there its other) there its)
     ];
     within = λ m. elim (cases_eq m n) [
       | inl same ↦ (let le = soon (k * 2 ^ 32) filled.within in
@@ -91,19 +91,19 @@ module _ (parts : Parts) (bits : Bits) (d : Delays) (points order : List Point) 
       ]
 
   -- all arrivals
-  pub arrivals_right : (a : ArrivalsData) → a.points ≡ points → AreFilled parts bits d points order (length order) a.at → AreArrivalsOf parts bits d a
+  pub arrivals_right : (a : ArrivalsData) → a.points ≡ points → AreFilled parts bits extras d points order (length order) a.at → AreArrivalsOf parts bits extras d a
   arrivals_right a e filled = of a.at filled (ap (λ l. record { points = l; at = a.at }) e)
     where
-      of : (at : List ℕ) → AreFilled parts bits d points order (length order) at → a ≡ record { points = points; at = at } → AreArrivalsOf parts bits d a
-      of at filled is = subst (AreArrivalsOf parts bits d) (sym is) (record {
+      of : (at : List ℕ) → AreFilled parts bits extras d points order (length order) at → a ≡ record { points = points; at = at } → AreArrivalsOf parts bits extras d a
+      of at filled is = subst (AreArrivalsOf parts bits extras d) (sym is) (record {
         points = all;
         each = λ p has. (slice_index_or at has.0 0, (has.0, has.1, slice_get-get_or at has.0 0 (let lt = At_within points has.0 p has.1 in let long = filled.long in omega (arith, lt, long))));
         right = right at filled;
-        certificate = λ p q x y there before has. arrival_behind (depends_on parts bits) (start_of parts bits d) (delay_of parts bits d) p q x y has (right at filled p x there) (right at filled q y before);
+        certificate = λ p q x y there before has. arrival_behind (depends_on parts bits extras) (start_of parts bits extras d) (delay_of parts bits d) p q x y has (right at filled p x there) (right at filled q y before);
       })
         where
-          right : (at : List ℕ) → AreFilled parts bits d points order (length order) at → (p : Point) (moment : ℕ) → Arrives (record { points = points; at = at }) p moment → IsArrivalAt parts bits d p moment
+          right : (at : List ℕ) → AreFilled parts bits extras d points order (length order) at → (p : Point) (moment : ℕ) → Arrives (record { points = points; at = at }) p moment → IsArrivalAt parts bits extras d p moment
           right at filled p moment arrives =
               let there = o.each p (all.within p (arrives.0, arrives.1)) in
-              subst (IsArrivalAt parts bits d p) (get_or_from_slice_get at arrives.0 moment 0 arrives.2)
+              subst (IsArrivalAt parts bits extras d p) (get_or_from_slice_get at arrives.0 moment 0 arrives.2)
               (filled.right there.0 p arrives.0 (At_within order there.0 p there.1) there.1 arrives.1)

@@ -15,7 +15,7 @@ use Rattle.ice_timing.specs.Timed.{IsMoment, IsLatestEntry}
 
 -- the moment of an entry by these arrivals, whatever chip they are those of
 abbrev pub Reaches : ArrivalsData → Delays → Entry → ℕ → Type 0
-Reaches a d entry at = (parts : Parts) (bits : Bits) → AreArrivalsOf parts bits d a → IsMoment parts bits d entry at
+Reaches a d entry at = (parts : Parts) (bits : Bits) (extras : List (ℕ × ℕ × ℕ)) → AreArrivalsOf parts bits extras d a → IsMoment parts bits extras d entry at
 
 pub record IsLatestEntrySoFar (a : ArrivalsData) (d : Delays) (entries : List Entry) (count : ℕ) (m : Moment) : Type 0 where
   pub one : Has entries m.entry
@@ -50,14 +50,14 @@ one_entry_more a d entries i e old here new lt so_far is reaches either above be
 }
 
 pub entries_seen : (a : ArrivalsData) (d : Delays) (entries : List Entry) (i : ℕ) (m : Moment) → length entries ≤ i → IsLatestEntrySoFar a d entries i m
-    → (parts : Parts) (bits : Bits) → AreArrivalsOf parts bits d a → IsLatestEntry parts bits d entries m
-entries_seen a d entries i m le so_far parts bits are = record {
+    → (parts : Parts) (bits : Bits) (extras : List (ℕ × ℕ × ℕ)) → AreArrivalsOf parts bits extras d a → IsLatestEntry parts bits extras d entries m
+entries_seen a d entries i m le so_far parts bits extras are = record {
   one = so_far.one;
-  moment = so_far.moment parts bits are;
+  moment = so_far.moment parts bits extras are;
   most = λ other has.
       (let lt = At_within entries has.0 other has.1 in
       let found = so_far.most has.0 other (omega (arith, le, lt)) has.1 in
-      (found.0, found.1 parts bits are, found.2));
+      (found.0, found.1 parts bits extras are, found.2));
 }
 
 pub no_entries : (entries : List Entry) → length entries ≡ 0 → entries ≡ []

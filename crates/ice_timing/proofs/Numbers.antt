@@ -118,10 +118,10 @@ latest_point a reads others n e long is latest =
 
 -- ---- points of the chip
 -- what a numbered point reads is numbered
-pub reads_there : (parts : Parts) (bits : Bits) → IsRead parts → (list : List Point) → AreAllPoints parts list → (p : Point) → Has list p → All (IsNumbered list) (reads parts bits p)
-reads_there parts bits read list all p has =
-    subst (λ (q : Point). All (IsNumbered list) (reads parts bits q)) (get_or_from_slice_get list has.0 p p has.1)
-    (reads_numbered parts bits read list list all refl has.0 p (At_within list has.0 p has.1))
+pub reads_there : (parts : Parts) (bits : Bits) (extras : List (ℕ × ℕ × ℕ)) → IsRead parts → (list : List Point) → AreAllPoints parts list → (p : Point) → Has list p → All (IsNumbered list) (reads parts bits extras p)
+reads_there parts bits extras read list all p has =
+    subst (λ (q : Point). All (IsNumbered list) (reads parts bits extras q)) (get_or_from_slice_get list has.0 p p has.1)
+    (reads_numbered parts bits extras read list list all refl has.0 p (At_within list has.0 p has.1))
 
 -- the wire of a numbered point is one of the chip
 pub wire_there : (parts : Parts) (list : List Point) → AreAllPoints parts list → (p : Point) → Has list p → HasWire parts p

@@ -26,9 +26,9 @@ use Rattle.ice_decode.proofs.PointPlaces.{wire_at}
 use Rattle.ice_timing.specs.declared.end.End.{End}
 use Rattle.ice_timing.specs.declared.end.End.TheVariants.{Flop, Pad as PadEnd}
 use Rattle.ice_timing.specs.declared.end.Door.{Door}
-use Rattle.ice_timing.specs.declared.end.Door.TheVariants.{Table, Control, Outside}
+use Rattle.ice_timing.specs.declared.end.Door.TheVariants.{Table, Control}
 use Rattle.ice_timing.specs.declared.end.Entry.{Entry}
-use Rattle.ice_timing.specs.Entries.{entry, entries_by, controls, flop_entries, tile_entries, pad_lasts, pad_entries, entries}
+use Rattle.ice_timing.specs.Entries.{entry, entries_by, controls, flop_entries, tile_entries, pad_door, pad_lasts, pad_entries, entries}
 
 module _ (parts : Parts) (read : IsRead parts) where
   -- ---- points that may be missing
@@ -91,7 +91,7 @@ module _ (parts : Parts) (read : IsRead parts) where
       none_leads
 
   lasts_exist : (pad : Pad) (part : ℕ) → AllExist (pad_lasts parts pad part)
-  lasts_exist pad part = first (part == 6) _ (second (part == 10))
+  lasts_exist pad part = first (part == 5) _ (first (part == 6) _ (second (part == 10)))
     where
       first : (b : Bool) (others : List (Option Point)) → AllExist others → AllExist (cond b (at_pin parts pad.tile (pad_output_name pad.pio) ∷ []) others)
       first true others rest = (pin_exists pad.tile (pad_output_name pad.pio), tt)
@@ -105,4 +105,4 @@ module _ (parts : Parts) (read : IsRead parts) where
   entries_lead bits =
       both_lead (flat_map (tile_entries parts bits) (logic_tiles parts)) (flat_map (pad_entries parts bits) (pads parts))
       (all_lead (tile_entries parts bits) (λ t. all_lead (flop_entries parts bits t) (flop_leads bits t) eight) (logic_tiles parts))
-      (all_lead (pad_entries parts bits) (λ pad. by_leads (PadEnd pad) Outside (pad_lasts parts pad (pin_type parts bits pad / 4)) (lasts_exist pad (pin_type parts bits pad / 4))) (pads parts))
+      (all_lead (pad_entries parts bits) (λ pad. by_leads (PadEnd pad) (pad_door (pin_type parts bits pad / 4)) (pad_lasts parts pad (pin_type parts bits pad / 4)) (lasts_exist pad (pin_type parts bits pad / 4))) (pads parts))

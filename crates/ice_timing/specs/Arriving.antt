@@ -21,14 +21,14 @@ abbrev pub Arrives : ArrivalsData → Point → ℕ → Type 0
 Arrives a p moment = (i : ℕ) × At a.points i p × At a.at i moment
 
 -- The arrivals at all points. The last part is the certificate: it says nothing of paths, and bounds every path (`CertificatesBoundPaths`).
-pub record AreArrivalsOf (parts : Parts) (bits : Bits) (d : Delays) (a : ArrivalsData) : Type 0 where
+pub record AreArrivalsOf (parts : Parts) (bits : Bits) (extras : List (ℕ × ℕ × ℕ)) (d : Delays) (a : ArrivalsData) : Type 0 where
   pub points : AreAllPoints parts a.points
   -- each point has one
   pub each : (p : Point) → Has a.points p → (moment : ℕ) × Arrives a p moment
   -- some path to each point is so long, and none is longer
-  pub right : (p : Point) (moment : ℕ) → Arrives a p moment → IsArrivalAt parts bits d p moment
+  pub right : (p : Point) (moment : ℕ) → Arrives a p moment → IsArrivalAt parts bits extras d p moment
   -- no point is earlier than one on which it depends, and its own delay
-  pub certificate : (p q : Point) (there before : ℕ) → Arrives a p there → Arrives a q before → Has (depends_on parts bits p) q
+  pub certificate : (p q : Point) (there before : ℕ) → Arrives a p there → Arrives a q before → Has (depends_on parts bits extras p) q
       → before + delay_of parts bits d p ≤ there
 
 -- ---- as they are kept
@@ -59,24 +59,24 @@ IsBefore a reads (Some p) = IsLatestPoint a reads p
 -- ---- as they are found
 
 -- the moment of a point that depends on nothing is its start, and else that of the latest point on which it depends, and its delay
-pub record IsBehind (parts : Parts) (bits : Bits) (d : Delays) (points : List Point) (at : List ℕ) (p : Point) (moment : ℕ) : Type 0 where
+pub record IsBehind (parts : Parts) (bits : Bits) (extras : List (ℕ × ℕ × ℕ)) (d : Delays) (points : List Point) (at : List ℕ) (p : Point) (moment : ℕ) : Type 0 where
   pub number : ℕ
-  pub latest : IsLatestRead points at (depends_on parts bits p) number
+  pub latest : IsLatestRead points at (depends_on parts bits extras p) number
   pub is : moment ≡ slice_index_or at number 0 + delay_of parts bits d p
 
-pub record IsStart (parts : Parts) (bits : Bits) (d : Delays) (p : Point) (moment : ℕ) : Type 0 where
-  pub free : depends_on parts bits p ≡ []
-  pub is : moment ≡ start_of parts bits d p
+pub record IsStart (parts : Parts) (bits : Bits) (extras : List (ℕ × ℕ × ℕ)) (d : Delays) (p : Point) (moment : ℕ) : Type 0 where
+  pub free : depends_on parts bits extras p ≡ []
+  pub is : moment ≡ start_of parts bits extras d p
 
-abbrev pub IsReached : Parts → Bits → Delays → List Point → List ℕ → Point → ℕ → Type 0
-IsReached parts bits d points at p moment = IsStart parts bits d p moment ⊎ IsBehind parts bits d points at p moment
+abbrev pub IsReached : Parts → Bits → List (ℕ × ℕ × ℕ) → Delays → List Point → List ℕ → Point → ℕ → Type 0
+IsReached parts bits extras d points at p moment = IsStart parts bits extras d p moment ⊎ IsBehind parts bits extras d points at p moment
 
 -- a moment that comes at most one delay after all of a table
 abbrev pub IsSoon : List ℕ → ℕ → Type 0
 IsSoon at moment = (most : ℕ) → AreWithin most at → moment ≤ most + 2 ^ 32
 
 -- the first points of an order have their moments in the table
-pub record AreFilled (parts : Parts) (bits : Bits) (d : Delays) (points order : List Point) (count : ℕ) (at : List ℕ) : Type 0 where
+pub record AreFilled (parts : Parts) (bits : Bits) (extras : List (ℕ × ℕ × ℕ)) (d : Delays) (points order : List Point) (count : ℕ) (at : List ℕ) : Type 0 where
   pub long : length at ≡ length points
-  pub right : (j : ℕ) (p : Point) (n : ℕ) → j < count → At order j p → At points n p → IsArrivalAt parts bits d p (slice_index_or at n 0)
+  pub right : (j : ℕ) (p : Point) (n : ℕ) → j < count → At order j p → At points n p → IsArrivalAt parts bits extras d p (slice_index_or at n 0)
   pub within : AreWithin (count * 2 ^ 32) at

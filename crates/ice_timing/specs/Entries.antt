@@ -17,7 +17,7 @@ use Rattle.ice_timing_delays.specs.declared.delays.Delays.{Delays}
 use Rattle.ice_timing.specs.declared.end.End.{End}
 use Rattle.ice_timing.specs.declared.end.End.TheVariants.{Flop, Pad as PadEnd}
 use Rattle.ice_timing.specs.declared.end.Door.{Door}
-use Rattle.ice_timing.specs.declared.end.Door.TheVariants.{Table, Control, Outside}
+use Rattle.ice_timing.specs.declared.end.Door.TheVariants.{Table, Control, Outside, Register}
 use Rattle.ice_timing.specs.declared.end.Entry.{Entry}
 
 -- what the end adds to a path that comes in by this door
@@ -25,6 +25,7 @@ abbrev pub door_delay : Delays → Door → ℕ
 door_delay d Table = d.lut + d.setup
 door_delay d Control = d.setup
 door_delay d Outside = d.pad_out
+door_delay d Register = d.setup
 
 abbrev pub entry : End → Door → Point → Entry
 entry end door last = record { end = end; door = door; last = last }
@@ -46,16 +47,21 @@ flop_entries parts bits t i =
 abbrev pub tile_entries : Parts → Bits → TileAt → List Entry
 tile_entries parts bits t = flat_map (flop_entries parts bits t) eight
 
--- the wires by which the chip drives a pad of this output part: 0110 drives its output, 1010 drives it where enabled
+-- by which door a path gets into a pad of this output part: 0101 drives what a register takes
+abbrev pub pad_door : ℕ → Door
+pad_door part = if part == 5 then Register else Outside
+
+-- the wires by which the chip drives a pad of this output part: 0101 and 0110 drive its output, 1010 drives it where enabled
 abbrev pub pad_lasts : Parts → Pad → ℕ → List (Option Point)
 pad_lasts parts pad part =
-    if part == 6 then at_pin parts pad.tile (pad_output_name pad.pio) ∷ []
+    if part == 5 then at_pin parts pad.tile (pad_output_name pad.pio) ∷ []
+    else (if part == 6 then at_pin parts pad.tile (pad_output_name pad.pio) ∷ []
     else (if part == 10 then at_pin parts pad.tile (pad_output_name pad.pio) ∷ at_pin parts pad.tile (output_enable_name pad.pio) ∷ []
-    else [])
+    else []))
 
 -- out of a pad
 abbrev pub pad_entries : Parts → Bits → Pad → List Entry
-pad_entries parts bits pad = entries_by (PadEnd pad) Outside (pad_lasts parts pad (pin_type parts bits pad / 4))
+pad_entries parts bits pad = entries_by (PadEnd pad) (pad_door (pin_type parts bits pad / 4)) (pad_lasts parts pad (pin_type parts bits pad / 4))
 
 -- out of the pads of a tile, where it is an IO tile
 abbrev pub io_entries : Parts → Bits → Tile → List Entry

@@ -1,5 +1,5 @@
 //! When a signal arrives at each point.
-ghost use Rattle.std.specs.Prelude.{◌≡◌, ◌<◌, ◌≤◌, ◌^◌, length, replicate, slice_set, IfOk};
+ghost use Rattle.std.specs.Prelude.{◌≡◌, ◌<◌, ℕ, ◌≤◌, ◌^◌, List, length, replicate, slice_set, IfOk};
 ghost use Rattle.ice_bits.specs.Configuration.{Bits, bits_of};
 ghost use Rattle.ice_base_values.specs.Order.{Has};
 ghost use Rattle.ice_chip.specs.Database.{Parts};
@@ -54,7 +54,7 @@ fn arrival(
     requires point { Has numbering.now point }
     requires long { length at.now ≡ length numbering.now }
     requires within { AreWithin (2 ^ 63) at.now }
-    ensures reached { IfOk result (IsReached chip.now (bits_of circuit.now.configuration) delays.now numbering.now at.now point) }
+    ensures reached { IfOk result (IsReached chip.now (bits_of circuit.now.configuration) circuit.now.configuration.extras delays.now numbering.now at.now point) }
     ensures soon { IfOk result (IsSoon at.now) }
 {
     match latest_read(alloc, chip, circuit, numbering, at, point)? {
@@ -90,7 +90,7 @@ fn moments(
     requires circuit { IsCircuitOf chip.now circuit.now.configuration circuit.now }
     requires points { AreAllPoints chip.now numbering.now }
     requires order { order.now ≡ circuit.now.order }
-    ensures filled { IfOk result (λ at. AreFilled chip.now (bits_of circuit.now.configuration) delays.now numbering.now order.now (length order.now) at.items) }
+    ensures filled { IfOk result (λ at. AreFilled chip.now (bits_of circuit.now.configuration) circuit.now.configuration.extras delays.now numbering.now order.now (length order.now) at.items) }
     ensures within { IfOk result (λ at. AreWithin (2 ^ 63) at.items) }
 {
     if order.len() >= MOST_POINTS {
@@ -116,7 +116,7 @@ pub fn arrivals_of(
     delays: &Delays,
 ) -> Result<Arrivals, NoMemory>
     requires { IsCircuitOf chip.now circuit.now.configuration circuit.now }
-    ensures { IfOk result (AreArrivalsOf chip.now (bits_of circuit.now.configuration) delays.now) }
+    ensures { IfOk result (AreArrivalsOf chip.now (bits_of circuit.now.configuration) circuit.now.configuration.extras delays.now) }
 {
     let numbering = Numbering::new(alloc, chip)?;
     let at = moments(alloc, chip, circuit, delays, &numbering, circuit.order())?;
@@ -128,7 +128,7 @@ impl Arrivals {
     pub fn of(&self, point: Point) -> u64
         requires { Has self.now.points point }
         ensures arrives { Arrives self.now point result }
-        ensures right { (parts : Parts) (bits : Bits) (d : DelaysData) → AreArrivalsOf parts bits d self.now → IsArrivalAt parts bits d point result }
+        ensures right { (parts : Parts) (bits : Bits) (extras : List (ℕ × ℕ × ℕ)) (d : DelaysData) → AreArrivalsOf parts bits extras d self.now → IsArrivalAt parts bits extras d point result }
         ensures within { result ≤ 2 ^ 63 }
     {
         let number = self.numbering.number(point);
@@ -149,7 +149,7 @@ impl Arrivals {
         requires circuit { IsCircuitOf chip.now circuit.now.configuration circuit.now }
         requires points { AreAllPoints chip.now self.now.points }
         requires point { Has self.now.points point }
-        ensures { IfOk result (IsBefore self.now (depends_on chip.now (bits_of circuit.now.configuration) point)) }
+        ensures { IfOk result (IsBefore self.now (depends_on chip.now (bits_of circuit.now.configuration) circuit.now.configuration.extras point)) }
     {
         let number = latest_read(alloc, chip, circuit, &self.numbering, &self.at, point)?;
         match number {

@@ -27,6 +27,8 @@ pub enum Door {
     Control,
     /// By the output or the enable wire of the pad.
     Outside,
+    /// By the output wire of the pad, into its register.
+    Register,
 }
 
 /// An end, and one of the points by which a path may get there.

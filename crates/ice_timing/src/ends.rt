@@ -5,7 +5,7 @@ ghost use Rattle.ice_bits.specs.Configuration.{bits_of};
 ghost use Rattle.ice_chip.specs.WireNames.{input_name};
 ghost use Rattle.ice_decode.specs.Pads.{pads_in, pads};
 ghost use Rattle.ice_decode.specs.Reads.{at_pin, cell_inputs};
-ghost use Rattle.ice_timing.specs.Entries.{entries_by, controls, flop_entries, tile_entries, pad_lasts, pad_entries, io_entries, entries};
+ghost use Rattle.ice_timing.specs.Entries.{entries_by, controls, flop_entries, tile_entries, pad_door, pad_lasts, pad_entries, io_entries, entries};
 
 use crate::{Door, End, Entry};
 use ice_base::{NoMemory, TileAt};
@@ -128,11 +128,12 @@ fn add_tiles(
 
 // Adds the entries of a pad by its output, and by its enable where it has one.
 fn add_outputs(entries: &mut Vec<Entry>, chip: &Chip, pad: Pad, part: u8) -> Result<(), NoMemory>
-    ensures { OnOk result (entries.new.items ≡ entries.old.items ++ entries_by (End.Pad pad) Door.Outside (pad_lasts chip.now pad part)) }
+    ensures { OnOk result (entries.new.items ≡ entries.old.items ++ entries_by (End.Pad pad) (pad_door part) (pad_lasts chip.now pad part)) }
 {
     let output = at_pin(chip, pad.tile, &pad_output_name(pad.pio));
     let enable = at_pin(chip, pad.tile, &output_enable_name(pad.pio));
     match part {
+        0b0101 => add_entries(entries, End::Pad(pad), Door::Register, &[output]),
         0b0110 => add_entries(entries, End::Pad(pad), Door::Outside, &[output]),
         0b1010 => add_entries(entries, End::Pad(pad), Door::Outside, &[output, enable]),
         _ => Ok(()),

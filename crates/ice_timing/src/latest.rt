@@ -50,12 +50,19 @@ fn numbers_read(
     requires circuit { IsCircuitOf chip.now circuit.now.configuration circuit.now }
     requires points { AreAllPoints chip.now numbering.now }
     requires point { Has numbering.now point }
-    ensures { IfOk result (λ row. map (slice_get numbering.now) row.items ≡ map (λ p. Some p) (depends_on chip.now (bits_of circuit.now.configuration) point)) }
+    ensures { IfOk result (λ row. map (slice_get numbering.now) row.items ≡ map (λ p. Some p) (depends_on chip.now (bits_of circuit.now.configuration) circuit.now.configuration.extras point)) }
 {
     let _wires = chip.wires();
     let mut reads = Vec::new(alloc);
     let mut row = Vec::new(alloc);
-    add_reads(chip, circuit.bits(), circuit.drivers(), point, &mut reads)?;
+    add_reads(
+        chip,
+        circuit.bits(),
+        circuit.drivers(),
+        circuit.direct(),
+        point,
+        &mut reads,
+    )?;
     numbering.number_all(&reads, &mut row)?;
     Ok(row)
 }
@@ -77,7 +84,7 @@ pub(crate) fn latest_read(
     requires points { AreAllPoints chip.now numbering.now }
     requires point { Has numbering.now point }
     requires long { length at.now ≡ length numbering.now }
-    ensures { IfOk result (IsLatest numbering.now at.now (depends_on chip.now (bits_of circuit.now.configuration) point)) }
+    ensures { IfOk result (IsLatest numbering.now at.now (depends_on chip.now (bits_of circuit.now.configuration) circuit.now.configuration.extras point)) }
 {
     let row = numbers_read(alloc, chip, circuit, numbering, point)?;
     Ok(latest_of(at, &row))

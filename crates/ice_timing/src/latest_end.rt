@@ -1,5 +1,5 @@
 //! The end that a signal reaches last.
-ghost use Rattle.std.specs.Prelude.{◌≡◌, ◌⊎◌, ◌≤◌, ◌^◌, ◌*◌, [], All, IfNone, IfSome};
+ghost use Rattle.std.specs.Prelude.{◌≡◌, ◌⊎◌, ◌≤◌, ◌^◌, ◌*◌, ℕ, List, [], All, IfNone, IfSome};
 ghost use Rattle.ice_base_values.specs.Order.{Has};
 ghost use Rattle.ice_chip.specs.Database.{Parts};
 ghost use Rattle.ice_bits.specs.Configuration.{Bits};
@@ -26,6 +26,7 @@ fn door_delay(delays: &Delays, door: Door) -> u64
         Door::Table => u64::from(delays.lut) + u64::from(delays.setup),
         Door::Control => u64::from(delays.setup),
         Door::Outside => u64::from(delays.pad_out),
+        Door::Register => u64::from(delays.setup),
     }
 }
 
@@ -33,7 +34,7 @@ fn door_delay(delays: &Delays, door: Door) -> u64
 fn moment_of(arrivals: &Arrivals, delays: &Delays, entry: Entry) -> Moment
     requires { Has arrivals.now.points entry.last }
     ensures entry { result.entry ≡ entry }
-    ensures moment { (parts : Parts) (bits : Bits) → AreArrivalsOf parts bits delays.now arrivals.now → IsMoment parts bits delays.now entry result.at }
+    ensures moment { (parts : Parts) (bits : Bits) (extras : List (ℕ × ℕ × ℕ)) → AreArrivalsOf parts bits extras delays.now arrivals.now → IsMoment parts bits extras delays.now entry result.at }
 {
     Moment {
         entry,
@@ -58,7 +59,7 @@ pub(crate) fn latest_entry(
 ) -> Option<Moment>
     requires { All (λ e. Has arrivals.now.points e.last) entries.now }
     ensures none { IfNone result (entries.now ≡ []) }
-    ensures some { IfSome result (λ m. (parts : Parts) (bits : Bits) → AreArrivalsOf parts bits delays.now arrivals.now → IsLatestEntry parts bits delays.now entries.now m) }
+    ensures some { IfSome result (λ m. (parts : Parts) (bits : Bits) (extras : List (ℕ × ℕ × ℕ)) → AreArrivalsOf parts bits extras delays.now arrivals.now → IsLatestEntry parts bits extras delays.now entries.now m) }
 {
     if entries.is_empty() {
         return None;

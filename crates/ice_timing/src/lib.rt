@@ -15,5 +15,6 @@ mod text;
 
 pub use arrivals::{Arrivals, arrivals_of};
 pub use end::{Door, End, Entry, TimedPath};
+pub use ice_timing_delays::{DelayFault, Delays, read_delays};
 pub use longest_path::longest;
 pub use text::path_text;

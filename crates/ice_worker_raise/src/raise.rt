@@ -5,8 +5,8 @@ ghost use Rattle.ice_words_histories.specs.Grips.{IsHandOf};
 ghost use Rattle.ice_worker_raise.specs.Raised.{wires_in, raised_part, wiring, wirings, AreBelow, Falls, IsFresh};
 
 use ice_base::WireNo;
-use ice_words_histories::{HistoryHand, HistoryWords};
 use ice_words::Counts;
+use ice_words_histories::{HistoryHand, HistoryWords};
 
 // Raises a wire's history where its count is above 1.
 fn raise_wire(words: &HistoryWords, hand: &mut HistoryHand, counts: &Counts, wire: WireNo)

@@ -7,6 +7,6 @@ use Rattle.ice_back.proofs.logic.add_pads.Given as goal
 
 abbrev pub invariant-loop-number : goal.invariant-loop-number
 invariant-loop-number l =
-    HasRoomForCells l.netlist (map (pad_cell l.configured.parts (bits_of l.configured.configuration) l.configured.bonded.pads) (from l.number l.pads))
-    × (with_cells l.fn.netlist (map (pad_cell l.configured.parts (bits_of l.configured.configuration) l.configured.bonded.pads) (numbered_pads l.pads))
-    ≡ with_cells l.netlist (map (pad_cell l.configured.parts (bits_of l.configured.configuration) l.configured.bonded.pads) (from l.number l.pads)))
+    HasRoomForCells l.netlist (map (pad_cell l.configured.parts (bits_of l.configured.configuration) l.configured.configuration.extras l.configured.bonded.pads) (from l.number l.pads))
+    × (with_cells l.fn.netlist (map (pad_cell l.configured.parts (bits_of l.configured.configuration) l.configured.configuration.extras l.configured.bonded.pads) (numbered_pads l.pads))
+    ≡ with_cells l.netlist (map (pad_cell l.configured.parts (bits_of l.configured.configuration) l.configured.configuration.extras l.configured.bonded.pads) (from l.number l.pads)))

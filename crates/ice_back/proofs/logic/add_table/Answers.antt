@@ -15,10 +15,10 @@ table_cell-requires-clause-table c =
     c.cell_table-table.ensures ∙ ap (λ (parts : Parts). cell_table parts (bits_of c.bits.result.now) c.args.cell.0 c.args.cell.1) c.chip.ensures
     ∙ ap (λ (k : Configuration). cell_table c.args.configured.now.parts (bits_of k) c.args.cell.0 c.args.cell.1) c.bits.ensures
 
-made : (c : In_ok-made) → table_cells c.args.configured.now.parts (bits_of c.args.configured.now.configuration) c.args.configured.now.bonded.pads c.args.cell ≡ c.in_ok-made.made ∷ []
+made : (c : In_ok-made) → table_cells c.args.configured.now.parts (bits_of c.args.configured.now.configuration) c.args.configured.now.configuration.extras c.args.configured.now.bonded.pads c.args.cell ≡ c.in_ok-made.made ∷ []
 made c =
     table_made c.cell_table-table.result (cell_table c.args.configured.now.parts (bits_of c.args.configured.now.configuration) c.args.cell.0 c.args.cell.1)
-    (table_cell c.args.configured.now.parts (bits_of c.args.configured.now.configuration) c.args.configured.now.bonded.pads c.args.cell) c.in_ok-made.made
+    (table_cell c.args.configured.now.parts (bits_of c.args.configured.now.configuration) c.args.configured.now.configuration.extras c.args.configured.now.bonded.pads c.args.cell) c.in_ok-made.made
     (c.cell_table-table.ensures ∙ ap (λ (parts : Parts). cell_table parts (bits_of c.bits.result.now) c.args.cell.0 c.args.cell.1) c.chip.ensures
     ∙ ap (λ (k : Configuration). cell_table c.args.configured.now.parts (bits_of k) c.args.cell.0 c.args.cell.1) c.bits.ensures)
     c.if-table-eq0.false c.in_ok-made.ensures

@@ -9,7 +9,8 @@ use Rattle.ice_back_laws.specs.Back.{pad_port}
 use Rattle.ice_back_laws.specs.Numbers.{pad_names, cell_names, back_names}
 use Rattle.ice_back.specs.Adding.{with_names, HasRoomForNames}
 use Rattle.ice_back.proofs.Named.{zero_fits, one_fits, pads_fit, cell_names_fit, all_named}
-use Rattle.ice_back.proofs.ConfiguredFacts.{pads_few, pads_different, ports_fit}
+use Rattle.ice_back_points.proofs.ConfiguredFacts.{pads_few}
+use Rattle.ice_back.proofs.Fits.{pads_different, ports_fit}
 use Rattle.ice_back.proofs.making.add_signals.Goals as goal
 use Rattle.ice_back.proofs.making.add_signals.Goals.{In_ok-add_cell_names}
 

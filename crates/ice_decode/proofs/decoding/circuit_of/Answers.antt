@@ -7,5 +7,6 @@ returns c = subst (IsCircuitOf c.args.chip.now c.args.bits.now) (sym c.of.ensure
   same = c.in_ok-bits.ensures;
   faultless = c.requires.faultless;
   driven_by = c.requires.drivers;
+  fed_by_pads = c.requires.direct;
   ordered = c.requires.order;
 })

@@ -8,7 +8,7 @@ use Rattle.ice_decode.proofs.Graphs.{within}
 use Rattle.ice_decode.proofs.evaluation.found_in.Goals as goal
 
 pub order-requires : goal.order-requires
-order-requires c = within c.args.numbering.now (depends_on c.args.chip.now (bits_of c.args.bits.now)) c.args.graph.now c.requires.graph
+order-requires c = within c.args.numbering.now (depends_on c.args.chip.now (bits_of c.args.bits.now) c.args.bits.now.extras) c.args.graph.now c.requires.graph
 
 pub order_at-requires-clause-order : goal.order_at-requires-clause-order
 order_at-requires-clause-order c =

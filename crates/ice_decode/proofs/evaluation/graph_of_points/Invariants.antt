@@ -6,4 +6,4 @@ use Rattle.ice_decode.proofs.evaluation.graph_of_points.Given as goal
 
 abbrev pub invariant-loop-point : goal.invariant-loop-point
 invariant-loop-point l =
-    map (λ row. map (slice_get l.numbering) row) l.graph ≡ map (λ p. map (λ q. Some q) (depends_on l.chip (bits_of l.bits) p)) (take l.point-index l.numbering)
+    map (λ row. map (slice_get l.numbering) row) l.graph ≡ map (λ p. map (λ q. Some q) (depends_on l.chip (bits_of l.bits) l.bits.extras p)) (take l.point-index l.numbering)

@@ -22,5 +22,5 @@ returns c =
     } in
     let last : IsSimpleCycle (length c.args.graph.now) (depends_of c.args.graph.now) c.deref.result.now
     = subst (IsSimpleCycle (length c.args.graph.now) (depends_of c.args.graph.now)) (sym c.deref.ensures.value) turned in
-    loop_of c.args.chip.now (bits_of c.args.bits.now) c.args.numbering.now c.args.graph.now c.requires.graph c.requires.points c.deref.result.now c.in_ok-points.points.items c.in_ok-points.ensures
+    loop_of c.args.chip.now (bits_of c.args.bits.now) c.args.bits.now.extras c.args.numbering.now c.args.graph.now c.requires.graph c.requires.points c.deref.result.now c.in_ok-points.points.items c.in_ok-points.ensures
     c.in_ok-wires.wires (c.in_ok-wires.ensures ∙ ap wires_among c.deref-2.ensures.value) last.below last.once

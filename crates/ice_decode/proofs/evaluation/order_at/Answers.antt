@@ -10,4 +10,4 @@ points_at-requires c = order_below c.args.numbering.now (length c.args.graph.now
 
 pub returns : goal.returns
 returns c =
-    order_of c.args.chip.now (bits_of c.args.bits.now) c.args.numbering.now c.args.graph.now c.requires.graph c.requires.points c.args.order.now c.in_ok-points.points.items c.in_ok-points.ensures c.requires.order
+    order_of c.args.chip.now (bits_of c.args.bits.now) c.args.bits.now.extras c.args.numbering.now c.args.graph.now c.requires.graph c.requires.points c.args.order.now c.in_ok-points.points.items c.in_ok-points.ensures c.requires.order

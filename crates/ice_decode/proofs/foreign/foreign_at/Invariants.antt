@@ -6,4 +6,4 @@ use Rattle.ice_decode.proofs.foreign.foreign_at.Given as goal
 
 abbrev pub invariant-loop-function : goal.invariant-loop-function
 invariant-loop-function l =
-    foreign_at (map function_view l.functions) (bits_of l.bits) l.tile ≡ foreign_at (map function_view (drop l.function-index l.functions)) (bits_of l.bits) l.tile
+    foreign_at l.chip (map function_view l.functions) (bits_of l.bits) l.tile ≡ foreign_at l.chip (map function_view (drop l.function-index l.functions)) (bits_of l.bits) l.tile

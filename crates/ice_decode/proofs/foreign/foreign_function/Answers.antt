@@ -7,4 +7,4 @@ use Rattle.ice_decode.proofs.foreign.foreign_function.Goals as goal
 pub returns : goal.returns
 returns c =
     sym (c.loop-tile.invariant
-    ∙ at_drop_all (foreign_among c.args.chip.now.functions (bits_of c.args.bits.now)) c.tiles-tile-items.result.now c.loop-tile.tile-index c.loop-tile-test.false)
+    ∙ at_drop_all (foreign_among c.args.chip.now (bits_of c.args.bits.now)) c.tiles-tile-items.result.now c.loop-tile.tile-index c.loop-tile-test.false)

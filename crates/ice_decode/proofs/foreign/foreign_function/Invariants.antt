@@ -5,4 +5,4 @@ use Rattle.ice_decode.specs.ForeignTiles.{foreign_among}
 use Rattle.ice_decode.proofs.foreign.foreign_function.Given as goal
 
 abbrev pub invariant-loop-tile : goal.invariant-loop-tile
-invariant-loop-tile l = foreign_function l.chip (bits_of l.bits) ≡ foreign_among l.chip.functions (bits_of l.bits) (drop l.tile-index l.tile-items)
+invariant-loop-tile l = foreign_function l.chip (bits_of l.bits) ≡ foreign_among l.chip (bits_of l.bits) (drop l.tile-index l.tile-items)

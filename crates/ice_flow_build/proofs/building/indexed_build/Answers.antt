@@ -64,7 +64,7 @@ returns-in-Ok-clause-circuit g c =
     let finished = c.in_ok-built.ensures.finished in
     circuit c.args.sound.now c.args.chip.now c.in_ok-layout.layout c.in_ok-built.built finished.same
     (c.realised_layouts_show_their_netlist.ensures c.args.chip.now c.args.name.now c.args.pcf.now c.in_ok-layout.layout (routes_in c.in_ok-built.built.routed) c.in_ok-built.built.bits laid stands finished.written
-    (c.in_ok-built.ensures.realised (no_loop c.args.chip.now (bits_of c.in_ok-built.built.bits) c.in_ok-built.ensures.loopless c.in-Ok.ensures.loopless)))
+    (c.in_ok-built.ensures.realised (no_loop c.args.chip.now (bits_of c.in_ok-built.built.bits) c.in_ok-built.built.bits.extras c.in_ok-built.ensures.loopless c.in-Ok.ensures.loopless)))
 
 pub returns-in-Ok-clause-complete : goal.returns-in-Ok-clause-complete
 returns-in-Ok-clause-complete g c =

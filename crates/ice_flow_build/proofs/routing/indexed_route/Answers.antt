@@ -1,3 +1,4 @@
+use Rattle.std.proofs.Common.{None}
 use Rattle.std.proofs.lemmas.Result.{IfOk-weaker}
 use Rattle.ice_negotiate_defs.specs.Logs.{AreRouted}
 use Rattle.ice_negotiate_defs.specs.declared.fault.Routed.{Routed}
@@ -14,6 +15,6 @@ negotiate-requires-clause-nets g c κs within =
 pub returns-clause-trees : goal.returns-clause-trees
 returns-clause-trees g c =
     IfOk-weaker c.negotiate.result (AreRouted c.in_ok-graph.graph c.args.nets.now c.args.effort.rounds) (λ (routed : Routed). AreTrees c.args.chip.now (plan_in c.args.layout.now) (routes_in routed))
-    (λ routed is. c.routed_nets_are_trees.ensures c.args.chip.now (plan_in c.args.layout.now) c.in_ok-graph.graph c.args.nets.now c.args.effort.rounds routed
-    (record { wires = c.in_ok-graph.ensures.wires; edges = c.in_ok-graph.ensures.edges }) c.requires.nets is)
+    (λ routed is. c.routed_nets_are_trees.ensures c.args.chip.now (plan_in c.args.layout.now) c.in_ok-graph.graph c.args.nets.now None c.args.effort.rounds routed
+    (record { wires = c.in_ok-graph.ensures.wires; edges = c.in_ok-graph.ensures.edges }) c.requires.nets tt is)
     c.negotiate.ensures.routed

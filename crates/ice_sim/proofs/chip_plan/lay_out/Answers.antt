@@ -1,6 +1,5 @@
 use Rattle.std.proofs.Common.{◌≡◌, ℕ, ◌+◌, List, length, replicate, ap, ◌∙◌, subst}
 use Rattle.std.proofs.lemmas.List.{length-replicate}
-use Rattle.ice_base.specs.declared.number.TileAt.{TileAt}
 use Rattle.ice_chip.specs.Database.{Parts}
 use Rattle.ice_chip.specs.IsRead.{IsChip}
 use Rattle.ice_bits.specs.Configuration.{bits_of}
@@ -17,13 +16,13 @@ slots_are c =
     c.deref_mut.ensures.value
     ∙ c.in_ok-slots.ensures
     ∙ ap (λ (n : ℕ). replicate n 0)
-    (ap (λ (n : ℕ). n + length c.args.all_cells.now) (c.wires.ensures.wires ∙ ap (λ (p : Parts). p.wires) c.chip.ensures)
-    ∙ ap (λ (l : List (TileAt × ℕ)). c.args.configured.now.parts.wires + length l) c.requires.cells)
+    (ap (λ (n : ℕ). n + c.len.result) (c.wires.ensures.wires ∙ ap (λ (p : Parts). p.wires) c.chip.ensures)
+    ∙ ap (λ (n : ℕ). c.args.configured.now.parts.wires + n) (c.len.ensures ∙ c.args.stores.now.cells.ok.0 ∙ ap length c.requires.stores.cells))
 
 pub lay-requires : goal.lay-requires
 lay-requires c =
     let a = (goal.at.lay-requires c).After-deref_mut in
-    order_below c.args.configured.now.parts (bits_of c.args.configured.now.configuration) c.args.order.now (length c.deref_mut.result.now) c.requires.order
+    order_below c.args.configured.now.parts (bits_of c.args.configured.now.configuration) c.args.configured.now.configuration.extras c.args.order.now (length c.deref_mut.result.now) c.requires.order
     (ap length (slots_are a) ∙ length-replicate {A = ℕ} (count_points c.args.configured.now.parts) 0)
 
 pub returns-clause-chip : goal.returns-clause-chip
@@ -35,6 +34,6 @@ returns-clause-layout c =
     ap (λ (slots : List ℕ). layout_of slots c.lay.new.feeds.items)
     (written c.in_ok-slots.slots.len c.in_ok-slots.slots.items c.lay.new.slots (c.lay.auto.slots ∙ ap length c.deref_mut.ensures.value) c.in_ok-slots.slots.ok.0)
     ∙ c.in_ok-lay.ensures
-    ∙ ap (λ (slots : List ℕ). laid c.args.configured.now.parts (bits_of c.args.configured.now.configuration) c.args.configured.now.bonded c.args.order.now (layout_of slots c.in_ok-feeds.feeds.items)) (slots_are a)
-    ∙ ap (λ (feeds : List Feed). laid c.args.configured.now.parts (bits_of c.args.configured.now.configuration) c.args.configured.now.bonded c.args.order.now
+    ∙ ap (λ (slots : List ℕ). laid c.args.configured.now.parts (bits_of c.args.configured.now.configuration) c.args.configured.now.configuration.extras c.args.configured.now.bonded c.args.order.now (layout_of slots c.in_ok-feeds.feeds.items)) (slots_are a)
+    ∙ ap (λ (feeds : List Feed). laid c.args.configured.now.parts (bits_of c.args.configured.now.configuration) c.args.configured.now.configuration.extras c.args.configured.now.bonded c.args.order.now
     (layout_of (replicate (count_points c.args.configured.now.parts) 0) feeds)) c.in_ok-feeds.ensures

@@ -19,7 +19,7 @@ loop-step-preserved c =
       ap length (written c.loop-step.drives.len c.loop-step.drives.items c.play_step.new.drives long c.loop-step.drives.ok.0) ∙ long ∙ c.loop-step.invariant.3,
       tail_all (HasWidth (length c.args.«package».now.pads.keys)) c.in-Some.step.now c.next.new.self wide,
       told_next c.loop-step.run c.play_step.new.run c.in-Some.step.now c.loop-step.step-iterator c.next.new.self c.loop-step.text.items c.play_step.new.text.items
-          (drives_text (shows c.args.chip.now (bits_of c.args.circuit.now.configuration) c.args.«package».now.pads.keys c.args.«package».now.pads.keys c.args.levels.now))
+          (drives_text (shows c.args.chip.now (bits_of c.args.circuit.now.configuration) c.args.circuit.now.configuration.extras c.args.«package».now.pads.keys c.args.«package».now.pads.keys c.args.levels.now))
           c.in-Some.ensures.steps c.play_step.ensures.run c.in_ok-play_step.ensures.text c.loop-step.invariant.5,
     )
 

@@ -12,4 +12,4 @@ invariant-loop-step l =
     × (l.run.bonded ≡ l.«package».pads.keys)
     × (length l.drives.items ≡ length l.«package».pads.keys)
     × All (HasWidth (length l.«package».pads.keys)) l.step-iterator
-    × (drives_text (shows l.chip (bits_of l.circuit.configuration) l.«package».pads.keys l.«package».pads.keys l.levels) ≡ l.text.items ++ told_from l.run l.step-iterator)
+    × (drives_text (shows l.chip (bits_of l.circuit.configuration) l.circuit.configuration.extras l.«package».pads.keys l.«package».pads.keys l.levels) ≡ l.text.items ++ told_from l.run l.step-iterator)

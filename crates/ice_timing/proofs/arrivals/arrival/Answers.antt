@@ -13,12 +13,12 @@ delay_of-requires-clause-point c = wire_there c.args.chip.now c.args.numbering.n
 
 pub bounds-at-number : goal.bounds-at-number
 bounds-at-number c =
-    latest_within c.args.numbering.now (depends_on c.args.chip.now (bits_of c.args.circuit.now.configuration) c.args.point) c.args.at.now c.in-Some.number c.requires.long
-    (subst (IsLatest c.args.numbering.now c.args.at.now (depends_on c.args.chip.now (bits_of c.args.circuit.now.configuration) c.args.point)) c.in-Some.is c.in_ok-latest_read.ensures)
+    latest_within c.args.numbering.now (depends_on c.args.chip.now (bits_of c.args.circuit.now.configuration) c.args.circuit.now.configuration.extras c.args.point) c.args.at.now c.in-Some.number c.requires.long
+    (subst (IsLatest c.args.numbering.now c.args.at.now (depends_on c.args.chip.now (bits_of c.args.circuit.now.configuration) c.args.circuit.now.configuration.extras c.args.point)) c.in-Some.is c.in_ok-latest_read.ensures)
 
 pub returns-in-None-clause-reached : goal.returns-in-None-clause-reached
 returns-in-None-clause-reached c = inl (record {
-  free = subst (IsLatest c.args.numbering.now c.args.at.now (depends_on c.args.chip.now (bits_of c.args.circuit.now.configuration) c.args.point)) c.in-None.is c.in_ok-latest_read.ensures;
+  free = subst (IsLatest c.args.numbering.now c.args.at.now (depends_on c.args.chip.now (bits_of c.args.circuit.now.configuration) c.args.circuit.now.configuration.extras c.args.point)) c.in-None.is c.in_ok-latest_read.ensures;
   is = c.from.ensures ∙ c.start_of.ensures.value;
 })
 
@@ -28,7 +28,7 @@ returns-in-None-clause-soon c = λ most within. omega (arith, c.start_of.ensures
 pub returns-in-Some-clause-reached : goal.returns-in-Some-clause-reached
 returns-in-Some-clause-reached c = inr (record {
   number = c.in-Some.number;
-  latest = subst (IsLatest c.args.numbering.now c.args.at.now (depends_on c.args.chip.now (bits_of c.args.circuit.now.configuration) c.args.point)) c.in-Some.is c.in_ok-latest_read.ensures;
+  latest = subst (IsLatest c.args.numbering.now c.args.at.now (depends_on c.args.chip.now (bits_of c.args.circuit.now.configuration) c.args.circuit.now.configuration.extras c.args.point)) c.in-Some.is c.in_ok-latest_read.ensures;
   is = ap (λ n. get_or c.args.at.now c.in-Some.number 0 + n) (c.from-in-Some.ensures ∙ c.delay_of.ensures.value);
 })
 

@@ -10,5 +10,5 @@ invariant_of-result c = record { long = c.in_ok-at.ensures.filled.long; within =
 
 pub returns : goal.returns
 returns c =
-    arrivals_right c.args.chip.now (bits_of c.args.circuit.now.configuration) c.args.delays.now c.in_ok-numbering.numbering c.order.result.now c.in_ok-numbering.ensures.points
-    (subst (IsOrderOf c.args.chip.now (bits_of c.args.circuit.now.configuration)) (sym c.order.ensures) c.requires.ordered) _ refl c.in_ok-at.ensures.filled
+    arrivals_right c.args.chip.now (bits_of c.args.circuit.now.configuration) c.args.circuit.now.configuration.extras c.args.delays.now c.in_ok-numbering.numbering c.order.result.now c.in_ok-numbering.ensures.points
+    (subst (IsOrderOf c.args.chip.now (bits_of c.args.circuit.now.configuration) c.args.circuit.now.configuration.extras) (sym c.order.ensures) c.requires.ordered) _ refl c.in_ok-at.ensures.filled

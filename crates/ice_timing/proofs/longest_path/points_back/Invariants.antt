@@ -8,5 +8,5 @@ use Rattle.ice_timing.proofs.longest_path.points_back.Given as goal
 
 abbrev pub invariant-loop-step : goal.invariant-loop-step
 invariant-loop-step l =
-    (long : ℕ) → IsArrivalAt l.chip (bits_of l.circuit.configuration) l.delays l.fn.last long
-    → IsWalked l.chip (bits_of l.circuit.configuration) l.delays l.circuit.order l.fn.last long l._step-index l.point (reverse l.points.items)
+    (long : ℕ) → IsArrivalAt l.chip (bits_of l.circuit.configuration) l.circuit.configuration.extras l.delays l.fn.last long
+    → IsWalked l.chip (bits_of l.circuit.configuration) l.circuit.configuration.extras l.delays l.circuit.order l.fn.last long l._step-index l.point (reverse l.points.items)

@@ -1,25 +1,32 @@
 use Rattle.std.proofs.Common.{◌≡◌, ◌++◌, ◌∙◌, ap, sym, length, take, drop}
 use Rattle.ice_bits.specs.Configuration.{bits_of}
 use Rattle.ice_net.specs.Meaning.{State}
-use Rattle.ice_decode.specs.Cells.{cells}
+use Rattle.ice_decode.specs.Registers.{stores}
 use Rattle.ice_decode.specs.Meaning.{step}
 use Rattle.ice_sim_sweep.specs.Sweeps.{remembered}
 use Rattle.ice_sim_sweep.specs.Plans.{swept, state_of}
 use Rattle.ice_sim.specs.ChipRuns.{ChipRunData, with_state}
 use Rattle.ice_sim_sweep.proofs.Running.{written}
 use Rattle.ice_sim.proofs.ChipStates.{kept_long}
-use Rattle.ice_sim.proofs.ChipRunning.{parts_within, run_after, state_after_is, out_after}
+use Rattle.ice_sim.proofs.ChipRunning.{parts_within, run_after, state_after_is, out_after, taps_long}
 use Rattle.ice_sim.proofs.chip_run.ChipRun.step.Goals as goal
 use Rattle.ice_sim.proofs.chip_run.ChipRun.step.Goals.{After-sweep}
 
 pub sweep-requires-clause-within : goal.sweep-requires-clause-within
 sweep-requires-clause-within c =
-    parts_within c.self.inside.chip.now (bits_of c.self.inside.circuit.now.configuration) c.self.inside.«package».now.pads.keys c.self.invariant.feeds c.self.inside.plan
+    parts_within c.self.inside.chip.now (bits_of c.self.inside.circuit.now.configuration) c.self.inside.circuit.now.configuration.extras c.self.inside.«package».now.pads.keys c.self.invariant.feeds c.self.inside.plan
     c.self.invariant.run.planned (length c.args.levels.now) (length c.deref_mut.result.now) (length c.deref_mut-2.result.now)
     (c.requires.levels ∙ ap (λ (v : ChipRunData). length v.bonded) (sym c.self.view_is))
     (ap length c.deref_mut.ensures.value
-    ∙ kept_long c.self.inside.chip.now (bits_of c.self.inside.circuit.now.configuration) (cells c.self.inside.chip.now) c.self.inside.memories.items c.self.invariant.run.remembers)
+    ∙ kept_long c.self.inside.chip.now (bits_of c.self.inside.circuit.now.configuration) (stores c.self.inside.chip.now) c.self.inside.memories.items c.self.invariant.run.remembers)
     (ap length c.deref_mut-2.ensures.value ∙ c.self.invariant.run.long)
+
+pub sweep-requires-clause-out : goal.sweep-requires-clause-out
+sweep-requires-clause-out c =
+    c.requires.out
+    ∙ ap (λ (v : ChipRunData). length v.bonded) (sym c.self.view_is)
+    ∙ sym (taps_long c.self.inside.chip.now (bits_of c.self.inside.circuit.now.configuration) c.self.inside.circuit.now.configuration.extras c.self.inside.«package».now.pads.keys c.self.invariant.feeds c.self.inside.plan
+    c.self.invariant.run.planned)
 
 after_is : (c : After-sweep) → c.sweep.new.values ≡ swept c.self.inside.plan c.args.levels.now c.self.inside.memories.items c.self.inside.values.items
 after_is c =
@@ -45,7 +52,7 @@ invariant_of-self c =
     record {
       feeds = c.self.invariant.feeds;
       run = rw (memories_new a, values_new a)
-          (run_after c.self.inside.chip.now (bits_of c.self.inside.circuit.now.configuration) c.self.inside.«package».now.pads.keys c.self.invariant.feeds c.self.inside.plan
+          (run_after c.self.inside.chip.now (bits_of c.self.inside.circuit.now.configuration) c.self.inside.circuit.now.configuration.extras c.self.inside.«package».now.pads.keys c.self.invariant.feeds c.self.inside.plan
           c.self.invariant.run.planned c.args.levels.now c.self.inside.memories.items c.self.inside.values.items c.self.invariant.run c.sweep.new.memories c.sweep.new.values (after_is a) (next_is a));
     }
 
@@ -54,14 +61,14 @@ returns-clause-run c =
     let a = (goal.at.returns-clause-run c).After-sweep in
     ap (λ (s : State). record { parts = c.self.inside.chip.now; configuration = c.self.inside.circuit.now.configuration; bonded = c.self.inside.«package».now.pads.keys; state = s })
     (ap state_of (memories_new a)
-    ∙ state_after_is c.self.inside.chip.now (bits_of c.self.inside.circuit.now.configuration) c.self.inside.«package».now.pads.keys c.self.invariant.feeds c.self.inside.plan
+    ∙ state_after_is c.self.inside.chip.now (bits_of c.self.inside.circuit.now.configuration) c.self.inside.circuit.now.configuration.extras c.self.inside.«package».now.pads.keys c.self.invariant.feeds c.self.inside.plan
     c.self.invariant.run.planned c.args.levels.now c.self.inside.memories.items c.self.inside.values.items c.self.invariant.run c.sweep.new.memories c.sweep.new.values (after_is a) (next_is a))
-    ∙ ap (λ (v : ChipRunData). with_state v (step v.parts (bits_of v.configuration) v.bonded v.bonded v.state c.args.levels.now).0) c.self.view_is
+    ∙ ap (λ (v : ChipRunData). with_state v (step v.parts (bits_of v.configuration) v.configuration.extras v.bonded v.bonded v.state c.args.levels.now).0) c.self.view_is
 
 pub returns-clause-out : goal.returns-clause-out
 returns-clause-out c =
     let a = (goal.at.returns-clause-out c).After-sweep in
-    out_after c.self.inside.chip.now (bits_of c.self.inside.circuit.now.configuration) c.self.inside.«package».now.pads.keys c.self.invariant.feeds c.self.inside.plan
+    out_after c.self.inside.chip.now (bits_of c.self.inside.circuit.now.configuration) c.self.inside.circuit.now.configuration.extras c.self.inside.«package».now.pads.keys c.self.invariant.feeds c.self.inside.plan
     c.self.invariant.run.planned c.args.levels.now c.self.inside.memories.items c.self.inside.values.items c.self.invariant.run c.sweep.new.memories c.sweep.new.values (after_is a) (next_is a)
     c.sweep.new.out c.sweep.ensures.out
-    ∙ ap (λ (v : ChipRunData). (step v.parts (bits_of v.configuration) v.bonded v.bonded v.state c.args.levels.now).1) c.self.view_is
+    ∙ ap (λ (v : ChipRunData). (step v.parts (bits_of v.configuration) v.configuration.extras v.bonded v.bonded v.state c.args.levels.now).1) c.self.view_is

@@ -14,7 +14,7 @@ pub bounds-drivers-wire : goal.bounds-drivers-wire
 bounds-drivers-wire c =
     let a = (goal.at.bounds-drivers-wire c).After-drivers in
     subst (λ (l : List Driver). c.args.wire.0 < length l) (sym c.drivers.ensures)
-    (driver_within c.self.inside.chip.now (bits_of c.self.inside.circuit.now.configuration) c.self.inside.circuit.now.drivers c.args.wire.0 c.self.invariant.drivers (within a))
+    (driver_within c.self.inside.chip.now (bits_of c.self.inside.circuit.now.configuration) c.self.inside.circuit.now.drivers c.args.wire.0 c.self.invariant.circuit.driven_by (within a))
 
 pub returns-clause-source : goal.returns-clause-source
 returns-clause-source c =
@@ -22,4 +22,4 @@ returns-clause-source c =
     subst (λ (d : ConfiguredData). ComesFrom d.parts.wires (get_or c.drivers.result.now c.args.wire.0 Nothing)) c.self.view_is
     (comes_from c.self.inside.chip.now (bits_of c.self.inside.circuit.now.configuration) c.args.wire.0 (get_or c.drivers.result.now c.args.wire.0 Nothing) c.self.invariant.chip
     (ap (λ (l : List Driver). get_or l c.args.wire.0 Nothing) c.drivers.ensures
-    ∙ driver_found c.self.inside.chip.now (bits_of c.self.inside.circuit.now.configuration) c.self.inside.circuit.now.drivers c.args.wire.0 Nothing c.self.invariant.drivers (within a)))
+    ∙ driver_found c.self.inside.chip.now (bits_of c.self.inside.circuit.now.configuration) c.self.inside.circuit.now.drivers c.args.wire.0 Nothing c.self.invariant.circuit.driven_by (within a)))

@@ -9,7 +9,7 @@ use Rattle.ice_timing.proofs.arrivals.Arrivals.before.Goals as goal
 
 pub returns-in-Some : goal.returns-in-Some
 returns-in-Some c =
-    let reads = depends_on c.args.chip.now (bits_of c.args.circuit.now.configuration) c.args.point in
+    let reads = depends_on c.args.chip.now (bits_of c.args.circuit.now.configuration) c.args.circuit.now.configuration.extras c.args.point in
     let latest : IsLatestRead c.self.inside.numbering c.self.inside.at.items reads c.in-Some.number
     = subst (λ at. IsLatestRead c.self.inside.numbering at reads c.in-Some.number) c.deref.ensures.value
     (subst (IsLatest c.self.inside.numbering c.deref.result.now reads) c.in-Some.is c.in_ok-number.ensures) in

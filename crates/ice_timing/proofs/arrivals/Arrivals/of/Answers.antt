@@ -23,7 +23,7 @@ returns-clause-arrives c =
     subst (λ (a : ArrivalsData). Arrives a c.args.point c.index.result.now) c.self.view_is (c.number-number.result, c.number-number.ensures, at)
 
 pub returns-clause-right : goal.returns-clause-right
-returns-clause-right c = λ parts bits d are.
+returns-clause-right c = λ parts bits extras d are.
     (let lt = At_within c.self.inside.numbering c.number-number.result c.args.point c.number-number.ensures in
     let long = c.self.invariant.long in
     let at : At c.self.inside.at.items c.number-number.result c.index.result.now

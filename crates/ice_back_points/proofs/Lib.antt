@@ -1,0 +1,4 @@
+mod Turned
+pub mod Distinct
+mod Filled
+pub mod ConfiguredFacts

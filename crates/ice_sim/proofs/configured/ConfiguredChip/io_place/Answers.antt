@@ -1,0 +1,14 @@
+use Rattle.std.proofs.Common.{rules, ◌≡◌, ◌∙◌, ap}
+use Rattle.std.specs.Map.{lookup}
+use Rattle.ice_chip.specs.Places.{same_tile}
+use Rattle.ice_decode.specs.Cells.{tile_place}
+use Rattle.ice_decode.specs.Pads.{io_tiles}
+use Rattle.ice_sim.specs.ConfiguredChips.{ConfiguredData}
+use Rattle.ice_sim.proofs.TilePlaces.{tile_found}
+use Rattle.ice_sim.proofs.configured.ConfiguredChip.io_place.Goals as goal
+
+pub returns : goal.returns
+returns c =
+    let found : c.copied.result ≡ lookup (same_tile c.args.tile) c.self.inside.io_places.entries = search rules in
+    found ∙ tile_found (io_tiles c.self.inside.chip.now) c.self.inside.io_places.entries c.args.tile c.self.invariant.io_places
+    ∙ ap (λ (d : ConfiguredData). tile_place c.args.tile (io_tiles d.parts)) c.self.view_is
