@@ -4,7 +4,7 @@
 usage: same.py PROGRAM SHOW FOLDER [first | write]; SHOW is the built ice_tests_passes, and FOLDER has the netlists that make.py makes
 
 The file digests has, for each of ten netlists, the SHA-256 of
-- the netlist's text with its constraints, but for the lines that say where its source lay, since another Yosys makes other netlists, of which nothing can be compared;
+- the netlist's text with its constraints, but for what says where its source lay, since another Yosys makes other netlists, of which nothing can be compared;
 - the report on pins, the report on routes and the text of bits of `build --seed 1 --workers 2` on the database of the 1k device. They are the same as long as packing, clusters and the placer answer as
   they did, so they are for changes that leave those alone;
 - what SHOW says of the netlist, without constraints, on the sample chip of 14 by 18 tiles, in two parts: up to the nets of the *first* placement (design, runs, clusters, pads, sites, nets), and from there
@@ -16,6 +16,7 @@ With `first` only that second kind is asked for; with `write` the file is writte
 """
 import hashlib
 import os
+import re
 import subprocess
 import sys
 import tempfile
@@ -36,6 +37,11 @@ def content(path):
         return file.read()
 
 
+def blif_of(path):
+    """The text of a netlist, without the folder of its source, which stands in the names of functions' results."""
+    return re.sub(rb"\$func\$\S*/", b"$func$", content(f"{path}.blif"))
+
+
 def built(program, path):
     """The digests of a build's three texts."""
     with tempfile.TemporaryDirectory() as folder:
@@ -50,7 +56,7 @@ def first(show, path):
     with tempfile.TemporaryDirectory() as folder:
         for kind in "blif", "pcf":
             with open(os.path.join(folder, f"it.{kind}"), "wb") as out:
-                out.write(content(f"{path}.blif") if kind == "blif" else b"")
+                out.write(blif_of(path) if kind == "blif" else b"")
         said = subprocess.run([show, "it.blif", "it.pcf"], cwd=folder, check=True, stdout=subprocess.PIPE).stdout
     placed, mark, routed = said.partition(b"\nreport\n")
     return [digest(placed), digest(routed) if mark else "none"]
@@ -58,7 +64,7 @@ def first(show, path):
 
 def netlist_of(path):
     """The text of a netlist with its constraints, without the lines that say where its source lay."""
-    lines = (line for line in content(f"{path}.blif").splitlines(keepends=True) if not line.startswith(b".attr src "))
+    lines = (line for line in blif_of(path).splitlines(keepends=True) if not line.startswith(b".attr src "))
     return b"".join(lines) + content(f"{path}.pcf")
 
 

@@ -1,5 +1,4 @@
 pub mod Least
 pub mod Full
 pub mod Order
-pub mod Seating
 pub mod Table

@@ -16,74 +16,23 @@ use crate::full::full_of;
 use crate::linked::are_linked;
 use crate::once::nets_once;
 use crate::order::{SiteOrder, order_of};
-use crate::seating::{Seating, board_of};
-use crate::shake::anneal;
+use crate::seating::seated;
 use crate::table::{Chunk, places_of};
-use crate::units::units_of;
-use ice_base::{NoMemory, TileAt, to_u32};
 use ice_anneal_board::{Board, NetNodes, Wiring, wiring_of};
+use ice_base::{NoMemory, TileAt, to_u32};
 use ice_cells::Clusters;
-use ice_place_length::{half_perimeter, span_at, with_tile};
 use ice_place::Placement;
 use ice_sites::Sites;
 use indexmap::IndexMap;
-use rand_core::SeedableRng;
-use rand_pcg::Pcg32;
 use std::alloc::Global;
 
-// How many columns and rows the sites take.
-fn extent(place: &[TileAt]) -> u64
-    ensures { result ≤ 131072 }
+// The wire length of places.
+fn total_of(alloc: Global, wiring: &Wiring, place: &[TileAt]) -> Result<u64, NoMemory>
+    requires { IsWiring (length place.now) wiring.now }
+    ensures { IfOk result (λ n. n ≡ wire_length wiring.now.nets.items place.now) }
 {
-    if place.is_empty() {
-        return 0;
-    }
-    let mut span = span_at(place[0]);
-    for tile in place {
-        span = with_tile(span, *tile);
-    }
-    half_perimeter(span) + 2
-}
-
-// Anneals and descends; beside the board, the wire length of what was given.
-fn annealed(
-    alloc: Global,
-    wiring: &Wiring,
-    free: &[bool],
-    chunks: &[Option<(u32, u32)>],
-    order: &SiteOrder,
-    place: &[TileAt],
-    seed: u64,
-) -> Result<(Board, u64), NoMemory>
-    requires wiring { IsWiring (length place.now) wiring.now }
-    requires free { length free.now ≡ length place.now }
-    requires some { 0 < length chunks.now }
-    requires count { length chunks.now ≤ length free.now }
-    requires few { length free.now < 2 ^ 32 }
-    ensures board { IfOk result (λ r. IsBoard wiring.now r.0) }
-    ensures limit { IfOk result (λ r. r.1 ≡ wire_length wiring.now.nets.items place.now) }
-    ensures moved { IfOk result (λ r. IsPermutation place.now r.0.place.items) }
-    ensures least { IfOk result (λ r. IsLeast wiring.now.nets.items free.now r.0.place.items (length chunks.now)) }
-{
-    let units = units_of(alloc, chunks)?;
-    let mut seating = Seating::new(alloc, wiring, order, place)?;
-    let limit = seating.board.total;
-    let size = extent(place);
-    let tries = (chunks.len() as u64).saturating_mul(size) / 2;
-    let mut words = Pcg32::seed_from_u64(seed);
-    anneal(
-        &mut seating,
-        wiring,
-        free,
-        order,
-        &units,
-        tries,
-        768 * size,
-        &mut words,
-    );
-    let mut board = board_of(seating);
-    board.descend(wiring, free, chunks.len());
-    Ok((board, limit))
+    let board = Board::new(alloc, wiring, Vec::from_slice(alloc, place)?)?;
+    Ok(board.total)
 }
 
 // Only descends.
@@ -136,37 +85,8 @@ fn descended(
     Ok(tiles_of(plain))
 }
 
-// Anneals and descends; where that is longer than what was given, only descends. It would do so, too, where a run stood apart
-// behind the tries. None does, since they take a run as a whole to sites of one stretch; so this need not be proved of them.
-fn shaken_or_descended(
-    alloc: Global,
-    wiring: &Wiring,
-    free: &[bool],
-    chunks: &[Option<(u32, u32)>],
-    places: &IndexMap<Chunk, usize>,
-    order: &SiteOrder,
-    place: &[TileAt],
-    seed: u64,
-) -> Result<Vec<TileAt>, NoMemory>
-    requires wiring { IsWiring (length place.now) wiring.now }
-    requires free { free.now ≡ free_of chunks.now (length place.now - length chunks.now) }
-    requires some { 0 < length chunks.now }
-    requires count { length chunks.now ≤ length place.now }
-    requires few { length place.now < 2 ^ 32 }
-    ensures moved { IfOk result (λ at. IsPermutation place.now at.items) }
-    ensures legal { IfOk result (λ at. (stretches : List (List TileAt)) → IsOrder stretches order.now → IsFull stretches place.now
-        → IsLegal stretches chunks.now (take (length chunks.now) place.now) → IsLegal stretches chunks.now (take (length chunks.now) at.items)) }
-    ensures falls { IfOk result (λ at. wire_length wiring.now.nets.items at.items ≤ wire_length wiring.now.nets.items place.now) }
-    ensures least { IfOk result (λ at. IsLeast wiring.now.nets.items free.now at.items (length chunks.now)) }
-{
-    let (shaken, limit) = annealed(alloc, wiring, free, chunks, order, place, seed)?;
-    if shaken.total <= limit && are_linked(places, chunks, order, &shaken.place) {
-        return Ok(tiles_of(shaken));
-    }
-    descended(alloc, wiring, free, chunks, place)
-}
-
-// With a seed, tries before the descent, where they serve; without one, the descent alone.
+// Takes the tiles that are wanted, and descends from there; where that is longer than what was given, or a run stands apart, it
+// descends from what was given.
 fn best(
     alloc: Global,
     wiring: &Wiring,
@@ -175,25 +95,24 @@ fn best(
     places: &IndexMap<Chunk, usize>,
     order: &SiteOrder,
     place: &[TileAt],
-    seed: Option<u64>,
+    wanted: &[TileAt],
 ) -> Result<Vec<TileAt>, NoMemory>
     requires wiring { IsWiring (length place.now) wiring.now }
     requires free { free.now ≡ free_of chunks.now (length place.now - length chunks.now) }
-    requires some { 0 < length chunks.now }
     requires count { length chunks.now ≤ length place.now }
-    requires few { length place.now < 2 ^ 32 }
     ensures moved { IfOk result (λ at. IsPermutation place.now at.items) }
     ensures legal { IfOk result (λ at. (stretches : List (List TileAt)) → IsOrder stretches order.now → IsFull stretches place.now
         → IsLegal stretches chunks.now (take (length chunks.now) place.now) → IsLegal stretches chunks.now (take (length chunks.now) at.items)) }
     ensures falls { IfOk result (λ at. wire_length wiring.now.nets.items at.items ≤ wire_length wiring.now.nets.items place.now) }
     ensures least { IfOk result (λ at. IsLeast wiring.now.nets.items free.now at.items (length chunks.now)) }
 {
-    match seed {
-        Some(seed) => {
-            shaken_or_descended(alloc, wiring, free, chunks, places, order, place, seed)
-        }
-        None => descended(alloc, wiring, free, chunks, place),
+    let limit = total_of(alloc, wiring, place)?;
+    let at = seated(alloc, order, place, wanted)?;
+    let made = lowered(alloc, wiring, free, chunks.len(), at.as_slice())?;
+    if made.total <= limit && are_linked(places, chunks, order, &made.place) {
+        return Ok(tiles_of(made));
     }
+    descended(alloc, wiring, free, chunks, place)
 }
 
 // The same, of the clusters alone: `place` has their tiles, and behind them those of the free sites.
@@ -203,13 +122,11 @@ fn improve_full(
     chunks: &[Option<(u32, u32)>],
     order: &SiteOrder,
     place: &[TileAt],
-    seed: Option<u64>,
+    wanted: &[TileAt],
 ) -> Result<Vec<TileAt>, NoMemory>
     requires wiring { IsWiring (length place.now) wiring.now }
     requires nets { All (IsNet (length chunks.now)) wiring.now.nets.items }
-    requires some { 0 < length chunks.now }
     requires count { length chunks.now ≤ length place.now }
-    requires few { length place.now < 2 ^ 32 }
     ensures legal { IfOk result (λ at. (stretches : List (List TileAt)) → IsOrder stretches order.now → IsFull stretches place.now
         → IsLegal stretches chunks.now (take (length chunks.now) place.now) → IsLegal stretches chunks.now at.items) }
     ensures falls { IfOk result (λ at. wire_length wiring.now.nets.items at.items
@@ -219,7 +136,7 @@ fn improve_full(
 {
     let places = places_of(alloc, chunks)?;
     let free = free_of(alloc, &places, chunks, place.len() - chunks.len())?;
-    let mut found = best(alloc, wiring, &free, chunks, &places, order, place, seed)?;
+    let mut found = best(alloc, wiring, &free, chunks, &places, order, place, wanted)?;
     found.truncate(chunks.len());
     Ok(found)
 }
@@ -231,13 +148,12 @@ fn improve_some(
     sites: &Sites,
     chunks: &[Option<(u32, u32)>],
     at: &[TileAt],
-    seed: Option<u64>,
+    wanted: &[TileAt],
 ) -> Result<Vec<TileAt>, NoMemory>
     requires sites { AreStretches sites.now }
     requires legal { IsLegal sites.now chunks.now at.now }
     requires nets { All (IsNet (length chunks.now)) nets.items }
     requires few { length nets.items < 2 ^ 32 }
-    requires some { 0 < length chunks.now }
     ensures legal { IfOk result (λ found. IsLegal sites.now chunks.now found.items) }
     ensures falls { IfOk result (λ found. wire_length nets.items found.items ≤ wire_length nets.items at.now) }
     ensures least { IfOk result (λ found. IsSwapLeast (wire_length nets.items) chunks.now sites.now found.items) }
@@ -245,57 +161,33 @@ fn improve_some(
     let stretches = sites.stretches();
     let place = full_of(alloc, stretches, at)?;
     let order = order_of(alloc, stretches)?;
-    let number = to_u32(place.len())?;
     let wiring = wiring_of(alloc, nets, place.len())?;
-    let found = improve_full(alloc, &wiring, chunks, &order, place.as_slice(), seed)?;
+    let found = improve_full(alloc, &wiring, chunks, &order, place.as_slice(), wanted)?;
     Ok(found)
 }
 
-/// What `improve_nets` says, by tries from a seed and a descent; without a seed, by a descent alone.
-pub(crate) fn shorten_nets(
+/// A placement that is legal, no longer than the argument, and that no exchange of two clusters and no move of one to a free
+/// site makes shorter, where these are of no run of several chunks; by the wire length of nets. It fails for want of memory
+/// alone.
+pub(crate) fn improve_nets(
     alloc: Global,
     nets: Vec<NetNodes>,
-    placement: Placement,
+    placement: &Placement,
     sites: &Sites,
     clusters: &Clusters,
-    seed: Option<u64>,
+    wanted: &[TileAt],
 ) -> Result<Placement, NoMemory>
     requires sites { AreStretches sites.now }
-    requires legal { IsLegal sites.now (chunks_of clusters.now.list) placement }
+    requires legal { IsLegal sites.now (chunks_of clusters.now.list) placement.now }
     requires nets { All (IsNet (length (chunks_of clusters.now.list))) nets.items }
     ensures legal { IfOk result (λ found. IsLegal sites.now (chunks_of clusters.now.list) found) }
-    ensures falls { IfOk result (λ found. wire_length nets.items found ≤ wire_length nets.items placement) }
+    ensures falls { IfOk result (λ found. wire_length nets.items found ≤ wire_length nets.items placement.now) }
     ensures least { IfOk result (λ found. IsSwapLeast (wire_length nets.items) (chunks_of clusters.now.list) sites.now found) }
 {
     let chunks = chunks_of(alloc, clusters.list())?;
-    if chunks.is_empty() {
-        return Ok(placement);
-    }
     let number = to_u32(nets.len())?;
     let tiles = placement.tiles();
     let once = nets_once(alloc, nets.as_slice())?;
-    let found = improve_some(alloc, once, sites, chunks.as_slice(), tiles, seed)?;
+    let found = improve_some(alloc, once, sites, chunks.as_slice(), tiles, wanted)?;
     Ok(Placement::from_vec(found))
-}
-
-/// A placement that is legal, no longer than the argument, and that no exchange of two clusters and no move of one to a free
-/// site makes shorter, where these are of no run of several chunks; by the wire length of nets. A number of tries that is
-/// fixed before the first goes before a descent of exchanges and moves that make the placement shorter. It fails for want of
-/// memory alone.
-pub fn improve_nets(
-    alloc: Global,
-    nets: Vec<NetNodes>,
-    placement: Placement,
-    sites: &Sites,
-    clusters: &Clusters,
-    seed: u64,
-) -> Result<Placement, NoMemory>
-    requires sites { AreStretches sites.now }
-    requires legal { IsLegal sites.now (chunks_of clusters.now.list) placement }
-    requires nets { All (IsNet (length (chunks_of clusters.now.list))) nets.items }
-    ensures legal { IfOk result (λ found. IsLegal sites.now (chunks_of clusters.now.list) found) }
-    ensures falls { IfOk result (λ found. wire_length nets.items found ≤ wire_length nets.items placement) }
-    ensures least { IfOk result (λ found. IsSwapLeast (wire_length nets.items) (chunks_of clusters.now.list) sites.now found) }
-{
-    shorten_nets(alloc, nets, placement, sites, clusters, Some(seed))
 }

@@ -1,4 +1,4 @@
-//! Placements by simulated annealing, and a descent of exchanges at its end.
+//! Better placements, by a descent of exchanges from tiles that are wanted or from a placement that is there.
 #![tactic(auto)]
 
 mod free;
@@ -9,10 +9,6 @@ mod once;
 mod order;
 mod placing;
 mod seating;
-mod shake;
 mod table;
-mod trial;
-mod units;
 
-pub use improving::improve_nets;
-pub use placing::{descend, improve, nets_in};
+pub use placing::{improve, improve_from, nets_in};

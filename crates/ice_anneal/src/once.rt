@@ -4,8 +4,8 @@ ghost use Rattle.std.specs.List.{All, Contains};
 ghost use Rattle.ice_base.specs.declared.number.TileAt.{TileAt};
 ghost use Rattle.ice_anneal_board.specs.Length.{IsNode, IsNet, net_length, wire_length};
 
-use ice_base::NoMemory;
 use ice_anneal_board::{NetNodes, Node};
+use ice_base::NoMemory;
 use std::alloc::Global;
 
 // Whether the two are one node.

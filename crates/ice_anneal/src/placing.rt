@@ -10,15 +10,16 @@ ghost use Rattle.ice_place.specs.Place.{chunks_of};
 ghost use Rattle.ice_anneal_board.specs.Length.{IsNet, wire_length};
 ghost use Rattle.ice_anneal.specs.Least.{IsSwapLeast};
 
-use crate::improving::shorten_nets;
-use ice_base::NoMemory;
+use crate::improving::improve_nets;
 use ice_anneal_board::NetNodes;
+use ice_anneal_nets::measuring_nets;
+use ice_anneal_ranks::arrange_clusters;
+use ice_base::{NoMemory, TileAt};
 use ice_cells::{Clusters, Design};
 use ice_chip::Chip;
-use ice_place_length::Placed;
-use ice_anneal_nets::measuring_nets;
 use ice_pads::Pads;
 use ice_place::Placement;
+use ice_place_length::Placed;
 use ice_sites::Sites;
 use std::alloc::Global;
 
@@ -40,35 +41,39 @@ pub fn nets_in(
         tiles: &[],
         ports: pads.ports(),
         globals: pads.globals(),
+        direct: pads.direct(),
     };
     let nets = measuring_nets(alloc, &placed)?;
     Ok(nets)
 }
 
-// By tries from a seed and a descent; without a seed, by a descent alone.
-fn shorten(
+/// A placement that is legal, no longer than the argument, and that no exchange of two clusters and no move of one to a free
+/// site makes shorter, where these are of no run of several chunks. Exchanges and moves that make the placement shorter are made
+/// from the tiles that are wanted for the clusters, where these are a legal placement from which they lead to one that is no longer,
+/// and else from the argument. It fails for want of memory alone.
+pub fn improve_from(
     alloc: Global,
     chip: &Chip,
-    placement: Placement,
+    placement: &Placement,
     sites: &Sites,
     clusters: &Clusters,
     design: &Design,
     pads: &Pads,
-    seed: Option<u64>,
+    wanted: &[TileAt],
 ) -> Result<Placement, NoMemory>
     requires sites { sites.now ≡ stretches_of chip.now }
-    requires legal { IsLegal sites.now (chunks_of clusters.now.list) placement }
+    requires legal { IsLegal sites.now (chunks_of clusters.now.list) placement.now }
     ensures legal { IfOk result (λ found. IsLegal sites.now (chunks_of clusters.now.list) found) }
-    ensures shorter { IfOk result (λ found. length_of chip.now (plan_of clusters.now design.now found pads.now) ≤ length_of chip.now (plan_of clusters.now design.now placement pads.now)) }
+    ensures shorter { IfOk result (λ found. length_of chip.now (plan_of clusters.now design.now found pads.now) ≤ length_of chip.now (plan_of clusters.now design.now placement.now pads.now)) }
     ensures least { IfOk result (λ found. IsSwapLeast (λ at. length_of chip.now (plan_of clusters.now design.now at pads.now)) (chunks_of clusters.now.list) sites.now found) }
 {
     let nets = nets_in(alloc, chip, clusters, design, pads)?;
-    let found = shorten_nets(alloc, nets, placement, sites, clusters, seed)?;
+    let found = improve_nets(alloc, nets, placement, sites, clusters, wanted)?;
     Ok(found)
 }
 
 /// A placement that is legal, no longer than the argument, and that no exchange of two clusters and no move of one to a free
-/// site makes shorter, where these are of no run of several chunks. A number of tries that is fixed before the first goes
+/// site makes shorter, where these are of no run of several chunks. A number of tries by the seed, which is fixed before the first, goes
 /// before a descent of exchanges and moves that make the placement shorter. It fails for want of memory alone.
 pub fn improve(
     alloc: Global,
@@ -86,35 +91,16 @@ pub fn improve(
     ensures shorter { IfOk result (λ found. length_of chip.now (plan_of clusters.now design.now found pads.now) ≤ length_of chip.now (plan_of clusters.now design.now placement pads.now)) }
     ensures least { IfOk result (λ found. IsSwapLeast (λ at. length_of chip.now (plan_of clusters.now design.now at pads.now)) (chunks_of clusters.now.list) sites.now found) }
 {
-    shorten(
+    let tiles = arrange_clusters(alloc, chip, sites, design, clusters, &placement, pads, seed)?;
+    let found = improve_from(
         alloc,
         chip,
-        placement,
+        &placement,
         sites,
         clusters,
         design,
         pads,
-        Some(seed),
-    )
-}
-
-/// A placement that is legal, no longer than the argument, and that no exchange of two clusters and no move of one to a free
-/// site makes shorter, where these are of no run of several chunks. It makes no tries at random and takes no run elsewhere, so what
-/// it finds is near to the argument. It fails for want of memory alone.
-pub fn descend(
-    alloc: Global,
-    chip: &Chip,
-    placement: Placement,
-    sites: &Sites,
-    clusters: &Clusters,
-    design: &Design,
-    pads: &Pads,
-) -> Result<Placement, NoMemory>
-    requires sites { sites.now ≡ stretches_of chip.now }
-    requires legal { IsLegal sites.now (chunks_of clusters.now.list) placement }
-    ensures legal { IfOk result (λ found. IsLegal sites.now (chunks_of clusters.now.list) found) }
-    ensures shorter { IfOk result (λ found. length_of chip.now (plan_of clusters.now design.now found pads.now) ≤ length_of chip.now (plan_of clusters.now design.now placement pads.now)) }
-    ensures least { IfOk result (λ found. IsSwapLeast (λ at. length_of chip.now (plan_of clusters.now design.now at pads.now)) (chunks_of clusters.now.list) sites.now found) }
-{
-    shorten(alloc, chip, placement, sites, clusters, design, pads, None)
+        tiles.as_slice(),
+    )?;
+    Ok(found)
 }

@@ -5,5 +5,5 @@ mod measuring;
 mod ordering;
 mod settling;
 
-pub use ordering::{Ordered, in_own_order, order_cells};
+pub use ordering::{Ordered, in_own_order};
 pub use settling::{Settled, settle};

@@ -6,8 +6,8 @@ ghost use Rattle.ice_place_length.specs.Plans.{plan_of};
 ghost use Rattle.ice_place_defs.specs.Length.{length_of};
 
 use ice_anneal::nets_in;
-use ice_base::{NoMemory, TileAt, to_u32};
 use ice_anneal_board::{NetNodes, length_of_net};
+use ice_base::{NoMemory, TileAt, to_u32};
 use ice_cells::{Clusters, Design};
 use ice_chip::Chip;
 use ice_pads::Pads;
@@ -45,21 +45,22 @@ fn length_on(
     Ok(total)
 }
 
-/// Whether other clusters on the same tiles have no longer wires. It fails for want of memory alone.
+/// Whether other clusters in a placement have no longer wires than these in theirs. It fails for want of memory alone.
 pub fn is_no_longer(
     alloc: Global,
     chip: &Chip,
     design: &Design,
     clusters: &Clusters,
-    others: &Clusters,
     placement: &Placement,
+    others: &Clusters,
+    place: &Placement,
     pads: &Pads,
 ) -> Result<bool, NoMemory>
     requires clusters { length placement.now ≡ length clusters.now.list }
-    requires others { length placement.now ≡ length others.now.list }
-    ensures { IfOk result (λ b. b ≡ true → length_of chip.now (plan_of others.now design.now placement.now pads.now) ≤ length_of chip.now (plan_of clusters.now design.now placement.now pads.now)) }
+    requires others { length place.now ≡ length others.now.list }
+    ensures { IfOk result (λ b. b ≡ true → length_of chip.now (plan_of others.now design.now place.now pads.now) ≤ length_of chip.now (plan_of clusters.now design.now placement.now pads.now)) }
 {
-    let now = length_on(alloc, chip, others, design, placement, pads)?;
+    let now = length_on(alloc, chip, others, design, place, pads)?;
     let before = length_on(alloc, chip, clusters, design, placement, pads)?;
     Ok(now <= before)
 }

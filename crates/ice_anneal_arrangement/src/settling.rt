@@ -9,10 +9,11 @@ ghost use Rattle.ice_place_defs.specs.Length.{length_of};
 ghost use Rattle.ice_sites.specs.Legal.{IsLegal};
 ghost use Rattle.ice_sites.specs.Stretches.{stretches_of};
 
-use crate::ordering::{Ordered, order_cells};
-use ice_anneal::{descend, improve};
-use ice_anneal_ranks::arrange;
-use ice_base::NoMemory;
+use crate::measuring::is_no_longer;
+use crate::ordering::{Ordered, by_ranks, in_own_order};
+use ice_anneal::improve_from;
+use ice_anneal_ranks::{Arranged, arrange};
+use ice_base::{NoMemory, TileAt};
 use ice_cells::{Clusters, Design};
 use ice_chip::Chip;
 use ice_pads::Pads;
@@ -29,10 +30,41 @@ pub struct Settled {
     pub placement: Placement,
 }
 
+// The placement that is kept of clusters: improved from the tiles that are wanted for them, where there are any, or from the first one.
+fn improved(
+    alloc: Global,
+    chip: &Chip,
+    sites: &Sites,
+    design: &Design,
+    ordered: Ordered,
+    first: &Placement,
+    pads: &Pads,
+    wanted: &[TileAt],
+) -> Result<Settled, NoMemory>
+    requires sites { sites.now ≡ stretches_of chip.now }
+    requires legal { IsLegal sites.now (chunks_of ordered.clusters.list) first.now }
+    ensures same { IfOk result (λ made. made.ordered ≡ ordered) }
+    ensures legal { IfOk result (λ made. IsLegal sites.now (chunks_of made.ordered.clusters.list) made.placement) }
+    ensures shorter { IfOk result (λ made. length_of chip.now (plan_of ordered.clusters design.now made.placement pads.now) ≤ length_of chip.now (plan_of ordered.clusters design.now first.now pads.now)) }
+    ensures least { IfOk result (λ made. IsSwapLeast (λ at. length_of chip.now (plan_of made.ordered.clusters design.now at pads.now)) (chunks_of made.ordered.clusters.list) sites.now made.placement) }
+{
+    let placement = improve_from(
+        alloc,
+        chip,
+        first,
+        sites,
+        &ordered.clusters,
+        design,
+        pads,
+        wanted,
+    )?;
+    Ok(Settled { ordered, placement })
+}
+
 /// From the clusters of a design and their first placement: clusters by ranks, and a legal placement of them that is no longer than the
-/// first one, and that no exchange and no move makes shorter. The placement is improved, then the order of the cells on it, and then
-/// the placement again, by a descent without tries: most of what tries can gain, the first have gained. It fails for want of memory
-/// alone.
+/// first one, and that no exchange and no move makes shorter. Ranks and tiles are looked for by tries from the seed, and the placement is
+/// improved from there; where that is longer than the first placement, the clusters stay as they are, and that one is improved. It fails
+/// for want of memory alone.
 pub fn settle(
     alloc: Global,
     chip: &Chip,
@@ -51,9 +83,33 @@ pub fn settle(
     ensures shorter { IfOk result (λ made. length_of chip.now (plan_of made.ordered.clusters design.now made.placement pads.now) ≤ length_of chip.now (plan_of clusters design.now first pads.now)) }
     ensures least { IfOk result (λ made. IsSwapLeast (λ at. length_of chip.now (plan_of made.ordered.clusters design.now at pads.now)) (chunks_of made.ordered.clusters.list) sites.now made.placement) }
 {
-    let shaken = improve(alloc, chip, first, sites, &clusters, design, pads, seed)?;
-    let ranks = arrange(alloc, chip, design, &clusters, &shaken, pads, seed)?;
-    let ordered = order_cells(alloc, chip, design, clusters, ranks, &shaken, pads)?;
-    let placement = descend(alloc, chip, shaken, sites, &ordered.clusters, design, pads)?;
-    Ok(Settled { ordered, placement })
+    let Arranged { ranks, tiles } = arrange(
+        alloc, chip, sites, design, &clusters, &first, pads, seed,
+    )?;
+    let ordered = by_ranks(alloc, design, &clusters, ranks)?;
+    let made = improved(
+        alloc,
+        chip,
+        sites,
+        design,
+        ordered,
+        &first,
+        pads,
+        tiles.as_slice(),
+    )?;
+    let is_kept = is_no_longer(
+        alloc,
+        chip,
+        design,
+        &clusters,
+        &first,
+        &made.ordered.clusters,
+        &made.placement,
+        pads,
+    )?;
+    if is_kept {
+        return Ok(made);
+    }
+    let ordered = in_own_order(alloc, design, clusters);
+    improved(alloc, chip, sites, design, ordered, &first, pads, &[])
 }

@@ -17,7 +17,7 @@ use Rattle.ice_cells.specs.declared.root.Root.{Root}
 use Rattle.ice_cells.specs.declared.root.Root.TheVariants.{PadIn, CellOut, GlobalOut, CarryOut}
 use Rattle.ice_cells.specs.Same.{same_root}
 use Rattle.ice_place_defs.specs.Plan.{Plan, slot_in, in_tile, first_slot, slot_among, slot_tile, pad_tile, root_tile}
-use Rattle.ice_place_defs.specs.Loads.{Pin, Input, Clock, Enable, SetReset, Feed, Drive, DriveEnable, Load, load_at, pad_loads, pads_loads, feed_load, global_loads, globals_loads, cell_loads, control_loads, slot_gives, slots_give, clusters_give, loads}
+use Rattle.ice_place_defs.specs.Loads.{Pin, Input, Clock, Enable, SetReset, Feed, Drive, DriveEnable, Load, load_at, pad_loads, pads_loads, feed_load, fed_roots, global_loads, globals_loads, cell_loads, control_loads, slot_gives, slots_give, clusters_give, loads}
 use Rattle.ice_place_defs.specs.Length.{box_at, with_tile, half_perimeter, is_of_root, load_tile, net_length as length_by, length_of, pad_root, cell_root}
 use Rattle.ice_anneal_board.specs.declared.net.Node.{Node}
 use Rattle.ice_anneal_board.specs.declared.net.Node.TheVariants.{Cluster as of_cluster, Fixed as of_tile}
@@ -132,12 +132,13 @@ whole_part at = λ j lt. (let z : 0 + j ≡ j = omega arith in ap (λ i. get_or 
 all_alike : (parts : Parts) (plan : Plan) → length plan.at ≡ length plan.clusters → Alike plan.at (loads parts plan) (reads_of parts plan)
 all_alike parts plan e =
     let pads = pads_loads plan.ports plan.design.pads in
-    let globals = globals_loads parts plan.globals plan.design.globals in
+    let fed = fed_roots plan.direct plan.design.globals in
+    let globals = globals_loads parts plan.globals fed in
     let clusters = clusters_give cell_loads control_loads plan.design.cells plan.at plan.clusters in
     let pads' = pads_reads plan.ports plan.design.pads in
-    let globals' = globals_reads parts plan.globals plan.design.globals in
+    let globals' = globals_reads parts plan.globals fed in
     let clusters' = clusters_reads plan.design.cells 0 plan.clusters in
-    two_alike plan.at (pads ++ globals) clusters (pads' ++ globals') clusters' (two_alike plan.at pads globals pads' globals' (pads_alike plan.at plan.ports plan.design.pads) (globals_alike plan.at parts plan.globals plan.design.globals))
+    two_alike plan.at (pads ++ globals) clusters (pads' ++ globals') clusters' (two_alike plan.at pads globals pads' globals' (pads_alike plan.at plan.ports plan.design.pads) (globals_alike plan.at parts plan.globals fed))
     (clusters_alike plan.at plan.at plan.design.cells 0 plan.clusters (whole_part plan.at) e)
 
 -- ---- the tiles that read a root

@@ -16,6 +16,7 @@ use Rattle.ice_cells.specs.declared.root.Root.{Root}
 use Rattle.ice_cells.specs.declared.root.Root.TheVariants.{PadIn, CellOut, GlobalOut, CarryOut}
 use Rattle.ice_cells.specs.Same.{same_root}
 use Rattle.ice_place_defs.specs.Plan.{Plan, slot_in}
+use Rattle.ice_place_defs.specs.Loads.{fed_roots}
 use Rattle.ice_place_defs.specs.Length.{pad_root, cell_root}
 use Rattle.ice_anneal_board.specs.declared.net.Node.{Node}
 use Rattle.ice_anneal_board.specs.declared.net.Node.TheVariants.{Cluster as of_cluster, Fixed as of_tile}
@@ -92,8 +93,8 @@ fit_clusters n cells k (c ∷ clusters) le =
 fit_all : (parts : Parts) (plan : Plan) → Fit (length plan.clusters) (reads_of parts plan)
 fit_all parts plan =
     let n = length plan.clusters in
-    fit_two n (pads_reads plan.ports plan.design.pads ++ globals_reads parts plan.globals plan.design.globals) (clusters_reads plan.design.cells 0 plan.clusters)
-    (fit_two n (pads_reads plan.ports plan.design.pads) (globals_reads parts plan.globals plan.design.globals) (fit_pads n plan.ports plan.design.pads) (fit_globals n parts plan.globals plan.design.globals))
+    fit_two n (pads_reads plan.ports plan.design.pads ++ globals_reads parts plan.globals (fed_roots plan.direct plan.design.globals)) (clusters_reads plan.design.cells 0 plan.clusters)
+    (fit_two n (pads_reads plan.ports plan.design.pads) (globals_reads parts plan.globals (fed_roots plan.direct plan.design.globals)) (fit_pads n plan.ports plan.design.pads) (fit_globals n parts plan.globals (fed_roots plan.direct plan.design.globals)))
     (fit_clusters n plan.design.cells 0 plan.clusters (omega arith))
 
 -- ---- nodes

@@ -10,6 +10,7 @@ use Rattle.ice_cells.specs.declared.root.Root.{Root}
 use Rattle.ice_cells.specs.declared.root.Root.TheVariants.{PadIn, CellOut, GlobalOut, CarryOut}
 use Rattle.ice_cells.specs.Same.{same_root}
 use Rattle.ice_place_defs.specs.Plan.{Plan, slot_in}
+use Rattle.ice_place_defs.specs.Loads.{fed_roots}
 use Rattle.ice_place_defs.specs.Length.{pad_root, cell_root}
 use Rattle.ice_place_length.specs.declared.placed.Placed.{Placed}
 use Rattle.ice_anneal_board.specs.declared.net.Node.{Node}
@@ -19,7 +20,7 @@ use Rattle.ice_anneal_nets.specs.declared.read.Read.{Read}
 use Rattle.ice_anneal_nets.specs.Reads.{pads_reads, globals_reads, clusters_reads}
 
 abbrev pub reads_of : Parts → Plan → List Read
-reads_of parts plan = pads_reads plan.ports plan.design.pads ++ globals_reads parts plan.globals plan.design.globals ++ clusters_reads plan.design.cells 0 plan.clusters
+reads_of parts plan = pads_reads plan.ports plan.design.pads ++ globals_reads parts plan.globals (fed_roots plan.direct plan.design.globals) ++ clusters_reads plan.design.cells 0 plan.clusters
 
 -- ---- nodes of roots
 abbrev pub pad_node : Pad → Node
@@ -63,4 +64,4 @@ nodes_in nets = map (λ (net : NetNodes). net.nodes.items) nets
 
 -- ---- placements of the clusters of a design
 abbrev pub plan_at : Placed → List TileAt → Plan
-plan_at placed at = record { design = placed.design.now; clusters = placed.clusters.now; at = at; ports = placed.ports.now; globals = placed.globals.now }
+plan_at placed at = record { design = placed.design.now; clusters = placed.clusters.now; at = at; ports = placed.ports.now; globals = placed.globals.now; direct = placed.direct.now }

@@ -7,8 +7,8 @@ ghost use Rattle.ice_anneal_nets.specs.Sorted.{net_by, nets_by};
 
 use crate::holders::holders_of;
 use crate::sorting::readers_of;
-use ice_base::NoMemory;
 use ice_anneal_board::{NetNodes, Node};
+use ice_base::NoMemory;
 use ice_cells::Items;
 use ice_chip::Pad;
 use ice_place_length::Placed;

@@ -4,8 +4,8 @@ ghost use Rattle.ice_cells.specs.Tables.{keep, put_at, table};
 ghost use Rattle.ice_anneal_nets.specs.Holders.{held, held_node, noted, slots_held, clusters_held};
 ghost use Rattle.ice_anneal_nets.specs.Nodes.{holder};
 
-use ice_base::NoMemory;
 use ice_anneal_board::Node;
+use ice_base::NoMemory;
 use ice_cells::Cluster;
 use std::alloc::Global;
 

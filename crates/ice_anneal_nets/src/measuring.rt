@@ -7,8 +7,8 @@ ghost use Rattle.ice_anneal_board.specs.Length.{IsNet, wire_length};
 ghost use Rattle.ice_anneal_nets.specs.Nodes.{plan_at};
 
 use crate::building::nets_of;
-use ice_base::NoMemory;
 use ice_anneal_board::NetNodes;
+use ice_base::NoMemory;
 use ice_place_length::Placed;
 use std::alloc::Global;
 

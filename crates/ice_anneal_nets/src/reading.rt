@@ -1,14 +1,16 @@
 //! What reads roots in a design.
 ghost use Rattle.std.specs.Prelude.{◌≡◌, ◌++◌, IfOk, OnOk, Some};
 ghost use Rattle.ice_place_length.specs.Grown.{plan_in};
+ghost use Rattle.ice_place_defs.specs.Loads.{fed_roots};
 ghost use Rattle.ice_anneal_nets.specs.Reads.{read_at, pad_reads, pads_reads, global_reads, globals_reads, cell_reads, control_reads, slot_reads, slots_reads, cluster_reads, clusters_reads};
 ghost use Rattle.ice_anneal_nets.specs.Nodes.{reads_of};
 
 use crate::Read;
-use ice_base::NoMemory;
 use ice_anneal_board::Node;
+use ice_base::NoMemory;
 use ice_cells::{Cluster, Control, DesignPad, LogicCell, Root};
 use ice_chip::{Chip, Pad};
+use ice_place_defs::fed_root;
 use ice_place_length::Placed;
 use std::alloc::Global;
 
@@ -59,17 +61,19 @@ fn add_global(
     Ok(())
 }
 
-// Adds what feeds globals.
+// Adds what feeds globals; a direct buffer reads in no tile.
 fn add_globals(
     reads: &mut Vec<Read>,
     chip: &Chip,
     numbers: &[u8],
+    direct: &[bool],
     roots: &[Option<Root>],
 ) -> Result<(), NoMemory>
-    ensures { OnOk result (reads.new.items ≡ reads.old.items ++ globals_reads chip.now numbers.now roots.now) }
+    ensures { OnOk result (reads.new.items ≡ reads.old.items ++ globals_reads chip.now numbers.now (fed_roots direct.now roots.now)) }
 {
     for k in 0..numbers.len().min(roots.len()) {
-        add_global(reads, chip, numbers[k], roots[k])?;
+        let read = fed_root(direct, k, roots[k]);
+        add_global(reads, chip, numbers[k], read)?;
     }
     Ok(())
 }
@@ -194,6 +198,7 @@ pub fn reads_of(alloc: Global, placed: &Placed<'_>) -> Result<Vec<Read>, NoMemor
         &mut reads,
         placed.chip,
         placed.globals,
+        placed.direct,
         placed.design.globals(),
     )?;
     add_clusters(&mut reads, placed.design.cells(), placed.clusters)?;

@@ -16,6 +16,29 @@ pub struct Mover {
     pub count: usize,
 }
 
+/// All cells that may move, class by class.
+#[derive(Drop)]
+pub struct Movers {
+    /// The cells.
+    pub list: Vec<Mover>,
+    classes: Vec<Option<usize>>,
+}
+
+impl Movers {
+    /// No cells.
+    pub fn none(alloc: Global) -> Movers {
+        Movers {
+            list: Vec::new(alloc),
+            classes: Vec::new(alloc),
+        }
+    }
+
+    /// Whether a cell is of the class of one that may move.
+    pub fn is_like(&self, mover: Mover, cell: usize) -> bool {
+        self.classes.get(cell).copied().flatten() == Some(mover.first)
+    }
+}
+
 // Cells that may stand in each other's slots.
 #[derive(Drop)]
 struct Class {
@@ -87,23 +110,9 @@ fn add_cluster(
     Ok(())
 }
 
-// Whether cells stand in several clusters.
-fn are_apart(seats: &Seats, cells: &[usize]) -> bool {
-    let Some(first) = cells.first() else {
-        return false;
-    };
-    let home = seats.cluster_of(*first);
-    for cell in cells {
-        if seats.cluster_of(*cell) != home {
-            return true;
-        }
-    }
-    false
-}
-
 // Adds the cells of a class, where they stand in several clusters.
-fn add_class(movers: &mut Vec<Mover>, seats: &Seats, class: &Class) -> Result<(), NoMemory> {
-    let first = movers.len();
+fn add_class(movers: &mut Movers, seats: &Seats, class: &Class) -> Result<(), NoMemory> {
+    let first = movers.list.len();
     let count = class.cells.len();
     let is_apart = class.cells.windows(2).any(|pair| seats.cluster_of(pair[0])
         != seats.cluster_of(pair[1]));
@@ -111,7 +120,10 @@ fn add_class(movers: &mut Vec<Mover>, seats: &Seats, class: &Class) -> Result<()
         return Ok(());
     }
     for &cell in &class.cells {
-        movers.push(Mover { cell, first, count })?;
+        movers.list.push(Mover { cell, first, count })?;
+        if let Some(own) = movers.classes.get_mut(cell) {
+            *own = Some(first);
+        }
     }
     Ok(())
 }
@@ -122,7 +134,7 @@ pub fn movers_of(
     design: &Design,
     clusters: &[Cluster],
     seats: &Seats,
-) -> Result<Vec<Mover>, NoMemory> {
+) -> Result<Movers, NoMemory> {
     let held = held_cells(alloc, design.cells().len(), design.runs())?;
     let mut classes = Classes {
         plains: Class {
@@ -134,7 +146,10 @@ pub fn movers_of(
     for cluster in clusters {
         add_cluster(alloc, &mut classes, design, &held, cluster)?;
     }
-    let mut movers = Vec::new(alloc);
+    let mut movers = Movers {
+        list: Vec::new(alloc),
+        classes: vec![in alloc; None; design.cells().len()]?,
+    };
     add_class(&mut movers, seats, &classes.plains)?;
     for class in &classes.flops {
         add_class(&mut movers, seats, class)?;

@@ -1,15 +1,21 @@
-//! An order of cells by which their clusters have shorter wires: in a placement, cells that may stand in each other's slots
-//! change places at random, with less and less that makes the wires longer. Nothing is claimed of the order. Whatever it is,
-//! there are clusters by it, as many as by any other.
+//! An arrangement of a design with shorter wires: cells that may stand in each other's slots change places at random, and so do clusters on
+//! the sites, with less and less that makes the wires longer. Nothing is claimed of what is found. Whatever the ranks are, there are clusters
+//! by them, as many as by any others; and whatever the tiles are, those who take them look whether they are a legal placement.
 #![tactic(auto)]
 
 mod arranging;
 mod classes;
+mod ends;
+mod floor;
 mod nets;
 mod places;
 mod search;
 mod seats;
 mod signals;
 mod spread;
+mod state;
+mod tally;
+mod units;
+mod words;
 
-pub use arranging::arrange;
+pub use arranging::{Arranged, arrange, arrange_clusters};

@@ -1,26 +1,31 @@
 //! The nets of a design by cells.
 
+use crate::ends::Ends;
 use crate::places::{Grid, NetPlaces, Place};
 use crate::seats::Seats;
+use crate::spread::Traffic;
+use ice_anneal_board::{NetNodes, Node, Touched, Wiring, wiring_of};
+use ice_anneal_nets::measuring_nets;
 use ice_base::{NoMemory, to_u32};
-use ice_anneal_board::{Node, Touched, Wiring, wiring_of};
 use ice_cells::{Cluster, Design, Items, LogicCell, control_at};
 use ice_chip::Chip;
-use ice_place_length::Placed;
-use ice_anneal_nets::measuring_nets;
 use ice_pads::Pads;
+use ice_place_length::Placed;
 use std::alloc::Global;
 
-/// How many nodes a net has at most that is looked at. A larger one hardly tells one cluster from another.
-const MOST_NODES: usize = 32;
+/// How many cells a net has at most that is looked at where two cells change places. A larger one hardly tells one from the other.
+const MOST_CELLS: u32 = 32;
 
-/// Where the nodes of each net stand, and the nets of each cell.
+/// The nets by cells, where the nodes of each stand, and the nets of each cell.
 #[derive(Drop)]
 pub struct CellNets {
-    /// The nets.
-    pub places: Vec<NetPlaces>,
-    /// For each cell its nets that are looked at, each once.
-    pub touching: Vec<Touched>,
+    nets: Vec<NetNodes>,
+    places: Vec<NetPlaces>,
+    // How many cells each has.
+    sizes: Vec<u32>,
+    touching: Vec<Touched>,
+    /// By how much all nets have grown.
+    pub growth: i64,
 }
 
 // The cluster of a cell alone.
@@ -58,29 +63,29 @@ fn wiring_by_cells(
             tiles: &[],
             ports: pads.ports(),
             globals: pads.globals(),
+            direct: pads.direct(),
         },
     )?;
     let number = to_u32(nets.len())?;
     wiring_of(alloc, nets, clusters.len())
 }
 
-// Whether the net of a number is looked at.
-fn is_small(wiring: &Wiring, net: usize) -> bool {
-    match wiring.nets.get(net) {
-        Some(net) => net.nodes.len() <= MOST_NODES,
-        None => false,
+// One more cell has each of these nets.
+fn count_cell(sizes: &mut Vec<u32>, nets: &[usize]) {
+    for net in nets {
+        if let Some(size) = sizes.get_mut(*net) {
+            *size = size.saturating_add(1);
+        }
     }
 }
 
-// Those of a cell's nets that are looked at.
-fn small_nets(alloc: Global, wiring: &Wiring, nets: &[usize]) -> Result<Touched, NoMemory> {
-    let mut small = Vec::new(alloc);
-    for &net in nets {
-        if is_small(wiring, net) {
-            small.push(net)?;
-        }
+// How many cells each net has.
+fn sizes_of(alloc: Global, wiring: &Wiring) -> Result<Vec<u32>, NoMemory> {
+    let mut sizes = vec![in alloc; 0u32; wiring.nets.len()]?;
+    for touched in &wiring.touching {
+        count_cell(&mut sizes, &touched.nets);
     }
-    Ok(Touched { nets: small })
+    Ok(sizes)
 }
 
 // Notes where the pads and global buffers of a net stand.
@@ -130,11 +135,78 @@ pub fn nets_of(
     seats: &Seats,
 ) -> Result<CellNets, NoMemory> {
     let wiring = wiring_by_cells(alloc, chip, design, pads)?;
-    let mut touching = Vec::with_capacity(alloc, wiring.touching.len())?;
-    for touched in &wiring.touching {
-        touching.push(small_nets(alloc, &wiring, &touched.nets)?)?;
-    }
+    let sizes = sizes_of(alloc, &wiring)?;
     let mut places = fixed_places(alloc, &wiring, grid)?;
-    add_cells(&mut places, &touching, seats);
-    Ok(CellNets { places, touching })
+    add_cells(&mut places, &wiring.touching, seats);
+    let Wiring { nets, touching } = wiring;
+    Ok(CellNets {
+        nets,
+        places,
+        sizes,
+        touching,
+        growth: 0,
+    })
+}
+
+impl CellNets {
+    /// How many nets there are.
+    pub fn count(&self) -> usize {
+        self.nets.len()
+    }
+
+    /// The nets of a cell, each once.
+    pub fn of(&self, cell: usize) -> &[usize] {
+        match self.touching.get(cell) {
+            Some(touched) => &touched.nets,
+            None => &[],
+        }
+    }
+
+    /// Whether a net is looked at where two cells change places.
+    pub fn is_small(&self, net: usize) -> bool {
+        match self.sizes.get(net) {
+            Some(size) => *size <= MOST_CELLS,
+            None => false,
+        }
+    }
+
+    /// The nodes of a net.
+    pub fn nodes_of(&self, net: usize) -> &[Node] {
+        match self.nets.get(net) {
+            Some(net) => &net.nodes,
+            None => &[],
+        }
+    }
+
+    /// By how much a net grows where nodes go from one place to another and back.
+    pub fn growth_of(&self, net: usize, from: Place, to: Place, nodes: Traffic) -> i64 {
+        match self.places.get(net) {
+            Some(places) => places.growth(from, to, nodes),
+            None => 0,
+        }
+    }
+
+    /// Where the nets of a cell that stands at this place end without it.
+    pub fn ends_without(&self, cell: usize, place: Place) -> Ends {
+        let mut ends = Ends::none();
+        for net in self.of(cell) {
+            if let Some(places) = self.places.get(*net) {
+                if let Some((low, high)) = places.box_without(place) {
+                    ends.add(low, high);
+                }
+            }
+        }
+        ends
+    }
+
+    /// A cell goes from one place to another.
+    pub fn shift(&mut self, cell: usize, from: Place, to: Place) {
+        if let Some(touched) = self.touching.get(cell) {
+            for net in &touched.nets {
+                if let Some(places) = self.places.get_mut(*net) {
+                    self.growth = self.growth.wrapping_add(places.shift(from, to));
+                }
+            }
+        }
+    }
 }

@@ -1,157 +1,189 @@
 //! Tries at random, of which fewer and fewer that make the wires longer are kept.
 
-use crate::classes::Mover;
-use crate::nets::CellNets;
-use crate::places::{NetPlaces, Place};
-use crate::seats::Seats;
-use crate::signals::Signals;
-use ice_cells::LogicCell;
-use rand_core::utils::NextWord;
+use crate::classes::{Mover, Movers};
+use crate::places::Place;
+use crate::state::State;
+use crate::units::MoveUnit;
+use crate::words::{below, spare};
+use ice_anneal_board::Node;
 use rand_pcg::Pcg32;
 
 /// How often the heat falls.
 const STEPS: u64 = 64;
 
-/// How many tries there are for each cell at each step: five leave the wires two hundredths longer, twenty gain one.
-const TRIES: u64 = 10;
+/// How many tries there are for each cell at each step.
+const CELL_TRIES: u64 = 16;
+
+/// How many more tries with cells there are at each step, for the sake of small designs.
+const MORE_CELL_TRIES: u64 = 3000;
+
+/// How many tries there are for each unit at each step.
+const UNIT_TRIES: u64 = 60;
+
+/// How many more tries with units there are at each step.
+const MORE_UNIT_TRIES: u64 = 2000;
 
 /// How many tries there are for each cell when all is cold.
 const LAST_TRIES: u64 = 4;
 
-/// By how many tiles a try may lengthen the wires at first, in parts of 256.
-const HEAT: u64 = 4 * 256;
+/// By how many tiles a try with cells may lengthen the wires at first, in parts of 256.
+const CELL_HEAT: u64 = 4 * 256;
 
-/// How many signals come into a tile without trouble: it has 32 wires for them, which are not free to choose.
-const MOST_SIGNALS: u32 = 26;
+/// By how many tiles a try with a unit may lengthen the wires at first, in parts of 256, for each column and each row of sites.
+const UNIT_HEAT: u64 = 2 * 256;
 
-/// Cells that change places.
+/// Cells that change places within clusters, and units on sites.
 #[derive(Drop)]
 pub struct Search<'a> {
-    /// The cells of the design.
-    pub cells: &'a [LogicCell],
     /// The cells that may move.
-    pub movers: Vec<Mover>,
-    /// Their nets.
-    pub nets: CellNets,
-    /// Where they stand.
-    pub seats: Seats,
-    /// What clusters read.
-    pub signals: Signals,
-}
-
-// A number below m.
-fn below(words: &mut Pcg32, m: usize) -> usize {
-    (u64::from(words.next_word()).wrapping_mul(m as u64) >> 32) as usize
-}
-
-// By how many tiles a try that is kept may lengthen the wires: a random part of the heat, which is in parts of 256.
-fn spare(heat: u64, word: u32) -> i64 {
-    (heat.wrapping_mul(u64::from(word)) >> 40).cast_signed()
-}
-
-// By how much nets grow where a node of each goes from one place to another; those of the other cell, too, keep their nodes.
-fn growth(nets: &[NetPlaces], own: &[usize], others: &[usize], from: Place, to: Place) -> i64 {
-    let mut sum = 0i64;
-    for net in own {
-        if let Some(places) = nets.get(*net) {
-            if !others.contains(net) {
-                sum = sum.wrapping_add(places.growth(from, to));
-            }
-        }
-    }
-    sum
-}
-
-// A node of each of these nets goes from one place to another.
-fn shift(nets: &mut Vec<NetPlaces>, own: &[usize], from: Place, to: Place) {
-    for net in own {
-        if let Some(places) = nets.get_mut(*net) {
-            places.shift(from, to);
-        }
-    }
-}
-
-impl CellNets {
-    // The nets of a cell.
-    fn of(&self, cell: usize) -> &[usize] {
-        match self.touching.get(cell) {
-            Some(touched) => &touched.nets,
-            None => &[],
-        }
-    }
-
-    // By how much the wires grow where two cells change places.
-    fn growth(&self, one: usize, other: usize, from: Place, to: Place) -> i64 {
-        let (own, others) = (self.of(one), self.of(other));
-        growth(&self.places, own, others, from, to).wrapping_add(growth(
-            &self.places,
-            others,
-            own,
-            to,
-            from,
-        ))
-    }
-
-    // A cell goes from one place to another.
-    fn shift(&mut self, cell: usize, from: Place, to: Place) {
-        if let Some(touched) = self.touching.get(cell) {
-            shift(&mut self.places, &touched.nets, from, to);
-        }
-    }
+    pub movers: Movers,
+    /// Where all stands.
+    pub state: State<'a>,
 }
 
 impl<'a> Search<'a> {
-    // Whether a cluster reads few signals, or no more than it did, once a cell of another stands in the place of one of its.
-    fn is_light(&mut self, cluster: usize, leaving: usize, coming: usize) -> bool {
-        let slots = self.seats.cells_of(cluster);
-        let count = self.signals.count(self.cells, slots, leaving, coming);
-        count <= MOST_SIGNALS || count <= self.signals.count(self.cells, slots, leaving, leaving)
-    }
-
-    // Two cells of different clusters change places where that makes the wires longer by no more than so many tiles.
-    fn try_exchange(&mut self, one: usize, other: usize, spare: i64) {
-        let (cluster, target) = (self.seats.cluster_of(one), self.seats.cluster_of(other));
-        if cluster == target {
-            return;
-        }
-        let (from, to) = (self.seats.place_of(cluster), self.seats.place_of(target));
-        if self.nets.growth(one, other, from, to) <= spare
-            && self.is_light(cluster, one, other)
-            && self.is_light(target, other, one)
-        {
-            self.nets.shift(one, from, to);
-            self.nets.shift(other, to, from);
-            self.seats.exchange(one, other);
-        }
-    }
-
-    // A try with two cells of one class.
-    fn try_pair(&mut self, heat: u64, words: &mut Pcg32) {
-        let number = below(words, self.movers.len());
-        if let Some(mover) = self.movers.get(number).copied() {
-            let partner = mover.first.saturating_add(below(words, mover.count));
-            let spare = spare(heat, words.next_word());
-            if let Some(other) = self.movers.get(partner).copied() {
-                self.try_exchange(mover.cell, other.cell, spare);
+    // The place of a node, where it is of another cell.
+    fn place_of(&self, node: Node, cell: usize) -> Option<Place> {
+        match node {
+            Node::Fixed(tile) => Some(self.state.floor.place_of(tile)),
+            Node::Cluster(other) if other == cell => None,
+            Node::Cluster(other) => {
+                let seats = &self.state.seats;
+                Some(seats.place_of(seats.cluster_of(other)))
             }
         }
     }
 
-    // So many tries at one heat.
-    fn shake(&mut self, tries: u64, heat: u64, words: &mut Pcg32) {
+    // A site beside a node of one of a cell's nets, where one is found.
+    fn site_near(&self, cell: usize, words: &mut Pcg32) -> Option<usize> {
+        let nets = self.state.nets.of(cell);
+        let net = nets.get(below(words, nets.len()))?;
+        let nodes = self.state.nets.nodes_of(*net);
+        let node = nodes.get(below(words, nodes.len()))?;
+        let place = self.place_of(*node, cell)?;
+        self.state.floor.site_beside(place, 1, words)
+    }
+
+    // A site beside the place amid the nets of a cell, where one is found.
+    fn site_amid(&self, cell: usize, words: &mut Pcg32) -> Option<usize> {
+        let seats = &self.state.seats;
+        let place = seats.place_of(seats.cluster_of(cell));
+        let middle = self.state.nets.ends_without(cell, place).middle(words)?;
+        self.state.floor.site_beside(middle, 1, words)
+    }
+
+    // A site at most so many columns and rows away from a cluster, where one is found.
+    fn site_around(&self, cluster: usize, reach: u8, words: &mut Pcg32) -> Option<usize> {
+        let place = self.state.seats.place_of(cluster);
+        self.state.floor.site_beside(place, reach, words)
+    }
+
+    // A cell of a class on a site, where one is found.
+    fn cell_on(&self, mover: Mover, site: usize, words: &mut Pcg32) -> Option<usize> {
+        let cluster = self.state.seats.cluster_on(site)?;
+        let cell = self.state.seats.cell_at(cluster, below(words, 8))?;
+        if self.movers.is_like(mover, cell) {
+            Some(cell)
+        } else {
+            None
+        }
+    }
+
+    // A cell of the same class: one of all, one amid the nets, one beside a net, or one around the cell.
+    fn partner_of(&self, mover: Mover, reach: u8, words: &mut Pcg32) -> Option<usize> {
+        let kind = below(words, 10);
+        if kind < 2 {
+            let number = mover.first.saturating_add(below(words, mover.count));
+            return Some(self.movers.list.get(number)?.cell);
+        }
+        let site = if kind < 5 {
+            self.site_amid(mover.cell, words)?
+        } else if kind < 7 {
+            self.site_near(mover.cell, words)?
+        } else {
+            self.site_around(self.state.seats.cluster_of(mover.cell), reach, words)?
+        };
+        self.cell_on(mover, site, words)
+    }
+
+    // A try with two cells of one class.
+    fn try_cells(&mut self, heat: u64, reach: u8, words: &mut Pcg32) {
+        let number = below(words, self.movers.list.len());
+        if let Some(mover) = self.movers.list.get(number).copied() {
+            if let Some(other) = self.partner_of(mover, reach, words) {
+                self.state.try_cells(mover.cell, other, spare(heat, words));
+            }
+        }
+    }
+
+    // A site for a unit: with one of its clusters beside a net of that, or around it.
+    fn target_of(&self, unit: MoveUnit, reach: u8, words: &mut Pcg32) -> Option<usize> {
+        if below(words, 2) == 0 {
+            return self.site_around(unit.first, reach, words);
+        }
+        let number = below(words, unit.count);
+        let cluster = unit.first.saturating_add(number);
+        let cell = self.state.seats.cell_at(cluster, below(words, 8))?;
+        self.site_near(cell, words)?.checked_sub(number)
+    }
+
+    // A try with a unit.
+    fn try_unit(&mut self, heat: u64, reach: u8, words: &mut Pcg32) {
+        let number = below(words, self.state.units.list.len());
+        if let Some(unit) = self.state.units.list.get(number).copied() {
+            if let Some(target) = self.target_of(unit, reach, words) {
+                self.state.try_unit(unit, target, spare(heat, words));
+            }
+        }
+    }
+
+    // So many tries with cells at one heat.
+    fn shake_cells(&mut self, tries: u64, heat: u64, reach: u8, words: &mut Pcg32) {
         for left in 0..tries {
-            self.try_pair(heat, words);
+            self.try_cells(heat, reach, words);
+        }
+    }
+
+    // So many tries with units at one heat.
+    fn shake_units(&mut self, tries: u64, heat: u64, reach: u8, words: &mut Pcg32) {
+        for left in 0..tries {
+            self.try_unit(heat, reach, words);
+        }
+    }
+
+    // The tries of a step, cells and units by turns; so many steps are left.
+    fn step(&mut self, left: u64, words: &mut Pcg32) {
+        let cells = (self.movers.list.len() as u64).saturating_mul(CELL_TRIES);
+        let units = (self.state.units.list.len() as u64).saturating_mul(UNIT_TRIES);
+        let extent = self.state.floor.extent;
+        let reach = (extent.saturating_mul(left) / (STEPS * 4)).clamp(1, 63) as u8;
+        let cell_heat = CELL_HEAT.saturating_mul(left.saturating_mul(left)) / (STEPS * STEPS);
+        let unit_heat = extent
+            .saturating_mul(UNIT_HEAT)
+            .saturating_mul(left.saturating_mul(left))
+            / (STEPS * STEPS);
+        for turn in 0..4u64 {
+            self.shake_cells(
+                cells.saturating_add(MORE_CELL_TRIES) / 4,
+                cell_heat,
+                reach,
+                words,
+            );
+            self.shake_units(
+                units.saturating_add(MORE_UNIT_TRIES) / 4,
+                unit_heat,
+                reach.max(2),
+                words,
+            );
         }
     }
 
     /// Tries at a falling heat, and some when all is cold. Their number is fixed before the first.
     pub fn anneal(&mut self, words: &mut Pcg32) {
-        let count = self.movers.len() as u64;
         for step in 0..STEPS {
-            let left = STEPS - step;
-            let heat = HEAT.saturating_mul(left * left) / (STEPS * STEPS);
-            self.shake(count.saturating_mul(TRIES), heat, words);
+            self.step(STEPS - step, words);
         }
-        self.shake(count.saturating_mul(LAST_TRIES), 0, words);
+        let count = self.movers.list.len() as u64;
+        self.shake_cells(count.saturating_mul(LAST_TRIES), 0, 1, words);
     }
 }

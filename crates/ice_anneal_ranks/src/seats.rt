@@ -1,15 +1,19 @@
-//! Which cell stands in which slot.
+//! Which cluster stands on which site, and which cell in which slot.
 
-use crate::places::{Grid, Place};
-use ice_base::{NoMemory, to_u32};
+use crate::floor::Floor;
+use crate::places::Place;
+use ice_base::{NoMemory, TileAt, to_u32};
 use ice_cells::{Cluster, Items};
 use ice_place::Placement;
 use std::alloc::Global;
 
-/// The place of each cluster, the slot of each cell and the cell of each slot. Slot k of cluster c has the number 8 c + k.
+/// The site of each cluster and the cluster of each site, the slot of each cell and the cell of each slot. Slot k of cluster c has the
+/// number 8 c + k.
 #[derive(Drop)]
 pub struct Seats {
+    sites: Vec<usize>,
     places: Vec<Place>,
+    on: Vec<Option<usize>>,
     slots: Vec<usize>,
     cells: Vec<Option<usize>>,
 }
@@ -36,22 +40,35 @@ fn add_slots(seats: &mut Seats, cluster: &Cluster) -> Result<(), NoMemory> {
     Ok(())
 }
 
+// Adds a cluster that stands on a tile.
+fn add_site(seats: &mut Seats, floor: &Floor, tile: TileAt) -> Result<(), NoMemory> {
+    let (cluster, site) = (seats.sites.len(), floor.site_of(tile));
+    seats.sites.push(site)?;
+    seats.places.push(floor.place_of(tile))?;
+    if let Some(held) = seats.on.get_mut(site) {
+        *held = Some(cluster);
+    }
+    Ok(())
+}
+
 impl Seats {
     /// The cells of clusters, so many, as they stand in a placement.
     pub fn new(
         alloc: Global,
-        grid: Grid,
+        floor: &Floor,
         clusters: &[Cluster],
         placement: &Placement,
         cells: usize,
     ) -> Result<Seats, NoMemory> {
         let mut seats = Seats {
+            sites: Vec::with_capacity(alloc, clusters.len())?,
             places: Vec::with_capacity(alloc, clusters.len())?,
+            on: vec![in alloc; None; floor.tiles.len()]?,
             slots: vec![in alloc; 0; cells]?,
             cells: Vec::new(alloc),
         };
         for tile in placement.tiles() {
-            seats.places.push(grid.place_of(*tile))?;
+            add_site(&mut seats, floor, *tile)?;
         }
         for cluster in clusters {
             add_slots(&mut seats, cluster)?;
@@ -77,6 +94,44 @@ impl Seats {
             .unwrap_or(Place { column: 0, row: 0 })
     }
 
+    /// The site of a cluster.
+    pub fn site_of(&self, cluster: usize) -> usize {
+        self.sites.get(cluster).copied().unwrap_or(0)
+    }
+
+    /// The cluster on a site.
+    pub fn cluster_on(&self, site: usize) -> Option<usize> {
+        self.on.get(site).copied().flatten()
+    }
+
+    // Puts what may be a cluster onto a site.
+    fn settle(&mut self, cluster: Option<usize>, site: usize, place: Place) {
+        if let Some(held) = self.on.get_mut(site) {
+            *held = cluster;
+        }
+        if let Some(cluster) = cluster {
+            if let Some(own) = self.sites.get_mut(cluster) {
+                *own = site;
+            }
+            if let Some(own) = self.places.get_mut(cluster) {
+                *own = place;
+            }
+        }
+    }
+
+    /// What stands on two sites, at these places, changes places.
+    pub fn exchange_sites(&mut self, one: usize, other: usize, from: Place, to: Place) {
+        let (here, there) = (self.cluster_on(one), self.cluster_on(other));
+        self.settle(here, other, to);
+        self.settle(there, one, from);
+    }
+
+    /// The cell in a slot of a cluster.
+    pub fn cell_at(&self, cluster: usize, slot: usize) -> Option<usize> {
+        let number = cluster.saturating_mul(8).saturating_add(slot);
+        self.cells.get(number).copied().flatten()
+    }
+
     /// The slots of a cluster.
     pub fn cells_of(&self, cluster: usize) -> &[Option<usize>] {
         let first = cluster.saturating_mul(8);
@@ -100,6 +155,17 @@ impl Seats {
         let (slot, target) = (self.slot_of(one), self.slot_of(other));
         self.put(one, target);
         self.put(other, slot);
+    }
+
+    /// The tile of each cluster.
+    pub fn tiles(&self, alloc: Global, floor: &Floor) -> Result<Items<TileAt>, NoMemory> {
+        let mut tiles = Vec::with_capacity(alloc, self.sites.len())?;
+        for site in &self.sites {
+            if let Some(tile) = floor.tiles.get(*site) {
+                tiles.push(*tile)?;
+            }
+        }
+        Ok(Items::from_vec(tiles))
     }
 
     /// The number of each cell's slot.

@@ -10,6 +10,21 @@ pub struct Spread {
     taken: u64,
 }
 
+/// How many nodes go from one place to another, and how many come from there.
+#[derive(Clone, Copy)]
+pub struct Traffic {
+    /// How many go.
+    pub going: u8,
+    /// How many come.
+    pub coming: u8,
+}
+
+/// One node goes.
+pub const ONE: Traffic = Traffic {
+    going: 1,
+    coming: 0,
+};
+
 // The bit of a place.
 fn bit_of(place: u8) -> u64 {
     1 << (place % 64)
@@ -19,6 +34,15 @@ fn bit_of(place: u8) -> u64 {
 fn reach(taken: u64) -> u32 {
     let last = 63u32.saturating_sub(taken.leading_zeros());
     last.saturating_sub(taken.trailing_zeros())
+}
+
+// The same places, and this one among them or not.
+fn with_place(taken: u64, place: u8, is_taken: bool) -> u64 {
+    if is_taken {
+        taken | bit_of(place)
+    } else {
+        taken & !bit_of(place)
+    }
 }
 
 impl Spread {
@@ -35,20 +59,30 @@ impl Spread {
         self.counts.get(usize::from(place)).copied().unwrap_or(0)
     }
 
-    // The places at which something stands, once a node left one for another.
-    fn taken_after(&self, from: u8, to: u8) -> u64 {
-        let left = if self.count_at(from) > 1 {
-            self.taken
-        } else {
-            self.taken & !bit_of(from)
-        };
-        left | bit_of(to)
+    // The places at which something stands, once nodes went from one place to another and back.
+    fn taken_after(&self, from: u8, to: u8, nodes: Traffic) -> u64 {
+        if from == to {
+            return self.taken;
+        }
+        let stays = self.count_at(from).saturating_add(nodes.coming) > nodes.going;
+        let comes = self.count_at(to).saturating_add(nodes.going) > nodes.coming;
+        with_place(with_place(self.taken, from, stays), to, comes)
     }
 
-    /// By how much the reach grows where a node goes from one place to another.
-    pub fn growth(&self, from: u8, to: u8) -> i64 {
-        let after = i64::from(reach(self.taken_after(from, to)));
+    /// By how much the reach grows where nodes go from one place to another and back.
+    pub fn growth(&self, from: u8, to: u8, nodes: Traffic) -> i64 {
+        let after = i64::from(reach(self.taken_after(from, to, nodes)));
         after.wrapping_sub(i64::from(reach(self.taken)))
+    }
+
+    /// The first and the last place at which a node stands, but for one that stands at this place; where there is no other, none.
+    pub fn ends_without(&self, place: u8) -> Option<(u8, u8)> {
+        let others = with_place(self.taken, place, self.count_at(place) > 1);
+        if others == 0 {
+            return None;
+        }
+        let last = 63u32.saturating_sub(others.leading_zeros());
+        Some((others.trailing_zeros().min(63) as u8, last as u8))
     }
 
     /// One more node stands at a place.
@@ -61,7 +95,7 @@ impl Spread {
 
     /// A node goes from one place to another.
     pub fn shift(&mut self, from: u8, to: u8) {
-        let taken = self.taken_after(from, to);
+        let taken = self.taken_after(from, to, ONE);
         if let Some(count) = self.counts.get_mut(usize::from(from)) {
             *count = count.saturating_sub(1);
         }

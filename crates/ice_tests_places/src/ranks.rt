@@ -1,13 +1,13 @@
 //! Ranks of a design's cells.
 
 use crate::claims::expect_that;
-use ice_anneal_ranks::arrange;
+use ice_anneal_ranks::{Arranged, arrange};
 use ice_cells::{Clusters, Design, Items, control_at};
 use ice_chip::Chip;
 use ice_cluster::cluster;
 use ice_pads::Pads;
 use ice_place::{Placement, first_place};
-use ice_sites::sites_of;
+use ice_sites::{Sites, sites_of};
 use std::alloc::Global;
 use std::process::Abort;
 
@@ -37,13 +37,16 @@ fn ranks_by(
     rt: &impl Abort,
     alloc: Global,
     chip: &Chip,
+    sites: &Sites,
     design: &Design,
     clusters: &Clusters,
     placement: &Placement,
     pads: &Pads,
     seed: u64,
 ) -> Items<u32> {
-    arrange(alloc, chip, design, clusters, placement, pads, seed).expect(rt, "memory")
+    let found = arrange(alloc, chip, sites, design, clusters, placement, pads, seed);
+    let Arranged { ranks, .. } = found.expect(rt, "memory");
+    ranks
 }
 
 // Fails unless ranks in a placement are as they are to be.
@@ -51,14 +54,15 @@ fn expect_in(
     rt: &impl Abort,
     alloc: Global,
     chip: &Chip,
+    sites: &Sites,
     design: &Design,
     clusters: &Clusters,
     placement: &Placement,
     pads: &Pads,
 ) {
-    let ranks = ranks_by(rt, alloc, chip, design, clusters, placement, pads, 1);
-    let again = ranks_by(rt, alloc, chip, design, clusters, placement, pads, 1);
-    let other = ranks_by(rt, alloc, chip, design, clusters, placement, pads, 2);
+    let ranks = ranks_by(rt, alloc, chip, sites, design, clusters, placement, pads, 1);
+    let again = ranks_by(rt, alloc, chip, sites, design, clusters, placement, pads, 1);
+    let other = ranks_by(rt, alloc, chip, sites, design, clusters, placement, pads, 2);
     expect_that(rt, ranks.as_slice() == again.as_slice(), b"same seed");
     expect_that(rt, ranks.as_slice() != other.as_slice(), b"another seed");
     let are_alike = are_alike(design, clusters, ranks.as_slice());
@@ -71,7 +75,7 @@ pub fn expect_ranks(rt: &impl Abort, alloc: Global, chip: &Chip, design: &Design
     let sites = sites_of(alloc, chip).expect(rt, "memory");
     let clusters = cluster(alloc, design).expect(rt, "memory");
     let placement = first_place(alloc, &sites, &clusters, design).expect(rt, "a placement");
-    expect_in(rt, alloc, chip, design, &clusters, &placement, pads);
+    expect_in(rt, alloc, chip, &sites, design, &clusters, &placement, pads);
     drop(placement);
     drop(clusters);
     drop(sites);

@@ -1,4 +1,4 @@
-use Rattle.std.proofs.Common.{ℕ, List, length, sym, ap, ◌∙◌, subst}
+use Rattle.std.proofs.Common.{ℕ, Bool, List, length, sym, ap, ◌∙◌, subst}
 use Rattle.std.specs.List.{All}
 use Rattle.ice_chip.specs.declared.rows.Pad.{Pad}
 use Rattle.ice_cells.specs.declared.cluster.Cluster.{Cluster}
@@ -16,6 +16,7 @@ returns-clause-lengths c at e =
     let pads = c.args.pads.now in
     let clusters = c.args.clusters.now in
     c.in_ok-nets.ensures.lengths at (e ∙ sym (ap length c.list.ensures))
-    ∙ ap (λ (x : List Cluster). length_of parts (record { design = d; clusters = x; at = at; ports = c.ports.result.now; globals = c.globals.result.now })) c.list.ensures
-    ∙ ap (λ (x : List Pad). length_of parts (record { design = d; clusters = clusters.list; at = at; ports = x; globals = c.globals.result.now })) c.ports.ensures
-    ∙ ap (λ (x : List ℕ). length_of parts (record { design = d; clusters = clusters.list; at = at; ports = pads.ports; globals = x })) c.globals.ensures
+    ∙ ap (λ (x : List Cluster). length_of parts (record { design = d; clusters = x; at = at; ports = c.ports.result.now; globals = c.globals.result.now; direct = c.direct.result.now })) c.list.ensures
+    ∙ ap (λ (x : List Pad). length_of parts (record { design = d; clusters = clusters.list; at = at; ports = x; globals = c.globals.result.now; direct = c.direct.result.now })) c.ports.ensures
+    ∙ ap (λ (x : List ℕ). length_of parts (record { design = d; clusters = clusters.list; at = at; ports = pads.ports; globals = x; direct = c.direct.result.now })) c.globals.ensures
+    ∙ ap (λ (x : List Bool). length_of parts (record { design = d; clusters = clusters.list; at = at; ports = pads.ports; globals = pads.globals; direct = x })) c.direct.ensures
