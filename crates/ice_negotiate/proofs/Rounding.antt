@@ -14,6 +14,7 @@ use Rattle.ice_negotiate_defs.specs.Rounds.{Past, AreAll, AreBare, AreDifferent,
 use Rattle.ice_negotiate_defs.specs.Logs.{AreLogs, IsLog}
 use Rattle.ice_words.specs.Grips.{Shut}
 use Rattle.ice_negotiate_defs.specs.Tallies.{AreTallies, IsTally}
+use Rattle.ice_words_hands.proofs.Lists.{zeros_index}
 use Rattle.ice_negotiate_defs.proofs.Listing.{pushed, length_push, last_get}
 use Rattle.ice_negotiate_defs.proofs.Rounding.{some_same}
 
@@ -90,11 +91,6 @@ bare_none_holds (t ∷ trees) w bare =
     no_holder (holds w t) (occupancy (t ∷ trees) w) (occupancy trees w) (ap (λ (ws : List WireNo). stands_in ws w) (bare 0 t refl))
     (sum_by-cons (λ (y : Tree). cond (holds w y) 1 0) t trees) (bare_none_holds trees w (λ n tree at. bare (suc n) tree at))
 
-pub zeros_index : (n w : ℕ) → slice_index (replicate n 0) w ≡ 0
-zeros_index zero w = refl
-zeros_index (suc n) zero = refl
-zeros_index (suc n) (suc w) = zeros_index n w
-
 pub bare_occupied : (wires : ℕ) (counts : List ℕ) (trees : List Tree) → counts ≡ replicate wires 0 → AreBare trees → IsOccupancy counts trees
 bare_occupied wires counts trees zeros bare = record {
   each = λ w lt. zero_at w ∙ sym (bare_none_holds trees w bare);
@@ -163,22 +159,22 @@ pub all_reached : (graph : Network) (nets : List Net) (moved : List NetNo) → A
 all_reached graph nets moved all h = λ j net lt at. (let long = all.long in h j (record { 0 = j }) net (omega arith) (all.each j lt) at)
 
 -- ---- tallies
-pub tallies_none : AreTallies [] []
-tallies_none = record {
+pub tallies_none : (wires : ℕ) → AreTallies wires [] []
+tallies_none wires = record {
   long = refl;
   first = λ one shut at shut_at. absurd (let none_there : slice_get [] 0 ≡ Some one = at in cc);
   next = λ k one after shut at after_at shut_at. absurd (let none_there : slice_get [] k ≡ Some one = at in cc);
 }
 
-pub tallies_first : (one : Past) (before : List Tree) (shut : Shut) → AreBare before → IsTally one.moved before one.trees shut → AreTallies (one ∷ []) (shut ∷ [])
-tallies_first one before shut bare tally = record {
+pub tallies_first : (wires : ℕ) (one : Past) (before : List Tree) (shut : Shut) → AreBare before → IsTally wires one.moved before one.trees shut → AreTallies wires (one ∷ []) (shut ∷ [])
+tallies_first wires one before shut bare tally = record {
   long = refl;
-  first = λ past other at other_at. (before, bare, subst (λ (x : Past). IsTally x.moved before x.trees other) (some_same one past at) (subst (IsTally one.moved before one.trees) (some_same shut other other_at) tally));
+  first = λ past other at other_at. (before, bare, subst (λ (x : Past). IsTally wires x.moved before x.trees other) (some_same one past at) (subst (IsTally wires one.moved before one.trees) (some_same shut other other_at) tally));
   next = λ k past after other at after_at other_at. absurd (let lt = slice_get_within (one ∷ []) (k + 1) after after_at in omega arith);
 }
 
-pub tallies_more : (earlier : List Past) (last new : Past) (tallies : List Shut) (shut : Shut) → AreTallies (earlier ++ last ∷ []) tallies → IsTally new.moved last.trees new.trees shut → AreTallies ((earlier ++ last ∷ []) ++ new ∷ []) (tallies ++ shut ∷ [])
-tallies_more earlier last new tallies shut h tally =
+pub tallies_more : (wires : ℕ) (earlier : List Past) (last new : Past) (tallies : List Shut) (shut : Shut) → AreTallies wires (earlier ++ last ∷ []) tallies → IsTally wires new.moved last.trees new.trees shut → AreTallies wires ((earlier ++ last ∷ []) ++ new ∷ []) (tallies ++ shut ∷ [])
+tallies_more wires earlier last new tallies shut h tally =
     let xs : List Past = earlier ++ last ∷ [] in
     let many : length xs ≡ suc (length earlier) = length_push earlier last in
     let long = h.long in
@@ -206,7 +202,7 @@ tallies_more earlier last new tallies shut h tally =
                 (let e = end.0 in
                 let place : k ≡ length earlier = omega arith in
                 let is : last ≡ one = some_same last one (sym (last_get earlier last) ∙ (ap (slice_get xs) (sym place) ∙ before)) in
-                subst (λ (x : Past). IsTally after.moved x.trees after.trees other) is (subst (λ (x : Past). IsTally x.moved last.trees x.trees other) end.1 (subst (IsTally new.moved last.trees new.trees) last_one.1 tally)))
+                subst (λ (x : Past). IsTally wires after.moved x.trees after.trees other) is (subst (λ (x : Past). IsTally wires x.moved last.trees x.trees other) end.1 (subst (IsTally wires new.moved last.trees new.trees) last_one.1 tally)))
             | inr again ↦ absurd (let e = end.0 in let f = again.0 in omega arith)
           ]
         ]

@@ -1,5 +1,5 @@
 -- What the state of negotiation holds, from round to round.
-use Rattle.std.proofs.Common.{◌≡◌, ℕ, zero, suc, ◌+◌, ◌≤◌, ◌<◌, List, [], ◌∷◌, ◌++◌, Some, length, replicate, slice_get, slice_index, refl, sym, ap, ◌∙◌, subst, arith, inl, inr, ◌⊎◌, Vec, Global}
+use Rattle.std.proofs.Common.{◌≡◌, ℕ, zero, suc, ◌+◌, ◌≤◌, ◌<◌, List, [], ◌∷◌, ◌++◌, Some, length, replicate, slice_get, slice_index, refl, sym, ap, ◌∙◌, subst, arith, inl, inr, ◌⊎◌, Vec, Global, None}
 use Rattle.std.proofs.lemmas.Option.{slice_get_within}
 use Rattle.ice_base.specs.declared.number.WireNo.{WireNo}
 use Rattle.ice_base.specs.declared.number.NetNo.{NetNo}
@@ -11,7 +11,7 @@ use Rattle.ice_core.specs.Congestion.{next_history}
 use Rattle.ice_core.specs.Moves.{IsOccupancy, movers_of}
 use Rattle.ice_words.specs.Grips.{Shut}
 use Rattle.ice_negotiate_defs.specs.Trees.{AreOnce}
-use Rattle.ice_negotiate_defs.specs.Rounds.{Past, past_of, AreAll, AreBare, AreBounded, AreMoversReached, AreReachedBefore, HoldOnce, IsFirst, IsFirstStop, IsRound}
+use Rattle.ice_negotiate_defs.specs.Rounds.{Past, past_of, AreAll, AreBare, AreBounded, AreMoversReached, AreReachedBefore, HoldOnce, IsFirstFrom, IsFirstStop, IsRound}
 use Rattle.ice_negotiate_defs.specs.Logs.{AreLogs, AreRouted, IsLog, IsStop, IsFault}
 use Rattle.ice_negotiate_defs.specs.Tallies.{AreTallies, IsTally}
 use Rattle.ice_negotiate_defs.specs.declared.fault.Routed.{Routed}
@@ -19,9 +19,10 @@ use Rattle.ice_negotiate_defs.specs.declared.fault.RouteFault.{RouteFault}
 use Rattle.ice_negotiate_defs.specs.declared.fault.RouteFault.TheVariants.{Unreachable, GaveUp, NoMemory}
 use Rattle.ice_negotiate_defs.proofs.Listing.{length_push}
 use Rattle.ice_negotiate_defs.proofs.Rounding.{count_low, some_same}
+use Rattle.ice_words_hands.proofs.Lists.{zeros_index}
 use Rattle.ice_negotiate.specs.Progress.{IsAfter, IsBefore, last_of}
 use Rattle.ice_negotiate.specs.declared.rounds.State.{State}
-use Rattle.ice_negotiate.proofs.Rounding.{all_different, all_reached, bare_occupied, length_next, logs_more, movers_different, next_low, overused_more, rounds_more, tallies_first, tallies_more, tallies_none, zeros_index}
+use Rattle.ice_negotiate.proofs.Rounding.{all_different, all_reached, bare_occupied, length_next, logs_more, movers_different, next_low, overused_more, rounds_more, tallies_first, tallies_more, tallies_none}
 
 none_or_some : (n : ℕ) → (n ≡ 0) ⊎ (1 ≤ n)
 none_or_some zero = inl refl
@@ -64,22 +65,25 @@ before_first graph nets number history counts moved trees logs tallies h c all l
   };
   next = record {
     on = λ new news done l occupied. record {
-      first = λ one at. subst (IsFirst graph nets) (some_same (past_of 1 history.items moved.items new news) one at) (record {
+      first = λ one at. subst (IsFirstFrom graph nets None) (some_same (past_of 1 history.items moved.items new news) one at) (record {
         before = trees.items;
-        bare = bare;
+        begins = bare;
+        counts = counts.items;
+        long = c_long;
+        occupied = bare_occupied graph.wires counts.items trees.items c bare;
         number = refl;
         fresh = h;
-        all = all;
-        done = subst (λ x. IsRound graph nets 1 history.items x moved.items trees.items new) c done;
+        movers = all;
+        done = done;
       });
       follow = λ k one next at next_at. absurd (let lt = slice_get_within (past_of 1 history.items moved.items new news ∷ []) (k + 1) next next_at in omega arith);
       counted = λ k one at. only k one (past_of 1 history.items moved.items new news) at (l, occupied);
     };
-    tallied = λ new shut tally. subst (λ ts. AreTallies (past_of 1 history.items moved.items new shut.closed ∷ []) (ts ++ shut ∷ [])) (sym no_tally) (tallies_first (past_of 1 history.items moved.items new shut.closed) trees.items shut bare tally);
+    tallied = λ new shut tally. subst (λ ts. AreTallies graph.wires (past_of 1 history.items moved.items new shut.closed ∷ []) (ts ++ shut ∷ [])) (sym no_tally) (tallies_first graph.wires (past_of 1 history.items moved.items new shut.closed) trees.items shut bare tally);
   };
   overused = λ k one at. absurd (let none_there : slice_get [] k ≡ Some one = at in cc);
   logs = record { long = ap length none; each = λ k past log at log_at. absurd (let none_there : slice_get [] k ≡ Some past = at in cc) };
-  tallies = subst (AreTallies []) (sym no_tally) tallies_none;
+  tallies = subst (AreTallies graph.wires []) (sym no_tally) (tallies_none graph.wires);
   all = λ z. all;
   reached = λ le. absurd (omega arith);
 }
@@ -91,7 +95,7 @@ before_first graph nets number history counts moved trees logs tallies h c all l
 pub after_round : (graph : Network) (nets : List Net) (round : ℕ) (old : State) (trees : Vec Tree Global) (logs : Vec RoundLog Global) (log : RoundLog) (shut : Shut)
     → IsBefore graph nets round old
     → IsRound graph nets (round + 1) old.prices.history.items old.prices.counts.items old.moved.items old.trees.items trees.items
-    → shut.opened ≡ old.prices.counts.items → IsTally old.moved.items old.trees.items trees.items shut → HoldOnce trees.items → logs.items ≡ old.logs.items ++ log ∷ []
+    → shut.opened ≡ old.prices.counts.items → IsTally graph.wires old.moved.items old.trees.items trees.items shut → HoldOnce trees.items → logs.items ≡ old.logs.items ++ log ∷ []
     → IsLog (past_of (round + 1) old.prices.history.items old.moved.items trees.items shut.closed) log
     → AreMoversReached graph nets old.moved.items (length old.moved.items)
     → IsAfter graph nets round (record { prices = record { round = round + 1; history = old.prices.history; counts = old.prices.counts }; moved = old.moved; trees = trees; logs = logs; tallies = old.tallies }) shut
@@ -127,7 +131,7 @@ pub after_played : (graph : Network) (nets : List Net) (round : ℕ) (old : Stat
     → moved ≡ old.moved.items → before ≡ old.trees.items → after ≡ trees.items → log_moved ≡ old.moved.items → log_trees ≡ trees.items → log_counts ≡ shut.closed
     → IsBefore graph nets round old
     → IsRound graph nets (round + 1) old.prices.history.items old.prices.counts.items moved before after
-    → shut.opened ≡ old.prices.counts.items → IsTally moved before after shut → HoldOnce after → logs.items ≡ old.logs.items ++ log ∷ []
+    → shut.opened ≡ old.prices.counts.items → IsTally graph.wires moved before after shut → HoldOnce after → logs.items ≡ old.logs.items ++ log ∷ []
     → IsLog (past_of (round + 1) old.prices.history.items log_moved log_trees log_counts) log
     → AreMoversReached graph nets moved (length moved)
     → IsAfter graph nets round (record { prices = record { round = round + 1; history = old.prices.history; counts = old.prices.counts }; moved = old.moved; trees = trees; logs = logs; tallies = old.tallies }) shut
@@ -137,7 +141,7 @@ after_played graph nets round old trees logs log shut moved log_moved before aft
     after_round graph nets round old trees logs log shut h
     (subst (λ x. IsRound graph nets (round + 1) history counts x old.trees.items trees.items) m (subst (λ x. IsRound graph nets (round + 1) history counts moved x trees.items) b (subst (λ x. IsRound graph nets (round + 1) history counts moved before x) a done)))
     opened
-    (subst (λ x. IsTally x old.trees.items trees.items shut) m (subst (λ x. IsTally moved x trees.items shut) b (subst (λ x. IsTally moved before x shut) a tally)))
+    (subst (λ x. IsTally graph.wires x old.trees.items trees.items shut) m (subst (λ x. IsTally graph.wires moved x trees.items shut) b (subst (λ x. IsTally graph.wires moved before x shut) a tally)))
     (subst HoldOnce a apart)
     logs_are
     (subst (λ x. IsLog (past_of (round + 1) history x trees.items shut.closed) log) lm (subst (λ x. IsLog (past_of (round + 1) history log_moved x shut.closed) log) lt (subst (λ x. IsLog (past_of (round + 1) history log_moved log_trees x) log) lc is_log)))
@@ -148,7 +152,7 @@ pub before_next : (graph : Network) (nets : List Net) (round number : ℕ) (old 
     → IsBefore graph nets (round + 1) (record { prices = record { round = number; history = history; counts = counts }; moved = moved; trees = old.trees; logs = old.logs; tallies = tallies })
 before_next graph nets round number old shut history counts moved tallies few h over risen counts_are movers tallies_are =
     let last = last_of (round + 1) old shut.closed in
-    let all_tallies : AreTallies (h.earlier ++ last ∷ []) tallies.items = subst (AreTallies (h.earlier ++ last ∷ [])) (sym tallies_are) h.tallies in
+    let all_tallies : AreTallies graph.wires (h.earlier ++ last ∷ []) tallies.items = subst (AreTallies graph.wires (h.earlier ++ last ∷ [])) (sym tallies_are) h.tallies in
     record {
       sound = record {
         long = ap length risen ∙ (length_next old.prices.history.items shut.closed ∙ h.sound.long);
@@ -171,7 +175,7 @@ before_next graph nets round number old shut history counts moved tallies few h 
       next = record {
         on = λ new news done long occupied. rounds_more graph nets h.earlier last (past_of (round + 1 + 1) history.items moved.items new news) h.rounds
             (record { number = refl; risen = risen; movers = movers; done = subst (λ cs. IsRound graph nets (round + 1 + 1) history.items cs moved.items old.trees.items new) counts_are done }) long occupied;
-        tallied = λ new after tally. tallies_more h.earlier last (past_of (round + 1 + 1) history.items moved.items new after.closed) tallies.items after all_tallies tally;
+        tallied = λ new after tally. tallies_more graph.wires h.earlier last (past_of (round + 1 + 1) history.items moved.items new after.closed) tallies.items after all_tallies tally;
       };
       overused = overused_more h.earlier last h.overused over;
       logs = h.logs;
@@ -194,7 +198,7 @@ routed_of graph nets round permitted state shut routed h lt free trees logs tall
       free = free;
       trees = trees;
       logs = subst (AreLogs (h.earlier ++ last ∷ [])) (sym logs) h.logs;
-      tallies = subst (AreTallies (h.earlier ++ last ∷ [])) (sym tallies) h.tallies;
+      tallies = subst (AreTallies graph.wires (h.earlier ++ last ∷ [])) (sym tallies) h.tallies;
       reached = h.reached;
     }
 

@@ -15,8 +15,8 @@ use Rattle.ice_negotiate.specs.declared.rounds.State.{State}
 pub record GoesOn (graph : Network) (nets : List Net) (earlier : List Past) (round : ℕ) (state : State) : Type 0 where
   pub on : (trees : List Tree) (counts : List ℕ) → IsRound graph nets round state.prices.history.items state.prices.counts.items state.moved.items state.trees.items trees
       → length counts ≡ graph.wires → IsOccupancy counts trees → AreRounds graph nets (earlier ++ past_of round state.prices.history.items state.moved.items trees counts ∷ [])
-  pub tallied : (trees : List Tree) (shut : Shut) → IsTally state.moved.items state.trees.items trees shut
-      → AreTallies (earlier ++ past_of round state.prices.history.items state.moved.items trees shut.closed ∷ []) (state.tallies.items ++ shut ∷ [])
+  pub tallied : (trees : List Tree) (shut : Shut) → IsTally graph.wires state.moved.items state.trees.items trees shut
+      → AreTallies graph.wires (earlier ++ past_of round state.prices.history.items state.moved.items trees shut.closed ∷ []) (state.tallies.items ++ shut ∷ [])
 
 -- after this many rounds: histories and counts of all wires, the nets that move in the next round or that moved in the last, and the routes of all nets
 pub record IsSound (graph : Network) (nets : List Net) (round : ℕ) (history counts : List ℕ) (moved : List NetNo) (trees : List Tree) : Type 0 where
@@ -37,7 +37,7 @@ pub record IsBefore (graph : Network) (nets : List Net) (round : ℕ) (state : S
   pub next : GoesOn graph nets earlier (round + 1) state
   pub overused : AreOverused earlier
   pub logs : AreLogs earlier state.logs.items
-  pub tallies : AreTallies earlier state.tallies.items
+  pub tallies : AreTallies graph.wires earlier state.tallies.items
   pub all : round ≡ 0 → AreAll (length nets) state.moved.items
   pub reached : 1 ≤ round → AreReachedBefore graph nets (length nets)
 
@@ -55,5 +55,5 @@ pub record IsAfter (graph : Network) (nets : List Net) (round : ℕ) (state : St
   pub rounds : AreRounds graph nets (earlier ++ last_of (round + 1) state shut.closed ∷ [])
   pub overused : AreOverused earlier
   pub logs : AreLogs (earlier ++ last_of (round + 1) state shut.closed ∷ []) state.logs.items
-  pub tallies : AreTallies (earlier ++ last_of (round + 1) state shut.closed ∷ []) (state.tallies.items ++ shut ∷ [])
+  pub tallies : AreTallies graph.wires (earlier ++ last_of (round + 1) state shut.closed ∷ []) (state.tallies.items ++ shut ∷ [])
   pub reached : AreReachedBefore graph nets (length nets)

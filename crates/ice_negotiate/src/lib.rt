@@ -5,4 +5,5 @@ mod logs;
 mod rounds;
 mod start;
 
+pub use ice_negotiate_defs::{RouteFault, Routed};
 pub use rounds::negotiate;

@@ -1,6 +1,5 @@
 -- Sinks that are joined one by one make a tree that leads to them.
-use Rattle.std.proofs.Common.{◌≡◌, ◌⊎◌, ℕ, zero, suc, ◌+◌, ◌≤◌, ◌<◌, Some, List, [], ◌∷◌, ◌++◌, length, map, get_or, slice_get, inl, inr, refl, sym, ap, ◌∙◌, subst, arith, add-one}
-use Rattle.std.specs.Prelude.{replicate}
+use Rattle.std.proofs.Common.{◌≡◌, ◌⊎◌, ℕ, zero, suc, ◌+◌, ◌≤◌, ◌<◌, Option, None, Some, List, [], ◌∷◌, ◌++◌, length, map, get_or, slice_get, inl, inr, refl, sym, ap, ◌∙◌, subst, arith, add-one}
 use Rattle.std.proofs.lemmas.Option.{same_Some, slice_get_within, slice_get-get_or}
 use Rattle.std.proofs.lemmas.List.{length_push, append_assoc, append-nil}
 use Rattle.ice_base.specs.declared.number.WireNo.{WireNo}
@@ -9,7 +8,6 @@ use Rattle.ice_graph.specs.declared.edge.Edge.{Edge}
 use Rattle.ice_graph.specs.declared.tree.Tree.{Tree}
 use Rattle.ice_graph.specs.Network.{Network}
 use Rattle.ice_core.specs.declared.net.Net.{Net}
-use Rattle.ice_core.specs.declared.prices.Prices.{Prices}
 use Rattle.ice_core.specs.Congestion.{price as price_of}
 use Rattle.ice_base_values.specs.Order.{At, Has}
 use Rattle.ice_base_values.proofs.Places.{At_push_cases, At_push_old, At_push_new}
@@ -17,9 +15,10 @@ use Rattle.ice_path.specs.Walks.{HasEdge, InTree, IsWalk}
 use Rattle.ice_path.proofs.Taking.{taken_cheapest}
 use Rattle.ice_path.proofs.Settling.{price_positive}
 use Rattle.ice_negotiate_defs.specs.Trees.{AreOnce, Route, bare, extended, AreJoined, IsTree, route_of}
-use Rattle.ice_negotiate_defs.specs.Rounds.{Past, AreRounds, IsRound, IsOneOf}
+use Rattle.ice_negotiate_defs.specs.Rounds.{Past, AreRoundsFrom, BeginsWith, IsRound, IsOneOf, MoveFirst}
 use Rattle.ice_negotiate_defs.proofs.Joining.{once_first, taken_once}
-use Rattle.ice_negotiate_defs.specs.Leading.{Grows, IsLeft, AreEnds, Leads}
+use Rattle.ice_negotiate_defs.proofs.Openings.{begun_kept, stays_kept}
+use Rattle.ice_negotiate_defs.specs.Leading.{Grows, IsLeft, AreEnds, Leads, OpeningLeads}
 
 wire_same : (v w : WireNo) → v.0 ≡ w.0 → v ≡ w
 wire_same v w e = λ i. record { 0 = e i }
@@ -154,39 +153,45 @@ trees_lead edges price root sinks route positive tree =
     only w zero at = inl (sym (same_Some root w at))
     only w (suc k) at = absurd (cc)
 
--- a net of any round has a tree in some prices
-abbrev Treed : Network → Net → Tree → Type 0
-Treed graph net tree = (p : Prices) × IsTree graph.edges (price_of p) net.root net.sinks.items (route_of tree)
+-- where the trees with which they began do, the trees of all rounds lead
+abbrev LeadsTo : Network → Net → Tree → Type 0
+LeadsTo graph net tree = Leads graph.edges net.root net.sinks.items (route_of tree)
 
 module _ (graph : Network) (nets : List Net) (n : ℕ) (net : Net) (at : slice_get nets n ≡ Some net) where
   -- a round gives a tree to each net that moves, and leaves that of each other
   after_round : (round : ℕ) (history counts : List ℕ) (moved : List NetNo) (old new : List Tree) (tree : Tree) → IsRound graph nets round history counts moved old new → slice_get new n ≡ Some tree
-      → ((before : Tree) → slice_get old n ≡ Some before → (IsOneOf moved n → ⊥) → Treed graph net before) → Treed graph net tree
+      → ((before : Tree) → slice_get old n ≡ Some before → (IsOneOf moved n → ⊥) → LeadsTo graph net before) → LeadsTo graph net tree
   after_round round history counts moved old new tree h here kept =
       let lt : n < length old = (let l = slice_get_within nets n net at in let o = h.olds in omega (arith, l, o)) in
       let before : Tree = get_or old n tree in
       let was = slice_get-get_or old n tree lt in
       elim (h.each n net before tree at was here) [
-        | inl m ↦ (m.1.prices, m.1.joined)
-        | inr k ↦ subst (Treed graph net) k.1 (kept before was k.0)
+        | inl m ↦ trees_lead graph.edges (price_of m.1.prices) net.root net.sinks.items (route_of tree) (price_positive m.1.prices) m.1.joined
+        | inr k ↦ subst (LeadsTo graph net) k.1 (kept before was k.0)
       ]
 
-  round_tree : (rounds : List Past) → AreRounds graph nets rounds → (k : ℕ) (one : Past) (tree : Tree) → slice_get rounds k ≡ Some one → slice_get one.trees n ≡ Some tree → Treed graph net tree
-  round_tree rounds h zero one tree here has =
+  -- what a net that stays in the first round begins with
+  begun_leads : (opening : Option (List (Option Tree))) (moved : List NetNo) (before : List Tree) (tree : Tree) → OpeningLeads graph nets opening → MoveFirst (length nets) opening moved → BeginsWith opening before → slice_get before n ≡ Some tree → (IsOneOf moved n → ⊥) → LeadsTo graph net tree
+  begun_leads None moved before tree leads moves begins here stays = absurd (stays (n, moves.each n (slice_get_within nets n net at)))
+  begun_leads (Some kept) moved before tree leads moves begins here stays =
+      let l = slice_get_within nets n net at in
+      let t = stays_kept kept n (omega (arith, l, moves.0)) (λ one. stays (subst (λ ms. IsOneOf ms n) (sym moves.1) one)) in
+      subst (λ r. Leads graph.edges net.root net.sinks.items r) (sym (begun_kept kept before n t.0 tree begins t.1 here)) (leads n net t.0 at t.1)
+
+  round_tree : (opening : Option (List (Option Tree))) (rounds : List Past) → OpeningLeads graph nets opening → AreRoundsFrom graph nets opening rounds → (k : ℕ) (one : Past) (tree : Tree) → slice_get rounds k ≡ Some one → slice_get one.trees n ≡ Some tree → LeadsTo graph net tree
+  round_tree opening rounds leads h zero one tree here has =
       let first = h.first one here in
-      after_round 1 one.history (replicate graph.wires 0) one.moved first.before one.trees tree first.done has
-      (λ before was none. absurd (none (n, first.all.each n (slice_get_within nets n net at))))
-  round_tree rounds h (suc k) one tree here has =
+      after_round 1 one.history first.counts one.moved first.before one.trees tree first.done has
+      (λ before was stays. begun_leads opening one.moved first.before before leads first.movers first.begins was stays)
+  round_tree opening rounds leads h (suc k) one tree here has =
       let lt : k < length rounds = (let l = slice_get_within rounds (suc k) one here in omega (arith, l)) in
       let earlier : Past = get_or rounds k one in
       let was = slice_get-get_or rounds k one lt in
       let next : slice_get rounds (k + 1) ≡ Some one = ap (λ j. slice_get rounds j) (add-one k) ∙ here in
       let follows = h.follow k earlier one was next in
       after_round one.round one.history earlier.counts one.moved earlier.trees one.trees tree follows.done has
-      (λ before is none. round_tree rounds h k earlier before was is)
+      (λ before is none. round_tree opening rounds leads h k earlier before was is)
 
-pub rounds_lead : (graph : Network) (nets : List Net) (rounds : List Past) → AreRounds graph nets rounds → (k n : ℕ) (one : Past) (net : Net) (tree : Tree)
+pub rounds_lead : (graph : Network) (nets : List Net) (opening : Option (List (Option Tree))) (rounds : List Past) → OpeningLeads graph nets opening → AreRoundsFrom graph nets opening rounds → (k n : ℕ) (one : Past) (net : Net) (tree : Tree)
     → slice_get rounds k ≡ Some one → slice_get nets n ≡ Some net → slice_get one.trees n ≡ Some tree → Leads graph.edges net.root net.sinks.items (route_of tree)
-rounds_lead graph nets rounds h k n one net tree here at has =
-    let t = round_tree graph nets n net at rounds h k one tree here has in
-    trees_lead graph.edges (price_of t.0) net.root net.sinks.items (route_of tree) (price_positive t.0) t.1
+rounds_lead graph nets opening rounds leads h k n one net tree here at has = round_tree graph nets n net at opening rounds leads h k one tree here has

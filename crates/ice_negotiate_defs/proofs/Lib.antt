@@ -3,5 +3,8 @@ pub mod Leaving
 pub mod Advancing
 pub mod Listing
 pub mod Rounding
+pub mod Openings
 pub mod Repeating
 pub mod Leading
+pub mod Unchanged
+pub mod Fitting

@@ -1,5 +1,5 @@
 -- Rounds of the same nets are the same.
-use Rattle.std.proofs.Common.{◌≡◌, ℕ, zero, suc, ◌+◌, ◌-◌, ◌*◌, ◌≤◌, ◌<◌, Bool, cond, List, [], ◌∷◌, ◌++◌, Some, length, take, replicate, slice_get, slice_index, refl, sym, ap, ◌∙◌, subst, arith, inl, inr}
+use Rattle.std.proofs.Common.{◌≡◌, ℕ, zero, suc, ◌+◌, ◌-◌, ◌*◌, ◌≤◌, ◌<◌, Bool, cond, List, [], ◌∷◌, ◌++◌, Option, None, Some, length, take, slice_get, slice_index, refl, sym, ap, ◌∙◌, subst, arith, inl, inr}
 use Rattle.std.proofs.Math.Path.{fun_ext}
 use Rattle.std.specs.List.{list_any}
 use Rattle.std.proofs.lemmas.Option.{slice_get_within}
@@ -15,26 +15,27 @@ use Rattle.ice_core.specs.Congestion.{price, next_history}
 use Rattle.ice_core.specs.Moves.{IsOccupancy, holds, stands_in, occupancy, place, leaves, moves, movers_from, movers_of}
 use Rattle.ice_words.specs.Grips.{Shut}
 use Rattle.ice_negotiate_defs.specs.Trees.{Route, route_of, bare, IsTree}
-use Rattle.ice_negotiate_defs.specs.Rounds.{Past, ArePricesOf, Moves, IsOneOf, IsRound, IsFirst, Follows, AreAll, AreRounds, IsUnreachable, AreReachedBefore}
-use Rattle.ice_negotiate_defs.specs.Logs.{AreRouted, AllEndOverused}
-use Rattle.ice_negotiate_defs.specs.Determined.{AreAlike, AreSame}
+use Rattle.ice_negotiate_defs.specs.Rounds.{Past, ArePricesOf, Moves, MoveFirst, IsOneOf, IsRound, IsFirstFrom, Follows, AreAll, AreRoundsFrom, BeginsWith, IsUnreachable, AreReachedBefore}
+use Rattle.ice_negotiate_defs.specs.Logs.{AreRoutedFrom, AllEndOverusedFrom}
+use Rattle.ice_negotiate_defs.specs.Determined.{AreAlike, AreSame, LeaveSame}
 use Rattle.ice_negotiate_defs.specs.declared.fault.Routed.{Routed}
 use Rattle.ice_negotiate_defs.proofs.Advancing.{beyond_end, within_or_not}
 use Rattle.ice_negotiate_defs.proofs.Joining.{joined_unique}
+use Rattle.ice_negotiate_defs.proofs.Openings.{begin_same, begun_kept, stays_kept}
 use Rattle.ice_negotiate_defs.proofs.Rounding.{some_same}
 
 -- ---- lists by their places
-net_at : (xs : List Net) (n : ℕ) → n < length xs → (x : Net) × (slice_get xs n ≡ Some x)
+pub net_at : (xs : List Net) (n : ℕ) → n < length xs → (x : Net) × (slice_get xs n ≡ Some x)
 net_at [] n lt = absurd (omega arith)
 net_at (x ∷ xs) zero lt = (x, refl)
 net_at (x ∷ xs) (suc n) lt = net_at xs n (omega arith)
 
-tree_at : (xs : List Tree) (n : ℕ) → n < length xs → (x : Tree) × (slice_get xs n ≡ Some x)
+pub tree_at : (xs : List Tree) (n : ℕ) → n < length xs → (x : Tree) × (slice_get xs n ≡ Some x)
 tree_at [] n lt = absurd (omega arith)
 tree_at (x ∷ xs) zero lt = (x, refl)
 tree_at (x ∷ xs) (suc n) lt = tree_at xs n (omega arith)
 
-past_at : (xs : List Past) (n : ℕ) → n < length xs → (x : Past) × (slice_get xs n ≡ Some x)
+pub past_at : (xs : List Past) (n : ℕ) → n < length xs → (x : Past) × (slice_get xs n ≡ Some x)
 past_at [] n lt = absurd (omega arith)
 past_at (x ∷ xs) zero lt = (x, refl)
 past_at (x ∷ xs) (suc n) lt = past_at xs n (omega arith)
@@ -67,19 +68,28 @@ wires_same a b e = ap (λ (r : Route). r.wires) e
 holds_same : (a b : Tree) (w : ℕ) → a.wires.items ≡ b.wires.items → holds w a ≡ holds w b
 holds_same a b w e = ap (λ ws. stands_in ws w) e
 
+-- the trees have the same wires, net by net
+record HaveSameWires (one other : List Tree) : Type 0 where
+  long : length one ≡ length other
+  each : (n : ℕ) (a b : Tree) → slice_get one n ≡ Some a → slice_get other n ≡ Some b → a.wires.items ≡ b.wires.items
+
+occupancy_by_wires : (one other : List Tree) (w : ℕ) → HaveSameWires one other → occupancy one w ≡ occupancy other w
+occupancy_by_wires [] [] w h = refl
+occupancy_by_wires [] (b ∷ other) w h = absurd (let long = h.long in omega arith)
+occupancy_by_wires (a ∷ one) [] w h = absurd (let long = h.long in omega arith)
+occupancy_by_wires (a ∷ one) (b ∷ other) w h =
+    let long = h.long in
+    let rest = occupancy_by_wires one other w (record { long = omega arith; each = λ n x y at to. h.each (suc n) x y at to }) in
+    let left : occupancy (a ∷ one) w ≡ cond (holds w a) 1 0 + occupancy one w = sum_by-cons (λ (y : Tree). cond (holds w y) 1 0) a one in
+    let right : occupancy (b ∷ other) w ≡ cond (holds w b) 1 0 + occupancy other w = sum_by-cons (λ (y : Tree). cond (holds w y) 1 0) b other in
+    let here : cond {A = ℕ} (holds w a) 1 0 ≡ cond {A = ℕ} (holds w b) 1 0 = ap (λ (c : Bool). cond {A = ℕ} c 1 0) (holds_same a b w (h.each 0 a b refl refl)) in
+    omega arith
+
 rest_alike : (a b : Tree) (one other : List Tree) → AreAlike (a ∷ one) (b ∷ other) → AreAlike one other
 rest_alike a b one other h = (let long = h.long in record { long = omega arith; each = λ n x y at to. h.each (suc n) x y at to })
 
 occupancy_same : (one other : List Tree) (w : ℕ) → AreAlike one other → occupancy one w ≡ occupancy other w
-occupancy_same [] [] w h = refl
-occupancy_same [] (b ∷ other) w h = absurd (let long = h.long in omega arith)
-occupancy_same (a ∷ one) [] w h = absurd (let long = h.long in omega arith)
-occupancy_same (a ∷ one) (b ∷ other) w h =
-    let rest = occupancy_same one other w (rest_alike a b one other h) in
-    let left : occupancy (a ∷ one) w ≡ cond (holds w a) 1 0 + occupancy one w = sum_by-cons (λ (y : Tree). cond (holds w y) 1 0) a one in
-    let right : occupancy (b ∷ other) w ≡ cond (holds w b) 1 0 + occupancy other w = sum_by-cons (λ (y : Tree). cond (holds w y) 1 0) b other in
-    let here : cond {A = ℕ} (holds w a) 1 0 ≡ cond {A = ℕ} (holds w b) 1 0 = ap (λ (c : Bool). cond {A = ℕ} c 1 0) (holds_same a b w (wires_same a b (h.each 0 a b refl refl))) in
-    omega arith
+occupancy_same one other w h = occupancy_by_wires one other w (record { long = h.long; each = λ n a b at to. wires_same a b (h.each n a b at to) })
 
 more_alike : (a b : Tree) (one other : List Tree) → route_of a ≡ route_of b → AreAlike one other → AreAlike (a ∷ one) (b ∷ other)
 more_alike a b one other same h = (let long = h.long in record { long = omega arith; each = at_place })
@@ -115,12 +125,15 @@ movers_from_same round all others n (a ∷ one) (b ∷ other) h k =
     ap (λ m. cond m (record { 0 = n } ∷ movers_from round all (n + 1) one) (movers_from round all (n + 1) one)) (moves_same round all others n a b h (k.each 0 a b refl refl))
     ∙ ap (λ rest. cond (moves round others n b) (record { 0 = n } ∷ rest) rest) (movers_from_same round all others (n + 1) one other h (rest_alike a b one other k))
 
-counts_same : (wires : ℕ) (one other : List ℕ) (trees others : List Tree) → length one ≡ wires → length other ≡ wires → IsOccupancy one trees → IsOccupancy other others → AreAlike trees others → one ≡ other
-counts_same wires one other trees others a b h k alike =
-    numbers_same one other (omega arith) (λ w lt. h.each w lt ∙ (occupancy_same trees others w alike ∙ sym (k.each w (omega arith))))
+counts_by_wires : (wires : ℕ) (one other : List ℕ) (trees others : List Tree) → length one ≡ wires → length other ≡ wires → IsOccupancy one trees → IsOccupancy other others → HaveSameWires trees others → one ≡ other
+counts_by_wires wires one other trees others a b h k same =
+    numbers_same one other (omega arith) (λ w lt. h.each w lt ∙ (occupancy_by_wires trees others w same ∙ sym (k.each w (omega arith))))
+
+pub counts_same : (wires : ℕ) (one other : List ℕ) (trees others : List Tree) → length one ≡ wires → length other ≡ wires → IsOccupancy one trees → IsOccupancy other others → AreAlike trees others → one ≡ other
+counts_same wires one other trees others a b h k alike = counts_by_wires wires one other trees others a b h k (record { long = alike.long; each = λ n x y at to. wires_same x y (alike.each n x y at to) })
 
 -- ---- one round
-prices_same : (round : ℕ) (history counts : List ℕ) (a b : Tree) (p q : Prices) → a.wires.items ≡ b.wires.items → ArePricesOf round history counts a p → ArePricesOf round history counts b q → price p ≡ price q
+pub prices_same : (round : ℕ) (history counts : List ℕ) (a b : Tree) (p q : Prices) → a.wires.items ≡ b.wires.items → ArePricesOf round history counts a p → ArePricesOf round history counts b q → price p ≡ price q
 prices_same round history counts a b p q same h k = fun_ext (λ w. at w)
   where
     others : (w : ℕ) → slice_index p.others.items w ≡ slice_index q.others.items w
@@ -185,14 +198,35 @@ round_as graph nets round round' history history' counts counts' moved moved' ol
     subst (λ x. IsRound graph nets round' history' counts' x old new) m (subst (λ x. IsRound graph nets round' history' x moved old new) c (subst (λ x. IsRound graph nets round' x counts moved old new) h (subst (λ x. IsRound graph nets x history counts moved old new) r is)))
 
 -- ---- all rounds
-first_same : (graph : Network) (nets : List Net) (one other : Past) → (length one.counts ≡ graph.wires) × IsOccupancy one.counts one.trees → (length other.counts ≡ graph.wires) × IsOccupancy other.counts other.trees
-    → IsFirst graph nets one → IsFirst graph nets other → AreSame one other
-first_same graph nets one other c d h k =
-    let moved : one.moved ≡ other.moved = all_same (length nets) one.moved other.moved h.all k.all in
+movers_first : (n : ℕ) (opening : Option (List (Option Tree))) (one other : List NetNo) → MoveFirst n opening one → MoveFirst n opening other → one ≡ other
+movers_first n None one other h k = all_same n one other h k
+movers_first n (Some kept) one other h k = h.1 ∙ sym k.1
+
+-- two lists of trees from which nets begin, where those that stay have the same routes
+begun_ready : (nets : ℕ) (opening : Option (List (Option Tree))) (moved : List NetNo) (before before' : List Tree) → length before ≡ nets → MoveFirst nets opening moved → BeginsWith opening before → BeginsWith opening before' → AreReady moved before before'
+begun_ready nets opening moved before before' olds moves one other = record {
+  held = λ n a b at to. begin_same opening before before' n a b one other at to;
+  kept = λ n a b stays at to. staying opening n a b moves one other stays at to;
+}
+  where
+    staying : (by : Option (List (Option Tree))) (n : ℕ) (a b : Tree) → MoveFirst nets by moved → BeginsWith by before → BeginsWith by before' → (IsOneOf moved n → ⊥) → slice_get before n ≡ Some a → slice_get before' n ≡ Some b → route_of a ≡ route_of b
+    staying None n a b moves h k stays at to = absurd (let lt = slice_get_within before n a at in stays (n, moves.each n (omega arith)))
+    staying (Some kept) n a b moves h k stays at to =
+        let lt = slice_get_within before n a at in
+        let long = moves.0 in
+        let t = stays_kept kept n (omega arith) (λ here. stays (subst (λ ms. IsOneOf ms n) (sym moves.1) here)) in
+        begun_kept kept before n t.0 a h t.1 at ∙ sym (begun_kept kept before' n t.0 b k t.1 to)
+
+first_same : (graph : Network) (nets : List Net) (opening : Option (List (Option Tree))) (one other : Past) → (length one.counts ≡ graph.wires) × IsOccupancy one.counts one.trees → (length other.counts ≡ graph.wires) × IsOccupancy other.counts other.trees
+    → IsFirstFrom graph nets opening one → IsFirstFrom graph nets opening other → AreSame one other
+first_same graph nets opening one other c d h k =
+    let moved : one.moved ≡ other.moved = movers_first (length nets) opening one.moved other.moved h.movers k.movers in
     let history : one.history ≡ other.history = h.fresh ∙ sym k.fresh in
-    let zeros = replicate graph.wires 0 in
-    let alike : AreAlike one.trees other.trees = round_alike graph nets 1 one.history zeros one.moved h.before k.before one.trees other.trees ready h.done
-    (round_as graph nets 1 1 other.history one.history zeros zeros other.moved one.moved k.before other.trees refl (sym history) refl (sym moved) k.done) in
+    let olds = h.done.olds in
+    let olds' = k.done.olds in
+    let counts : h.counts ≡ k.counts = counts_by_wires graph.wires h.counts k.counts h.before k.before h.long k.long h.occupied k.occupied (record { long = omega arith; each = λ n a b at to. begin_same opening h.before k.before n a b h.begins k.begins at to }) in
+    let alike : AreAlike one.trees other.trees = round_alike graph nets 1 one.history h.counts one.moved h.before k.before one.trees other.trees (begun_ready (length nets) opening one.moved h.before k.before olds h.movers h.begins k.begins) h.done
+    (round_as graph nets 1 1 other.history one.history k.counts h.counts other.moved one.moved k.before other.trees refl (sym history) (sym counts) (sym moved) k.done) in
     record {
       round = h.number ∙ sym k.number;
       history = history;
@@ -200,14 +234,11 @@ first_same graph nets one other c d h k =
       counts = counts_same graph.wires one.counts other.counts one.trees other.trees c.0 d.0 c.1 d.1 alike;
       routes = alike;
     }
-  where
-    ready : AreReady one.moved h.before k.before
-    ready = record {
-      held = λ n a b at to. h.bare n a at ∙ sym (k.bare n b to);
-      kept = λ n a b none at to. absurd (let olds = h.done.olds in let lt = slice_get_within h.before n a at in none (n, h.all.each n (omega arith)));
-    }
 
-next_same : (graph : Network) (nets : List Net) (one other next next' : Past) → AreSame one other → (length next.counts ≡ graph.wires) × IsOccupancy next.counts next.trees → (length next'.counts ≡ graph.wires) × IsOccupancy next'.counts next'.trees
+pub but_for_moved : (one other : Past) → AreSame one other → LeaveSame one other
+but_for_moved one other same = record { round = same.round; history = same.history; counts = same.counts; routes = same.routes }
+
+pub next_same : (graph : Network) (nets : List Net) (one other next next' : Past) → LeaveSame one other → (length next.counts ≡ graph.wires) × IsOccupancy next.counts next.trees → (length next'.counts ≡ graph.wires) × IsOccupancy next'.counts next'.trees
     → Follows graph nets one next → Follows graph nets other next' → AreSame next next'
 next_same graph nets one other next next' same c d h k =
     let round : next.round ≡ next'.round = h.number ∙ (ap (λ n. n + 1) same.round ∙ sym k.number) in
@@ -229,16 +260,16 @@ next_same graph nets one other next next' same c d h k =
       kept = λ n a b none at to. same.routes.each n a b at to;
     }
 
-pub rounds_same : (graph : Network) (nets : List Net) (rounds others : List Past) → AreRounds graph nets rounds → AreRounds graph nets others
+pub rounds_same : (graph : Network) (nets : List Net) (opening : Option (List (Option Tree))) (rounds others : List Past) → AreRoundsFrom graph nets opening rounds → AreRoundsFrom graph nets opening others
     → (k : ℕ) (one other : Past) → slice_get rounds k ≡ Some one → slice_get others k ≡ Some other → AreSame one other
-rounds_same graph nets rounds others h g zero one other at to = first_same graph nets one other (h.counted 0 one at) (g.counted 0 other to) (h.first one at) (g.first other to)
-rounds_same graph nets rounds others h g (suc k) one other at to =
+rounds_same graph nets opening rounds others h g zero one other at to = first_same graph nets opening one other (h.counted 0 one at) (g.counted 0 other to) (h.first one at) (g.first other to)
+rounds_same graph nets opening rounds others h g (suc k) one other at to =
     let lt = slice_get_within rounds (suc k) one at in
     let lt' = slice_get_within others (suc k) other to in
     let before = past_at rounds k (omega arith) in
     let before' = past_at others k (omega arith) in
     let one_more : suc k ≡ k + 1 = omega arith in
-    next_same graph nets before.0 before'.0 one other (rounds_same graph nets rounds others h g k before.0 before'.0 before.1 before'.1) (h.counted (suc k) one at) (g.counted (suc k) other to)
+    next_same graph nets before.0 before'.0 one other (but_for_moved before.0 before'.0 (rounds_same graph nets opening rounds others h g k before.0 before'.0 before.1 before'.1)) (h.counted (suc k) one at) (g.counted (suc k) other to)
     (h.follow k before.0 one before.1 (subst (λ n. slice_get rounds n ≡ Some one) one_more at)) (g.follow k before'.0 other before'.1 (subst (λ n. slice_get others n ≡ Some other) one_more to))
 
 -- ---- one answer
@@ -247,19 +278,19 @@ reached_all graph nets net sink reached s =
     let cause = s.cause in
     cause.4 (reached net.0 s.the_net (slice_get_within nets net.0 s.the_net s.at) s.at cause.0 cause.1 cause.2)
 
-last_at : (earlier : List Past) (last : Past) → slice_get (earlier ++ last ∷ []) (length earlier) ≡ Some last
+pub last_at : (earlier : List Past) (last : Past) → slice_get (earlier ++ last ∷ []) (length earlier) ≡ Some last
 last_at [] last = refl
 last_at (x ∷ earlier) last = last_at earlier last
 
-free_not_over : (one other : List ℕ) (w : ℕ) → one ≡ other → slice_index one w ≤ 1 → 1 < slice_index other w → ⊥
+pub free_not_over : (one other : List ℕ) (w : ℕ) → one ≡ other → slice_index one w ≤ 1 → 1 < slice_index other w → ⊥
 free_not_over one other w e le lt = (let same : slice_index one w ≡ slice_index other w = ap (λ xs. slice_index xs w) e in omega arith)
 
-pub routed_free : (graph : Network) (nets : List Net) (permitted : ℕ) (routed : Routed) (logs : List RoundLog) (tallies : List Shut) → AreRouted graph nets permitted routed → AllEndOverused graph nets permitted logs tallies → ⊥
-routed_free graph nets permitted routed logs tallies h k =
+pub routed_free : (graph : Network) (nets : List Net) (opening : Option (List (Option Tree))) (permitted : ℕ) (routed : Routed) (logs : List RoundLog) (tallies : List Shut) → AreRoutedFrom graph nets opening permitted routed → AllEndOverusedFrom graph nets opening permitted logs tallies → ⊥
+routed_free graph nets opening permitted routed logs tallies h k =
     let few = h.few in
     let all = k.all in
     let place = length h.earlier in
     let other = past_at k.past place (omega arith) in
-    let same = rounds_same graph nets (h.earlier ++ h.last ∷ []) k.past h.rounds k.rounds place h.last other.0 (last_at h.earlier h.last) other.1 in
+    let same = rounds_same graph nets opening (h.earlier ++ h.last ∷ []) k.past h.rounds k.rounds place h.last other.0 (last_at h.earlier h.last) other.1 in
     let over = k.overused place other.0 other.1 in
     free_not_over h.last.counts other.0.counts over.0 same.counts (h.free over.0) over.1

@@ -4,3 +4,4 @@ pub mod Tallies
 pub mod Logs
 pub mod Determined
 pub mod Leading
+pub mod Fitting

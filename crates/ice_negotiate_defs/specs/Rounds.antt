@@ -1,5 +1,5 @@
 -- Rounds of negotiated congestion: in each the nets that move get new trees, in the prices of the moment at which it began.
-use Rattle.std.specs.Prelude.{◌≡◌, ℕ, ◌+◌, ◌-◌, ◌*◌, ◌<◌, ◌≤◌, ◌⊎◌, List, [], Some, cond, length, replicate, slice_get, slice_index}
+use Rattle.std.specs.Prelude.{◌≡◌, ℕ, ◌+◌, ◌-◌, ◌*◌, ◌<◌, ◌≤◌, ◌⊎◌, List, [], ◌∷◌, Option, None, Some, cond, length, replicate, slice_get, slice_index}
 use Rattle.ice_base.specs.declared.number.WireNo.{WireNo}
 use Rattle.ice_base.specs.declared.number.NetNo.{NetNo}
 use Rattle.ice_graph.specs.declared.tree.Tree.{Tree}
@@ -76,20 +76,55 @@ pub record AreAll (n : ℕ) (moved : List NetNo) : Type 0 where
   pub long : length moved ≡ n
   pub each : (k : ℕ) → k < n → slice_get moved k ≡ Some (record { 0 = k })
 
--- the first round: all nets move from trees without wires, and no wire has a history
-pub record IsFirst (graph : Network) (nets : List Net) (one : Past) : Type 0 where
+-- ---- rounds may begin from an opening: for each net the tree that it keeps, if it keeps one
+-- what a net begins with
+abbrev pub IsBegun : Option (Option Tree) → Tree → Type 0
+IsBegun None tree = tree.wires.items ≡ []
+IsBegun (Some None) tree = tree.wires.items ≡ []
+IsBegun (Some (Some kept)) tree = route_of tree ≡ route_of kept
+
+-- what all nets begin with, a tree each: without an opening trees that hold no wire
+abbrev pub BeginsWith : Option (List (Option Tree)) → List Tree → Type 0
+BeginsWith None before = AreBare before
+BeginsWith (Some kept) before = (length before ≡ length kept) × ((n : ℕ) (tree : Tree) → slice_get before n ≡ Some tree → IsBegun (slice_get kept n) tree)
+
+-- the nets that keep no tree, and those that keep one, from the number n on
+abbrev pub left_from : ℕ → List (Option Tree) → List NetNo
+left_from n [] = []
+left_from n (None ∷ kept) = record { 0 = n } ∷ left_from (n + 1) kept
+left_from n (Some tree ∷ kept) = left_from (n + 1) kept
+
+abbrev pub kept_from : ℕ → List (Option Tree) → List NetNo
+kept_from n [] = []
+kept_from n (None ∷ kept) = kept_from (n + 1) kept
+kept_from n (Some tree ∷ kept) = record { 0 = n } ∷ kept_from (n + 1) kept
+
+-- the nets that move in the first round, of so many: all of them, or those that keep no tree
+abbrev pub MoveFirst : ℕ → Option (List (Option Tree)) → List NetNo → Type 0
+MoveFirst n None moved = AreAll n moved
+MoveFirst n (Some kept) moved = (length kept ≡ n) × (moved ≡ left_from 0 kept)
+
+-- the first round: nets move from trees without wires, and no wire has a history
+pub record IsFirstFrom (graph : Network) (nets : List Net) (opening : Option (List (Option Tree))) (one : Past) : Type 0 where
   pub before : List Tree
-  pub bare : AreBare before
+  pub begins : BeginsWith opening before
+  pub counts : List ℕ
+  pub long : length counts ≡ graph.wires
+  pub occupied : IsOccupancy counts before
   pub number : one.round ≡ 1
   pub fresh : one.history ≡ replicate graph.wires 0
-  pub all : AreAll (length nets) one.moved
-  pub done : IsRound graph nets 1 one.history (replicate graph.wires 0) one.moved before one.trees
+  pub movers : MoveFirst (length nets) opening one.moved
+  pub done : IsRound graph nets 1 one.history counts one.moved before one.trees
 
 -- the rounds of these nets in order, from the first
-pub record AreRounds (graph : Network) (nets : List Net) (rounds : List Past) : Type 0 where
-  pub first : (one : Past) → slice_get rounds 0 ≡ Some one → IsFirst graph nets one
+pub record AreRoundsFrom (graph : Network) (nets : List Net) (opening : Option (List (Option Tree))) (rounds : List Past) : Type 0 where
+  pub first : (one : Past) → slice_get rounds 0 ≡ Some one → IsFirstFrom graph nets opening one
   pub follow : (k : ℕ) (one next : Past) → slice_get rounds k ≡ Some one → slice_get rounds (k + 1) ≡ Some next → Follows graph nets one next
   pub counted : (k : ℕ) (one : Past) → slice_get rounds k ≡ Some one → (length one.counts ≡ graph.wires) × IsOccupancy one.counts one.trees
+
+-- the rounds without an opening
+abbrev pub AreRounds : Network → List Net → List Past → Type 0
+AreRounds graph nets rounds = AreRoundsFrom graph nets None rounds
 
 -- each of these rounds ends with an overused wire
 abbrev pub AreOverused : List Past → Type 0

@@ -3,10 +3,12 @@
 #![tactic(auto)]
 
 mod fault;
+mod kept;
 pub mod laws;
 mod stop;
 mod tree;
 
 pub use fault::{RouteFault, Routed};
+pub use kept::Kept;
 pub use stop::TreeStop;
 pub use tree::tree_of;

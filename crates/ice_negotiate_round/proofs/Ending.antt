@@ -142,8 +142,9 @@ module _ (graph : Network) (r : RoundPrices) (nets : List Net) (trees : List Tre
       map_sum g (λ (t : Tree). numbers t.wires.items) news
       ∙ sums_same (λ (t : Tree). g (numbers t.wires.items)) (λ (number : NetNo). g (wires_in (placed trees moved news) number)) news moved long (λ k tree number there at. ap g (sym (tree_at (placed trees moved news) number.0 tree (here k number at ∙ there))))
 
-  pub is_tally : IsTally moved trees (placed trees moved news) shut
+  pub is_tally : IsTally graph.wires moved trees (placed trees moved news) shut
   is_tally = record {
+    all = ap length is.opened ∙ bounded.counted;
     long = ap length is.opened ∙ sym is.long;
     opened = subst (λ counts. IsOccupancy counts trees) (sym is.opened) occupied;
     closed = closed_is;

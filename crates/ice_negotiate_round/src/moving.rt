@@ -88,7 +88,7 @@ pub fn play<G: Gate + Sync, R: Threads + Sync>(
     ensures apart { OnOk result (HoldOnce trees.new) }
     ensures reached { OnOk result (AreMoversReached graph.now nets.now moved.now (length moved.now)) }
     ensures opened { IfOk result (λ round. round.counts.opened ≡ prices.now.counts.items) }
-    ensures tally { IfOk result (λ round. IsTally moved.now trees.old trees.new round.counts) }
+    ensures tally { IfOk result (λ round. IsTally graph.now.wires moved.now trees.old trees.new round.counts) }
     ensures many { IfOk result (λ round. vec_len round.kits ≡ vec_len kits) }
     ensures kits { IfOk result (λ round. All (IsKitOf graph.now) round.kits.items) }
     ensures stop { IfErr result (IsStop graph.now nets.now moved.now) }

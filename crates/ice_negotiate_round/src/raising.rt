@@ -6,10 +6,10 @@ ghost use Rattle.ice_words_histories.specs.Rule.{AreHistories};
 ghost use Rattle.ice_negotiate_round.specs.Raising.{AreJoined, HasFinished, IsIdle, history_main};
 
 use ice_base::{NoMemory, WireNo};
-use ice_words_histories::{Histories, HistoryHand, HistoryWords};
-use ice_worker_raise::laws::histories_are_raised_by_overuse;
 use ice_words::Counts;
+use ice_words_histories::{Histories, HistoryHand, HistoryWords};
 use ice_worker::raise_blocks;
+use ice_worker_raise::laws::histories_are_raised_by_overuse;
 use std::alloc::Global;
 use std::thread;
 use std::thread::Threads;

@@ -71,6 +71,8 @@ fn expect_two(rt: &impl Abort, alloc: Global) -> Result<(), NoMemory> {
     expect_closed(rt, &counts);
     let tally = counts.tally();
     assert!(rt; tally.claims() == 2 && tally.releases() == 0 && tally.holds() == 2);
+    let wire = (tally.opened(WireNo(2)), tally.closed(WireNo(2)));
+    assert!(rt; wire == (0, 2), "{wire:?}");
     Ok(())
 }
 

@@ -60,14 +60,14 @@ first_opening = record {
     once (suc zero) w = omega arith
     once (suc (suc t)) w = omega arith
 
--- ---- the second round: the net that moves holds the wires 0, 2 and 5, and the other one 1, 2 and 6
-second_opening : IsOpening ((0 ∷ 2 ∷ 5 ∷ []) ∷ []) (1 ∷ 1 ∷ 2 ∷ 0 ∷ 0 ∷ 1 ∷ 1 ∷ [])
-second_opening = record {
+-- ---- the second round: the net that moves holds the wires 0, 2 and 5, the other one 1, 2 and 6, and so many others wire 3
+second_opening : (third : ℕ) → third ≤ 2 → IsOpening ((0 ∷ 2 ∷ 5 ∷ []) ∷ []) (1 ∷ 1 ∷ 2 ∷ third ∷ 0 ∷ 1 ∷ 1 ∷ [])
+second_opening third le = record {
   tasks = omega arith;
   wires = omega arith;
   within = within;
   once = once;
-  few = λ w lt. (let le = low_at 2 (1 ∷ 1 ∷ 2 ∷ 0 ∷ 0 ∷ 1 ∷ 1 ∷ []) (omega arith, (omega arith, (omega arith, (omega arith, (omega arith, (omega arith, (omega arith, tt))))))) w in omega arith);
+  few = λ w lt. (let low = low_at 2 (1 ∷ 1 ∷ 2 ∷ third ∷ 0 ∷ 1 ∷ 1 ∷ []) (omega arith, (omega arith, (omega arith, (le, (omega arith, (omega arith, (omega arith, tt))))))) w in omega (arith, low));
   counted = counted;
 }
   where
@@ -93,7 +93,7 @@ second_opening = record {
     once zero w = held w
     once (suc t) w = omega arith
 
-    counted : (w : ℕ) → w < 7 → sum_below 1 (λ t. times w (wires_of ((0 ∷ 2 ∷ 5 ∷ []) ∷ []) t)) ≤ slice_index (1 ∷ 1 ∷ 2 ∷ 0 ∷ 0 ∷ 1 ∷ 1 ∷ []) w
+    counted : (w : ℕ) → w < 7 → sum_below 1 (λ t. times w (wires_of ((0 ∷ 2 ∷ 5 ∷ []) ∷ []) t)) ≤ slice_index (1 ∷ 1 ∷ 2 ∷ third ∷ 0 ∷ 1 ∷ 1 ∷ []) w
     counted zero lt = omega arith
     counted (suc zero) lt = omega arith
     counted (suc (suc zero)) lt = omega arith
@@ -123,11 +123,11 @@ first_ready graph r t u wires round history counts t_of u_of t_old u_old =
 abbrev wire : ℕ → WireNo
 wire n = record { 0 = n }
 
-pub second_ready : (graph : Network) (r : RoundPrices) (t : Task) → graph.wires ≡ 7 → r.round ≡ 2 → r.history.items ≡ 0 ∷ 0 ∷ 1 ∷ 0 ∷ 0 ∷ 0 ∷ 0 ∷ [] → r.counts.items ≡ 1 ∷ 1 ∷ 2 ∷ 0 ∷ 0 ∷ 1 ∷ 1 ∷ []
+pub second_ready : (graph : Network) (third : ℕ) (r : RoundPrices) (t : Task) → third ≤ 2 → graph.wires ≡ 7 → r.round ≡ 2 → r.history.items ≡ 0 ∷ 0 ∷ 1 ∷ 0 ∷ 0 ∷ 0 ∷ 0 ∷ [] → r.counts.items ≡ 1 ∷ 1 ∷ 2 ∷ third ∷ 0 ∷ 1 ∷ 1 ∷ []
     → IsTaskOf graph t → t.old.items ≡ wire 0 ∷ wire 2 ∷ wire 5 ∷ [] → AreReady graph r (t ∷ [])
-second_ready graph r t wires round history counts t_of t_old =
+second_ready graph third r t le wires round history counts t_of t_old =
     let past : (w : ℕ) → slice_index r.history.items w ≤ 1 = λ w. omega (arith, ap (λ xs. slice_index xs w) history, low_at 1 (0 ∷ 0 ∷ 1 ∷ 0 ∷ 0 ∷ 0 ∷ 0 ∷ []) (omega arith, (omega arith, (omega arith, (omega arith, (omega arith, (omega arith, (omega arith, tt))))))) w) in
-    let low : (w : ℕ) → slice_index r.counts.items w ≤ 2 = λ w. omega (arith, ap (λ xs. slice_index xs w) counts, low_at 2 (1 ∷ 1 ∷ 2 ∷ 0 ∷ 0 ∷ 1 ∷ 1 ∷ []) (omega arith, (omega arith, (omega arith, (omega arith, (omega arith, (omega arith, (omega arith, tt))))))) w) in
+    let low : (w : ℕ) → slice_index r.counts.items w ≤ 2 = λ w. omega (arith, ap (λ xs. slice_index xs w) counts, low_at 2 (1 ∷ 1 ∷ 2 ∷ third ∷ 0 ∷ 1 ∷ 1 ∷ []) (omega arith, (omega arith, (omega arith, (le, (omega arith, (omega arith, (omega arith, tt))))))) w) in
     let long : length r.history.items ≡ 7 = ap length history in
     let many : length r.counts.items ≡ 7 = ap length counts in
     let first : numbers t.old.items ≡ 0 ∷ 2 ∷ 5 ∷ [] = ap numbers t_old in
@@ -135,7 +135,7 @@ second_ready graph r t wires round history counts t_of t_old =
     record {
       histories = long ∙ sym wires;
       counts = many ∙ sym wires;
-      opening = subst (λ os. IsOpening os r.counts.items) (sym olds) (subst (IsOpening ((0 ∷ 2 ∷ 5 ∷ []) ∷ [])) (sym counts) second_opening);
+      opening = subst (λ os. IsOpening os r.counts.items) (sym olds) (subst (IsOpening ((0 ∷ 2 ∷ 5 ∷ []) ∷ [])) (sym counts) (second_opening third le));
       wires = All-from_recursion (IsTaskOf graph) (t ∷ []) (t_of, tt);
       bounded = All-from_recursion (KeepsBounds r) (t ∷ []) (bounds r t (omega (arith, round)) (omega (arith, round)) long many past low, tt);
     }

@@ -5,7 +5,7 @@ ghost use Rattle.ice_tests_workers.specs.Hands.{AreReady, AreStarted, IsFreshOf,
 
 use crate::tasks::{first_round, second_round};
 use ice_core::{RoundPrices, Task};
-use ice_desk::{Gate, MeetGate};
+use ice_desk::{Gate, MeetGate, OpenGate};
 use ice_graph::Graph;
 use ice_tests_small_graphs::{TWO_WAYS, graph_of};
 use ice_words::{Counts, Hand, Words};
@@ -103,9 +103,20 @@ fn overuse_comes_in_one_round_and_goes_in_the_next(rt: HostRuntime) {
     let counts = counts_behind(&rt, alloc, &graph, &first.prices, &first.tasks, &gate);
     expect_counts(&rt, &counts, &[1, 1, 2, 0, 0, 1, 1], (1, 0));
     expect_over(&rt, &counts, 1);
-    let second = second_round(&rt, alloc, &graph);
+    let second = second_round(&rt, alloc, &graph, 0);
     let counts = counts_behind(&rt, alloc, &graph, &second.prices, &second.tasks, &gate);
     expect_counts(&rt, &counts, &[1, 1, 1, 1, 1, 1, 1], (0, 1));
     expect_over(&rt, &counts, 0);
     assert!(rt; gate.met() && gate.passes() == 3);
+}
+
+// One overuse goes and another comes: what is posted are both numbers, and not their difference.
+#[test]
+fn overuse_goes_and_comes_in_one_round(rt: HostRuntime) {
+    let alloc = rt.alloc();
+    let graph = graph_of(alloc, 7, TWO_WAYS).expect(&rt, "a graph");
+    let round = second_round(&rt, alloc, &graph, 1);
+    let counts = counts_behind(&rt, alloc, &graph, &round.prices, &round.tasks, &OpenGate);
+    expect_counts(&rt, &counts, &[1, 1, 1, 2, 1, 1, 1], (1, 1));
+    expect_over(&rt, &counts, 1);
 }

@@ -1,5 +1,5 @@
 //! The two rounds of two nets over one short wire: from the wires 0 and 1 to 5 and 6, over wire 2, or over 3 and 4.
-ghost use Rattle.std.specs.Prelude.{◌≡◌, ◌<◌, ◌∷◌, [], map};
+ghost use Rattle.std.specs.Prelude.{◌≡◌, ◌<◌, ◌≤◌, ◌∷◌, [], map};
 ghost use Rattle.ice_worker.specs.Tasks.{IsTaskOf};
 ghost use Rattle.ice_tests_workers.specs.Hands.{AreReady};
 
@@ -73,12 +73,14 @@ pub fn first_round(rt: &impl Abort, alloc: Global, graph: &Graph) -> Play
     Play { prices, tasks }
 }
 
-/// The second round: both nets hold wire 2, and the first one moves.
-pub fn second_round(rt: &impl Abort, alloc: Global, graph: &Graph) -> Play
-    requires { graph.now.wires ≡ 7 }
+/// The second round: both nets hold wire 2, so many others wire 3, and the first one moves.
+pub fn second_round(rt: &impl Abort, alloc: Global, graph: &Graph, third: u32) -> Play
+    requires wires { graph.now.wires ≡ 7 }
+    requires third { third ≤ 2 }
     ensures { AreReady graph.now result.prices result.tasks.items }
 {
-    let prices = prices_of(rt, alloc, 2, &[0, 0, 1, 0, 0, 0, 0], &[1, 1, 2, 0, 0, 1, 1]);
+    let counts = [1, 1, 2, third, 0, 1, 1];
+    let prices = prices_of(rt, alloc, 2, &[0, 0, 1, 0, 0, 0, 0], &counts);
     let one = task_to(
         rt,
         alloc,

@@ -1,6 +1,6 @@
 -- The rule is kept by each step.
-use Rattle.std.proofs.Common.{◌≡◌, ◌≢◌, ℕ, zero, suc, ◌+◌, ◌-◌, ◌*◌, ◌%◌, ◌^◌, ◌≤◌, ◌<◌, List, [], ◌∷◌, ◌++◌, length, set, cond, Bool, true, false, true≢false, inl, inr, get_or-set_same, get_or-set_other, length-set, length-append, length-drop, append_assoc, append-nil, slice_index, slice_set, slice_get, Some, drop, min, refl, sym, ap, ◌∙◌, subst, arith}
-use mathlib.Core.Option.{some, some-ne-none}
+use Rattle.std.proofs.Common.{◌≡◌, ◌≢◌, ℕ, suc, ◌+◌, ◌-◌, ◌*◌, ◌%◌, ◌^◌, ◌≤◌, ◌<◌, List, [], ◌∷◌, ◌++◌, length, set, cond, Bool, true, false, true≢false, inl, inr, get_or-set_same, get_or-set_other, length-set, length-append, length-drop, append_assoc, append-nil, slice_index, slice_set, slice_get, Some, drop, min, refl, sym, ap, ◌∙◌, subst, arith}
+use mathlib.Core.Option.{some}
 use lib.ListN.{get_elem?}
 use Rattle.std.proofs.lemmas.Bool.{cases_eq, cases_lt}
 use Rattle.std.proofs.lemmas.List.{get_or-drop}
@@ -10,38 +10,38 @@ use Rattle.std.proofs.Math.Nat.{mod-eq_of_lt, add-mod_left}
 use Rattle.std.proofs.lemmas.List.Sums.{sum_by-append, sum_by_push, sum_by-cons}
 use Rattle.std.specs.List.{sum_by, AllByRecursion}
 use Rattle.atomic_table.specs.Table.{State, Seen}
+use Rattle.ice_words_hands.specs.Standing.{joined_standing}
+use Rattle.ice_words_hands.proofs.Lists.{set_at, set_same}
+use Rattle.ice_words_hands.proofs.Parts.{own_and_rest, own_at_most, own_length, own_sum, own_total}
+use Rattle.ice_words_hands.proofs.Draws.{draws_next, draws_none, draws_past, drawn_below}
+use Rattle.ice_words_hands.proofs.Seated.{alone_in, few_in, seated_first, seated_join, seated_split, seated_step}
 use Rattle.ice_words.specs.declared.view.Claim.{Claim}
 use Rattle.ice_words.specs.declared.view.Part.{Part}
 use Rattle.ice_words.specs.declared.view.View.{View}
 use Rattle.ice_core.specs.Routes.{times, overuse, sum_below, wires_of, IsOpening}
-use Rattle.ice_words.specs.Views.{with_numbers, released_at, held_at, posted_up, posted_down, total_in, total, total_of, one, task_by, released_on, held_on, releases_of, holds_of, ends_of, ends, claim_of, no_part, newest_changed, with_released, with_held, claiming, ending, releasing, holding, own_changed, with_own, first_part, own, first_view, worker_view, with_worker, with_parts, spent_view}
+use Rattle.ice_words.specs.Views.{with_numbers, released_at, held_at, posted_up, posted_down, total_in, total, total_of, one, task_by, released_on, held_on, releases_of, holds_of, ends_of, ends, claim_of, no_part, newest_changed, with_released, with_held, claiming, ending, releasing, holding, own_changed, with_own, own, first_view, worker_view, with_worker, with_parts, spent_view, standing_of}
 use Rattle.ice_words.specs.Rule.{IsReleased, IsClaim, AreBefore, AreInOrder, IsNewestReleased, IsAfter, IsPart, IsView, Holds, Draws, AreFew, Looks, IsClosing, IsPosted, MayRelease, MayHold}
-use Rattle.ice_core.proofs.Sums.{sum_set, sum_index_set, sum_at, each_set, each_at, each_any, each_append, sum_add, sum_of_ones, sum_at_most, below_ones, below_upto, is_at, at_itself, at_other, below_of, times_push, times_append, once_short}
+use Rattle.ice_core.proofs.Sums.{sum_set, sum_index_set, sum_at, each_set, each_at, each_append, sum_at_most, below_ones, below_upto, is_at, at_itself, at_other, times_push, times_append, once_short}
 
 -- ---- one hand's own part changes
-own_sum : (h : Part → ℕ) (f : Part → Part) (p : Part) (ps : List Part) → sum_by h (own_changed f (p ∷ ps)) + h p ≡ sum_by h (p ∷ ps) + h (f p)
-own_sum h f p ps = rw (sum_by-cons h (f p) ps, sum_by-cons h p ps) (omega arith)
+same_standing : (f : Part → Part) (up down : ℕ) (v : View) → standing_of (with_numbers up down (with_own f v)) ≡ standing_of v
+same_standing f up down v = ap (λ n. record { main = v.main; worker = v.worker; out = v.out; splits = v.splits; parts = n }) (own_length f v.parts)
 
-own_part : (h : Part → ℕ) (f : Part → Part) (v : View) (p : Part) (ps : List Part) → v.parts ≡ p ∷ ps → sum_by h (own_changed f v.parts) + h p ≡ sum_by h v.parts + h (f p)
-own_part h f v p ps is = rw is (own_sum h f p ps)
+own_all : (k : Part → ℕ) (f : Part → Part) (up down : ℕ) (views : List View) (id : ℕ) (v : View) → get_elem? views id ≡ some v → 1 ≤ length v.parts
+    → sum_by (λ (u : View). sum_by k u.parts) (set views id (with_numbers up down (with_own f v))) + k (own v) ≡ sum_by (λ (u : View). sum_by k u.parts) views + k (f (own v))
+own_all k f up down views id v at some_part = own_total (λ (u : View). u.parts) k no_part f views id v (with_numbers up down (with_own f v)) at some_part refl
 
-own_total : (h : Part → ℕ) (f : Part → Part) (up down : ℕ) (views : List View) (id : ℕ) (v : View) (p : Part) (ps : List Part) → get_elem? views id ≡ some v → v.parts ≡ p ∷ ps
-    → sum_by (λ (u : View). sum_by h u.parts) (set views id (with_numbers up down (with_own f v))) + h p ≡ sum_by (λ (u : View). sum_by h u.parts) views + h (f p)
-own_total h f up down views id v p ps at is = omega (arith, sum_set (λ (u : View). sum_by h u.parts) views id v (with_numbers up down (with_own f v)) at, own_part h f v p ps is)
+own_part : (olds : List (List ℕ)) (wires : ℕ) (v : View) → 1 ≤ length v.parts → AllByRecursion (IsPart olds wires) v.parts → IsPart olds wires (own v) × AllByRecursion (IsPart olds wires) (drop 1 v.parts)
+own_part olds wires v some_part each = subst (AllByRecursion (IsPart olds wires)) (own_and_rest no_part v.parts some_part) each
 
-own_view : (olds : List (List ℕ)) (counts : List ℕ) (f : Part → Part) (up down : ℕ) (v : View) (p : Part) (ps : List Part) → v.parts ≡ p ∷ ps → IsView olds counts v → IsPart olds (length counts) (f p) → up ≤ total holds_of (with_own f v) → down ≤ total releases_of (with_own f v)
+own_view : (olds : List (List ℕ)) (counts : List ℕ) (f : Part → Part) (up down : ℕ) (v : View) → 1 ≤ length v.parts → IsView olds counts v → IsPart olds (length counts) (f (own v)) → up ≤ total holds_of (with_own f v) → down ≤ total releases_of (with_own f v)
     → IsView olds counts (with_numbers up down (with_own f v))
-own_view olds counts f up down v p ps is view new ups downs =
-    let parts : AllByRecursion (IsPart olds (length counts)) (p ∷ ps) = subst (AllByRecursion (IsPart olds (length counts))) is view.parts in
-    record {
-      many = rw is (omega (arith, view.many, ap length is));
-      few = view.few;
-      fits = view.fits;
-      same = view.same;
-      ups = ups;
-      downs = downs;
-      parts = rw is (new, parts.1);
-    }
+own_view olds counts f up down v some_part view new ups downs = record {
+  same = view.same;
+  ups = ups;
+  downs = downs;
+  parts = subst (λ (ps : List Part). AllByRecursion (IsPart olds (length counts)) (own_changed f ps)) (sym (own_and_rest no_part v.parts some_part)) (new, (own_part olds (length counts) v some_part view.parts).1);
+}
 
 -- the words, the own part p with the numbers up and down before a step, and the part q with its numbers after it fit together
 pub record Fits (olds : List (List ℕ)) (counts words old : List ℕ) (p q : Part) (up down up' down' : ℕ) : Type 0 where
@@ -55,23 +55,21 @@ pub record Fits (olds : List (List ℕ)) (counts words old : List ℕ) (p q : Pa
   pub ups : (up' + total_in holds_of p ≤ up + total_in holds_of q) × (slice_index words 1 + up' + total_in holds_of p ≤ slice_index old 1 + up + total_in holds_of q)
   pub downs : (down' + total_in releases_of p ≤ down + total_in releases_of q) × (slice_index words 2 + down' + total_in releases_of p ≤ slice_index old 2 + down + total_in releases_of q)
 
-pub own_step : (olds : List (List ℕ)) (counts words : List ℕ) (s : State ℕ View) (id : ℕ) (f : Part → Part) (up down : ℕ) (v : View) (p : Part) (ps : List Part)
-    → Holds olds counts s → get_elem? s.views id ≡ some v → v.parts ≡ p ∷ ps → Fits olds counts words s.words p (f p) v.up v.down up down
+pub own_step : (olds : List (List ℕ)) (counts words : List ℕ) (s : State ℕ View) (id : ℕ) (f : Part → Part) (up down : ℕ) (v : View)
+    → Holds olds counts s → get_elem? s.views id ≡ some v → 1 ≤ length v.parts → Fits olds counts words s.words (own v) (f (own v)) v.up v.down up down
     → Holds olds counts (record { words = words; homes = s.homes; views = slice_set s.views id (with_numbers up down (with_own f v)) })
-own_step olds counts words s id f up down v p ps h at is fits =
-    let change = λ (k : Part → ℕ). own_total k f up down s.views id v p ps at is in
+own_step olds counts words s id f up down v h at some_part fits =
+    let change = λ (k : Part → ℕ). own_all k f up down s.views id v at some_part in
+    let here = λ (k : Part → ℕ). own_sum k no_part f v.parts some_part in
     let same = λ (k : View → ℕ). sum_set k s.views id v (with_numbers up down (with_own f v)) at in
     let old = each_at (IsView olds counts) s.views id v h.views at in
-    let old_part : IsPart olds (length counts) p = (let parts : AllByRecursion (IsPart olds (length counts)) (p ∷ ps) = subst (AllByRecursion (IsPart olds (length counts))) is old.parts in parts.0) in
-    let ups : up ≤ total holds_of (with_own f v) = omega (arith, old.ups, fits.ups.0, own_part (total_in holds_of) f v p ps is) in
-    let downs : down ≤ total releases_of (with_own f v) = omega (arith, old.downs, fits.downs.0, own_part (total_in releases_of) f v p ps is) in
+    let ups : up ≤ total holds_of (with_own f v) = omega (arith, old.ups, fits.ups.0, here (total_in holds_of)) in
+    let downs : down ≤ total releases_of (with_own f v) = omega (arith, old.downs, fits.downs.0, here (total_in releases_of)) in
     record {
       opening = h.opening;
       words = fits.long ∙ h.words;
-      mains = omega (arith, same (λ u. u.main), h.mains);
-      opens = omega (arith, same (λ u. u.out), same (λ u. u.worker), h.opens);
-      splits = omega (arith, same (λ u. u.splits), length-set s.views id (with_numbers up down (with_own f v)), h.splits);
-      views = each_set (IsView olds counts) s.views id _ h.views (own_view olds counts f up down v p ps is old (fits.part old_part) ups downs);
+      seated = seated_step standing_of spent_view refl s.views id v (with_numbers up down (with_own f v)) h.seated at (same_standing f up down v);
+      views = each_set (IsView olds counts) s.views id _ h.views (own_view olds counts f up down v some_part old (fits.part (own_part olds (length counts) v some_part old.parts).0) ups downs);
       draws = λ g. omega (arith, change (total_in (task_by g)), fits.draws g, h.draws g);
       drawn = omega (arith, change (total_in one), change ends_of, fits.drawn, h.drawn);
       wires = λ w lt. omega (arith, change (total_in (released_on w)), change (total_in (held_on w)), fits.wires w lt, h.wires w lt);
@@ -81,9 +79,6 @@ own_step olds counts words s id f up down v p ps h at is fits =
     }
 
 -- ---- how much is counted at most
-in_own : (g : Claim → ℕ) (v : View) (p : Part) (ps : List Part) → v.parts ≡ p ∷ ps → total_in g p ≤ total g v
-in_own g v p ps is = let e : sum_by (total_in g) v.parts ≡ total_in g p + sum_by (total_in g) ps = rw is (sum_by-cons (total_in g) p ps) in omega (arith, e)
-
 in_all : (g : Claim → ℕ) (views : List View) (id : ℕ) (v : View) → get_elem? views id ≡ some v → total g v ≤ total_of g views
 in_all g views id v at = sum_at (total g) views id v at
 
@@ -98,25 +93,17 @@ all_at_most olds counts g k c bound views each = sum_at_most (IsView olds counts
 pub few_claims : (olds : List (List ℕ)) (counts : List ℕ) (s : State ℕ View) → Holds olds counts s → total_of one s.views ≤ length olds
 few_claims olds counts s h = omega (arith, h.draws (λ x. 1), below_ones (min (slice_index s.words 0) (length olds)))
 
-view_ends : (olds : List (List ℕ)) (counts : List ℕ) (v : View) → IsView olds counts v → ends v + v.out ≤ 1 * (v.splits + (v.main + v.worker))
-view_ends olds counts v is = omega (arith, is.many, sum_at_most (λ (p : Part). Unit {0}) ends_of (λ (p : Part). 1) 1 end_of v.parts (each_any (λ (p : Part). Unit {0}) (λ p. tt) v.parts), sum_of_ones v.parts)
-  where
-    end_bit : (b : Bool) → cond b 1 0 ≤ 1
-    end_bit true = omega arith
-    end_bit false = omega arith
-
-    end_of : (p : Part) → Unit {0} → ends_of p ≤ 1 * 1
-    end_of p is = omega (arith, end_bit p.ended)
-
--- the main view has not split more often than it may
-few_splits : (olds : List (List ℕ)) (counts : List ℕ) (s : State ℕ View) → Holds olds counts s → sum_by (λ v. v.splits) s.views ≤ 65535
-few_splits olds counts s h = omega (arith, h.mains, sum_at_most (IsView olds counts) (λ v. v.splits) (λ v. v.main) 65535 (λ v is. is.few) s.views h.views)
+one_end : (b : Bool) → cond b 1 0 ≤ 1
+one_end true = omega arith
+one_end false = omega arith
 
 -- word 0 is far from its end
 pub few_draws : (olds : List (List ℕ)) (counts : List ℕ) (s : State ℕ View) → Holds olds counts s → slice_index s.words 0 ≤ 131072
-few_draws olds counts s h =
-    let all = sum_at_most (IsView olds counts) (λ v. ends v + v.out) (λ v. v.splits + (v.main + v.worker)) 1 (view_ends olds counts) s.views h.views in
-    omega (arith, all, sum_add ends (λ v. v.out) s.views, sum_add (λ v. v.splits) (λ v. v.main + v.worker) s.views, sum_add (λ v. v.main) (λ v. v.worker) s.views, few_splits olds counts s h, h.mains, h.opens, h.drawn, few_claims olds counts s h, h.opening.tasks)
+few_draws olds counts s h = omega (arith, h.drawn, few_claims olds counts s h, h.opening.tasks, few_in standing_of spent_view refl (λ (u : View). u.parts) (λ u. refl) ends_of (λ p. one_end p.ended) s.views h.seated)
+
+-- the main hand knows all that was done where no other is out
+pub lone_total : (olds : List (List ℕ)) (counts : List ℕ) (s : State ℕ View) (id : ℕ) (v : View) (k : Part → ℕ) → Holds olds counts s → get_elem? s.views id ≡ some v → v.main ≡ 1 → v.out ≡ 0 → sum_by (λ (u : View). sum_by k u.parts) s.views ≡ sum_by k v.parts
+lone_total olds counts s id v k h at main none = alone_in standing_of spent_view refl (λ (u : View). u.parts) (λ u. refl) k s.views id v h.seated at main none
 
 -- each wire's releases are at most the tasks that have it as an old one
 claim_releases : (olds : List (List ℕ)) (wires w : ℕ) (c : Claim) → IsClaim olds wires c → released_on w c ≤ 1 * task_by (λ t. times w (wires_of olds t)) c
@@ -166,19 +153,13 @@ few_posted olds counts s h =
 
 -- ---- a number is drawn
 -- a number that was claimed is below word 0
-claimed_below : (olds : List (List ℕ)) (counts : List ℕ) (s : State ℕ View) (id : ℕ) (v : View) (p : Part) (ps : List Part) (c : Claim) (cs : List Claim) → Holds olds counts s → get_elem? s.views id ≡ some v → v.parts ≡ p ∷ ps → p.claims ≡ c ∷ cs
-    → c.task < slice_index s.words 0
-claimed_below olds counts s id v p ps c cs h at is claims =
+is_after : (olds : List (List ℕ)) (counts : List ℕ) (s : State ℕ View) (id : ℕ) (v : View) (claims : List Claim) → Holds olds counts s → get_elem? s.views id ≡ some v → 1 ≤ length v.parts → (own v).claims ≡ claims → IsAfter (slice_index s.words 0) claims
+is_after olds counts s id v [] h at some_part same = tt
+is_after olds counts s id v (c ∷ cs) h at some_part same =
     let g : Claim → ℕ = task_by (is_at c.task) in
-    let first : total_in g p ≡ g c + sum_by g cs = rw claims (sum_by-cons g c cs) in
-    let there : 1 ≤ sum_below (min (slice_index s.words 0) (length olds)) (is_at c.task) = omega (arith, first, at_itself c.task, in_own g v p ps is, in_all g s.views id v at, h.draws (is_at c.task)) in
-    let lt : c.task < min (slice_index s.words 0) (length olds) = below_of _ c.task there in
-    omega arith
-
-is_after : (olds : List (List ℕ)) (counts : List ℕ) (s : State ℕ View) (id : ℕ) (v : View) (p : Part) (ps : List Part) (claims : List Claim) → Holds olds counts s → get_elem? s.views id ≡ some v → v.parts ≡ p ∷ ps → p.claims ≡ claims
-    → IsAfter (slice_index s.words 0) claims
-is_after olds counts s id v p ps [] h at is same = tt
-is_after olds counts s id v p ps (c ∷ cs) h at is same = claimed_below olds counts s id v p ps c cs h at is same
+    let first : total_in g (own v) ≡ g c + sum_by g cs = ap (sum_by g) same ∙ sum_by-cons g c cs in
+    let there : 1 ≤ sum_below (min (slice_index s.words 0) (length olds)) (is_at c.task) = omega (arith, first, at_itself c.task, own_at_most (total_in g) no_part v.parts some_part, in_all g s.views id v at, h.draws (is_at c.task)) in
+    (drawn_below (slice_index s.words 0) (length olds) c.task there).0
 
 before_new : (olds : List (List ℕ)) (n : ℕ) (claims : List Claim) → IsAfter n claims → IsNewestReleased olds claims → AreInOrder olds claims → AreBefore olds n claims
 before_new olds n [] after whole order = tt
@@ -232,7 +213,7 @@ claim_fits olds counts words p up down long lt going whole after =
         order = before_new olds n p.claims after whole is.order;
         ended = λ over. absurd (true≢false (sym over ∙ going));
       };
-      draws = λ f. rw first (let e : min (n + 1) (length olds) ≡ suc n = omega arith in let o : min n (length olds) ≡ n = omega arith in rw (e, o) (omega (arith, sum_by-cons (task_by f) (claim_of n) p.claims)));
+      draws = λ f. rw first (omega (arith, draws_next n (length olds) f lt, sum_by-cons (task_by f) (claim_of n) p.claims));
       drawn = rw first (omega (arith, sum_by-cons one (claim_of n) p.claims));
       wires = λ w lt. rw (other (w + 3) (omega arith)) (omega (arith, sum_by-cons (released_on w) (claim_of n) p.claims, sum_by-cons (held_on w) (claim_of n) p.claims));
       posts = omega (arith, other 1 (omega arith), other 2 (omega arith), ap overuse (low_0 words (n + 1)));
@@ -249,7 +230,7 @@ end_fits olds counts words p up down long le going whole =
     record {
       long = length-set words 0 (n + 1);
       part = λ is. record { claims = is.claims; order = is.order; ended = λ over. whole };
-      draws = λ f. rw first (let e : min (n + 1) (length olds) ≡ length olds = omega arith in let o : min n (length olds) ≡ length olds = omega arith in rw (e, o) (omega arith));
+      draws = λ f. rw first (omega (arith, draws_past n (length olds) f le));
       drawn = rw first (let none : ends_of p ≡ 0 = rw going refl in omega (arith, none));
       wires = λ w lt. rw (other (w + 3) (omega arith)) (omega arith);
       posts = omega (arith, other 1 (omega arith), other 2 (omega arith), ap overuse (low_0 words (n + 1)));
@@ -371,18 +352,6 @@ wire_fits olds counts words w m up down up' down' f p c cs is going same step lt
     }
 
 -- ---- the steps on words
-has_own : (v : View) → 1 ≤ length v.parts → v.parts ≡ own v ∷ drop 1 v.parts
-has_own v some_part = first_and_rest v.parts some_part
-  where
-    first_and_rest : (ps : List Part) → 1 ≤ length ps → ps ≡ first_part ps ∷ drop 1 ps
-    first_and_rest [] none = absurd (omega arith)
-    first_and_rest (p ∷ ps) lt = refl
-
-pub set_at : {A : Type 0} (xs : List A) (i : ℕ) (a b : A) → get_elem? xs i ≡ some a → get_elem? (set xs i b) i ≡ some b
-set_at [] i a b e = absurd (some-ne-none a (sym e))
-set_at (x ∷ xs) zero a b e = refl
-set_at (x ∷ xs) (suc i) a b e = set_at xs i a b e
-
 next_number : (n : ℕ) → n ≤ 131072 → (n + 1) % 2 ^ 64 ≡ n + 1
 next_number n le = let lt : n + 1 < 2 ^ 64 = omega arith in mod-eq_of_lt lt
 
@@ -403,16 +372,15 @@ pub claim_keeps : (olds : List (List ℕ)) (counts : List ℕ) (s : State ℕ Vi
     → (w : View) × Holds olds counts (stepped_to s 0 ((slice_index s.words 0 + 1) % 2 ^ 64) id w) × Draws v (slice_index s.words 0) w
 claim_keeps olds counts s id v h at some_part same going whole =
     let n : ℕ = slice_index s.words 0 in
-    let is = has_own v some_part in
-    let after = is_after olds counts s id v (own v) (drop 1 v.parts) (own v).claims h at is refl in
+    let after = is_after olds counts s id v (own v).claims h at some_part refl in
     let long : 0 < length s.words = omega (arith, h.words) in
     let here = λ (k : ℕ) (f : Part → Part). set_at s.views id v (with_own f v) at in
     rw (next_number n (few_draws olds counts s h)) (elim (cases_lt n (length olds)) [
       | inl lt ↦
-          let new = own_step olds counts (slice_set s.words 0 (n + 1)) s id (claiming n) v.up v.down v (own v) (drop 1 v.parts) h at is (claim_fits olds counts s.words (own v) v.up v.down long lt going whole after) in
+          let new = own_step olds counts (slice_set s.words 0 (n + 1)) s id (claiming n) v.up v.down v h at some_part (claim_fits olds counts s.words (own v) v.up v.down long lt going whole after) in
           (with_own (claiming n) v, new, record { number = λ le. (refl, after); none = λ le. absurd (omega (arith, ap length same)); few = (few_numbers olds counts _ id (with_own (claiming n) v) new (here n (claiming n))).claims })
       | inr ge ↦
-          let new = own_step olds counts (slice_set s.words 0 (n + 1)) s id ending v.up v.down v (own v) (drop 1 v.parts) h at is (end_fits olds counts s.words (own v) v.up v.down long ge going whole) in
+          let new = own_step olds counts (slice_set s.words 0 (n + 1)) s id ending v.up v.down v h at some_part (end_fits olds counts s.words (own v) v.up v.down long ge going whole) in
           (with_own ending v, new, record { number = λ lt. absurd (omega (arith, ap length same)); none = λ le. refl; few = (few_numbers olds counts _ id (with_own ending v) new (here n ending)).claims })
     ])
 
@@ -424,21 +392,17 @@ first_hold : (olds : List (List ℕ)) (claims : List Claim) (task wire : ℕ) �
 first_hold olds [] task wire may = absurd may
 first_hold olds (c ∷ cs) task wire may = (c, cs, refl, may.1, may.2)
 
-part_at : (olds : List (List ℕ)) (counts : List ℕ) (s : State ℕ View) (id : ℕ) (v : View) (p : Part) (ps : List Part) → Holds olds counts s → get_elem? s.views id ≡ some v → v.parts ≡ p ∷ ps → IsPart olds (length counts) p
-part_at olds counts s id v p ps h at is =
-    let old = each_at (IsView olds counts) s.views id v h.views at in
-    let parts : AllByRecursion (IsPart olds (length counts)) (p ∷ ps) = subst (AllByRecursion (IsPart olds (length counts))) is old.parts in
-    parts.0
-
 -- there is something to release
-some_left : (olds : List (List ℕ)) (counts : List ℕ) (s : State ℕ View) (id w : ℕ) (v : View) (p : Part) (ps : List Part) (c : Claim) (cs : List Claim) → Holds olds counts s → get_elem? s.views id ≡ some v → v.parts ≡ p ∷ ps → p.claims ≡ c ∷ cs → p.ended ≡ false
+some_left : (olds : List (List ℕ)) (counts : List ℕ) (s : State ℕ View) (id w : ℕ) (v : View) (c : Claim) (cs : List Claim) → Holds olds counts s → get_elem? s.views id ≡ some v → 1 ≤ length v.parts → (own v).claims ≡ c ∷ cs → (own v).ended ≡ false
     → slice_get (wires_of olds c.task) (length c.released) ≡ Some w → w < length counts → 1 ≤ slice_index s.words (w + 3)
-some_left olds counts s id w v p ps c cs h at is claims going next lt =
+some_left olds counts s id w v c cs h at some_part claims going next lt =
+    let p : Part = own v in
     let views : List View = set s.views id (with_numbers 0 0 (with_own (releasing w) v)) in
-    let part = newest_part olds (length counts) (with_released w) p c cs claims going refl (release_claim olds (length counts) w c next) (part_at olds counts s id v p ps h at is) in
-    let each = each_set (IsView olds counts) s.views id _ h.views (own_view olds counts (releasing w) 0 0 v p ps is (each_at (IsView olds counts) s.views id v h.views at) part (omega arith) (omega arith)) in
+    let old = each_at (IsView olds counts) s.views id v h.views at in
+    let part = newest_part olds (length counts) (with_released w) p c cs claims going refl (release_claim olds (length counts) w c next) (own_part olds (length counts) v some_part old.parts).0 in
+    let each = each_set (IsView olds counts) s.views id _ h.views (own_view olds counts (releasing w) 0 0 v some_part old part (omega arith) (omega arith)) in
     let weigh : ℕ → ℕ = λ t. times w (wires_of olds t) in
-    let change = λ (g : Claim → ℕ). own_total (total_in g) (releasing w) 0 0 s.views id v p ps at is in
+    let change = λ (g : Claim → ℕ). own_all (total_in g) (releasing w) 0 0 s.views id v at some_part in
     let newest = λ (g : Claim → ℕ). newest_total g (with_released w) p.claims c cs claims in
     let low = below_upto (min (slice_index s.words 0) (length olds)) (length olds) weigh (omega arith) in
     let tasks : total_of (task_by weigh) views ≤ sum_below (length olds) weigh = omega (arith, low, change (task_by weigh), newest (task_by weigh), h.draws weigh) in
@@ -451,27 +415,25 @@ pub release_keeps : (olds : List (List ℕ)) (counts : List ℕ) (s : State ℕ 
     → Holds olds counts (stepped_to s (w + 3) ((slice_index s.words (w + 3) + (2 ^ 64 - 1)) % 2 ^ 64) id (released_at (slice_index s.words (w + 3)) w v)) × AreFew (released_at (slice_index s.words (w + 3)) w v)
 release_keeps olds counts s id task w v h at some_part going may lt =
     let n : ℕ = slice_index s.words (w + 3) in
-    let is = has_own v some_part in
     let t = first_release olds (own v).claims task w may in
     let c = t.0 in
-    let more = some_left olds counts s id w v (own v) (drop 1 v.parts) c t.1 h at is t.2 going t.3 lt in
+    let more = some_left olds counts s id w v c t.1 h at some_part t.2 going t.3 lt in
     let posts : v.up + v.down + (n - 1) ≡ v.up + (v.down + min 1 (n - 1)) + ((n - 1) - 1) = omega arith in
     let downs : v.down + min 1 (n - 1) + length c.released ≤ v.down + length (c.released ++ w ∷ []) = omega (arith, length-append c.released (w ∷ [])) in
     let fits = wire_fits olds counts s.words w (n - 1) v.up v.down v.up (v.down + min 1 (n - 1)) (with_released w) (own v) c t.1 t.2 going refl (release_claim olds (length counts) w c t.3) (omega (arith, h.words)) (λ x ne. (omega (arith, times_push x c.released w, at_other w x (λ e. ne (sym e))), refl)) (omega (arith, times_push w c.released w, at_itself w, more)) posts (omega arith) downs in
-    let new = own_step olds counts (slice_set s.words (w + 3) (n - 1)) s id (releasing w) v.up (v.down + min 1 (n - 1)) v (own v) (drop 1 v.parts) h at is fits in
+    let new = own_step olds counts (slice_set s.words (w + 3) (n - 1)) s id (releasing w) v.up (v.down + min 1 (n - 1)) v h at some_part fits in
     rw (last_number n more (few_held olds counts s w h lt)) (new, told_few olds counts s id (w + 3) (n - 1) v (released_at n w v) at new)
 
 pub hold_keeps : (olds : List (List ℕ)) (counts : List ℕ) (s : State ℕ View) (id task w : ℕ) (v : View) → Holds olds counts s → get_elem? s.views id ≡ some v → 1 ≤ length v.parts → (own v).ended ≡ false → MayHold olds (own v).claims task w → w < length counts
     → Holds olds counts (stepped_to s (w + 3) ((slice_index s.words (w + 3) + 1) % 2 ^ 64) id (held_at (slice_index s.words (w + 3)) w v)) × AreFew (held_at (slice_index s.words (w + 3)) w v)
 hold_keeps olds counts s id task w v h at some_part going may lt =
     let n : ℕ = slice_index s.words (w + 3) in
-    let is = has_own v some_part in
     let t = first_hold olds (own v).claims task w may in
     let c = t.0 in
     let posts : v.up + min 1 n + v.down + (n - 1) ≡ v.up + v.down + ((n + 1) - 1) = omega arith in
     let ups : v.up + min 1 n + length c.held ≤ v.up + length (c.held ++ w ∷ []) = omega (arith, length-append c.held (w ∷ [])) in
     let fits = wire_fits olds counts s.words w (n + 1) v.up v.down (v.up + min 1 n) v.down (with_held w) (own v) c t.1 t.2 going refl (hold_claim olds (length counts) w c t.3 t.4 lt) (omega (arith, h.words)) (λ x ne. (refl, omega (arith, times_push x c.held w, at_other w x (λ e. ne (sym e))))) (omega (arith, times_push w c.held w, at_itself w)) posts ups (omega arith) in
-    let new = own_step olds counts (slice_set s.words (w + 3) (n + 1)) s id (holding w) (v.up + min 1 n) v.down v (own v) (drop 1 v.parts) h at is fits in
+    let new = own_step olds counts (slice_set s.words (w + 3) (n + 1)) s id (holding w) (v.up + min 1 n) v.down v h at some_part fits in
     rw (next_number n (few_held olds counts s w h lt)) (new, told_few olds counts s id (w + 3) (n + 1) v (held_at n w v) at new)
 
 -- ---- a hand's numbers are posted
@@ -487,7 +449,7 @@ pub post_up_keeps : (olds : List (List ℕ)) (counts : List ℕ) (s : State ℕ 
 post_up_keeps olds counts s id v h at some_part =
     let n : ℕ = slice_index s.words 1 in
     let fits = post_up_fits olds counts s.words (own v) v.up v.down (omega (arith, h.words)) in
-    let new = own_step olds counts (slice_set s.words 1 (n + v.up)) s id (λ (p : Part). p) 0 v.down v (own v) (drop 1 v.parts) h at (has_own v some_part) fits in
+    let new = own_step olds counts (slice_set s.words 1 (n + v.up)) s id (λ (p : Part). p) 0 v.down v h at some_part fits in
     let low : n + v.up ≤ 2 ^ 48 = omega (arith, sum_at (λ (u : View). u.up) s.views id v at, (few_posted olds counts s h).0) in
     rw (more_number n v.up low) (subst (λ (w : View). Holds olds counts (stepped_to s 1 (n + v.up) id w)) (numbers_same 0 v.down v) new)
 
@@ -496,21 +458,16 @@ pub post_down_keeps : (olds : List (List ℕ)) (counts : List ℕ) (s : State �
 post_down_keeps olds counts s id v h at some_part =
     let n : ℕ = slice_index s.words 2 in
     let fits = post_down_fits olds counts s.words (own v) v.up v.down (omega (arith, h.words)) in
-    let new = own_step olds counts (slice_set s.words 2 (n + v.down)) s id (λ (p : Part). p) v.up 0 v (own v) (drop 1 v.parts) h at (has_own v some_part) fits in
+    let new = own_step olds counts (slice_set s.words 2 (n + v.down)) s id (λ (p : Part). p) v.up 0 v h at some_part fits in
     let low : n + v.down ≤ 2 ^ 48 = omega (arith, sum_at (λ (u : View). u.down) s.views id v at, (few_posted olds counts s h).1) in
     rw (more_number n v.down low) (subst (λ (w : View). Holds olds counts (stepped_to s 2 (n + v.down) id w)) (numbers_same v.up 0 v) new)
 
 -- ---- a step that changes nothing
-set_same : (xs : List ℕ) (i : ℕ) → set xs i (slice_index xs i) ≡ xs
-set_same [] i = refl
-set_same (x ∷ xs) zero = refl
-set_same (x ∷ xs) (suc i) = ap (λ ys. x ∷ ys) (set_same xs i)
-
 pub load_keeps : (olds : List (List ℕ)) (counts : List ℕ) (s : State ℕ View) (id i : ℕ) (v : View) → Holds olds counts s → get_elem? s.views id ≡ some v → Holds olds counts (stepped_to s i (slice_index s.words i) id v)
 load_keeps olds counts s id i v h at = rw (set_same s.words i, set_again s.views id v at) h
 
 spent_is : (olds : List (List ℕ)) (counts : List ℕ) → IsView olds counts spent_view
-spent_is olds counts = record { many = refl; few = omega arith; fits = omega arith; same = λ more. absurd (omega arith); ups = omega arith; downs = omega arith; parts = tt }
+spent_is olds counts = record { same = λ more. absurd (omega arith); ups = omega arith; downs = omega arith; parts = tt }
 
 -- the views of the others
 abbrev others : List View → ℕ → List View
@@ -530,6 +487,7 @@ look_keeps olds counts s id w v h at same same_counts lt =
     rw (same, same_counts) (record {
       least = omega (arith, low, releases, part (released_on w), part (held_on w), part (task_by weigh), h.draws weigh, h.wires w lt);
       most = omega (arith, holds, part (released_on w), part (held_on w), part one, few_claims olds counts s h, h.wires w lt);
+      lone = λ main none. omega (arith, h.wires w lt, lone_total olds counts s id v (total_in (released_on w)) h at main none, lone_total olds counts s id v (total_in (held_on w)) h at main none);
     })
 
 -- ---- hands that are cut, joined and closed
@@ -548,11 +506,9 @@ split_keeps olds counts s id v h at main few =
     record {
       opening = h.opening;
       words = h.words;
-      mains = omega (arith, change (λ u. u.main), pushed (λ u. u.main), h.mains);
-      opens = omega (arith, change (λ u. u.out), pushed (λ u. u.out), change (λ u. u.worker), pushed (λ u. u.worker), h.opens);
-      splits = omega (arith, change (λ u. u.splits), pushed (λ u. u.splits), length-append left (worker_view v ∷ []), length-set s.views id (with_worker v), h.splits);
-      views = each_append (IsView olds counts) left (worker_view v ∷ []) (each_set (IsView olds counts) s.views id (with_worker v) h.views (record { many = omega (arith, is.many); few = omega (arith, main, few); fits = omega (arith, is.fits); same = is.same; ups = is.ups; downs = is.downs; parts = is.parts }))
-          (record { many = omega arith; few = omega arith; fits = omega arith; same = λ some_of. same; ups = omega arith; downs = omega arith; parts = (fresh_part olds (length counts), tt) }, tt);
+      seated = seated_split standing_of spent_view refl s.views id v (with_worker v) (worker_view v) h.seated at main few refl refl;
+      views = each_append (IsView olds counts) left (worker_view v ∷ []) (each_set (IsView olds counts) s.views id (with_worker v) h.views (record { same = is.same; ups = is.ups; downs = is.downs; parts = is.parts }))
+          (record { same = λ some_of. same; ups = omega arith; downs = omega arith; parts = (fresh_part olds (length counts), tt) }, tt);
       draws = λ f. omega (arith, change (total (task_by f)), pushed (total (task_by f)), h.draws f);
       drawn = omega (arith, change (total one), pushed (total one), change ends, pushed ends, h.drawn);
       wires = λ w lt. omega (arith, change (total (released_on w)), pushed (total (released_on w)), change (total (held_on w)), pushed (total (held_on w)), h.wires w lt);
@@ -561,12 +517,8 @@ split_keeps olds counts s id v h at main few =
       downs = omega (arith, change (λ u. u.down), pushed (λ u. u.down), change (total releases_of), pushed (total releases_of), h.downs);
     }
 
--- no other view is the main one, and so none counts views that are out
-others_main : (olds : List (List ℕ)) (counts : List ℕ) (s : State ℕ View) (id : ℕ) (v : View) → Holds olds counts s → get_elem? s.views id ≡ some v → v.main ≡ 1 → sum_by (λ u. u.main) (others s.views id) ≡ 0
-others_main olds counts s id v h at main = omega (arith, sum_set (λ (u : View). u.main) s.views id v spent_view at, h.mains, main)
-
-others_out : (olds : List (List ℕ)) (counts : List ℕ) (s : State ℕ View) (id : ℕ) (v : View) → Holds olds counts s → get_elem? s.views id ≡ some v → v.main ≡ 1 → sum_by (λ u. u.out) (others s.views id) ≡ 0
-others_out olds counts s id v h at main = omega (arith, others_main olds counts s id v h at main, sum_at_most (IsView olds counts) (λ v. v.out) (λ v. v.main) 65535 (λ v is. (let few = is.few in let fits = is.fits in omega arith)) (others s.views id) (spare_others olds counts s id h))
+joined_is : (v u : View) → standing_of (with_parts v u) ≡ joined_standing (standing_of v) (standing_of u)
+joined_is v u = ap (λ n. record { main = v.main; worker = v.worker; out = v.out - 1; splits = v.splits; parts = n }) (length-append v.parts u.parts)
 
 -- the main view takes in another
 pub join_keeps : (olds : List (List ℕ)) (counts : List ℕ) (s : State ℕ View) (id other : ℕ) (v u : View) → Holds olds counts s → get_elem? s.views id ≡ some v → ¬ (other ≡ id) → get_elem? (slice_set s.views id (with_parts v u)) other ≡ some u → v.main ≡ 1 → u.worker ≡ 1 → u.up ≡ 0 → u.down ≡ 0
@@ -574,27 +526,16 @@ pub join_keeps : (olds : List (List ℕ)) (counts : List ℕ) (s : State ℕ Vie
 join_keeps olds counts s id other v u h at apart there main worker no_up no_down =
     let both : List View = set s.views id (with_parts v u) in
     let at_other : get_elem? s.views other ≡ some u = sym (set_else s.views id other (with_parts v u) apart) ∙ there in
-    let at_rest : get_elem? (others s.views id) other ≡ some u = set_else s.views id other spent_view apart ∙ at_other in
     let is = each_at (IsView olds counts) s.views id v h.views at in
     let uis = each_at (IsView olds counts) s.views other u h.views at_other in
-    let no_main : u.main ≡ 0 = omega (arith, sum_at (λ (w : View). w.main) (others s.views id) other u at_rest, others_main olds counts s id v h at main) in
-    let no_splits : u.splits ≡ 0 = omega (arith, no_main, uis.few) in
-    let some_worker : 1 ≤ sum_by (λ (w : View). w.worker) s.views = omega (arith, sum_at (λ (w : View). w.worker) s.views other u at_other, worker) in
-    let some_out : 1 ≤ v.out = omega (arith, some_worker, h.opens, sum_set (λ (w : View). w.out) s.views id v spent_view at, others_out olds counts s id v h at main) in
-    let one_part : length u.parts ≡ 1 = omega (arith, uis.many, uis.fits, no_main, no_splits, worker) in
     let change = λ (k : View → ℕ). sum_set k s.views id v (with_parts v u) at in
     let spent = λ (k : View → ℕ). sum_set k both other u spent_view there in
     let joined = λ (k : Part → ℕ). sum_by-append k v.parts u.parts in
     record {
       opening = h.opening;
       words = h.words;
-      mains = omega (arith, change (λ w. w.main), spent (λ w. w.main), no_main, h.mains);
-      opens = omega (arith, change (λ w. w.out), spent (λ w. w.out), change (λ w. w.worker), spent (λ w. w.worker), some_out, worker, uis.fits, no_splits, h.opens);
-      splits = omega (arith, change (λ w. w.splits), spent (λ w. w.splits), no_splits, length-set both other spent_view, length-set s.views id (with_parts v u), h.splits);
+      seated = seated_join standing_of spent_view refl s.views id other v u (with_parts v u) h.seated at apart there main worker (joined_is v u);
       views = each_set (IsView olds counts) both other spent_view (each_set (IsView olds counts) s.views id (with_parts v u) h.views (record {
-        many = omega (arith, length-append v.parts u.parts, one_part, some_out, is.many);
-        few = is.few;
-        fits = omega (arith, is.fits);
         same = is.same;
         ups = omega (arith, is.ups, joined (total_in holds_of));
         downs = omega (arith, is.downs, joined (total_in releases_of));
@@ -608,34 +549,11 @@ join_keeps olds counts s id other v u h at apart there main worker no_up no_down
       downs = omega (arith, change (λ w. w.down), spent (λ w. w.down), no_down, change (total releases_of), spent (total releases_of), joined (total_in releases_of), h.downs);
     }
 
-no_parts : (k : Part → ℕ) (ps : List Part) → length ps ≤ 0 → sum_by k ps ≡ 0
-no_parts k [] le = refl
-no_parts k (p ∷ ps) le = absurd (omega arith)
-
-empty_views : (k : Part → ℕ) (us : List View) → sum_by (λ (u : View). length u.parts) us ≡ 0 → sum_by (λ (u : View). sum_by k u.parts) us ≡ 0
-empty_views k [] none = refl
-empty_views k (u ∷ us) none =
-    let e = sum_by-cons (λ (u : View). length u.parts) u us in
-    rw (sum_by-cons (λ (u : View). sum_by k u.parts) u us) (omega (arith, no_parts k u.parts (omega (arith, e, none)), empty_views k us (omega (arith, e, none))))
-
--- the main view that has no others out knows all steps
-pub alone : (olds : List (List ℕ)) (counts : List ℕ) (s : State ℕ View) (id : ℕ) (v : View) (k : Part → ℕ) → Holds olds counts s → get_elem? s.views id ≡ some v → v.main ≡ 1 → v.out ≡ 0 → sum_by (λ (u : View). sum_by k u.parts) s.views ≡ sum_by k v.parts
-alone olds counts s id v k h at main none =
-    let rest : List View = others s.views id in
-    let mains = others_main olds counts s id v h at main in
-    let outs = others_out olds counts s id v h at main in
-    let each = spare_others olds counts s id h in
-    let workers : sum_by (λ (u : View). u.worker) rest ≡ 0 = omega (arith, h.opens, sum_set (λ (u : View). u.out) s.views id v spent_view at, sum_set (λ (u : View). u.worker) s.views id v spent_view at, outs, none) in
-    let splits = sum_at_most (IsView olds counts) (λ v. v.splits) (λ v. v.main) 65535 (λ v is. is.few) rest each in
-    let parts = sum_at_most (IsView olds counts) (λ v. length v.parts) (λ v. v.splits + (v.main + v.worker)) 1 (λ v is. (let many = is.many in omega arith)) rest each in
-    let gone : sum_by (λ (u : View). length u.parts) rest ≡ 0 = omega (arith, parts, splits, mains, workers, sum_add (λ (v : View). v.splits) (λ v. v.main + v.worker) rest, sum_add (λ (v : View). v.main) (λ v. v.worker) rest) in
-    omega (arith, sum_set (λ (u : View). sum_by k u.parts) s.views id v spent_view at, empty_views k rest gone)
-
 pub closes : (olds : List (List ℕ)) (counts : List ℕ) (s : State ℕ View) (id : ℕ) (v : View) → Holds olds counts s → get_elem? s.views id ≡ some v → v.main ≡ 1 → v.out ≡ 0 → IsClosing v (drop 3 s.words)
 closes olds counts s id v h at main none =
     let is = each_at (IsView olds counts) s.views id v h.views at in
     let same = is.same (omega (arith, main)) in
-    let all = λ (k : Part → ℕ). alone olds counts s id v k h at main none in
+    let all = λ (k : Part → ℕ). lone_total olds counts s id v k h at main none in
     let first : slice_index s.words 0 ≡ total one v + ends v = omega (arith, h.drawn, all (total_in one), all ends_of) in
     let word = λ (w : ℕ). get_or-drop 3 s.words w 0 ∙ ap (λ k. slice_index s.words k) (three w) in
     record {
@@ -649,7 +567,7 @@ pub posts_all : (olds : List (List ℕ)) (counts : List ℕ) (s : State ℕ View
 posts_all olds counts s id v h at main none no_up no_down =
     let rest : List View = others s.views id in
     let each = spare_others olds counts s id h in
-    let all = λ (k : Part → ℕ). alone olds counts s id v k h at main none in
+    let all = λ (k : Part → ℕ). lone_total olds counts s id v k h at main none in
     let here = λ (k : View → ℕ). sum_set k s.views id v spent_view at in
     let ups : sum_by (λ (u : View). u.up) rest ≤ 1 * sum_by (total holds_of) rest = sum_at_most (IsView olds counts) (λ u. u.up) (total holds_of) 1 (λ u is. (let e = is.ups in omega arith)) rest each in
     let downs : sum_by (λ (u : View). u.down) rest ≤ 1 * sum_by (total releases_of) rest = sum_at_most (IsView olds counts) (λ u. u.down) (total releases_of) 1 (λ u is. (let e = is.downs in omega arith)) rest each in
@@ -677,11 +595,9 @@ pub start_holds : (olds : List (List ℕ)) (counts words : List ℕ) → words �
 start_holds olds counts words same opening = rw same (record {
   opening = opening;
   words = omega arith;
-  mains = refl;
-  opens = refl;
-  splits = refl;
-  views = (record { many = refl; few = omega arith; fits = omega arith; same = λ some_of. (refl, refl); ups = omega arith; downs = omega arith; parts = (fresh_part olds (length counts), tt) }, tt);
-  draws = λ f. (let e : min 0 (length olds) ≡ 0 = omega arith in rw e refl);
+  seated = seated_first standing_of spent_view refl (first_view olds counts) refl;
+  views = (record { same = λ some_of. (refl, refl); ups = omega arith; downs = omega arith; parts = (fresh_part olds (length counts), tt) }, tt);
+  draws = λ f. (let none = draws_none (length olds) f in omega (arith, none));
   drawn = refl;
   wires = λ w lt. omega (arith, push_index counts w);
   posts = omega arith;

@@ -1,12 +1,13 @@
 -- What holds of the table between any two steps.
-use Rattle.std.specs.Prelude.{◌≡◌, ℕ, ◌+◌, ◌*◌, ◌≤◌, ◌<◌, ◌⊎◌, ◌^◌, true, List, [], ◌∷◌, ◌++◌, Some, length, drop, min, slice_get, slice_index}
+use Rattle.std.specs.Prelude.{◌≡◌, ℕ, ◌+◌, ◌≤◌, ◌<◌, ◌⊎◌, ◌^◌, true, List, [], ◌∷◌, ◌++◌, Some, length, drop, min, slice_get, slice_index}
 use Rattle.std.specs.List.{sum_by, AllByRecursion}
 use Rattle.atomic_table.specs.Table.{State}
+use Rattle.ice_words_hands.specs.Standing.{AreSeated}
 use Rattle.ice_words.specs.declared.view.Claim.{Claim}
 use Rattle.ice_words.specs.declared.view.Part.{Part}
 use Rattle.ice_words.specs.declared.view.View.{View}
 use Rattle.ice_core.specs.Routes.{times, overuse, sum_below, wires_of, IsOpening}
-use Rattle.ice_words.specs.Views.{total, total_of, one, task_by, released_on, held_on, releases_of, holds_of, ends, claiming, ending, with_own, own}
+use Rattle.ice_words.specs.Views.{total, total_of, one, task_by, released_on, held_on, releases_of, holds_of, ends, claiming, ending, with_own, own, standing_of}
 
 -- the task's old wires are all released
 abbrev pub IsReleased : List (List ℕ) → Claim → Type 0
@@ -45,9 +46,6 @@ pub record IsPart (olds : List (List ℕ)) (wires : ℕ) (p : Part) : Type 0 whe
   pub ended : p.ended ≡ true → IsNewestReleased olds p.claims
 
 pub record IsView (olds : List (List ℕ)) (counts : List ℕ) (v : View) : Type 0 where
-  pub many : length v.parts + v.out ≡ v.splits + v.main + v.worker
-  pub few : v.splits ≤ 65535 * v.main
-  pub fits : v.out ≤ v.splits
   pub same : 1 ≤ v.main + v.worker → (v.olds ≡ olds) × (v.counts ≡ counts)
   -- the numbers are at most what the view holds and released: none where it has no part
   pub ups : v.up ≤ total holds_of v
@@ -57,9 +55,7 @@ pub record IsView (olds : List (List ℕ)) (counts : List ℕ) (v : View) : Type
 pub record Holds (olds : List (List ℕ)) (counts : List ℕ) (s : State ℕ View) : Type 0 where
   pub opening : IsOpening olds counts
   pub words : length s.words ≡ length counts + 3
-  pub mains : sum_by (λ v. v.main) s.views ≡ 1
-  pub opens : sum_by (λ v. v.out) s.views ≡ sum_by (λ v. v.worker) s.views
-  pub splits : sum_by (λ v. v.splits) s.views + 1 ≡ length s.views
+  pub seated : AreSeated standing_of s.views
   pub views : AllByRecursion (IsView olds counts) s.views
   -- each number below word 0 and below the number of tasks is claimed once, and no other: however numbers are weighed, the weights agree
   pub draws : (f : ℕ → ℕ) → total_of (task_by f) s.views ≡ sum_below (min (slice_index s.words 0) (length olds)) f
@@ -90,6 +86,8 @@ pub record AreFew (v : View) : Type 0 where
 pub record Looks (v : View) (w n : ℕ) : Type 0 where
   pub least : slice_index v.counts w + total (held_on w) v + total (task_by (λ t. times w (wires_of v.olds t))) v ≤ n + total (released_on w) v + sum_below (length v.olds) (λ t. times w (wires_of v.olds t))
   pub most : n + total (released_on w) v + total one v ≤ slice_index v.counts w + total (held_on w) v + length v.olds
+  -- the main hand knows it exactly where no other is out
+  pub lone : v.main ≡ 1 → v.out ≡ 0 → n + total (released_on w) v ≡ slice_index v.counts w + total (held_on w) v
 
 -- what the counts are at the close, once every hand is joined to the main one
 pub record IsClosing (v : View) (closed : List ℕ) : Type 0 where

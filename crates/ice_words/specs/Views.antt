@@ -2,6 +2,9 @@
 use Rattle.std.specs.Prelude.{ℕ, ◌+◌, ◌-◌, true, false, List, [], ◌∷◌, ◌++◌, cond, length, min}
 use Rattle.std.specs.List.{sum_by}
 use Rattle.ice_core.specs.Routes.{times}
+pub use Rattle.ice_words_hands.specs.Parts.{own_of, own_changed}
+use Rattle.ice_words_hands.specs.Parts.{own_of, own_changed}
+use Rattle.ice_words_hands.specs.Standing.{Standing}
 use Rattle.ice_words.specs.declared.view.Claim.{Claim}
 use Rattle.ice_words.specs.declared.view.Part.{Part}
 use Rattle.ice_words.specs.declared.view.View.{View}
@@ -71,10 +74,6 @@ releasing w p = record { claims = newest_changed (with_released w) p.claims; end
 abbrev pub holding : ℕ → Part → Part
 holding w p = record { claims = newest_changed (with_held w) p.claims; ended = p.ended }
 
-abbrev pub own_changed : (Part → Part) → List Part → List Part
-own_changed f [] = []
-own_changed f (p ∷ ps) = f p ∷ ps
-
 -- a hand's own part is its first
 abbrev pub with_own : (Part → Part) → View → View
 with_own f v = record { olds = v.olds; counts = v.counts; main = v.main; worker = v.worker; out = v.out; splits = v.splits; up = v.up; down = v.down; parts = own_changed f v.parts }
@@ -102,8 +101,7 @@ posted v = with_numbers 0 0 v
 
 -- the own part, and its claims
 abbrev pub first_part : List Part → Part
-first_part [] = no_part
-first_part (p ∷ ps) = p
+first_part ps = own_of no_part ps
 
 abbrev pub own : View → Part
 own v = first_part v.parts
@@ -123,3 +121,6 @@ with_parts v u = record { olds = v.olds; counts = v.counts; main = v.main; worke
 
 abbrev pub spent_view : View
 spent_view = record { olds = []; counts = []; main = 0; worker = 0; out = 0; splits = 0; up = 0; down = 0; parts = [] }
+
+abbrev pub standing_of : View → Standing
+standing_of v = record { main = v.main; worker = v.worker; out = v.out; splits = v.splits; parts = length v.parts }

@@ -328,7 +328,8 @@ impl Words {
     }
 
     /// The count of a wire at this moment. It differs from what the hand's own releases and holds make of the old count by at most the tasks that the hand
-    /// didn't claim: it is less by at most those of them that have the wire as an old one, and more by at most all of them.
+    /// didn't claim: it is less by at most those of them that have the wire as an old one, and more by at most all of them. It doesn't differ where the
+    /// hand is the main one and no other is out.
     pub fn look(&self, hand: &mut Hand, wire: WireNo) -> u32
         requires of { IsHandOf self.now hand.old }
         requires wire { wire.0 < length hand.old.view.counts }

@@ -1,6 +1,9 @@
 -- What a hand on histories knows, how its steps change that, and what is counted in it.
-use Rattle.std.specs.Prelude.{ℕ, ◌+◌, ◌-◌, ◌/◌, true, false, List, [], ◌∷◌, ◌++◌, cond, nat_eq}
+use Rattle.std.specs.Prelude.{ℕ, ◌+◌, ◌-◌, ◌/◌, true, false, List, [], ◌∷◌, ◌++◌, cond, length, nat_eq}
 use Rattle.std.specs.List.{sum_by}
+pub use Rattle.ice_words_hands.specs.Parts.{own_of, own_changed}
+use Rattle.ice_words_hands.specs.Parts.{own_of, own_changed}
+use Rattle.ice_words_hands.specs.Standing.{Standing}
 use Rattle.ice_words_histories.specs.declared.view.Bump.{Bump}
 use Rattle.ice_words_histories.specs.declared.view.HistoryPart.{HistoryPart}
 use Rattle.ice_words_histories.specs.declared.view.HistoryView.{HistoryView}
@@ -60,16 +63,11 @@ bump_of w n = record { wire = w; by = n }
 abbrev pub bumping : ℕ → ℕ → HistoryPart → HistoryPart
 bumping w n p = record { blocks = p.blocks; bumps = bump_of w n ∷ p.bumps; ended = p.ended }
 
-abbrev pub own_changed : (HistoryPart → HistoryPart) → List HistoryPart → List HistoryPart
-own_changed f [] = []
-own_changed f (p ∷ ps) = f p ∷ ps
-
 abbrev pub with_own : (HistoryPart → HistoryPart) → HistoryView → HistoryView
 with_own f v = record { histories = v.histories; main = v.main; worker = v.worker; out = v.out; splits = v.splits; parts = own_changed f v.parts }
 
 abbrev pub first_part : List HistoryPart → HistoryPart
-first_part [] = no_part
-first_part (p ∷ ps) = p
+first_part ps = own_of no_part ps
 
 abbrev pub own : HistoryView → HistoryPart
 own v = first_part v.parts
@@ -89,3 +87,6 @@ with_parts v u = record { histories = v.histories; main = v.main; worker = v.wor
 
 abbrev pub spent_view : HistoryView
 spent_view = record { histories = []; main = 0; worker = 0; out = 0; splits = 0; parts = [] }
+
+abbrev pub standing_of : HistoryView → Standing
+standing_of v = record { main = v.main; worker = v.worker; out = v.out; splits = v.splits; parts = length v.parts }

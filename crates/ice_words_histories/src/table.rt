@@ -158,7 +158,7 @@ impl HistoryWords {
     }
 
     /// The history of a wire at this moment: at least the old one and what the hand raised it by, and exactly that where the hand claimed the
-    /// wire's block.
+    /// wire's block, or is the main one and no other is out.
     pub fn look(&self, hand: &mut HistoryHand, wire: WireNo) -> u64
         requires of { IsHandOf self.now hand.old }
         requires wire { wire.0 < length hand.old.view.histories }

@@ -46,5 +46,5 @@ pub returns-clause-tally : goal.returns-clause-tally
 returns-clause-tally g c =
     let are = subst (λ (ts : List Task). AreTasksOf c.args.nets.now c.args.trees.now c.args.moved.now ts) (sym c.deref.ensures.value) c.in_ok-tasks.ensures in
     let e : c.place.new.trees ≡ placed c.args.trees.now c.args.moved.now c.in-Ok.played.news.items = c.place.ensures in
-    subst (λ (ts : List Tree). IsTally c.args.moved.now c.args.trees.now ts c.in-Ok.played.counts) (sym e)
+    subst (λ (ts : List Tree). IsTally c.args.graph.now.wires c.args.moved.now c.args.trees.now ts c.in-Ok.played.counts) (sym e)
     (is_tally c.args.graph.now c.args.prices.now c.args.nets.now c.args.trees.now c.args.moved.now c.deref.result.now c.in-Ok.played.news.items c.in-Ok.played.counts are c.requires.moved c.requires.trees c.requires.few c.requires.counts c.requires.apart c.requires.bounded c.in-Ok.ensures.played)

@@ -7,4 +7,4 @@ pub returns : goal.returns
 returns g c =
     let items : c.expect-tasks.result.items ≡ c.task_to-one.result ∷ [] = search rules in
     subst (AreReady c.args.graph.now c.prices_of-prices.result) (sym items)
-    (second_ready c.args.graph.now c.prices_of-prices.result c.task_to-one.result c.requires c.prices_of-prices.ensures.round c.prices_of-prices.ensures.history c.prices_of-prices.ensures.counts c.task_to-one.ensures.task c.task_to-one.ensures.old)
+    (second_ready c.args.graph.now c.args.third c.prices_of-prices.result c.task_to-one.result c.requires.third c.requires.wires c.prices_of-prices.ensures.round c.prices_of-prices.ensures.history c.prices_of-prices.ensures.counts c.task_to-one.ensures.task c.task_to-one.ensures.old)

@@ -1,0 +1,10 @@
+mod Pricing
+mod Wires
+mod Firsts
+mod Taking
+mod Noting
+mod Keeping
+mod Gathering
+mod Closing
+mod Marking
+mod Opened

@@ -1,0 +1,5 @@
+pub mod Opened
+pub mod First
+pub mod Notes
+pub mod Workers
+pub mod Marks
