@@ -179,7 +179,8 @@ class Port:
 
 
 class Round:
-    """A round of a route report: its number, histories, moved nets with the rows of their trees, and wires with more than one net."""
+    """A round of a route report: its number, histories, moved nets with the rows of their trees, and wires with more than one net. The opening
+    has the number 0, and the nets that were kept with their trees."""
 
     def __init__(self, number):
         self.number, self.history, self.moved, self.over = number, {}, {}, {}
@@ -189,24 +190,27 @@ class Routes:
     """What a route report says."""
 
     def __init__(self, path):
-        self.rounds, self.routed = [], None
+        self.opening, self.rounds, self.routed = Round(0), [], None
         read(path, "a report on routes", lambda lines: [self.take(line.split()) for line in lines])
         if self.routed is None:
             raise Refusal(f"{path}: this is no whole report on routes, since it ends with neither routed nor gave up")
         # the last tree of each net
-        self.trees = {net: rows for log in self.rounds for net, rows in log.moved.items()}
+        self.trees = {net: rows for log in (self.opening, *self.rounds) for net, rows in log.moved.items()}
 
     def take(self, words):
         if words[0] == "cells":
             self.cells, self.tiles, self.nets = (int(word) for word in words[1::2])
+        elif words == ["opening"]:
+            self.last = self.opening
         elif words[0] == "round":
-            self.rounds.append(Round(int(words[1])))
+            self.last = Round(int(words[1]))
+            self.rounds.append(self.last)
         elif words[0] == "history":
-            self.rounds[-1].history[int(words[1])] = int(words[2])
+            self.last.history[int(words[1])] = int(words[2])
         elif words[0] == "net":
-            self.rounds[-1].moved[int(words[1])] = [int(word) for word in words[3:]]
+            self.last.moved[int(words[1])] = [int(word) for word in words[3:]]
         elif words[0] == "over":
-            self.rounds[-1].over[int(words[1])] = int(words[2])
+            self.last.over[int(words[1])] = int(words[2])
         else:
             self.routed = {("routed",): True, ("gave", "up"): False}[tuple(words)]
 

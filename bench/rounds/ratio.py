@@ -8,6 +8,8 @@ import re
 import sys
 
 TIMED = ("read", "fabric", "rounds", "memory", "clock")
+# What the C++ program does not say: how many nets an opening kept, and a checksum of the trees alone.
+COUNTED = ("kept", "trees")
 
 
 def turn_of(path: str) -> tuple:
@@ -15,7 +17,7 @@ def turn_of(path: str) -> tuple:
     with open(path) as lines:
         for line in lines:
             word, _, rest = line.strip().partition(" ")
-            if word in TIMED and word not in numbers:
+            if word in TIMED + COUNTED and word not in numbers:
                 numbers[word] = int(rest)
             elif word == "settled":
                 numbers[word] = float(rest)

@@ -16,7 +16,7 @@ _tefitsundra_places() {
 # The options of a command.
 _tefitsundra_options() {
     case "$1" in
-        build) echo "--pins --report --seed --rounds --workers --help" ;;
+        build) echo "--pins --report --seed --rounds --workers --opening --help" ;;
         sample) echo "--workers --help" ;;
         *) echo "--help" ;;
     esac
@@ -29,6 +29,7 @@ _tefitsundra_values() {
         --seed) compgen -W "1 2 3 4 5 6 7 8" -- "$2" ;;
         --rounds) compgen -W "1 2 4 8 16 32 64" -- "$2" ;;
         --workers) compgen -W "1 2 3 4 5 6 7 8" -- "$2" ;;
+        --opening) compgen -W "0 1" -- "$2" ;;
     esac
 }
 

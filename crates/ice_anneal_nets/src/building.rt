@@ -26,7 +26,8 @@ fn pad_node(ports: &[Pad], k: usize) -> Option<Node>
 
 // The nodes of all pads.
 fn pad_nodes(alloc: Global, ports: &[Pad]) -> Result<Vec<Option<Node>>, NoMemory>
-    ensures { IfOk result (λ nodes. nodes.items ≡ table (λ k. option_map pad_node (slice_get ports.now k)) (length ports.now)) }
+    ensures { IfOk result (λ nodes. nodes.items
+        ≡ table (λ k. option_map pad_node (slice_get ports.now k)) (length ports.now)) }
 {
     let mut nodes = Vec::new(alloc);
     for k in 0..ports.len() {
@@ -79,7 +80,8 @@ fn add_pads(
     ports: &[Pad],
     readers: &[Items<Node>],
 ) -> Result<(), NoMemory>
-    ensures { OnOk result (nodes_in nets.new.items ≡ nodes_in nets.old.items ++ nets_by (table (λ k. option_map pad_node (slice_get ports.now k)) (length ports.now)) readers.now) }
+    ensures { OnOk result (nodes_in nets.new.items
+        ≡ nodes_in nets.old.items ++ nets_by (table (λ k. option_map pad_node (slice_get ports.now k)) (length ports.now)) readers.now) }
 {
     let roots = pad_nodes(alloc, ports)?;
     add_nets(alloc, nets, roots.as_slice(), readers)
@@ -92,7 +94,8 @@ fn add_cells(
     placed: &Placed<'_>,
     readers: &[Items<Node>],
 ) -> Result<(), NoMemory>
-    ensures { OnOk result (nodes_in nets.new.items ≡ nodes_in nets.old.items ++ nets_by (table (holder 0 placed.now.clusters.now) (length placed.now.design.now.cells)) readers.now) }
+    ensures { OnOk result (nodes_in nets.new.items
+        ≡ nodes_in nets.old.items ++ nets_by (table (holder 0 placed.now.clusters.now) (length placed.now.design.now.cells)) readers.now) }
 {
     let roots = holders_of(alloc, placed.clusters, placed.design.cells().len())?;
     add_nets(alloc, nets, roots.as_slice(), readers)
@@ -100,7 +103,8 @@ fn add_cells(
 
 /// The nets of a design whose roots are no globals, by nodes. Takes time near the number of pins.
 pub fn nets_of(alloc: Global, placed: &Placed<'_>) -> Result<Vec<NetNodes>, NoMemory>
-    ensures { IfOk result (λ nets. nodes_in nets.items ≡ all_nodes (plan_in placed.now) (reads_of placed.now.chip.now (plan_in placed.now))) }
+    ensures { IfOk result (λ nets. nodes_in nets.items
+        ≡ all_nodes (plan_in placed.now) (reads_of placed.now.chip.now (plan_in placed.now))) }
 {
     let readers = readers_of(alloc, placed)?;
     let mut nets = Vec::new(alloc);

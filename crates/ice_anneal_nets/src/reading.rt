@@ -69,7 +69,8 @@ fn add_globals(
     direct: &[bool],
     roots: &[Option<Root>],
 ) -> Result<(), NoMemory>
-    ensures { OnOk result (reads.new.items ≡ reads.old.items ++ globals_reads chip.now numbers.now (fed_roots direct.now roots.now)) }
+    ensures { OnOk result (reads.new.items
+        ≡ reads.old.items ++ globals_reads chip.now numbers.now (fed_roots direct.now roots.now)) }
 {
     for k in 0..numbers.len().min(roots.len()) {
         let read = fed_root(direct, k, roots[k]);

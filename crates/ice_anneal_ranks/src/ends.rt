@@ -15,7 +15,7 @@ impl Along {
     // Adds an end. Of more than sixteen the greatest is left out.
     fn add(&mut self, end: u8) {
         let mut carried = end;
-        for k in 0..16usize {
+        for k in 0..=self.count.min(15) {
             if let Some(own) = self.ends.get_mut(k) {
                 if carried < *own {
                     let held = *own;

@@ -12,13 +12,13 @@ use rand_pcg::Pcg32;
 const STEPS: u64 = 64;
 
 /// How many tries there are for each cell at each step.
-const CELL_TRIES: u64 = 16;
+const CELL_TRIES: u64 = 48;
 
 /// How many more tries with cells there are at each step, for the sake of small designs.
 const MORE_CELL_TRIES: u64 = 3000;
 
 /// How many tries there are for each unit at each step.
-const UNIT_TRIES: u64 = 60;
+const UNIT_TRIES: u64 = 16;
 
 /// How many more tries with units there are at each step.
 const MORE_UNIT_TRIES: u64 = 2000;

@@ -7,6 +7,7 @@ use Rattle.std.proofs.lemmas.List.Elements.{recursion_from_All, All-weaker}
 use Rattle.ice_base.specs.declared.number.TileAt.{TileAt}
 use Rattle.ice_base.specs.declared.number.BitAt.{BitAt}
 use Rattle.ice_base.specs.Text.{numbered, IsLine}
+use Rattle.ice_base.proofs.TextLines.{all_append, word_line, lines_read}
 use Rattle.ice_chip.specs.Database.{Parts}
 use Rattle.ice_chip.specs.Lookups.{tile_of}
 use Rattle.ice_chip.specs.Places.{same_tile, columns, tile_known}
@@ -21,7 +22,7 @@ use Rattle.ice_asc.specs.Grammar.{Reading, start, lines_say, end_says, asc_in}
 use Rattle.ice_asc.specs.Headings.{heading_of_kind}
 use Rattle.ice_asc.specs.RoundTrip.{IsSmall, WrittenIsRead}
 use Rattle.ice_asc.specs.Text.{digit_of_bit, bit_at_place, spaced, row_line, tile_heading, tile_lines, extra_line, asc_lines, asc_text}
-use Rattle.ice_asc.proofs.TextLines.{lines_read, all_append, plain_line, word_line, decimal_line, kind_word}
+use Rattle.ice_asc.proofs.TextLines.{plain_line, decimal_line, kind_word}
 use Rattle.ice_asc.proofs.WrittenLines.{rows_are, IsElsewhere, apart_before, unseen, found, changed, self_same}
 use Rattle.ice_asc.proofs.WrittenReading.{IsNear, Reads, reads_line, behind, rows_read, ready, entered, heading_read, extra_read, in_comment, comment_read, remark_read, device_read}
 

@@ -1,23 +1,17 @@
 -- A text that is made of lines is cut into these lines.
-use Rattle.std.proofs.Common.{◌≡◌, ◌≢◌, ℕ, ◌<◌, ◌==◌, ◌^◌, Bool, true, false, not, List, [], ◌∷◌, ◌++◌, length, map, refl, ap, ◌∙◌, append_assoc, arith, eq-eqb}
+use Rattle.std.proofs.Common.{◌≡◌, ◌≢◌, ℕ, ◌<◌, ◌==◌, ◌^◌, Bool, true, false, not, List, [], ◌∷◌, length, map, refl, ap, arith, eq-eqb}
 use Rattle.std.specs.Prelude.{codes, decimal}
 use Rattle.std.specs.List.{AllByRecursion, list_all}
 use Rattle.std.proofs.lemmas.Bool.{and_parts}
-use Rattle.ice_base.specs.Text.{lines, ends_word, IsLine, IsWord, text_of_lines}
-use Rattle.ice_base.proofs.TextLaws.{no_lines_left, first_line, decimal_is_word}
+use Rattle.ice_base.specs.Text.{lines, ends_word, IsLine, IsWord}
+use Rattle.ice_base.proofs.TextLaws.{decimal_is_word}
+use Rattle.ice_base.proofs.TextLines.{word_line}
 use Rattle.ice_chip.specs.declared.rows.TileKind.{TileKind}
 use Rattle.ice_chip.specs.declared.rows.TileKind.TheVariants.{Io, Logic, RamBottom, RamTop}
 use Rattle.ice_asc.specs.Headings.{heading_of_kind}
 use Rattle.ice_asc.specs.Text.{digit_of_bit}
 
 -- ---- pieces of text
-pub lines_read : (ls : List (List ℕ)) → AllByRecursion IsLine ls → lines (text_of_lines ls) ≡ ls
-lines_read [] h = no_lines_left
-lines_read (l ∷ ls) h = ap lines (append_assoc l (10 ∷ []) (text_of_lines ls)) ∙ first_line l (text_of_lines ls) h.0 ∙ ap (λ ms. l ∷ ms) (lines_read ls h.1)
-
-pub all_append : {X : Type 0} (P : X → Type 0) (xs ys : List X) → AllByRecursion P xs → AllByRecursion P ys → AllByRecursion P (xs ++ ys)
-all_append P [] ys h k = k
-all_append P (x ∷ xs) ys h k = (h.0, all_append P xs ys h.1 k)
 
 is_no_feed : (b : ℕ) → not (b == 10) ≡ true → b ≢ 10
 is_no_feed b h e = let low : not (b == 10) ≡ false = ap not (eq-eqb b 10 e) in absurd (cc)
@@ -25,11 +19,6 @@ is_no_feed b h e = let low : not (b == 10) ≡ false = ap not (eq-eqb b 10 e) in
 pub plain_line : (l : List ℕ) → list_all (λ b. not (b == 10)) l ≡ true → IsLine l
 plain_line [] h = tt
 plain_line (b ∷ l) h = let parts = and_parts (not (b == 10)) (list_all (λ x. not (x == 10)) l) h in (is_no_feed b parts.0, plain_line l parts.1)
-
--- a word is a line
-pub word_line : (w : List ℕ) → AllByRecursion (λ b. ends_word b ≡ false) w → IsLine w
-word_line [] h = tt
-word_line (b ∷ w) h = (λ e. let ends : ends_word b ≡ true = ap ends_word e in absurd (cc (ends, h.0)), word_line w h.1)
 
 pub decimal_line : (n : ℕ) → n < 2 ^ 64 → IsLine (decimal n)
 decimal_line n small = word_line (decimal n) (decimal_is_word n small).1

@@ -20,11 +20,11 @@ use Rattle.ice_chip.specs.declared.parts.TileLine.{TileLine}
 use Rattle.ice_chip.specs.declared.tile.Tile.{Tile}
 use Rattle.ice_bits.specs.Configuration.{Configuration, is_of_kind, blank}
 use Rattle.ice_bits.specs.Rewriting.{with_rows}
-use Rattle.ice_bits.proofs.TileKinds.{kind_same}
 use Rattle.ice_asc.specs.Faults.{◌>>=◌}
 use Rattle.ice_asc.specs.Headings.{heading_of_kind, heading_of}
 use Rattle.ice_base.specs.Lists.{all_known}
 use Rattle.ice_base.specs.BitNames.{digit_value}
+use Rattle.ice_chip.proofs.SameKinds.{kind_self}
 use Rattle.ice_asc.specs.Words.{row_of_words, place_of, tile_of_words, extra_bit, extra_of_words}
 use Rattle.ice_asc.specs.Grammar.{Reading, start, with_row, known_row, opened, tile_says, extra_says, heading_says, line_says, at_line, lines_say, end_says}
 use Rattle.ice_asc.specs.RoundTrip.{IsSmall}
@@ -164,7 +164,7 @@ pub heading_read : (parts : Parts) (seen : List TileAt) (bits : Configuration) (
 heading_read parts seen bits tile known n near found of_kind new =
     let r : Reading = at_line (ready seen bits) n in
     let kinds : is_of_kind tile.kind (kind_at parts tile.at) ≡ true =
-    ap (λ (o : Option TileLine). is_of_kind tile.kind (option_map (λ (line : TileLine). line.kind) o)) found ∙ ap (λ (kind : TileKind). same_kind kind tile.kind) of_kind ∙ kind_same tile.kind in
+    ap (λ (o : Option TileLine). is_of_kind tile.kind (option_map (λ (line : TileLine). line.kind) o)) found ∙ ap (λ (kind : TileKind). same_kind kind tile.kind) of_kind ∙ kind_self tile.kind in
     ap (line_says parts r) (heading_words tile near)
     ∙ ap (λ (x : Bool). if x then heading_says parts r (heading_of (heading_of_kind tile.kind)) (decimal tile.at.x ∷ decimal tile.at.y ∷ []) else Err (fault.UnknownWord n)) (heading_begins tile.kind)
     ∙ ap (λ h. heading_says parts r h (decimal tile.at.x ∷ decimal tile.at.y ∷ [])) (heading_named tile.kind)

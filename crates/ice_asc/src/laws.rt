@@ -20,6 +20,8 @@ pub fn written_is_read()
 pub fn says_bits_or_first_fault(chip: &Chip, text: &[u8])
     ensures bits { (k : Configuration) → (asc_in chip.now text.now ≡ Ok k ↔ HasBits chip.now text.now k) }
     ensures fault { (f : AscFault) → (asc_in chip.now text.now ≡ Err f ↔ HasFirstFault chip.now text.now f) }
-    ensures one { ((k : Configuration) × HasBits chip.now text.now k) ⊎ ((f : AscFault) × HasFirstFault chip.now text.now f) }
-    ensures never_both { (k : Configuration) → (f : AscFault) → HasBits chip.now text.now k → HasFirstFault chip.now text.now f → ⊥ }
+    ensures one { ((k : Configuration) × HasBits chip.now text.now k)
+        ⊎ ((f : AscFault) × HasFirstFault chip.now text.now f) }
+    ensures never_both { (k : Configuration) → (f : AscFault) → HasBits chip.now text.now k
+        → HasFirstFault chip.now text.now f → ⊥ }
 {}

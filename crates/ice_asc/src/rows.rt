@@ -18,7 +18,8 @@ const ROWS: usize = 16;
 
 // Ends the tile that is open, where it has all its rows.
 fn close_full(alloc: Global, reading: &mut Reading, heading: u32, at: TileAt, kind: TileKind)
-    ensures { reading_view reading.new ≡ with_row (reading_view reading.old) heading at kind (reading_view reading.old).rows }
+    ensures { reading_view reading.new
+        ≡ with_row (reading_view reading.old) heading at kind (reading_view reading.old).rows }
 {
     if reading.rows.rows().len() == ROWS {
         let rows = mem::replace(&mut reading.rows, TileBits::new(alloc));

@@ -86,7 +86,8 @@ fn bit_at(rows: Option<&TileBits>, bit: BitAt) -> bool
 
 // Writes a row of a tile, with so many columns.
 fn put_row(out: &mut Vec<u8>, rows: Option<&TileBits>, columns: u8, row: u8) -> Result<(), NoMemory>
-    ensures { OnOk result (out.new.items ≡ out.old.items ++ text_of_lines (row_line (bit_at (option_map (λ rows. rows.now) rows.entry)) columns row ∷ [])) }
+    ensures { OnOk result (out.new.items
+        ≡ out.old.items ++ text_of_lines (row_line (bit_at (option_map (λ rows. rows.now) rows.entry)) columns row ∷ [])) }
 {
     for col in 0..columns {
         out.push(digit_of_bit(bit_at(rows, BitAt { row, col })))?;
@@ -97,7 +98,8 @@ fn put_row(out: &mut Vec<u8>, rows: Option<&TileBits>, columns: u8, row: u8) -> 
 
 // Writes the sixteen rows of a tile, with so many columns.
 fn put_rows(out: &mut Vec<u8>, rows: Option<&TileBits>, columns: u8) -> Result<(), NoMemory>
-    ensures { OnOk result (out.new.items ≡ out.old.items ++ text_of_lines (map (row_line (bit_at (option_map (λ rows. rows.now) rows.entry)) columns) (range_with_len 0 16))) }
+    ensures { OnOk result (out.new.items
+        ≡ out.old.items ++ text_of_lines (map (row_line (bit_at (option_map (λ rows. rows.now) rows.entry)) columns) (range_with_len 0 16))) }
 {
     for row in 0..ROWS {
         put_row(out, rows, columns, row)?;
@@ -169,10 +171,11 @@ fn put_text(out: &mut Vec<u8>, bits: &Bits, chip: &Chip) -> Result<(), NoMemory>
 /// Want of memory alone.
 pub fn write_asc(bits: &Bits, chip: &Chip, out: &mut Vec<u8>) -> Result<(), NoMemory>
     ensures written { OnOk result (out.new.items ≡ out.old.items ++ asc_text chip.now bits.now) }
-    ensures read_back { OnOk result (IsOf chip.now bits.now → asc_in chip.now (asc_text chip.now bits.now) ≡ Ok bits.now) }
+    ensures read_back { OnOk result (IsOf chip.now bits.now → asc_in chip.now (asc_text chip.now bits.now)
+        ≡ Ok bits.now) }
     ensures refused { OnErr result (out.new.items ≡ out.old.items) }
 {
-    chip.wires();
+    chip.is_chip();
     written_is_read();
     let mut text = Vec::new(*out.allocator());
     put_text(&mut text, bits, chip)?;

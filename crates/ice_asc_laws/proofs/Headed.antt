@@ -3,7 +3,6 @@ use Rattle.std.proofs.Common.{◌≡◌, ℕ, Bool, true, false, None, Some, Lis
 use Rattle.ice_base.specs.BitNames.{values_in}
 use Rattle.ice_base.specs.Comments.{begins_with}
 use Rattle.ice_base.proofs.Keys.{bytes_same, nat_same}
-use Rattle.ice_chip.specs.Functions.{same_kind}
 use Rattle.ice_chip.specs.declared.rows.TileKind.{TileKind}
 use Rattle.ice_chip.specs.declared.rows.TileKind.TheVariants.{Io, Logic, RamBottom, RamTop}
 use Rattle.ice_asc.specs.Headings.{heading_of_kind, heading_of}
@@ -115,22 +114,3 @@ row_plain width (c ∷ w) row is = by (nat_eq c 46) refl
     by : (x : Bool) → nat_eq c 46 ≡ x → x ≡ false
     by false e = refl
     by true e = absurd (dot (nat_eq (length (46 ∷ w)) width) (subst (λ d. bits_of_digits width (d ∷ w) ≡ Some row) (nat_same c 46 e) is))
-
--- ---- kinds of tiles
-pub kind_same : (a b : TileKind) → same_kind a b ≡ true → a ≡ b
-kind_same Io Io e = refl
-kind_same Io Logic e = absurd (true≢false (sym e))
-kind_same Io RamBottom e = absurd (true≢false (sym e))
-kind_same Io RamTop e = absurd (true≢false (sym e))
-kind_same Logic Io e = absurd (true≢false (sym e))
-kind_same Logic Logic e = refl
-kind_same Logic RamBottom e = absurd (true≢false (sym e))
-kind_same Logic RamTop e = absurd (true≢false (sym e))
-kind_same RamBottom Io e = absurd (true≢false (sym e))
-kind_same RamBottom Logic e = absurd (true≢false (sym e))
-kind_same RamBottom RamBottom e = refl
-kind_same RamBottom RamTop e = absurd (true≢false (sym e))
-kind_same RamTop Io e = absurd (true≢false (sym e))
-kind_same RamTop Logic e = absurd (true≢false (sym e))
-kind_same RamTop RamBottom e = absurd (true≢false (sym e))
-kind_same RamTop RamTop e = refl

@@ -1,4 +1,4 @@
 mod Headed
 mod TilesWith
 mod Sections
-mod TextSays
+pub mod TextSays

@@ -13,6 +13,7 @@ use Rattle.ice_chip.specs.Functions.{same_kind}
 use Rattle.ice_chip.specs.Lookups.{kind_at}
 use Rattle.ice_chip.specs.Places.{same_tile, columns}
 use Rattle.ice_chip.specs.declared.rows.TileKind.{TileKind}
+use Rattle.ice_chip.proofs.SameKinds.{kind_same}
 use Rattle.ice_bits.specs.Configuration.{Configuration, is_of_kind, bit_at, blank}
 use Rattle.ice_bits.specs.Rewriting.{with_rows}
 use Rattle.ice_asc.specs.Faults.{◌>>=◌}
@@ -26,7 +27,7 @@ use Rattle.ice_asc.specs.declared.section.Section.TheVariants.{Nowhere, ReadOver
 use Rattle.ice_asc.specs.declared.section.Heading.{Heading}
 use Rattle.ice_asc.specs.declared.section.Heading.TheVariants.{Device, Tile, ExtraBit, Symbol, Other}
 use Rattle.ice_asc_laws.specs.NamedTiles.{Line, has_words, worded, row_of, begins_extra, HasItsRows, SayBits}
-use Rattle.ice_asc_laws.proofs.Headed.{is_tile, other_heading, extra_is, plain_line, plain_extra, kind_same}
+use Rattle.ice_asc_laws.proofs.Headed.{is_tile, other_heading, extra_is, plain_line, plain_extra}
 use Rattle.ice_asc_laws.proofs.TilesWith.{Grid, tiles_stay, blank_has, blank_bit}
 use Rattle.ice_asc_laws.proofs.Sections.{BeganRight, HasRows, IsReady, IsShut, Says, beside, extra_more, named_first, row_before, row_last, shut_closes, skipped}
 

@@ -9,5 +9,6 @@ ghost use Rattle.ice_asc_laws.specs.NamedTiles.{worded, SayBits};
 /// tile's rows of bits are the sixteen lines behind it. No tile is named twice, every bit of every other tile is 0, and the extra bits
 /// are those of the lines that begin with `.extra_bit`, in order.
 pub fn texts_say_rows_of_tiles()
-    ensures { (parts : Parts) (text : List ℕ) (k : Configuration) → asc_in parts text ≡ Ok k → SayBits parts (worded text) k }
+    ensures { (parts : Parts) (text : List ℕ) (k : Configuration) → asc_in parts text ≡ Ok k
+        → SayBits parts (worded text) k }
 {}

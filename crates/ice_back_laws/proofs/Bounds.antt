@@ -22,7 +22,8 @@ use Rattle.ice_chip.specs.declared.rows.Pad.{Pad}
 use Rattle.ice_decode.specs.Cells.{is_logic_tile, logic_tiles}
 use Rattle.ice_decode.specs.Pads.{pads_in}
 use Rattle.ice_decode.proofs.Members.{At_range}
-use Rattle.ice_back_laws.proofs.PinTypes.{each_two, pinned}
+use Rattle.ice_decode.proofs.OtherTypes.{each_two}
+use Rattle.ice_back_laws.proofs.PinTypes.{pinned}
 use Rattle.ice_back_laws.proofs.Standing.{flat_on, flat_long}
 
 -- ---- pads that stand once

@@ -1,7 +1,7 @@
 -- The cells, pads and globals that wires are of, are those of the chip.
-use Rattle.std.proofs.Common.{◌≡◌, ◌⊎◌, ℕ, zero, suc, ◌-◌, ◌<◌, ◌≤◌, Bool, true, false, cond, List, [], ◌∷◌, Some, None, Option, inl, inr, refl, sym, subst, eqb, leb, arith}
-use Rattle.std.specs.Prelude.{◌&&◌, codes, bytes_eq}
-use Rattle.std.proofs.lemmas.Bool.{leb-true, cond_both}
+use Rattle.std.proofs.Common.{◌≡◌, ◌⊎◌, ℕ, zero, suc, ◌-◌, ◌<◌, true, List, [], ◌∷◌, Some, None, Option, inl, inr, refl, sym, subst, arith}
+use Rattle.std.specs.Prelude.{codes, bytes_eq}
+use Rattle.std.proofs.lemmas.Bool.{cond_both}
 use Rattle.ice_base.specs.declared.number.TileAt.{TileAt}
 use Rattle.ice_chip.specs.Database.{Parts}
 use Rattle.ice_chip.specs.Lookups.{kind_at, names_of}
@@ -16,6 +16,7 @@ use Rattle.ice_decode.specs.declared.role.Role.{Role}
 use Rattle.ice_decode.specs.declared.role.Role.TheVariants.{Plain, Output, LookUp, CarryOut, PadInput, Global, CarryIn, ClockEnable}
 use Rattle.ice_decode.specs.Roles.{number_at, global_role, output_role, or_global, logic_role, io_role, role_in, role_or, first_role, role_of}
 use Rattle.ice_decode.proofs.RolePlaces.{IsCell}
+use Rattle.ice_decode.proofs.CellDigits.{digit_small}
 
 -- a pad of an IO tile
 pub record IsIoPad (parts : Parts) (pad : Pad) : Type 0 where
@@ -37,24 +38,6 @@ module _ (parts : Parts) where
   abbrev IsOfCellIf : Option Role → Type 0
   IsOfCellIf None = Unit {0}
   IsOfCellIf (Some role) = IsOfCell role
-
--- a name of a cell's pin has a digit below eight
-digit_small : (name : List ℕ) → (number_at name 6 < 8) ⊎ (cell_pin name ≡ [])
-digit_small [] = inr refl
-digit_small (a ∷ []) = inr refl
-digit_small (a ∷ b ∷ []) = inr refl
-digit_small (a ∷ b ∷ c ∷ []) = inr refl
-digit_small (a ∷ b ∷ c ∷ d ∷ []) = inr refl
-digit_small (a ∷ b ∷ c ∷ d ∷ e ∷ []) = inr refl
-digit_small (a ∷ b ∷ c ∷ d ∷ e ∷ f ∷ []) = inr refl
-digit_small (a ∷ b ∷ c ∷ d ∷ e ∷ f ∷ i ∷ []) = inr refl
-digit_small (a ∷ b ∷ c ∷ d ∷ e ∷ f ∷ i ∷ g ∷ pin) =
-    by (eqb a 108 && eqb b 117 && eqb c 116 && eqb d 102 && eqb e 102 && eqb f 95 && leb 48 i) (leb i 55) (eqb g 47) refl
-  where
-    by : (x y z : Bool) → leb i 55 ≡ y → (i - 48 < 8) ⊎ (cond ((x && y) && z) pin [] ≡ [])
-    by x true z e = let le : i ≤ 55 = leb-true i 55 e in inl (omega arith)
-    by true false z e = inr refl
-    by false false z e = inr refl
 
 -- a global has one of eight numbers
 global_digit : (n : ℕ) → n < 8 → number_at (global_name n) 10 ≡ n

@@ -4,6 +4,7 @@ use Rattle.std.specs.List.{flat_map}
 use Rattle.ice_base.specs.declared.number.SignalNo.{SignalNo}
 use Rattle.ice_base_values.specs.Order.{At}
 use Rattle.ice_check.specs.Tables.{once, times}
+use Rattle.ice_check.proofs.Places.{times_append}
 use Rattle.ice_back_laws.specs.Numbers.{signal}
 
 -- a count of at most 1, which is 0 unless P holds
@@ -42,9 +43,6 @@ pub times_one : (m s : ℕ) → IsRare (times s (Some (signal m) ∷ [])) (m ≡
 times_one m s = let e : once (m == s) ≡ once (m == s) + 0 = omega arith in subst (λ n. IsRare n (m ≡ s)) e (once_at m s)
 
 -- ---- lists
-pub times_append : (s : ℕ) (xs ys : List (Option SignalNo)) → times s (xs ++ ys) ≡ times s xs + times s ys
-times_append s [] ys = omega arith
-times_append s (x ∷ xs) ys = let rest = times_append s xs ys in omega (arith, rest)
 
 pub append_rare : (s : ℕ) (xs ys : List (Option SignalNo)) (P Q : Type 0) → IsRare (times s xs) P → IsRare (times s ys) Q → (P → Q → ⊥) → IsRare (times s (xs ++ ys)) (P ⊎ Q)
 append_rare s xs ys P Q x y apart = subst (λ n. IsRare n (P ⊎ Q)) (sym (times_append s xs ys)) (rare_join (times s xs) (times s ys) P Q x y apart)

@@ -1,44 +1,36 @@
 -- The types of the pads of a package: the output part of each is one of the four.
-use Rattle.std.proofs.Common.{◌≡◌, ◌⊎◌, ℕ, zero, suc, ◌+◌, ◌*◌, ◌/◌, ◌<◌, ◌==◌, Bool, true, false, cond, Option, None, Some, List, [], ◌∷◌, ◌++◌, map, inl, inr, refl, sym, ap, ◌∙◌, subst, true≢false, bytes_eq, eqb-true, arith}
-use Rattle.std.specs.Prelude.{◌||◌, not, slice_get}
+use Rattle.std.proofs.Common.{◌≡◌, ◌⊎◌, ℕ, suc, ◌+◌, ◌*◌, ◌/◌, ◌<◌, ◌==◌, Bool, true, false, cond, Option, None, Some, List, [], ◌∷◌, ◌++◌, map, inl, inr, refl, sym, ap, ◌∙◌, subst, eqb-true}
+use Rattle.std.specs.Prelude.{◌||◌, not}
 use Rattle.std.specs.List.{list_any}
-use Rattle.std.specs.Option.{option_map_or, option_and_then, option_map}
-use Rattle.std.proofs.lemmas.Bool.{and_parts, or_cases, or_parts, false_from_ne_true, not-false}
+use Rattle.std.specs.Option.{option_map}
+use Rattle.std.proofs.lemmas.Bool.{or_cases, or_parts, false_from_ne_true, not-false}
 use Rattle.std.proofs.lemmas.Option.{none-some, same_Some}
 use Rattle.indexmap.specs.IndexSet.{insert_key, insert_all}
-use Rattle.ice_base.specs.declared.number.BitAt.{BitAt}
 use Rattle.ice_base.specs.declared.number.TileAt.{TileAt}
-use Rattle.ice_base.proofs.Keys.{bytes_same, tile_same}
+use Rattle.ice_base.proofs.Keys.{tile_same}
 use Rattle.ice_base_values.specs.Order.{Has}
-use Rattle.ice_base_values.proofs.Members.{Has_all, Has_cases, Has_filter, Has_find, find_Has, lookup_Has, map_Has}
-use Rattle.ice_chip.specs.Database.{Parts, PackageRows, FunctionRow}
-use Rattle.ice_chip.specs.FunctionNames.{pin_type_function}
-use Rattle.ice_chip.specs.Functions.{is_read, is_foreign, same_kind}
+use Rattle.ice_base_values.proofs.Members.{Has_all, Has_cases, Has_filter, Has_find, lookup_Has, map_Has}
+use Rattle.ice_chip.specs.Database.{Parts, PackageRows}
 use Rattle.ice_chip.specs.IsRead.{IsRead}
-use Rattle.ice_chip.specs.Lookups.{kind_at, is_io_kind, is_function, function_of}
+use Rattle.ice_chip.specs.Lookups.{kind_at, is_io_kind}
 use Rattle.ice_chip.specs.Places.{same_tile, same_pad, tile_known}
-use Rattle.ice_chip.specs.Within.{IsKept, IsPad, IsPackage}
+use Rattle.ice_chip.specs.Within.{IsPad, IsPackage}
 use Rattle.ice_chip.specs.declared.parts.TileLine.{TileLine}
 use Rattle.ice_chip.specs.declared.rows.Pad.{Pad}
 use Rattle.ice_chip.specs.declared.rows.TileKind.{TileKind}
 use Rattle.ice_chip.specs.declared.rows.TileKind.TheVariants.{Io, Logic, RamBottom, RamTop}
 use Rattle.ice_bits.specs.Configuration.{Bits}
 use Rattle.ice_net.specs.Drives.{is_type}
-use Rattle.ice_net.specs.Meaning.{number_of}
 use Rattle.ice_decode.specs.Faults.{is_output_part, has_wrong_type}
 use Rattle.ice_decode.specs.Cells.{tile_place}
-use Rattle.ice_decode.specs.Pads.{pads_in, is_io_tile, io_tiles, pads, pin_type_digit, pin_type}
+use Rattle.ice_decode.specs.Pads.{pads_in, is_io_tile, io_tiles, pads, pin_type}
 use Rattle.ice_decode.specs.Refusals.{IsFaultless}
 use Rattle.ice_decode.proofs.Members.{Has_append_cases}
 use Rattle.ice_decode.specs.Registers.{has_output_register}
+use Rattle.ice_decode.proofs.OtherTypes.{each_two, other_untyped}
 use Rattle.ice_back_laws.specs.Back.{buffer_part, buffer_type}
 use Rattle.ice_back_laws.proofs.Ranks.{io_placed}
 use Rattle.ice_back_laws.proofs.Standing.{flat_on}
-
-pub each_two : (P : ℕ → Type 0) → P 0 → P 1 → (n : ℕ) → n < 2 → P n
-each_two P a b zero lt = a
-each_two P a b (suc zero) lt = b
-each_two P a b (suc (suc n)) lt = absurd (omega (arith, lt))
 
 -- ---- the pads of a package
 -- what is kept of pads is one of them
@@ -71,40 +63,6 @@ pio_below width height rows form pad has =
     let is : IsPad width height pin.0.1 = Has_all (λ (p : List ℕ × Pad). IsPad width height p.1) rows.pins pin.0 form.pins pin.1 in
     subst (λ (p : Pad). p.pio < 2) pin.2 is.pio
 
--- ---- tiles of other kinds have no types
-same_kind_is : (a b : TileKind) → same_kind a b ≡ true → a ≡ b
-same_kind_is Io Io e = refl
-same_kind_is Io Logic e = absurd (true≢false (sym e))
-same_kind_is Io RamBottom e = absurd (true≢false (sym e))
-same_kind_is Io RamTop e = absurd (true≢false (sym e))
-same_kind_is Logic Io e = absurd (true≢false (sym e))
-same_kind_is Logic Logic e = refl
-same_kind_is Logic RamBottom e = absurd (true≢false (sym e))
-same_kind_is Logic RamTop e = absurd (true≢false (sym e))
-same_kind_is RamBottom Io e = absurd (true≢false (sym e))
-same_kind_is RamBottom Logic e = absurd (true≢false (sym e))
-same_kind_is RamBottom RamBottom e = refl
-same_kind_is RamBottom RamTop e = absurd (true≢false (sym e))
-same_kind_is RamTop Io e = absurd (true≢false (sym e))
-same_kind_is RamTop Logic e = absurd (true≢false (sym e))
-same_kind_is RamTop RamBottom e = absurd (true≢false (sym e))
-same_kind_is RamTop RamTop e = refl
-
--- the function is neither read nor kept in tiles of the kind
-abbrev IsUnknown : List ℕ → TileKind → Type 0
-IsUnknown name kind = (is_read kind name || is_foreign kind name) ≡ false
-
-abbrev AreUnknown : ℕ → TileKind → Type 0
-AreUnknown pio kind =
-    IsUnknown (pin_type_function pio 0) kind × IsUnknown (pin_type_function pio 1) kind × IsUnknown (pin_type_function pio 2) kind × IsUnknown (pin_type_function pio 3) kind
-    × IsUnknown (pin_type_function pio 4) kind × IsUnknown (pin_type_function pio 5) kind
-
-unknown : (kind : TileKind) → (kind ≡ Io → ⊥) → (pio : ℕ) → pio < 2 → AreUnknown pio kind
-unknown Io other = λ pio lt. absurd (other refl)
-unknown Logic other = each_two (λ pio. AreUnknown pio Logic) (refl, refl, refl, refl, refl, refl) (refl, refl, refl, refl, refl, refl)
-unknown RamBottom other = each_two (λ pio. AreUnknown pio RamBottom) (refl, refl, refl, refl, refl, refl) (refl, refl, refl, refl, refl, refl)
-unknown RamTop other = each_two (λ pio. AreUnknown pio RamTop) (refl, refl, refl, refl, refl, refl) (refl, refl, refl, refl, refl, refl)
-
 -- ---- the four output parts
 part_cases : (part : ℕ) → is_output_part part ≡ true → (part ≡ 0) ⊎ ((part ≡ 5) ⊎ ((part ≡ 6) ⊎ (part ≡ 10)))
 part_cases part e = elim (or_cases (part == 0) ((part == 5) || ((part == 6) || (part == 10))) e) [
@@ -125,45 +83,6 @@ part_typed part e = by (part_cases part e)
     by (inr (inr (inr f))) = ap (λ m. is_type (4 * buffer_part m + 1)) f
 
 module _ (parts : Parts) (bits : Bits) (read : IsRead parts) where
-  lacks : (kind : TileKind) (name : List ℕ) → IsUnknown name kind → function_of parts kind name ≡ None
-  lacks kind name never = by (function_of parts kind name) refl
-    where
-      by : (o : Option FunctionRow) → function_of parts kind name ≡ o → o ≡ None
-      by None e = refl
-      by (Some f) e =
-          let found = find_Has (is_function kind name) parts.functions f e in
-          let both = and_parts (same_kind f.kind kind) (bytes_eq f.name name) found.1 in
-          let k : f.kind ≡ kind = same_kind_is f.kind kind both.0 in
-          let n : f.name ≡ name = bytes_same f.name name both.1 in
-          let kept : IsKept f = Has_all IsKept parts.functions f read.functions_kept found.0 in
-          absurd (true≢false (sym kept.known ∙ (λ i. (is_read (k i) (n i) || is_foreign (k i) (n i))) ∙ never))
-
-  unset : (pad : Pad) (k : ℕ) → ((kind : TileKind) → kind_at parts pad.tile ≡ Some kind → IsUnknown (pin_type_function pad.pio k) kind) → pin_type_digit parts bits pad k ≡ false
-  unset pad k never = by (kind_at parts pad.tile) refl
-    where
-      name : List ℕ
-      name = pin_type_function pad.pio k
-
-      bit_of : TileKind → Option BitAt
-      bit_of kind = option_and_then (λ (f : FunctionRow). slice_get f.bits 0) (function_of parts kind name)
-
-      by : (o : Option TileKind) → kind_at parts pad.tile ≡ o → option_map_or (bits pad.tile) (option_and_then bit_of o) false ≡ false
-      by None e = refl
-      by (Some kind) e = ap (λ (f : Option FunctionRow). option_map_or (bits pad.tile) (option_and_then (λ (x : FunctionRow). slice_get x.bits 0) f) false) (lacks kind name (never kind e))
-
-  -- a pad of a tile of another kind has the type 0
-  other_untyped : (pad : Pad) → (kind_at parts pad.tile ≡ Some Io → ⊥) → pad.pio < 2 → pin_type parts bits pad ≡ 0
-  other_untyped pad other lt =
-      let six : (kind : TileKind) → kind_at parts pad.tile ≡ Some kind → AreUnknown pad.pio kind
-      = λ kind e. unknown kind (λ f. other (e ∙ ap (λ (x : TileKind). Some x) f)) pad.pio lt in
-      let d0 = unset pad 0 (λ kind e. (six kind e).0) in
-      let d1 = unset pad 1 (λ kind e. (six kind e).1) in
-      let d2 = unset pad 2 (λ kind e. (six kind e).2) in
-      let d3 = unset pad 3 (λ kind e. (six kind e).3) in
-      let d4 = unset pad 4 (λ kind e. (six kind e).4) in
-      let d5 = unset pad 5 (λ kind e. (six kind e).5) in
-      λ i. number_of (d0 i ∷ d1 i ∷ d2 i ∷ d3 i ∷ d4 i ∷ d5 i ∷ [])
-
   -- a pad that is driven with what a register keeps is of an IO tile
   pub output_placed : (pad : Pad) → pad.pio < 2 → has_output_register parts bits pad ≡ true → (k : ℕ) × (tile_place pad.tile (io_tiles parts) ≡ Some k)
   output_placed pad lt has = by (kind_at parts pad.tile) refl
@@ -172,11 +91,11 @@ module _ (parts : Parts) (bits : Bits) (read : IsRead parts) where
       other e = let never : (0 / 4 == 5) ≡ true = sym (ap (λ m. m / 4 == 5) e) ∙ has in cc never
 
       by : (o : Option TileKind) → kind_at parts pad.tile ≡ o → (k : ℕ) × (tile_place pad.tile (io_tiles parts) ≡ Some k)
-      by None e = other (other_untyped pad (λ f. none-some Io (sym e ∙ f)) lt)
+      by None e = other (other_untyped parts bits read pad (λ f. none-some Io (sym e ∙ f)) lt)
       by (Some Io) e = io_placed parts pad.tile e
-      by (Some Logic) e = other (other_untyped pad (λ f. (let g : Some Logic ≡ Some Io = sym e ∙ f in cc g)) lt)
-      by (Some RamBottom) e = other (other_untyped pad (λ f. (let g : Some RamBottom ≡ Some Io = sym e ∙ f in cc g)) lt)
-      by (Some RamTop) e = other (other_untyped pad (λ f. (let g : Some RamTop ≡ Some Io = sym e ∙ f in cc g)) lt)
+      by (Some Logic) e = other (other_untyped parts bits read pad (λ f. (let g : Some Logic ≡ Some Io = sym e ∙ f in cc g)) lt)
+      by (Some RamBottom) e = other (other_untyped parts bits read pad (λ f. (let g : Some RamBottom ≡ Some Io = sym e ∙ f in cc g)) lt)
+      by (Some RamTop) e = other (other_untyped parts bits read pad (λ f. (let g : Some RamTop ≡ Some Io = sym e ∙ f in cc g)) lt)
 
   io_there : (pad : Pad) → kind_at parts pad.tile ≡ Some Io → pad.pio < 2 → Has (pads parts) pad
   io_there pad io lt = by (tile_known parts.tiles pad.tile) refl io
@@ -206,8 +125,8 @@ module _ (parts : Parts) (bits : Bits) (read : IsRead parts) where
         other e = ap (λ m. is_output_part (m / 4)) e
 
         by : (o : Option TileKind) → kind_at parts pad.tile ≡ o → is_output_part (pin_type parts bits pad / 4) ≡ true
-        by None e = other (other_untyped pad (λ f. none-some Io (sym e ∙ f)) lt)
+        by None e = other (other_untyped parts bits read pad (λ f. none-some Io (sym e ∙ f)) lt)
         by (Some Io) e = io_typed pad (io_there pad e lt)
-        by (Some Logic) e = other (other_untyped pad (λ f. (let g : Some Logic ≡ Some Io = sym e ∙ f in cc g)) lt)
-        by (Some RamBottom) e = other (other_untyped pad (λ f. (let g : Some RamBottom ≡ Some Io = sym e ∙ f in cc g)) lt)
-        by (Some RamTop) e = other (other_untyped pad (λ f. (let g : Some RamTop ≡ Some Io = sym e ∙ f in cc g)) lt)
+        by (Some Logic) e = other (other_untyped parts bits read pad (λ f. (let g : Some Logic ≡ Some Io = sym e ∙ f in cc g)) lt)
+        by (Some RamBottom) e = other (other_untyped parts bits read pad (λ f. (let g : Some RamBottom ≡ Some Io = sym e ∙ f in cc g)) lt)
+        by (Some RamTop) e = other (other_untyped parts bits read pad (λ f. (let g : Some RamTop ≡ Some Io = sym e ∙ f in cc g)) lt)

@@ -3,25 +3,21 @@ use Rattle.std.proofs.Common.{◌≡◌, ℕ, zero, suc, ◌+◌, ◌<◌, ◌==
 use Rattle.std.specs.Prelude.{◌&&◌, codes, option_map, slice_index_or, unwrap_or}
 use Rattle.std.specs.List.{list_any}
 use Rattle.std.proofs.lemmas.Bool.{and_from}
-use Rattle.std.proofs.lemmas.List.Elements.{All-map, All-filter}
 use Rattle.std.proofs.lemmas.Option.{same_Some, none-some}
 use Rattle.ice_base.specs.declared.number.TileAt.{TileAt}
-use Rattle.ice_base.proofs.Entries.{lookup_all}
 use Rattle.ice_base.proofs.Keys.{tile_same, tile_self}
 use Rattle.ice_base_values.specs.System.{value}
 use Rattle.ice_base_values.specs.Inputs.{present, reading}
 use Rattle.ice_base_values.specs.Order.{At, Has, Descends}
 use Rattle.ice_base_values.proofs.Enough.{first, first_falls}
 use Rattle.ice_base_values.proofs.Members.{Has_any, Has_filter, Has_map, lookup_Has}
-use Rattle.ice_chip.specs.Database.{Parts, WireName}
+use Rattle.ice_chip.specs.Database.{Parts}
 use Rattle.ice_chip.specs.IsRead.{IsRead}
-use Rattle.ice_chip.specs.Lookups.{kind_at, is_io_kind, wire_named, placed_at, placed_wire, placed_names, is_placed, global_of, gbufpin_of}
-use Rattle.ice_chip.specs.WholeFaults.{same_placed}
+use Rattle.ice_chip.specs.Lookups.{kind_at, is_io_kind, wire_named, global_of, gbufpin_of}
 use Rattle.ice_chip.specs.Places.{same_tile, tile_known}
 use Rattle.ice_chip.specs.declared.parts.TileLine.{TileLine}
 use Rattle.ice_chip.specs.declared.rows.Pad.{Pad}
 use Rattle.ice_chip.specs.declared.rows.TileKind.TheVariants.{Io}
-use Rattle.ice_chip.specs.declared.placed.PlacedName.{PlacedName}
 use Rattle.ice_chip_laws.specs.Names.{HasNames}
 use Rattle.ice_bits.specs.Configuration.{Bits}
 use Rattle.ice_decode.specs.declared.point.Point.{Point}
@@ -41,6 +37,7 @@ use Rattle.ice_decode.specs.Registers.{has_input_register}
 use Rattle.ice_decode.specs.Roles.{role_of}
 use Rattle.ice_decode.proofs.PointPlaces.{StandsAs, wire_at, point_cases, points_long}
 use Rattle.ice_decode.proofs.ReadPoints.{read_there}
+pub use Rattle.ice_decode.proofs.ReadPoints.{named_below}
 use Rattle.ice_decode.proofs.RolePlaces.{IsCell, logic_there}
 use Rattle.ice_decode.proofs.Valued.{counted, faultless_valued}
 use Rattle.ice_decode.proofs.Walks.{all_valued}
@@ -52,11 +49,6 @@ use Rattle.ice_back_laws.proofs.PadNumbers.{pad_self, number_at, number_within}
 use Rattle.ice_back_laws.proofs.RootLevels.{passed_read, root_made}
 
 -- ---- what is read is there
--- the wire of a name is one of the chip
-pub named_below : (parts : Parts) → IsRead parts → (t : TileAt) (name : List ℕ) (w : ℕ) → wire_named parts t name ≡ Some w → w < parts.wires
-named_below parts read t name w e =
-    lookup_all (λ (k : ℕ). k < parts.wires) (same_placed (placed_at t name)) (map placed_wire (placed_names parts))
-    (All-map (λ (e : PlacedName × ℕ). e.1 < parts.wires) placed_wire (placed_names parts) (All-filter (is_placed parts.tiles) (λ (n : WireName). n.wire < parts.wires) parts.names read.named_wires)) w e
 
 -- the point of a pin is one of the chip
 pub pin_there : (parts : Parts) → IsRead parts → (t : TileAt) (name : List ℕ) (p : Point) → at_pin parts t name ≡ Some p → Has (points parts) p

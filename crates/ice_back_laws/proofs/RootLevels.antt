@@ -1,6 +1,6 @@
 -- At each moment the level of a point is that of its root.
 use Rattle.std.proofs.Common.{◌≡◌, ℕ, ◌+◌, ◌*◌, ◌<◌, ◌==◌, ◌&&◌, zero, suc, Bool, true, false, Option, None, Some, List, [], ◌∷◌, map, get_or, slice_index_or, unwrap_or, is_some, if◌then◌else◌, refl, sym, ap, ◌∙◌, arith, rules, tests}
-use Rattle.std.proofs.lemmas.Option.{same_Some, slice_get_within}
+use Rattle.std.proofs.lemmas.Option.{same_Some}
 use Rattle.ice_base.specs.declared.number.TileAt.{TileAt}
 use Rattle.ice_base_values.specs.System.{System, value, MeetsEquation}
 use Rattle.ice_base_values.specs.Inputs.{present, reading}
@@ -18,7 +18,7 @@ use Rattle.ice_decode.specs.declared.driver.Driver.{Driver}
 use Rattle.ice_decode.specs.declared.driver.Driver.TheVariants.{Nothing, By, Several}
 use Rattle.ice_decode.specs.declared.role.Role.{Role}
 use Rattle.ice_decode.specs.declared.role.Role.TheVariants.{Plain, Output, LookUp, CarryOut, PadInput, Global, CarryIn, ClockEnable}
-use Rattle.ice_decode.specs.Cells.{has_carry, has_flop, table_entry, looked_up, logic_tiles}
+use Rattle.ice_decode.specs.Cells.{has_carry, has_flop, table_entry, looked_up}
 use Rattle.ice_decode.specs.Drivers.{driver}
 use Rattle.ice_decode.specs.Faults.{IsOrderOf}
 use Rattle.ice_decode.specs.Direct.{takes_pad}
@@ -27,8 +27,7 @@ use Rattle.ice_decode.specs.Pads.{level_of, is_enabled, pad_gives}
 use Rattle.ice_decode.specs.Registers.{kept_at, input_kept, has_input_register}
 use Rattle.ice_decode.specs.Reads.{count_points, driven_reads, reads, depends_on, cell_inputs, carry_inputs, global_feed}
 use Rattle.ice_decode.specs.Roles.{role_of}
-use Rattle.ice_decode.proofs.PointPlaces.{points_long}
-use Rattle.ice_decode.proofs.Valued.{counted, valued}
+use Rattle.ice_decode.proofs.Valued.{valued, place_below}
 use Rattle.ice_back_laws.specs.Law.{root_level, AreQuiet, PointsHaveTheirRootsLevels}
 use Rattle.ice_back_laws.specs.Roots.{LevelRoot, Fixed, Input, Taken, Level, Table, Register, Sum, cell_table, table_root, carry_root, pad_number, bonded_root, enabled_root, fed_root, driven_passes, point_passes, driven_root, point_root, roots_of, root_of}
 use Rattle.ice_back_laws.proofs.PadNumbers.{number_at, level_at_number}
@@ -226,14 +225,6 @@ there : {P A : Type 0} (s : System P A) (R : ℕ → P → Type 0) (d : A) (f : 
 there s R d f falls i p r lt =
     let found = value_there s R falls f i p r lt in
     found.1 ∙ ap Some (sym (ap (λ x. unwrap_or x d) found.1))
-
-place_below : (parts : Parts) (bits : Bits) (extras : List (ℕ × ℕ × ℕ)) (order : List Point) → IsOrderOf parts bits extras order → (i : ℕ) (p : Point) → At order i p → i < count_points parts + 1
-place_below parts bits extras order o i p at =
-    let lt = slice_get_within order i p at in
-    let few = o.few in
-    let long = points_long parts.wires (logic_tiles parts) in
-    let count = counted parts in
-    omega arith
 
 -- the root of a point is made of those of the points that pass their levels on to it
 pub ordered_made : (parts : Parts) (bits : Bits) (extras : List (ℕ × ℕ × ℕ)) (order : List Point) → IsOrderOf parts bits extras order → (bonded : List Pad) (i : ℕ) (p : Point) → At order i p

@@ -1,10 +1,10 @@
 -- The netlist of a circuit shows, step by step, what the circuit shows.
-use Rattle.std.proofs.Common.{◌≡◌, ℕ, zero, suc, ◌+◌, ◌*◌, ◌/◌, ◌<◌, ◌==◌, Bool, true, false, Option, None, Some, List, [], ◌∷◌, length, map, zip, refl, sym, ap, ◌∙◌, subst, arith, eq-eqb, eqb-true, if◌then◌else◌}
+use Rattle.std.proofs.Common.{◌≡◌, ℕ, suc, ◌+◌, ◌*◌, ◌/◌, ◌<◌, ◌==◌, Bool, true, false, Option, None, Some, List, [], ◌∷◌, length, map, zip, refl, sym, ap, ◌∙◌, subst, arith, eq-eqb, eqb-true, if◌then◌else◌}
 use Rattle.std.specs.Prelude.{◌&&◌, codes, is_some, option_map, slice_index_or}
 use Rattle.std.specs.Option.{option_map_or}
 use Rattle.std.specs.List.{range_with_len}
 use Rattle.std.proofs.lemmas.Bool.{and_parts}
-use Rattle.std.proofs.lemmas.Option.{get_or_from_slice_get, none-some, same_Some}
+use Rattle.std.proofs.lemmas.Option.{get_or_from_slice_get}
 use Rattle.ice_base.specs.declared.number.TileAt.{TileAt}
 use Rattle.ice_base.specs.declared.number.SignalNo.{SignalNo}
 use Rattle.ice_base_values.specs.Inputs.{reading}
@@ -12,6 +12,7 @@ use Rattle.ice_base_values.specs.Machine.{Simulates}
 use Rattle.ice_base_values.specs.Order.{At, Has}
 use Rattle.ice_base_values.proofs.Machines.{shows_always_alike}
 use Rattle.ice_base_values.proofs.Members.{At_map, At_within, Has_all}
+use Rattle.ice_base_values.proofs.ListPlaces.{zip_at}
 use Rattle.ice_chip.specs.Database.{Parts, PackageRows}
 use Rattle.ice_chip.specs.IsRead.{IsRead}
 use Rattle.ice_chip.specs.Lookups.{placed_at}
@@ -60,15 +61,6 @@ numbered_alike f h a (x ∷ xs) same =
     let one : f a ≡ h x = subst (λ n. f n ≡ h x) z (same 0 x refl) in
     let rest = numbered_alike f h (a + 1) xs (λ k y at. let e : a + suc k ≡ a + 1 + k = omega arith in subst (λ n. f n ≡ h y) e (same (suc k) y at)) in
     λ i. one i ∷ rest i
-
-zip_at : {A B : Type 0} (xs : List A) (ys : List B) (n : ℕ) (a : A) (b : B) → At xs n a → At ys n b → At (zip xs ys) n (a, b)
-zip_at [] ys n a b at there = absurd (none-some a at)
-zip_at (c ∷ xs) [] n a b at there = absurd (none-some b there)
-zip_at (c ∷ xs) (d ∷ ys) zero a b at there =
-    let one = same_Some c a at in
-    let two = same_Some d b there in
-    λ i. Some (one i, two i)
-zip_at (c ∷ xs) (d ∷ ys) (suc n) a b at there = zip_at xs ys n a b at there
 
 map_twice : {X Y Z : Type 0} (f : Y → Z) (h : X → Y) (xs : List X) → map f (map h xs) ≡ map (λ x. f (h x)) xs
 map_twice f h [] = refl

@@ -1,9 +1,8 @@
 -- What is known of a configured chip in a package.
-use Rattle.std.proofs.Common.{◌≡◌, ℕ, ◌+◌, ◌*◌, ◌<◌, ◌≤◌, false, cond, Option, None, Some, List, [], ◌∷◌, ◌++◌, length, map, take, drop, get_or, sym, ap, ◌∙◌, subst, arith, append-nil, drop_of_length-le}
+use Rattle.std.proofs.Common.{◌≡◌, ℕ, ◌+◌, ◌*◌, ◌<◌, ◌≤◌, false, cond, Option, None, Some, List, [], ◌∷◌, ◌++◌, length, take, drop, get_or, sym, ap, ◌∙◌, subst, arith, append-nil, drop_of_length-le}
 use Rattle.std.specs.Prelude.{All, IfSome, option_map}
-use Rattle.std.specs.List.{IsDistinct, list_any, range_with_len}
+use Rattle.std.specs.List.{IsDistinct, list_any}
 use Rattle.std.proofs.lemmas.List.{take_more, take-append-drop, take_all}
-use Rattle.std.proofs.lemmas.List.FromFn.{length-map-range_with_len, get_or-map-range_with_len}
 use Rattle.std.proofs.lemmas.Option.{slice_get-get_or, slice_get_within}
 use Rattle.indexmap.specs.IndexSet.{insert_key}
 use Rattle.ice_base.specs.declared.number.TileAt.{TileAt}
@@ -25,7 +24,6 @@ use Rattle.ice_decode.specs.Faults.{IsOrderOf}
 use Rattle.ice_decode.specs.Meaning.{tile_place}
 use Rattle.ice_decode.specs.Points.{HasWire}
 use Rattle.ice_decode.specs.Reads.{wire_point, points}
-use Rattle.ice_decode.specs.Refusals.{AreDrivers}
 use Rattle.ice_decode.proofs.KeptLevels.{tile_at}
 use Rattle.ice_decode.proofs.PointPlaces.{wire_at, carry_at}
 use Rattle.ice_decode.proofs.Switches.{driver_between}
@@ -40,16 +38,6 @@ use Rattle.ice_back_points.proofs.Distinct.{distinct_left, last_new}
 use Rattle.ice_back_points.proofs.Filled.{has_wire}
 
 -- ---- drivers
-pub driver_within : (parts : Parts) (bits : Bits) (drivers : List Driver) (w : ℕ) → AreDrivers parts bits drivers → w < parts.wires → w < length drivers
-driver_within parts bits drivers w are lt =
-    let long : length (map (driver parts bits) (range_with_len 0 parts.wires)) ≡ parts.wires = length-map-range_with_len (driver parts bits) 0 parts.wires in
-    let same : length drivers ≡ length (map (driver parts bits) (range_with_len 0 parts.wires)) = ap length are in
-    omega (arith, long, same, lt)
-
-pub driver_found : (parts : Parts) (bits : Bits) (drivers : List Driver) (w : ℕ) (d : Driver) → AreDrivers parts bits drivers → w < parts.wires → get_or drivers w d ≡ driver parts bits w
-driver_found parts bits drivers w d are lt =
-    ap (λ (list : List Driver). get_or list w d) are ∙ get_or-map-range_with_len (driver parts bits) 0 parts.wires w w d lt (omega arith)
-
 pub comes_from : (parts : Parts) (bits : Bits) (w : ℕ) (d : Driver) → IsRead parts → d ≡ driver parts bits w → ComesFrom parts.wires d
 comes_from parts bits w Nothing read e = tt
 comes_from parts bits w (By s) read e = let between = driver_between parts bits w s read (sym e) in between.source

@@ -1,32 +1,17 @@
 -- Places of tiles and of pads, found by a test that is the same both ways.
-use Rattle.std.proofs.Common.{◌≡◌, ℕ, suc, ◌+◌, Bool, true, false, cond, Option, List, [], ◌∷◌, length, Some, None, inl, inr, refl, sym, ap, ◌∙◌, leb, arith, eq-eqb, eqb-true}
-use Rattle.std.specs.Prelude.{◌==◌, if◌then◌else◌, option_map, position}
+use Rattle.std.proofs.Common.{◌≡◌, ℕ, suc, ◌+◌, Bool, true, false, cond, Option, List, [], ◌∷◌, length, Some, None, inl, inr, refl, ap, ◌∙◌, leb, arith}
+use Rattle.std.specs.Prelude.{if◌then◌else◌, option_map, position}
 use Rattle.std.specs.List.{position_or_len}
 use Rattle.std.proofs.lemmas.Bool.{lt-ltb}
 use Rattle.std.proofs.lemmas.Bool.Decides.{leb_tells}
 use Rattle.ice_base.specs.declared.number.TileAt.{TileAt}
 use Rattle.ice_chip.specs.Places.{same_tile, same_pad}
+use Rattle.ice_chip.proofs.Keys.{tile_turned, pad_turned}
 use Rattle.ice_chip.specs.declared.rows.Pad.{Pad}
 use Rattle.ice_decode.specs.Meaning.{tile_place}
 use Rattle.ice_back_laws.specs.declared.root.LevelRoot.{LevelRoot}
 use Rattle.ice_back_laws.specs.declared.root.LevelRoot.TheVariants.{Fixed}
 use Rattle.ice_back_laws.specs.Roots.{pad_number, bonded_root}
-
--- ---- tests
-number_turned : (a b : ℕ) → (a == b) ≡ (b == a)
-number_turned a b = of (a == b) (b == a) refl refl
-  where
-    of : (x y : Bool) → (a == b) ≡ x → (b == a) ≡ y → x ≡ y
-    of true true e f = refl
-    of false false e f = refl
-    of true false e f = let same : a ≡ b = eqb-true a b e in let hit : (b == a) ≡ true = eq-eqb b a (sym same) in cc (hit, f)
-    of false true e f = let same : b ≡ a = eqb-true b a f in let hit : (a == b) ≡ true = eq-eqb a b (sym same) in cc (hit, e)
-
-tile_turned : (a b : TileAt) → same_tile a b ≡ same_tile b a
-tile_turned a b = rw (number_turned a.x b.x, number_turned a.y b.y) refl
-
-pad_turned : (a b : Pad) → same_pad a b ≡ same_pad b a
-pad_turned a b = rw (tile_turned a.tile b.tile, number_turned a.pio b.pio) refl
 
 -- ---- places
 shifted : (k l : ℕ) → cond (leb (suc (1 + k)) (suc l)) (Some (1 + k)) None ≡ option_map suc (cond (leb (suc k) l) (Some k) None)

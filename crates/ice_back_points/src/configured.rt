@@ -53,7 +53,7 @@ fn tile_set(alloc: Global, chip: &Chip, tiles: &[TileAt]) -> Result<IndexSet<Til
     requires { tiles.now ≡ logic_tiles chip.now }
     ensures { IfOk result (λ set. set.keys ≡ logic_tiles chip.now) }
 {
-    let _wires = chip.wires();
+    chip.is_chip();
     let mut set = IndexSet::new(alloc);
     for tile in tiles {
         set.insert(*tile)?;
@@ -87,7 +87,7 @@ impl<'a> ConfiguredChip<'a> {
         ensures { IfOk result (λ configured. configured ≡ record { parts = chip.now; configuration = circuit.now.configuration; bonded = package_view «package».now }) }
     {
         lookups_are_lawful();
-        let _wires = chip.wires();
+        chip.is_chip();
         let logic = logic_tiles(alloc, chip)?;
         let tiles = tile_set(alloc, chip, &logic)?;
         let roots = all_roots(alloc, chip, circuit, &package.pads)?;

@@ -21,7 +21,7 @@ fn driver(chip: &Chip, circuit: &Circuit, wire: WireNo) -> Driver
     ensures driver { result ≡ driver chip.now (bits_of circuit.now.configuration) wire.0 }
     ensures source { ComesFrom chip.now.wires result }
 {
-    let _wires = chip.wires();
+    chip.is_chip();
     circuit.drivers()[wire.0 as usize]
 }
 

@@ -80,7 +80,7 @@ pub(crate) fn is_heard(chip: &Chip, circuit: &Circuit, pad: Pad) -> bool
     requires { AreDrivers chip.now (bits_of circuit.now.configuration) circuit.now.drivers }
     ensures { result ≡ is_heard chip.now (bits_of circuit.now.configuration) pad }
 {
-    let _wires = chip.wires();
+    chip.is_chip();
     let wire = chip.wire_named(pad.tile, &pad_input_name(pad.pio));
     is_heard_at(chip, circuit, wire)
 }

@@ -19,3 +19,8 @@ not_implied false b e = absurd (true≢false e)
 pub one_bound : (b : Bool) → cond b 1 0 ≤ 1
 one_bound true = omega arith
 one_bound false = omega arith
+
+pub both_true : (a b : Bool) → (a ≡ true → b ≡ true) → (b ≡ true → a ≡ true) → a ≡ b
+both_true true b f g = sym (f refl)
+both_true false true f g = g refl
+both_true false false f g = refl

@@ -27,7 +27,7 @@ third_false a b c d e = rw (e, and_false (a && b)) refl
 fourth_false : (a b c d : Bool) → d ≡ false → (a && b && c && d) ≡ false
 fourth_false a b c d e = rw e (and_false (a && b && c))
 
-number_is : (word : List ℕ) → number_in word ≡ (if is_number word then Some (decimal_value word) else None)
+pub number_is : (word : List ℕ) → number_in word ≡ (if is_number word then Some (decimal_value word) else None)
 unfolding number_in
 number_is word = refl
 

@@ -7,10 +7,7 @@ use Rattle.std.proofs.lemmas.Bool.{and_parts}
 use Rattle.ice_base.specs.BitNames.{onto_front, cut_at, column_named, place_named, bit_named}
 use Rattle.ice_base.specs.Numbers.{decimal_value, is_number, number_in, number_below}
 use Rattle.ice_base.specs.Places.{bit_place}
-
-number_is : (word : List ℕ) → number_in word ≡ (if is_number word then Some (decimal_value word) else None)
-unfolding number_in
-number_is word = refl
+use Rattle.ice_base.proofs.Digits.{number_is}
 
 some_number : (word : List ℕ) (test : Bool) → is_some (if test then Some (decimal_value word) else None) ≡ true → test ≡ true
 some_number word true e = refl

@@ -5,7 +5,8 @@ ghost use Rattle.ice_base.specs.Numbers.{number_in, number_below, with_digit};
 
 // The number that a number's digits and one more write, where that is a digit and the number fits.
 fn appended(number: u32, digit: u8) -> Option<u32>
-    ensures { result ≡ (if is_ascii_digit digit && nat_lt (with_digit number digit) (2 ^ 32) then Some (with_digit number digit) else None) }
+    ensures { result
+        ≡ (if is_ascii_digit digit && nat_lt (with_digit number digit) (2 ^ 32) then Some (with_digit number digit) else None) }
 {
     if !digit.is_ascii_digit() {
         return None;

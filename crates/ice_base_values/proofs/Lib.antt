@@ -11,3 +11,4 @@ pub mod SearchSteps
 pub mod FillingSteps
 pub mod Enough
 pub mod Arriving
+pub mod ListPlaces

@@ -7,11 +7,12 @@ use Rattle.ice_base.specs.declared.number.BitAt.{BitAt}
 use Rattle.ice_chip.specs.Database.{FunctionRow}
 use Rattle.ice_chip.specs.Lookups.{function_of}
 use Rattle.ice_chip.specs.declared.rows.TileKind.{TileKind}
+use Rattle.ice_chip.proofs.SameKinds.{kind_self}
 use Rattle.ice_bits.specs.Configuration.{Configuration, bits_of, kind_in, is_of_kind, is_there}
 use Rattle.ice_bits.specs.FunctionBits.{if_there, bit_place, with_function, ReadsByName}
 use Rattle.ice_bits.specs.Rewriting.{Rewrites}
 use Rattle.ice_bits.specs.Written.{with_bit}
-use Rattle.ice_bits.proofs.TileKinds.{kind_same, kinds_are}
+use Rattle.ice_bits.proofs.TileKinds.{kinds_are}
 use Rattle.ice_bits.proofs.TileWrites.{unseen}
 
 -- a function's bit stands where the tile has a place
@@ -50,7 +51,7 @@ somewhere_rewrites old new t f at value b is writes =
 pub reads_by_name : ReadsByName
 reads_by_name parts k is t f at stands kind =
     ap (λ (o : Option TileKind). option_map_or (bits_of k t) (if is_of_kind f.kind o then option_and_then (if_there k t) (slice_get f.bits at) else None) false) (kinds_are parts k is t ∙ kind)
-    ∙ ap (λ x. option_map_or (bits_of k t) (if x then option_and_then (if_there k t) (slice_get f.bits at) else None) false) (kind_same f.kind)
+    ∙ ap (λ x. option_map_or (bits_of k t) (if x then option_and_then (if_there k t) (slice_get f.bits at) else None) false) (kind_self f.kind)
     ∙ seen (slice_get f.bits at)
     ∙ sym
     (ap (λ (o : Option TileKind). option_map_or (bits_of k t) (option_and_then (λ own. option_and_then (λ (g : FunctionRow). slice_get g.bits at) (function_of parts own f.name)) o) false) kind

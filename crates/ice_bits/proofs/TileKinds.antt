@@ -4,20 +4,12 @@ use Rattle.std.specs.Prelude.{slice_get}
 use Rattle.std.specs.Option.{option_and_then}
 use Rattle.ice_base.specs.declared.number.TileAt.{TileAt}
 use Rattle.ice_chip.specs.Database.{Parts}
-use Rattle.ice_chip.specs.Functions.{same_kind}
 use Rattle.ice_chip.specs.Lookups.{kind_at}
 use Rattle.ice_chip.specs.Places.{same_tile, tile_known}
 use Rattle.ice_chip.specs.declared.parts.TileLine.{TileLine}
 use Rattle.ice_chip.specs.declared.rows.TileKind.{TileKind}
-use Rattle.ice_chip.specs.declared.rows.TileKind.TheVariants.{Io, Logic, RamBottom, RamTop}
 use Rattle.ice_bits.specs.Configuration.{Configuration, AreGrids, IsOf, kind_in, kind_of_tile}
 use Rattle.ice_bits.specs.TilePlaces.{place_in}
-
-pub kind_same : (kind : TileKind) → same_kind kind kind ≡ true
-kind_same Io = refl
-kind_same Logic = refl
-kind_same RamBottom = refl
-kind_same RamTop = refl
 
 kinds_of_grids : (tiles : List (TileAt × TileLine)) (grids : List (TileAt × List (List Bool))) (t : TileAt) → AreGrids tiles grids
     → option_and_then (λ i. slice_get (map kind_of_tile tiles) i) (place_in t grids) ≡ option_map (λ (known : TileLine). known.kind) (tile_known tiles t)

@@ -41,7 +41,8 @@ fn note_place(
     tile: TileAt,
     place: usize,
 ) -> Result<(), NoMemory>
-    ensures { OnOk result ((t : TileAt) → lookup (same_tile t) places.new.entries ≡ option_or (lookup (same_tile t) places.old.entries) (lookup (same_tile t) ((tile, place) ∷ []))) }
+    ensures { OnOk result ((t : TileAt) → lookup (same_tile t) places.new.entries
+        ≡ option_or (lookup (same_tile t) places.old.entries) (lookup (same_tile t) ((tile, place) ∷ []))) }
 {
     if places.get(&tile).is_none() {
         places.insert(tile, place)?;

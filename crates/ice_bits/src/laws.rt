@@ -10,7 +10,8 @@ ghost use Rattle.ice_bits.specs.Settings.{OtherKindsReadZero};
 
 /// Bits of a chip have exactly the places that the kinds of its tiles have.
 pub fn chip_has_its_bits()
-    ensures { (parts : Parts) (k : Configuration) → IsOf parts k → (t : TileAt) (b : BitAt) → is_there k t b ≡ is_bit_of parts t b }
+    ensures { (parts : Parts) (k : Configuration) → IsOf parts k → (t : TileAt) (b : BitAt)
+        → is_there k t b ≡ is_bit_of parts t b }
 {}
 
 /// Bits of a chip have the kinds of its tiles.

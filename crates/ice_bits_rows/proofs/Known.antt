@@ -3,16 +3,16 @@ use Rattle.std.proofs.Common.{◌≡◌, ℕ, zero, suc, ◌+◌, ◌<◌, ◌�
 use Rattle.std.specs.List.{Contains}
 use Rattle.std.specs.Option.{option_map}
 use Rattle.std.specs.Borrow.{Bor}
-use Rattle.std.proofs.lemmas.List.{length-map, length-append}
 use Rattle.std.proofs.lemmas.Option.{slice_get-map, slice_get-get_or}
 use Rattle.std.proofs.lemmas.List.Elements.{All-get_or, All-tail, All-head, All-cons, All-nil, All-filter}
 use Rattle.ice_chip.specs.Database.{Parts, SwitchGroup}
 use Rattle.ice_chip.specs.IsRead.{HasWiresBelow, AreNumbered, IsRead}
 use Rattle.ice_chip.specs.Limits.{most_rows}
-use Rattle.ice_chip.specs.Lookups.{rows_of, in_group}
+use Rattle.ice_chip.specs.Lookups.{rows_of}
 use Rattle.ice_chip.specs.Views.{row_view, group_view}
 use Rattle.ice_chip.specs.declared.rows.Row.{Row}
 use Rattle.ice_chip.specs.declared.rows.Group.{Group}
+use Rattle.ice_chip.proofs.GroupRows.{rows_count}
 use Rattle.ice_bits_rows.specs.Bundles.{groups_into}
 use Rattle.ice_bits_rows.specs.Lists.{views}
 use Rattle.ice_bits_rows.specs.Plain.{AreAlone}
@@ -23,9 +23,6 @@ pub source_below : (wires : ℕ) (rows : List Row) (k : ℕ) (d : Row) → All (
 source_below wires [] k d all lt = absurd (omega arith)
 source_below wires (r ∷ rows) zero d all lt = All-get_or (λ x. x.source < wires) (map row_view (r ∷ rows)) 0 (row_view r) (omega arith) all
 source_below wires (r ∷ rows) (suc k) d all lt = source_below wires rows k d (All-tail (λ x. x.source < wires) (row_view r) (map row_view rows) all) (omega arith)
-
-pub rows_count : (g : SwitchGroup) (gs : List SwitchGroup) → length (rows_of (g ∷ gs)) ≡ length g.rows + length (rows_of gs)
-rows_count g gs = length-append (map (in_group g) g.rows) (rows_of gs) ∙ ap (λ n. n + length (rows_of gs)) (length-map g.rows (in_group g))
 
 -- the rows up to a group's last are no more than so many
 pub record EndsBy (most : ℕ) (g : SwitchGroup) : Type 0 where

@@ -53,7 +53,8 @@ fn is_number(on: Option<usize>, number: usize) -> bool
 /// that group's tile in a list.
 #[tactic(auto, using(crate::proofs::OneOn::two, crate::proofs::OneOn::one_more, crate::proofs::OneOn::last))]
 pub fn is_alone(groups: &[&Group], group: &Group, number: usize, row: &Row) -> bool
-    ensures { result ≡ is_one number (rows_on (sets (group_view group.now) (row_view row.now)) (in_tile group.now.tile (views groups.now))) }
+    ensures { result
+        ≡ is_one number (rows_on (sets (group_view group.now) (row_view row.now)) (in_tile group.now.tile (views groups.now))) }
 {
     let mut on = None;
     for other in groups {

@@ -28,7 +28,8 @@ pub fn has_bit(bits: &[BitAt], bit: BitAt) -> bool
 
 // Whether this is a foreign function of the kind that has the bit.
 fn is_foreign_with(function: &Function, kind: TileKind, bit: BitAt) -> bool
-    ensures { result ≡ (same_kind function.now.kind kind && (is_foreign function.now.kind function.now.name && has_bit function.now.bits.items bit)) }
+    ensures { result
+        ≡ (same_kind function.now.kind kind && (is_foreign function.now.kind function.now.name && has_bit function.now.bits.items bit)) }
 {
     same_kind(function.kind, kind)
         && has_bit(&function.bits, bit)
@@ -37,7 +38,8 @@ fn is_foreign_with(function: &Function, kind: TileKind, bit: BitAt) -> bool
 
 // Whether a foreign function of a kind of tile has the bit.
 fn is_of_kind(functions: &[Function], kind: TileKind, bit: BitAt) -> bool
-    ensures { result ≡ list_any (λ f. same_kind f.kind kind && is_foreign f.kind f.name && has_bit f.bits bit) (map function_view functions.now) }
+    ensures { result
+        ≡ list_any (λ f. same_kind f.kind kind && is_foreign f.kind f.name && has_bit f.bits bit) (map function_view functions.now) }
 {
     for function in functions {
         if is_foreign_with(function, kind, bit) {

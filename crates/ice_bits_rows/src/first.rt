@@ -17,7 +17,8 @@ fn first_of(chip: &Chip, index: &Index, source: WireNo, group: &Group) -> Option
     requires index { IsIndexOf chip.now index.now }
     requires wires { HasWiresBelow chip.now.wires (group_view group.now) }
     requires few { group.now.first.0 + length group.now.rows.items ≤ most_rows }
-    ensures { option_map (λ row. row.0) result ≡ first_of chip.now source.0 (group_view group.now) group.now.first.0 (group_view group.now).rows }
+    ensures { option_map (λ row. row.0) result
+        ≡ first_of chip.now source.0 (group_view group.now) group.now.first.0 (group_view group.now).rows }
 {
     for k in 0..group.rows.len() {
         let row = &group.rows[k];
@@ -49,7 +50,8 @@ fn has_usable(chip: &Chip, index: &Index, source: WireNo, group: &Group) -> bool
     requires index { IsIndexOf chip.now index.now }
     requires wires { HasWiresBelow chip.now.wires (group_view group.now) }
     requires few { group.now.first.0 + length group.now.rows.items ≤ most_rows }
-    ensures { result ≡ some_usable chip.now source.0 (group_view group.now) group.now.first.0 (group_view group.now).rows }
+    ensures { result
+        ≡ some_usable chip.now source.0 (group_view group.now) group.now.first.0 (group_view group.now).rows }
 {
     for k in 0..group.rows.len() {
         let row = &group.rows[k];

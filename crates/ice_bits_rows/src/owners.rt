@@ -55,7 +55,8 @@ fn put(
     owner: Owner,
 ) -> Result<Option<Owner>, NoMemory>
     ensures known { IfOk result (λ known. known ≡ owner_at owners.old tile bit) }
-    ensures held { OnOk result ((t : TileAt) (b : BitAt) → owner_at owners.new t b ≡ (if same_key tile bit t b then Some owner else owner_at owners.old t b)) }
+    ensures held { OnOk result ((t : TileAt) (b : BitAt) → owner_at owners.new t b
+        ≡ (if same_key tile bit t b then Some owner else owner_at owners.old t b)) }
 {
     let known = owners.insert((tile, bit), owner)?;
     Ok(known)
@@ -68,7 +69,8 @@ fn note(
     bit: BitAt,
     wire: WireNo,
 ) -> Result<(), NoMemory>
-    ensures { OnOk result ((t : TileAt) (b : BitAt) → owner_at owners.new t b ≡ (if same_key tile bit t b then Some (owner_with wire.0 (owner_at owners.old tile bit)) else owner_at owners.old t b)) }
+    ensures { OnOk result ((t : TileAt) (b : BitAt) → owner_at owners.new t b
+        ≡ (if same_key tile bit t b then Some (owner_with wire.0 (owner_at owners.old tile bit)) else owner_at owners.old t b)) }
 {
     let first = owner_with(None, wire);
     if let Some(owner) = put(owners, tile, bit, first)? {
@@ -79,7 +81,8 @@ fn note(
 
 // Notes the bits of a group.
 fn note_group(owners: &mut HashMap<(TileAt, BitAt), Owner>, group: &Group) -> Result<(), NoMemory>
-    ensures { OnOk result ((t : TileAt) (b : BitAt) (w : ℕ) → is_other w (owner_at owners.new t b) ≡ holds_more (group_view group.now) t w b (is_other w (owner_at owners.old t b))) }
+    ensures { OnOk result ((t : TileAt) (b : BitAt) (w : ℕ) → is_other w (owner_at owners.new t b)
+        ≡ holds_more (group_view group.now) t w b (is_other w (owner_at owners.old t b))) }
 {
     for bit in group.bits.as_slice() {
         note(owners, group.tile, *bit, group.wire)?;

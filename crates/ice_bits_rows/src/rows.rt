@@ -41,7 +41,8 @@ fn sets(group: &Group, row: &Row, tile: TileAt, bit: BitAt) -> bool
 
 // Whether the values of a row set a bit of another group.
 fn sets_some(group: &Group, row: &Row, other: &Group) -> bool
-    ensures { result ≡ list_any (λ v. v) (values_of (sets (group_view group.now) (row_view row.now)) (group_view other.now)) }
+    ensures { result
+        ≡ list_any (λ v. v) (values_of (sets (group_view group.now) (row_view row.now)) (group_view other.now)) }
 {
     for bit in other.bits.as_slice() {
         if sets(group, row, other.tile, *bit) {
@@ -54,7 +55,8 @@ fn sets_some(group: &Group, row: &Row, other: &Group) -> bool
 // Whether the bits of another group have these values under those of a row.
 #[tactic(auto, using(crate::proofs::Values::alike_next, crate::proofs::Values::alike_end, crate::proofs::Values::unlike_long))]
 fn are_values(group: &Group, row: &Row, other: &Group, values: &[bool]) -> bool
-    ensures { result ≡ pointwise beq values.now (values_of (sets (group_view group.now) (row_view row.now)) (group_view other.now)) }
+    ensures { result
+        ≡ pointwise beq values.now (values_of (sets (group_view group.now) (row_view row.now)) (group_view other.now)) }
 {
     if values.len() != other.bits.len() {
         return false;
@@ -69,7 +71,8 @@ fn are_values(group: &Group, row: &Row, other: &Group, values: &[bool]) -> bool
 
 // The number of the first row of another group that has the values of its bits under those of a row.
 fn number_with(group: &Group, row: &Row, other: &Group) -> Option<usize>
-    ensures { result ≡ number_with (values_of (sets (group_view group.now) (row_view row.now)) (group_view other.now)) (group_view other.now).first (group_view other.now).rows }
+    ensures { result
+        ≡ number_with (values_of (sets (group_view group.now) (row_view row.now)) (group_view other.now)) (group_view other.now).first (group_view other.now).rows }
 {
     for k in 0..other.rows.len() {
         if are_values(group, row, other, &other.rows[k].values) {
@@ -137,7 +140,8 @@ fn are_alike(values: &[bool], others: &[bool]) -> bool
 // Whether another group plainly has the values of the row itself: it has the bits of the row's group, in the order of
 // their places, and the row one value for each.
 fn has_own_values(group: &Group, row: &Row, other: &Group) -> bool
-    ensures { result ≡ true → values_of (sets (group_view group.now) (row_view row.now)) (group_view other.now) ≡ row.now.values.items }
+    ensures { result ≡ true → values_of (sets (group_view group.now) (row_view row.now)) (group_view other.now)
+        ≡ row.now.values.items }
 {
     if group.tile != other.tile || row.values.len() != group.bits.len() {
         return false;
@@ -174,7 +178,8 @@ fn number_of(values: &[bool], other: &Group) -> Option<usize>
 
 // The number of the row of a group that is on where the group's bits have these values.
 fn row_with(values: &[bool], other: &Group) -> Option<usize>
-    ensures { result ≡ (if list_any (λ v. v) values.now then number_with values.now (group_view other.now).first (group_view other.now).rows else None) }
+    ensures { result
+        ≡ (if list_any (λ v. v) values.now then number_with values.now (group_view other.now).first (group_view other.now).rows else None) }
 {
     if !has_one(values) {
         return None;

@@ -1,14 +1,12 @@
 -- The joined lines of a text have words alone.
-use Rattle.std.proofs.Common.{◌≡◌, ℕ, zero, suc, ◌<◌, Bool, true, false, Option, None, Some, List, [], ◌∷◌, ◌++◌, length, drop, filter, nat_lt, refl, if◌then◌else◌, rules, tests}
+use Rattle.std.proofs.Common.{◌≡◌, ℕ, zero, suc, ◌<◌, Bool, true, false, Option, None, Some, List, [], ◌∷◌, length, drop, filter, nat_lt, refl, if◌then◌else◌, rules, tests}
 use Rattle.std.specs.List.{AllByRecursion}
 use Rattle.ice_base.specs.Text.{onto_first, pieces, words, ends_word, IsWord, lines, numbered}
 use Rattle.ice_base.specs.Comments.{begins_with, uncommented}
+use Rattle.ice_base.proofs.TextLines.{all_append}
 use Rattle.ice_blif.specs.JoinedLines.{FilledLine, continued, goes_on, plain_by, plain, first_words, with_next, behind, joined, fill, filled}
 
 -- ---- lists
-pub rec_both : {X : Type 0} (P : X → Type 0) (xs ys : List X) → AllByRecursion P xs → AllByRecursion P ys → AllByRecursion P (xs ++ ys)
-rec_both P [] ys left right = right
-rec_both P (x ∷ xs) ys left right = (left.0, rec_both P xs ys left.1 right)
 
 pub rec_drop : {X : Type 0} (P : X → Type 0) (n : ℕ) (xs : List X) → AllByRecursion P xs → AllByRecursion P (drop n xs)
 rec_drop P zero xs all = all
@@ -71,7 +69,7 @@ first_have (l ∷ ls) all = all.0
 
 next_have : (on : Bool) (ws : List (List ℕ)) (ls : List (ℕ × List (List ℕ))) → AreWords ws → AllByRecursion HasWords ls → AreWords (with_next on ws ls)
 next_have false ws ls words all = words
-next_have true ws ls words all = rec_both IsWord ws (first_words ls) words (first_have ls all)
+next_have true ws ls words all = all_append IsWord ws (first_words ls) words (first_have ls all)
 
 behind_have : (on : Bool) (ls : List (ℕ × List (List ℕ))) → AllByRecursion HasWords ls → AllByRecursion HasWords (behind on ls)
 behind_have false ls all = all

@@ -6,6 +6,7 @@ use Rattle.ice_base.specs.Text.{lines, numbered, IsWord}
 use Rattle.ice_base.specs.Comments.{begins_with}
 use Rattle.ice_base.specs.Names.{with_name, number_of_name}
 use Rattle.ice_base.specs.declared.number.SignalNo.{SignalNo}
+use Rattle.ice_base.proofs.TextLines.{all_append}
 use Rattle.ice_net.specs.declared.port.Way.{Way}
 use Rattle.ice_net.specs.declared.port.Way.TheVariants.{Input, Output}
 use Rattle.ice_net.specs.Kinds.{ins_count}
@@ -25,7 +26,7 @@ use Rattle.ice_blif.proofs.Growing.{text_small}
 use Rattle.ice_blif.proofs.Kept.{bind_keeps, either, any_ok, bound}
 use Rattle.ice_blif.proofs.OpenCells.{finished_names}
 use Rattle.ice_blif_laws.specs.ReadNames.{IsHidden, IsReadName, ReadNamesAreKnown}
-use Rattle.ice_blif_laws.proofs.WordLines.{rec_both, rec_drop, IsWhole, AreWords, IsWordLine, text_lines}
+use Rattle.ice_blif_laws.proofs.WordLines.{rec_drop, IsWhole, AreWords, IsWordLine, text_lines}
 
 -- ---- netlists
 -- the names are words
@@ -37,7 +38,7 @@ named_words n name word all = by (list_any (bytes_eq name) n.names)
   where
     by : (b : Bool) → AreWords (if b then n.names else n.names ++ name ∷ [])
     by true = all
-    by false = rec_both IsWord n.names (name ∷ []) all (word, tt)
+    by false = all_append IsWord n.names (name ∷ []) all (word, tt)
 
 port_words : (line : ℕ) (way : Way) (n : NetlistData) (name : List ℕ) → IsWord name → NamesWords n → IfOk (port_says line way n name) NamesWords
 port_words line way n name word all =
@@ -180,7 +181,7 @@ with_read names name is are = by (list_any (bytes_eq name) names)
   where
     by : (b : Bool) → AreReadNames (if b then names else names ++ name ∷ [])
     by true = are
-    by false = rec_both IsReadName names (name ∷ []) are (inr is, tt)
+    by false = all_append IsReadName names (name ∷ []) are (inr is, tt)
 
 hidden_read : HiddenKeep AreReadNames
 hidden_read names line are = (

@@ -5,6 +5,7 @@ use Rattle.std.proofs.lemmas.Bool.{and_parts}
 use Rattle.ice_base.specs.Comments.{begins_with}
 use Rattle.ice_base.specs.Text.{ends_word}
 use Rattle.ice_base.specs.declared.number.SignalNo.{SignalNo}
+use Rattle.ice_base.proofs.TextLines.{all_append}
 use Rattle.ice_net.specs.declared.kind.CellKind.{CellKind}
 use Rattle.ice_net.specs.declared.kind.CellKind.TheVariants.{Lut, Cover, Carry, Flop, PadCell, Global}
 use Rattle.ice_net.specs.declared.kind.Reset.{Reset}
@@ -15,7 +16,7 @@ use Rattle.ice_net.specs.Meaning.{table_bit}
 use Rattle.ice_blif_write.specs.RoundTrip.{IsName}
 use Rattle.ice_blif_write.specs.Text.{name_of, port_lines_by, signal_words, connections, kind_word, port_names, gate_line, param_line, digit_of, digits_of, levels_of, row_line, rows_from, cell_lines}
 use Rattle.ice_blif_write.proofs.CellRead.{MayBeNamed}
-use Rattle.ice_blif_write.proofs.WrittenLines.{AreWords, all_append}
+use Rattle.ice_blif_write.proofs.WrittenLines.{AreWords}
 
 -- ---- words
 -- a plain word: no byte ends it, and it begins no comment; 35 is `#`

@@ -3,6 +3,7 @@ use Rattle.std.proofs.Common.{◌≡◌, ℕ, List, [], ◌∷◌, ◌++◌, len
 use Rattle.std.specs.List.{AllByRecursion, flat_map}
 use Rattle.std.proofs.lemmas.List.Elements.{recursion_from_All, All-get_or}
 use Rattle.ice_base.specs.Text.{lines, numbered, next_number}
+use Rattle.ice_base.proofs.TextLines.{all_append}
 use Rattle.ice_net.specs.declared.cell.Cell.{Cell}
 use Rattle.ice_net.specs.declared.port.Port.{Port}
 use Rattle.ice_net.specs.Formed.{IsBelow, IsPortBelow, IsFormedCell}
@@ -19,7 +20,7 @@ use Rattle.ice_blif_write.proofs.LineWords.{plain_name, port_words, cell_words}
 use Rattle.ice_blif_write.proofs.Plain.{IsWhole, all_whole, taken_plain}
 use Rattle.ice_blif_write.proofs.PortsRead.{at_ports, ports_read}
 use Rattle.ice_blif_write.proofs.Reading.{Ends, HasRead, finished_names, finished_ports}
-use Rattle.ice_blif_write.proofs.WrittenLines.{AreWords, all_append, text_lines}
+use Rattle.ice_blif_write.proofs.WrittenLines.{AreWords, text_lines}
 
 -- ---- the end
 at_end : (n : NetlistData) (r : State) → HasRead n n.ports n.cells r → Ends n r ((codes ".end", []) ∷ [])

@@ -5,7 +5,8 @@ use Rattle.std.proofs.lemmas.Grind.{flat_map-append}
 use Rattle.ice_base.proofs.Booleans.{and_false}
 use Rattle.ice_base.specs.Comments.{uncommented}
 use Rattle.ice_base.specs.Text.{words, lines, ends_word, is_blank, IsWord, IsLine, text_of_lines, numbered, next_number}
-use Rattle.ice_base.proofs.TextLaws.{first_word, last_word, no_lines_left, first_line}
+use Rattle.ice_base.proofs.TextLaws.{first_word, last_word}
+use Rattle.ice_base.proofs.TextLines.{all_append, word_line, lines_read}
 use Rattle.ice_blif.specs.JoinedLines.{before_backslash, in_front_of, continued, outside_comment, goes_on, goes_on_by, plain, plain_by, with_next, behind, joined, FilledLine, filled}
 use Rattle.ice_blif_write.specs.RoundTrip.{IsName}
 use Rattle.ice_blif_write.specs.Text.{Words, behind_space, ends_in, line_of}
@@ -81,13 +82,6 @@ no_backslash (b ∷ c ∷ line) h e =
     ap (in_front_of b (list_all is_blank (c ∷ line))) (no_backslash (c ∷ line) h e) ∙ ap (λ t. in_front_of b t None) (some_unblank c line h) ∙ no_front (b == 92)
 
 -- ---- no line feed
-pub all_append : {X : Type 0} (P : X → Type 0) (xs ys : List X) → AllByRecursion P xs → AllByRecursion P ys → AllByRecursion P (xs ++ ys)
-all_append P [] ys h k = k
-all_append P (x ∷ xs) ys h k = (h.0, all_append P xs ys h.1 k)
-
-word_line : (w : List ℕ) → AllByRecursion (λ b. ends_word b ≡ false) w → IsLine w
-word_line [] h = tt
-word_line (b ∷ w) h = (λ e. let ends : ends_word b ≡ true = ap ends_word e in absurd (cc (ends, h.0)), word_line w h.1)
 
 spaced_line : (w : List ℕ) (ws : List (List ℕ)) → IsWord w → AllByRecursion IsName ws → IsLine (w ++ flat_map behind_space ws)
 spaced_line w [] h hs = subst IsLine (sym (append-nil w)) (word_line w h.1)
@@ -127,9 +121,6 @@ plain_line ws h = of (ends_in 92 text) refl
         (ap uncommented (ap words (with_mark ws.0 ws.1) ∙ marked_words ws.0 ws.1 h.0 h.1) ∙ mark_commented (ws.0 ∷ ws.1) (h.0, h.1))
 
 -- ---- the text
-lines_read : (ls : List (List ℕ)) → AllByRecursion IsLine ls → lines (text_of_lines ls) ≡ ls
-lines_read [] h = no_lines_left
-lines_read (l ∷ ls) h = ap lines (append_assoc l (10 ∷ []) (text_of_lines ls)) ∙ first_line l (text_of_lines ls) h.0 ∙ ap (λ ms. l ∷ ms) (lines_read ls h.1)
 
 are_lines : (wss : List Words) → AllByRecursion AreWords wss → AllByRecursion IsLine (map line_of wss)
 are_lines [] h = tt

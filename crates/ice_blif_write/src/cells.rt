@@ -22,7 +22,8 @@ fn put_connection(
     signal: Option<SignalNo>,
 ) -> Result<(), NoMemory>
     requires { IsBelow (length netlist.now.names) signal }
-    ensures { OnOk result (out.new.items ≡ out.old.items ++ flat_map behind_space (connection netlist.now.names formal.now signal)) }
+    ensures { OnOk result (out.new.items
+        ≡ out.old.items ++ flat_map behind_space (connection netlist.now.names formal.now signal)) }
 {
     let Some(signal) = signal else {
         return Ok(());
@@ -43,7 +44,8 @@ fn put_connections(
 ) -> Result<(), NoMemory>
     requires places { first + length signals.now ≤ length (port_names kind) }
     requires below { All (IsBelow (length netlist.now.names)) signals.now }
-    ensures { OnOk result (out.new.items ≡ out.old.items ++ flat_map behind_space (connections netlist.now.names (drop first (port_names kind)) signals.now)) }
+    ensures { OnOk result (out.new.items
+        ≡ out.old.items ++ flat_map behind_space (connections netlist.now.names (drop first (port_names kind)) signals.now)) }
 {
     for (place, signal) in signals.iter().enumerate() {
         put_connection(out, netlist, port_name(kind, first + place), *signal)?;
@@ -62,7 +64,8 @@ fn put_gate(
     requires places { length ins.now + length outs.now ≤ length (port_names kind) }
     requires ins { All (IsBelow (length netlist.now.names)) ins.now }
     requires outs { All (IsBelow (length netlist.now.names)) outs.now }
-    ensures { OnOk result (out.new.items ≡ out.old.items ++ text_of_lines (map line_of (gate_line netlist.now.names kind ins.now outs.now ∷ []))) }
+    ensures { OnOk result (out.new.items
+        ≡ out.old.items ++ text_of_lines (map line_of (gate_line netlist.now.names kind ins.now outs.now ∷ []))) }
 {
     out.extend_from_slice(b".gate ")?;
     put_kind(out, kind)?;
@@ -79,7 +82,8 @@ fn put_signals(
     signals: &[Option<SignalNo>],
 ) -> Result<(), NoMemory>
     requires { All (IsBelow (length netlist.now.names)) signals.now }
-    ensures { OnOk result (out.new.items ≡ out.old.items ++ flat_map behind_space (flat_map (signal_words netlist.now.names) signals.now)) }
+    ensures { OnOk result (out.new.items
+        ≡ out.old.items ++ flat_map behind_space (flat_map (signal_words netlist.now.names) signals.now)) }
 {
     for signal in signals {
         if let Some(signal) = signal {
@@ -98,7 +102,8 @@ fn put_names(
 ) -> Result<(), NoMemory>
     requires ins { All (IsBelow (length netlist.now.names)) ins.now }
     requires outs { All (IsBelow (length netlist.now.names)) outs.now }
-    ensures { OnOk result (out.new.items ≡ out.old.items ++ text_of_lines (map line_of (first_line netlist.now.names (CellKind.Cover 0 0) ins.now outs.now ∷ []))) }
+    ensures { OnOk result (out.new.items
+        ≡ out.old.items ++ text_of_lines (map line_of (first_line netlist.now.names (CellKind.Cover 0 0) ins.now outs.now ∷ []))) }
 {
     out.extend_from_slice(b".names")?;
     put_signals(out, netlist, ins)?;
@@ -110,7 +115,8 @@ fn put_names(
 // Writes a parameter with so many digits.
 fn put_param(out: &mut Vec<u8>, name: &[u8], width: u8, number: u16) -> Result<(), NoMemory>
     requires { width ≤ 16 }
-    ensures { OnOk result (out.new.items ≡ out.old.items ++ text_of_lines (map line_of (param_line name.now (digits_of width number) ∷ []))) }
+    ensures { OnOk result (out.new.items
+        ≡ out.old.items ++ text_of_lines (map line_of (param_line name.now (digits_of width number) ∷ []))) }
 {
     out.extend_from_slice(b".param")?;
     put_word(out, name)?;
@@ -138,7 +144,8 @@ fn put_row(out: &mut Vec<u8>, width: u8, number: u16) -> Result<(), NoMemory>
 // Writes the row of the levels with a number, where a table has a bit for it.
 fn put_entry(out: &mut Vec<u8>, table: u16, width: u8, number: u16) -> Result<(), NoMemory>
     requires { number < 16 }
-    ensures { OnOk result (out.new.items ≡ out.old.items ++ text_of_lines (map line_of (entry_lines table width number))) }
+    ensures { OnOk result (out.new.items
+        ≡ out.old.items ++ text_of_lines (map line_of (entry_lines table width number))) }
 {
     if !has_bit(table, number) {
         return Ok(());
@@ -173,7 +180,8 @@ fn has_bit(table: u16, number: u16) -> bool
 // Writes a row for each number of levels for which a table has a bit.
 fn put_rows(out: &mut Vec<u8>, table: u16, width: u8) -> Result<(), NoMemory>
     requires { width ≤ 4 }
-    ensures { OnOk result (out.new.items ≡ out.old.items ++ text_of_lines (map line_of (rows_from table width 0 (2 ^ width)))) }
+    ensures { OnOk result (out.new.items
+        ≡ out.old.items ++ text_of_lines (map line_of (rows_from table width 0 (2 ^ width)))) }
 {
     for number in 0..numbers(width) {
         put_entry(out, table, width, number)?;
@@ -201,7 +209,8 @@ fn put_below(out: &mut Vec<u8>, kind: CellKind) -> Result<(), NoMemory>
 // Writes the first line of a cell.
 fn put_first(out: &mut Vec<u8>, netlist: &Netlist, cell: &Cell) -> Result<(), NoMemory>
     requires { IsFormedCell (length netlist.now.names) cell.now }
-    ensures { OnOk result (out.new.items ≡ out.old.items ++ text_of_lines (map line_of (first_line netlist.now.names cell.now.kind cell.now.ins cell.now.outs ∷ []))) }
+    ensures { OnOk result (out.new.items
+        ≡ out.old.items ++ text_of_lines (map line_of (first_line netlist.now.names cell.now.kind cell.now.ins cell.now.outs ∷ []))) }
 {
     let ins = cell.ins.as_slice();
     let outs = cell.outs.as_slice();
@@ -217,7 +226,8 @@ fn put_first(out: &mut Vec<u8>, netlist: &Netlist, cell: &Cell) -> Result<(), No
 fn put_cell(out: &mut Vec<u8>, netlist: &Netlist, cell: &Cell) -> Result<(), NoMemory>
     requires { IsFormedCell (length netlist.now.names) cell.now }
     ensures small { OnOk result (IsSmallCell cell.now) }
-    ensures written { OnOk result (out.new.items ≡ out.old.items ++ text_of_lines (map line_of (cell_lines netlist.now.names cell.now))) }
+    ensures written { OnOk result (out.new.items
+        ≡ out.old.items ++ text_of_lines (map line_of (cell_lines netlist.now.names cell.now))) }
 {
     put_first(out, netlist, cell)?;
     put_below(out, cell.kind)?;
@@ -232,7 +242,8 @@ pub(crate) fn put_cells(
 ) -> Result<(), NoMemory>
     requires { All (IsFormedCell (length netlist.now.names)) cells.now }
     ensures small { OnOk result (All IsSmallCell cells.now) }
-    ensures written { OnOk result (out.new.items ≡ out.old.items ++ text_of_lines (map line_of (flat_map (cell_lines netlist.now.names) cells.now))) }
+    ensures written { OnOk result (out.new.items
+        ≡ out.old.items ++ text_of_lines (map line_of (flat_map (cell_lines netlist.now.names) cells.now))) }
 {
     for cell in cells {
         put_cell(out, netlist, cell)?;

@@ -12,7 +12,8 @@ use ice_net::{Netlist, Port, Way};
 // Writes a line of two words.
 fn put_directive(out: &mut Vec<u8>, directive: &[u8], name: &[u8]) -> Result<(), NoMemory>
     requires { 0 < length directive.now }
-    ensures { OnOk result (out.new.items ≡ out.old.items ++ text_of_lines (map line_of ((directive.now, name.now ∷ []) ∷ []))) }
+    ensures { OnOk result (out.new.items
+        ≡ out.old.items ++ text_of_lines (map line_of ((directive.now, name.now ∷ []) ∷ []))) }
 {
     out.extend_from_slice(directive)?;
     put_word(out, name)?;
@@ -40,7 +41,8 @@ pub(crate) fn put_ports(
     ports: &[Port],
 ) -> Result<(), NoMemory>
     requires { All (IsPortBelow (length netlist.now.names)) ports.now }
-    ensures { OnOk result (out.new.items ≡ out.old.items ++ text_of_lines (map line_of (flat_map (port_lines netlist.now.names) ports.now))) }
+    ensures { OnOk result (out.new.items
+        ≡ out.old.items ++ text_of_lines (map line_of (flat_map (port_lines netlist.now.names) ports.now))) }
 {
     for port in ports {
         put_ways(out, netlist.name(port.signal), port.way)?;

@@ -36,7 +36,7 @@ become_back moved fed c (x ∷ cells) (suc j) y at =
     let rest = become_back moved fed (c + 1) cells j y at in
     (rest.0, rest.1, ap (λ n. become moved fed n rest.0) (sym (from_next c j)) ∙ rest.2)
 
-become_count : (moved fed : List (Option ℕ)) (c : ℕ) (cells : List LogicCell) → length (become_from moved fed c cells) ≡ length cells
+pub become_count : (moved fed : List (Option ℕ)) (c : ℕ) (cells : List LogicCell) → length (become_from moved fed c cells) ≡ length cells
 become_count moved fed c [] = refl
 become_count moved fed c (x ∷ cells) = ap suc (become_count moved fed (c + 1) cells)
 

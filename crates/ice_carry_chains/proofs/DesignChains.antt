@@ -9,6 +9,7 @@ use Rattle.ice_base_values.specs.Inputs.{present}
 use Rattle.ice_base_values.specs.Order.{At, Has}
 use Rattle.ice_base_values.proofs.Enough.{first, first_falls}
 use Rattle.ice_base_values.proofs.Members.{At_map, At_within, Has_find, find_Has}
+use Rattle.ice_base_values.proofs.ListPlaces.{Has_left}
 use Rattle.ice_cells.specs.declared.cell.LogicCell.{LogicCell}
 use Rattle.ice_cells.specs.declared.design.Design.{Design}
 use Rattle.ice_cells.specs.declared.follow.Follow.{Follow}
@@ -29,7 +30,6 @@ use Rattle.ice_carry_chains.proofs.ChainLaws.{behind, before, behind_shift, behi
 use Rattle.ice_carry_chains.proofs.DesignLaws.{next_takes, follows_one, first_heads}
 use Rattle.ice_carry_chains.proofs.HeadLaws.{head_listed}
 use Rattle.ice_carry_chains.proofs.HeadPlaces.{head_back, are_heads}
-use Rattle.ice_carry_chains.proofs.LastInputs.{Has_left}
 use Rattle.ice_carry_chains.proofs.RunsOnce.{AreHeads}
 
 -- ---- first carries

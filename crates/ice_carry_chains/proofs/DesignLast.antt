@@ -20,9 +20,10 @@ use Rattle.ice_carry_chains.proofs.ChainLaws.{behind, chain_has}
 use Rattle.ice_carry_chains.proofs.DesignChains.{stands_behind, carry_below, head_carry, few}
 use Rattle.ice_carry_chains.proofs.DesignFed.{chain_end, mark_is, other_fed, next_place}
 use Rattle.ice_carry_chains.proofs.DesignRuns.{feed_number, the_run, become_of, CellFed, Old, Feed, cell_fed}
-use Rattle.ice_carry_chains.proofs.LastInputs.{Has_left, Has_right, last_follows}
+use Rattle.ice_carry_chains.proofs.LastInputs.{last_follows}
 use Rattle.ice_carry_chains.proofs.RunLists.{flat_on, carries_inner, passes_last}
 use Rattle.std.specs.Prelude.{option_and_then}
+use Rattle.ice_base_values.proofs.ListPlaces.{Has_left, Has_right}
 
 -- a last input that takes what comes into a carry has read a carry that is not passed on
 pub record ChainedBy (fed : List (Option ℕ)) (input : Option Root) : Type 0 where

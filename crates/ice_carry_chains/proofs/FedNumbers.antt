@@ -6,17 +6,14 @@ use Rattle.std.proofs.lemmas.Bool.{eq-eqb, eqb-true}
 use Rattle.std.proofs.lemmas.Option.{none-some, same_Some}
 use Rattle.ice_base_values.specs.Order.{At, Has}
 use Rattle.ice_base_values.proofs.Members.{At_parts, Has_none, Has_find, find_Has}
+use Rattle.ice_base_values.proofs.ListPlaces.{Has_left, Has_right}
 use Rattle.ice_cells.specs.declared.follow.Follow.{Follow}
 use Rattle.ice_cells.specs.Chains.{Head, Fed, end, takes_in, passes_out, one_if, feeds, fed_if, fed_from, place_at, number_at, number_by}
 use Rattle.ice_cells.specs.Tables.{is_place}
-use Rattle.ice_carry_chains.proofs.LastInputs.{Has_left, Has_right}
-use Rattle.ice_carry_chains.proofs.RunLists.{feeds_before}
+use Rattle.ice_carry_chains.proofs.RunLists.{feeds_before, one_further}
 
 none_more : (k : ℕ) → k + 0 ≡ k
 none_more k = omega arith
-
-one_further : (k a b : ℕ) → k + a + b ≡ k + (a + b)
-one_further k a b = omega arith
 
 -- the last carry of a run, with the cell that passes it on, where that has the number k
 abbrev pub fed_of : List Follow → Head → ℕ → Fed

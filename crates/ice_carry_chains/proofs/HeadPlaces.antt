@@ -9,7 +9,7 @@ use Rattle.ice_cells.specs.declared.follow.Follow.{Follow}
 use Rattle.ice_cells.specs.Tables.{is_place}
 use Rattle.ice_carry_chains.proofs.ChainLaws.{IsHead}
 use Rattle.ice_carry_chains.proofs.HeadLaws.{IsFound, find_back, leads_back, range_at}
-use Rattle.ice_carry_chains.proofs.RunsOnce.{AreHeads}
+use Rattle.ice_carry_chains.proofs.RunsOnce.{AreHeads, zero_not}
 
 -- ---- lists
 pub record FromItem {X : Type 0} (f : ℕ → Option X) (xs : List ℕ) (x : X) : Type 0 where
@@ -35,9 +35,6 @@ rest_once z xs once i j x at there = same i j (once (suc i) (suc j) x at there)
   where
     same : (i j : ℕ) → suc i ≡ suc j → i ≡ j
     same i j e = omega arith
-
-zero_not : (s : ℕ) → 0 ≡ suc s → ⊥
-zero_not s e = omega arith
 
 -- where items that give the same are the same
 mapped_once : {X : Type 0} (f : ℕ → Option X) (key : X → ℕ) → ((a b : ℕ) (x y : X) → f a ≡ Some x → f b ≡ Some y → key x ≡ key y → a ≡ b) → (xs : List ℕ) → StandOnce xs → (i j : ℕ) (x y : X)

@@ -1,10 +1,10 @@
 -- A last input that reads a carry: the cell's carry follows that one, or it is the last of its chain and read otherwise.
-use Rattle.std.proofs.Common.{◌≡◌, ◌⊎◌, ℕ, zero, suc, ◌+◌, true, false, None, Some, List, [], ◌∷◌, ◌++◌, length, map, refl, ap, sym, ◌∙◌, subst, arith, inl, inr}
+use Rattle.std.proofs.Common.{◌≡◌, ◌⊎◌, ℕ, zero, suc, ◌+◌, true, false, None, Some, List, [], ◌∷◌, ◌++◌, map, refl, ap, sym, ◌∙◌, subst, arith, inl, inr}
 use Rattle.std.specs.Prelude.{slice_index_or}
 use Rattle.std.specs.List.{flat_map}
 use Rattle.std.proofs.lemmas.Option.{none-some, same_Some}
 use Rattle.ice_base_values.specs.Order.{At, Has}
-use Rattle.ice_base_values.proofs.Members.{At_left, At_right}
+use Rattle.ice_base_values.proofs.ListPlaces.{Has_left, Has_right}
 use Rattle.ice_cells.specs.declared.cell.LogicCell.{LogicCell}
 use Rattle.ice_cells.specs.declared.design.Design.{Design}
 use Rattle.ice_cells.specs.declared.root.Root.TheVariants.{CarryOut}
@@ -14,12 +14,6 @@ use Rattle.ice_cells.specs.declared.follow.Reader.TheVariants.{Into, Last}
 use Rattle.ice_cells.specs.Readings.{Reading, carry_reading, cell_readings, cells_readings, pad_readings, plain, readings}
 use Rattle.ice_cells.specs.Follows.{follow}
 use Rattle.ice_carry_chains.proofs.FollowLaws.{is_marked, read_marked, next_only}
-
-pub Has_left : {X : Type 0} (xs ys : List X) (x : X) → Has xs x → Has (xs ++ ys) x
-Has_left xs ys x (i, at) = (i, At_left xs ys i x at)
-
-pub Has_right : {X : Type 0} (xs ys : List X) (x : X) → Has ys x → Has (xs ++ ys) x
-Has_right xs ys x (i, at) = (length xs + i, At_right xs ys i x at)
 
 abbrev last_read : ℕ → LogicCell → Reading
 last_read c cell = (slice_index_or cell.ins 3 None, Last c)

@@ -5,6 +5,7 @@ use Rattle.std.specs.List.{flat_map}
 use Rattle.ice_net.specs.declared.kind.Reset.{Reset}
 use Rattle.ice_base_values.specs.Order.{At, Has}
 use Rattle.ice_base_values.proofs.Members.{At_map}
+use Rattle.ice_base_values.proofs.ListPlaces.{Has_left}
 use Rattle.ice_cells.specs.declared.cell.Control.{Control}
 use Rattle.ice_cells.specs.declared.cell.LogicCell.{LogicCell}
 use Rattle.ice_cells.specs.declared.design.Design.{Design}
@@ -24,7 +25,6 @@ use Rattle.ice_cells.specs.Runs.{fed_numbers}
 use Rattle.ice_carry_chains.proofs.DesignChains.{carry_below}
 use Rattle.ice_carry_chains.proofs.DesignFed.{mark_is, other_fed}
 use Rattle.ice_carry_chains.proofs.FollowLaws.{is_marked, read_marked, next_only}
-use Rattle.ice_carry_chains.proofs.LastInputs.{Has_left}
 
 -- ---- what is read, whatever reads it
 abbrev root_of : Reading → Option Root

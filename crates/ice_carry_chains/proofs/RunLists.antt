@@ -24,7 +24,7 @@ none_more k = omega arith
 none_first : (k : ℕ) → k ≡ 0 + k
 none_first k = omega arith
 
-one_further : (k a b : ℕ) → k + a + b ≡ k + (a + b)
+pub one_further : (k a b : ℕ) → k + a + b ≡ k + (a + b)
 one_further k a b = omega arith
 
 -- ---- runs

@@ -68,7 +68,7 @@ rest_heads marks x heads are = record { first = λ r y at. are.first (suc r) y a
 pub chain_once : (marks : List Follow) → FollowsOne marks → (h : ℕ) → IsHead marks h → (k : ℕ) → StandOnce (chain marks k h)
 chain_once marks one h is k i j c at there = (one_head marks one h h is is i j c (chain_at marks k h i c at) (chain_at marks k h j c there)).1
 
-zero_not : (s : ℕ) → 0 ≡ suc s → ⊥
+pub zero_not : (s : ℕ) → 0 ≡ suc s → ⊥
 zero_not s e = omega arith
 
 two_fed : (k f c more : ℕ) → k + more ≡ c → more + 1 ≤ f → k + f ≤ c → ⊥

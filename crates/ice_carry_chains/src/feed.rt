@@ -48,7 +48,8 @@ fn push_run_feeds(
     into: CarryIn,
 ) -> Result<Option<(u32, u32)>, NoMemory>
     ensures cells { OnOk result (cells.new.items ≡ cells.old.items ++ feed_cells marks.now (c, into)) }
-    ensures fed { IfOk result (λ fed. option_to_list fed ≡ fed_if (passes_out marks.now (c, into)) (end marks.now (length marks.now) c, length cells.old.items + one_if (is_read into))) }
+    ensures fed { IfOk result (λ fed. option_to_list fed
+        ≡ fed_if (passes_out marks.now (c, into)) (end marks.now (length marks.now) c, length cells.old.items + one_if (is_read into))) }
 {
     push_feed_in(cells, into)?;
     let last = end(marks, c as usize);

@@ -1,9 +1,9 @@
 -- The carries among a netlist's cells, the look-up tables that they share, and the logic cells that they go to.
-use Rattle.std.proofs.Common.{◌≡◌, ◌⊎◌, ℕ, zero, suc, ◌+◌, ◌<◌, Bool, true, false, cond, Option, None, Some, List, [], ◌∷◌, length, get_or, map, option_map, refl, ap, sym, ◌∙◌, subst, arith, inl, inr}
+use Rattle.std.proofs.Common.{◌≡◌, ◌⊎◌, ℕ, zero, suc, ◌+◌, ◌<◌, Bool, true, false, cond, Option, None, Some, List, [], ◌∷◌, length, get_or, option_map, refl, ap, sym, ◌∙◌, subst, arith, inl, inr}
 use Rattle.std.specs.Prelude.{slice_get, slice_index_or, unwrap_or, find, is_some}
 use Rattle.std.specs.Option.{option_map_or}
 use Rattle.std.specs.List.{enumerate_from}
-use Rattle.std.proofs.lemmas.Bool.{eq-eqb, eqb-true, true≢false}
+use Rattle.std.proofs.lemmas.Bool.{eq-eqb, true≢false}
 use Rattle.std.proofs.lemmas.Option.{same_Some}
 use Rattle.ice_base.specs.declared.number.SignalNo.{SignalNo}
 use Rattle.ice_base_values.specs.Order.{At, Has}
@@ -23,37 +23,14 @@ use Rattle.ice_cells.specs.Pairs.{pair_of, role_of, role_by, roles_of}
 use Rattle.ice_cells.specs.Homes.{Facts, facts_of, part, part_of, part_by, is_kept, anchor_by, anchor, Shared, lut_at, carry_at, carrier_by, carriers_of, home, homes}
 use Rattle.ice_cells.proofs.TableLaws.{length-table, get_or-table}
 use Rattle.ice_pack_share.proofs.LutLaws.{taking, one_carry}
-use Rattle.ice_pack_share.proofs.HomeLaws.{goes, lut_taken, one_anchor}
+use Rattle.ice_pack_share.proofs.HomeLaws.{goes, lut_taken, one_anchor, map_at, within, numbered_at, at_numbered, place_is}
 
 -- ---- lists by place
-map_at : {X Y : Type 0} (f : X → Y) (xs : List X) (k : ℕ) (d : Y) → get_or (map f xs) k d ≡ option_map_or f (slice_get xs k) d
-map_at f [] k d = refl
-map_at f (x ∷ xs) zero d = refl
-map_at f (x ∷ xs) (suc k) d = map_at f xs k d
-
-within : {X : Type 0} (xs : List X) (k : ℕ) (d x : X) → get_or xs k d ≡ x → (d ≡ x → ⊥) → k < length xs
-within [] k d x e other = absurd (other e)
-within (y ∷ xs) zero d x e other = omega arith
-within (y ∷ xs) (suc k) d x e other = let lt = within xs k d x e other in omega arith
 
 read_at : {X : Type 0} (xs : List X) (k : ℕ) (x d : X) → At xs k x → get_or xs k d ≡ x
 read_at [] k x d at = cc at
 read_at (y ∷ xs) zero x d at = same_Some y x at
 read_at (y ∷ xs) (suc k) x d at = read_at xs k x d at
-
-numbered_at : {X : Type 0} (n : ℕ) (xs : List X) (i : ℕ) (p : ℕ × X) → At (enumerate_from n xs) i p → (p.0 ≡ n + i) × At xs i p.1
-numbered_at n [] i p at = cc at
-numbered_at n (x ∷ xs) zero p at = let e = same_Some (n, x) p at in (sym (ap (λ (q : ℕ × _). q.0) e) ∙ (let z : n ≡ n + 0 = omega arith in z), ap (λ (q : ℕ × _). Some q.1) e)
-numbered_at n (x ∷ xs) (suc i) p at = let rest = numbered_at (n + 1) xs i p at in (rest.0 ∙ (let z : n + 1 + i ≡ n + suc i = omega arith in z), rest.1)
-
-at_numbered : {X : Type 0} (n : ℕ) (xs : List X) (i : ℕ) (x : X) → At xs i x → Has (enumerate_from n xs) (n + i, x)
-at_numbered n [] i x at = cc at
-at_numbered n (y ∷ xs) zero x at = (0, ap Some (λ j. ((let z : n ≡ n + 0 = omega arith in z) j, same_Some y x at j)))
-at_numbered n (y ∷ xs) (suc i) x at = let rest = at_numbered (n + 1) xs i x at in (suc rest.0, rest.1 ∙ ap (λ k. Some (k, x)) (let z : n + 1 + i ≡ n + suc i = omega arith in z))
-
-place_is : (a : ℕ) (o : Option ℕ) → is_place a o ≡ true → o ≡ Some a
-place_is a None e = cc e
-place_is a (Some k) e = ap Some (eqb-true k a e)
 
 -- ---- kinds, parts and roles
 pub carry_kind : (os : List Origin) (k : CellKind) (ins outs : List (Option SignalNo)) → part_by os k ins outs ≡ Carry → (k ≡ kind.Carry) × (dropped outs ≡ false)

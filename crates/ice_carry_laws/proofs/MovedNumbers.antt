@@ -19,7 +19,7 @@ use Rattle.ice_cells.specs.Moves.{differs, moves_at, run_moves, moves, renamed_f
 use Rattle.ice_cells.specs.Pieces.{control_by, control_at, first_control, piece, pieces_count}
 use Rattle.ice_cells.specs.Runs.{numbered, cells_fed, fed_numbers, movers, moved_numbers, runs_of}
 use Rattle.ice_cells.proofs.TableLaws.{length-table, get_or-table}
-use Rattle.ice_carry_chains.proofs.CellsAfter.{FeedsIn, FeedsOut, cell_in, cell_out}
+use Rattle.ice_carry_chains.proofs.CellsAfter.{FeedsIn, FeedsOut, cell_in, cell_out, become_count}
 use Rattle.ice_carry_chains.proofs.DesignRuns.{CellFed, Old, Feed, cell_fed}
 use Rattle.ice_carry_chains.proofs.FedNumbers.{number_back}
 use Rattle.ice_carry_chains.proofs.RunLists.{flat_back}
@@ -81,9 +81,6 @@ moves_back cells runs c has =
     control_back cells c back.0 back.1
 
 -- ---- in a design
-become_count : (moved fed : List (Option ℕ)) (c : ℕ) (cells : List LogicCell) → length (become_from moved fed c cells) ≡ length cells
-become_count moved fed c [] = refl
-become_count moved fed c (x ∷ cells) = ap suc (become_count moved fed (c + 1) cells)
 
 no_flop : (x y : LogicCell) (flop : Control × Reset) → x ≡ y → x.flop ≡ None → y.flop ≡ Some flop → ⊥
 no_flop x y flop e f g = none-some flop (sym f ∙ ap (λ (z : LogicCell). z.flop) e ∙ g)

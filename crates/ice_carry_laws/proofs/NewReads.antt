@@ -7,6 +7,7 @@ use Rattle.std.proofs.lemmas.Option.{none-some, same_Some}
 use Rattle.ice_net.specs.declared.kind.Reset.{Reset}
 use Rattle.ice_base_values.specs.Order.{At, Has}
 use Rattle.ice_base_values.proofs.Members.{At_parts, At_map, map_At}
+use Rattle.ice_base_values.proofs.ListPlaces.{Has_left, Has_right}
 use Rattle.ice_cells.specs.declared.cell.Control.{Control}
 use Rattle.ice_cells.specs.declared.cell.LogicCell.{LogicCell}
 use Rattle.ice_cells.specs.declared.design.Design.{Design}
@@ -23,7 +24,7 @@ use Rattle.ice_carry_chains.proofs.ReadsFed.{plain_fed}
 use Rattle.ice_carry_chains.proofs.RunLists.{flat_back}
 use Rattle.ice_carry_laws.specs.AreRuns.{taking, passing}
 use Rattle.ice_carry_laws.proofs.NewCells.{NewCell, Kept, Taking, Passing, Gone, new_cell}
-use Rattle.ice_carry_laws.proofs.ReadRoots.{Has_left, Has_right, Has_flat, cell_read, pad_read, global_read}
+use Rattle.ice_carry_laws.proofs.ReadRoots.{Has_flat, cell_read, pad_read, global_read}
 
 -- a root is what another is renamed to: one that was read, and a carry only where a cell passes it on
 pub record IsRenamed (d : Design) (r : Root) : Type 0 where

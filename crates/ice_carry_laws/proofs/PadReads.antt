@@ -1,10 +1,11 @@
 -- A pad is read by a design with runs where it was read without them.
-use Rattle.std.proofs.Common.{◌≡◌, ◌⊎◌, ℕ, zero, suc, ◌+◌, Bool, true, false, Option, None, Some, List, ◌++◌, length, map, inl, inr, refl, sym, ap, ◌∙◌, subst}
+use Rattle.std.proofs.Common.{◌≡◌, ◌⊎◌, ℕ, zero, suc, ◌+◌, true, Option, None, Some, List, ◌++◌, length, map, inl, inr, refl, sym, ap, ◌∙◌, subst}
 use Rattle.std.specs.Prelude.{slice_index_or}
 use Rattle.std.specs.List.{flat_map, list_any}
 use Rattle.std.specs.Option.{option_map_or}
 use Rattle.std.proofs.lemmas.Bool.{eqb-true, eq-eqb}
 use Rattle.std.proofs.lemmas.Option.{none-some, same_Some}
+use Rattle.ice_base.proofs.Booleans.{both_true}
 use Rattle.ice_net.specs.declared.kind.Reset.{Reset}
 use Rattle.ice_base_values.specs.Order.{At, Has}
 use Rattle.ice_base_values.proofs.Members.{At_parts, At_map, map_At, any_Has, Has_any}
@@ -28,11 +29,6 @@ use Rattle.ice_carry_laws.proofs.MovedNumbers.{moved_to}
 use Rattle.ice_carry_laws.proofs.NewReads.{NewRoot, Renamed, Left, new_root}
 use Rattle.ice_carry_laws.proofs.ReadRoots.{cell_read, pad_read, global_read}
 use Rattle.ice_carry_laws.proofs.TiedRuns.{into_carry}
-
-both_true : (a b : Bool) → (a ≡ true → b ≡ true) → (b ≡ true → a ≡ true) → a ≡ b
-both_true true b f g = sym (f refl)
-both_true false true f g = g refl
-both_true false false f g = refl
 
 same_pad : (k : ℕ) (x : Option Root) → same_source (Some (PadIn k)) x ≡ true → x ≡ Some (PadIn k)
 same_pad k None e = cc

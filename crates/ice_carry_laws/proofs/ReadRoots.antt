@@ -1,12 +1,13 @@
 -- What the nodes of a design read, is of the design.
-use Rattle.std.proofs.Common.{◌≡◌, ℕ, zero, suc, ◌+◌, true, false, cond, Option, None, Some, List, [], ◌∷◌, ◌++◌, length, map, refl, sym, ap, ◌∙◌, subst}
+use Rattle.std.proofs.Common.{◌≡◌, ℕ, zero, suc, ◌+◌, true, false, cond, Option, None, Some, List, [], ◌∷◌, ◌++◌, map, refl, sym, ap, ◌∙◌, subst}
 use Rattle.std.specs.Prelude.{slice_index_or}
 use Rattle.std.specs.List.{flat_map}
 use Rattle.std.specs.Option.{option_map_or}
 use Rattle.std.proofs.lemmas.Option.{same_Some, none-some}
 use Rattle.ice_net.specs.declared.kind.Reset.{Reset}
 use Rattle.ice_base_values.specs.Order.{At, Has}
-use Rattle.ice_base_values.proofs.Members.{At_map, At_left, At_right}
+use Rattle.ice_base_values.proofs.Members.{At_map}
+use Rattle.ice_base_values.proofs.ListPlaces.{Has_left, Has_right}
 use Rattle.ice_cells.specs.declared.cell.Control.{Control}
 use Rattle.ice_cells.specs.declared.cell.LogicCell.{LogicCell}
 use Rattle.ice_cells.specs.declared.design.Design.{Design}
@@ -19,12 +20,6 @@ use Rattle.ice_cells.specs.Meaning.{input, cell_inputs, output_reads, carry_read
 use Rattle.ice_cells.specs.Nodes.{Node, Net, Level, net, source_node, carry_into}
 use Rattle.ice_cells.specs.Readings.{carry_root, cell_roots, pad_roots, roots_read}
 use Rattle.ice_carry_laws.specs.AreRuns.{IsIn}
-
-pub Has_left : {X : Type 0} (xs ys : List X) (x : X) → Has xs x → Has (xs ++ ys) x
-Has_left xs ys x has = (has.0, At_left xs ys has.0 x has.1)
-
-pub Has_right : {X : Type 0} (xs ys : List X) (x : X) → Has ys x → Has (xs ++ ys) x
-Has_right xs ys x has = (length xs + has.0, At_right xs ys has.0 x has.1)
 
 pub Has_flat : {X Y : Type 0} (f : X → List Y) (xs : List X) (i : ℕ) (x : X) (y : Y) → At xs i x → Has (f x) y → Has (flat_map f xs) y
 Has_flat f [] i x y at has = absurd (none-some x at)

@@ -1,5 +1,5 @@
 -- A design shows with its runs, step by step, what it showed without.
-use Rattle.std.proofs.Common.{◌≡◌, ℕ, zero, suc, Bool, true, false, Option, None, Some, List, [], ◌∷◌, length, map, refl, sym, ap, ◌∙◌, subst, arith}
+use Rattle.std.proofs.Common.{◌≡◌, ℕ, suc, Bool, true, false, Option, None, Some, List, [], ◌∷◌, length, map, refl, sym, ap, ◌∙◌, subst, arith}
 use Rattle.std.specs.Prelude.{unwrap_or, slice_index_or}
 use Rattle.std.specs.Option.{option_map_or}
 use Rattle.ice_net.specs.declared.kind.Reset.{Reset}
@@ -12,6 +12,7 @@ use Rattle.ice_base_values.specs.Machine.{Simulates}
 use Rattle.ice_base_values.specs.Order.{At, Has}
 use Rattle.ice_base_values.proofs.Machines.{shows_always_alike}
 use Rattle.ice_base_values.proofs.Members.{At_within}
+use Rattle.ice_base_values.proofs.ListPlaces.{all_alike}
 use Rattle.ice_cells.specs.declared.cell.Control.{Control}
 use Rattle.ice_cells.specs.declared.cell.LogicCell.{LogicCell}
 use Rattle.ice_cells.specs.declared.design.Design.{Design}
@@ -38,11 +39,6 @@ pub record Tied (old : Design) (moved : List (Option ℕ)) (s t : State) : Type 
 map_alike : {X Y Z : Type 0} (f : Y → Z) (g : X → Y) (h : X → Z) (xs : List X) → ((k : ℕ) (x : X) → At xs k x → f (g x) ≡ h x) → map f (map g xs) ≡ map h xs
 map_alike f g h [] same = refl
 map_alike f g h (x ∷ xs) same = (λ i. same 0 x refl i ∷ map_alike f g h xs (λ k y at. same (suc k) y at) i)
-
-all_alike : {X Y : Type 0} (y : Y) (xs : List X) (i : ℕ) → slice_index_or (map (λ x. y) xs) i y ≡ y
-all_alike y [] i = refl
-all_alike y (x ∷ xs) zero = refl
-all_alike y (x ∷ xs) (suc i) = all_alike y xs i
 
 passes : (b : Bool) → table_bit 43690 (number_of (b ∷ false ∷ false ∷ false ∷ [])) ≡ b
 passes true = refl

@@ -11,6 +11,7 @@ use Rattle.ice_net.specs.Drivers.{place_of, pin_of, output_of}
 use Rattle.ice_check.specs.Faults.{uses_of}
 use Rattle.ice_check.specs.Tables.{once, times}
 use Rattle.ice_check.proofs.Places.{wire}
+use Rattle.ice_net_additions.proofs.AddedNames.{other, next_number, first_number}
 use Rattle.ice_carry_tails.specs.Tails.{tail, tails}
 
 abbrev pub Ins : Type 0
@@ -20,12 +21,6 @@ Ins = List (Option SignalNo)
 pub length_tails : (next : ℕ) (reads : List Ins) → length (tails next reads) ≡ length reads
 length_tails next [] = refl
 length_tails next (ins ∷ reads) = ap suc (length_tails (next + 1) reads)
-
-first_number : (next : ℕ) → next ≡ next + 0
-first_number next = omega arith
-
-next_number : (next j : ℕ) → next + 1 + j ≡ next + suc j
-next_number next j = omega arith
 
 pub tail_at : (next : ℕ) (reads : List Ins) (j : ℕ) (ins : Ins) → At reads j ins → At (tails next reads) j (tail (next + j) ins)
 tail_at next [] j ins at = absurd (none-some ins at)
@@ -50,12 +45,6 @@ count_no_pins s next [] = refl
 count_no_pins s next (r ∷ reads) = let rest = count_no_pins s (next + 1) reads in omega (arith, rest)
 
 -- ---- their outputs
-other : (s t : ℕ) → s < t → (t == s) ≡ false
-other s t lt = by (t == s) refl
-  where
-    by : (b : Bool) → (t == s) ≡ b → b ≡ false
-    by true e = let same : t ≡ s = eqb-true t s e in absurd (omega arith)
-    by false e = refl
 
 pub outs_above : (s next : ℕ) (reads : List Ins) → s < next → place_of s (map output_of (tails next reads)) ≡ None
 outs_above s next [] lt = refl

@@ -1,12 +1,11 @@
 -- What drives the signals of a netlist with added carries, and what the drivers read.
-use Rattle.std.proofs.Common.{◌≡◌, ℕ, zero, suc, ◌+◌, ◌<◌, ◌≤◌, Bool, false, Option, None, Some, List, [], ◌∷◌, ◌++◌, length, map, refl, ap, sym, ◌∙◌, arith}
-use Rattle.std.specs.Prelude.{slice_get, slice_index_or}
+use Rattle.std.proofs.Common.{◌≡◌, ℕ, ◌+◌, ◌<◌, ◌≤◌, Bool, false, Option, None, Some, List, [], ◌++◌, length, map, refl, ap, sym, ◌∙◌, arith}
+use Rattle.std.specs.Prelude.{slice_index_or}
 use Rattle.std.specs.Option.{option_map_or}
 use Rattle.std.proofs.Math.Path.{fun_ext}
 use Rattle.std.proofs.lemmas.List.{length-map, map-append}
-use Rattle.std.proofs.lemmas.Option.{none-some}
 use Rattle.ice_base.specs.declared.number.SignalNo.{SignalNo}
-use Rattle.ice_base_values.specs.Order.{At, Has}
+use Rattle.ice_base_values.specs.Order.{At}
 use Rattle.ice_base_values.specs.Inputs.{present}
 use Rattle.ice_base_values.proofs.Members.{At_left, At_right, At_within}
 use Rattle.ice_net.specs.declared.cell.Cell.{Cell}
@@ -17,9 +16,9 @@ use Rattle.ice_net.specs.NetlistData.{NetlistData}
 use Rattle.ice_net.specs.Formed.{IsFormed}
 use Rattle.ice_net.specs.Drivers.{numbers, place_of, is_there, pin_of, buffer_at, has_buffer, pad_by, output_of, driver_from, pads, outputs, driver_of}
 use Rattle.ice_net.specs.Meaning.{makes_by, cell_reads, pad_level, reads, makes, depends_on}
-use Rattle.ice_check.proofs.Graphs.{reads_below}
 use Rattle.ice_check.proofs.ListsBelow.{pads_below, outputs_below}
-use Rattle.ice_check.proofs.Places.{place_left, place_right, place_above, place_within}
+use Rattle.ice_check.proofs.OldSignals.{IsThere, driver_there}
+use Rattle.ice_check.proofs.Places.{place_left, place_right, place_above}
 use Rattle.ice_carry_tails.specs.Tails.{tail, tails}
 use Rattle.ice_carry_tails.proofs.Added.{Ins}
 use Rattle.ice_carry_tails.proofs.Added as own
@@ -79,34 +78,8 @@ module _ (n : NetlistData) (names : List (List ℕ)) (lists : List Ins) where
       ∙ place_right (count + j) (outputs n) (map output_of added) j (place_above (count + j) count (outputs n) (outputs_below n formed) above) (own.out_at count lists j ins at)
       ∙ ap (λ k. Some (k + j)) (length-map n.cells output_of))
 
-  -- a driver of the netlist without the carries
-  abbrev pub IsThere : Driver → Type 0
-  IsThere Nothing = Unit {0}
-  IsThere (Pad k) = Unit {0}
-  IsThere (Output i) = (cell : Cell) × At n.cells i cell
-
-  from_place : (i : ℕ) → i < length n.cells → (o : Option Cell) → slice_get n.cells i ≡ o → (cell : Cell) × At n.cells i cell
-  from_place i lt None e = absurd (none_within n.cells i lt e)
-    where
-      none_within : (cells : List Cell) (i : ℕ) → i < length cells → slice_get cells i ≡ None → ⊥
-      none_within [] i lt e = absurd (omega (arith, lt))
-      none_within (cell ∷ cells) zero lt e = none-some cell (sym e)
-      none_within (cell ∷ cells) (suc i) lt e = none_within cells i (omega (arith, lt)) e
-  from_place i lt (Some cell) e = (cell, e)
-
-  pub at_place : (i : ℕ) → i < length n.cells → (cell : Cell) × At n.cells i cell
-  at_place i lt = from_place i lt (slice_get n.cells i) refl
-
-  pub driver_there : (s : ℕ) → IsThere (driver_of n s)
-  driver_there s = by (place_of s (pads n)) (place_of s (outputs n)) (place_within s (outputs n))
-    where
-      by : (o p : Option ℕ) → ((i : ℕ) → p ≡ Some i → i < length (outputs n)) → IsThere (driver_from o p)
-      by (Some k) p within = tt
-      by None None within = tt
-      by None (Some i) within = at_place i (let lt = within i refl in let long = length-map n.cells output_of in omega (arith, lt, long))
-
   -- ---- what drivers read and make
-  pub reads_same : (d : Driver) → IsThere d → reads new d ≡ reads n d
+  pub reads_same : (d : Driver) → IsThere n d → reads new d ≡ reads n d
   reads_same Nothing there = refl
   reads_same (Pad k) there = refl
   reads_same (Output i) (cell, at) =
@@ -114,7 +87,7 @@ module _ (n : NetlistData) (names : List (List ℕ)) (lists : List Ins) where
       ∙ sym (ap (λ o. option_map_or (λ (cell : Cell). cell_reads cell) o []) at)
 
   pub makes_same : (levels kept after : List Bool) → ((i : ℕ) → i < length n.cells → slice_index_or after i false ≡ slice_index_or kept i false)
-      → (d : Driver) → IsThere d → (xs : List Bool) → makes new levels after d xs ≡ makes n levels kept d xs
+      → (d : Driver) → IsThere n d → (xs : List Bool) → makes new levels after d xs ≡ makes n levels kept d xs
   makes_same levels kept after same Nothing there xs = refl
   makes_same levels kept after same (Pad k) there xs = refl
   makes_same levels kept after same (Output i) (cell, at) xs =
@@ -123,12 +96,9 @@ module _ (n : NetlistData) (names : List (List ℕ)) (lists : List Ins) where
       ∙ sym (ap (λ o. option_map_or (λ (cell : Cell). makes_by cell.kind (slice_index_or kept i false) (pad_level n.ports levels (pin_of cell)) xs) o false) at)
 
   pub depends_old : (s : ℕ) → s < count → depends_on new s ≡ depends_on n s
-  depends_old s lt = ap (λ d. present (reads new d)) (driver_old s lt) ∙ ap present (reads_same (driver_of n s) (driver_there s))
+  depends_old s lt = ap (λ d. present (reads new d)) (driver_old s lt) ∙ ap present (reads_same (driver_of n s) (driver_there n s))
 
   pub reads_new : IsFormed n → (j : ℕ) (ins : Ins) → At lists j ins → reads new (driver_of new (count + j)) ≡ numbers ins
   reads_new formed j ins at =
       ap (reads new) (driver_new formed j ins at)
       ∙ ap (λ o. option_map_or (λ (cell : Cell). cell_reads cell) o []) (cell_added j ins at)
-
-  pub depends_below : IsFormed n → (s : ℕ) → s < count → (q : ℕ) → Has (depends_on n s) q → q < count
-  depends_below formed s lt q has = reads_below n formed (driver_of n s) has.0 q has.1

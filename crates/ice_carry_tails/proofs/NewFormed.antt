@@ -1,18 +1,18 @@
 -- A netlist with added carries is well formed, and its names differ.
-use Rattle.std.proofs.Common.{◌≡◌, ℕ, zero, suc, ◌+◌, ◌<◌, ◌≤◌, Option, None, Some, List, [], ◌∷◌, ◌++◌, length, map, take, All, refl, sym, ◌∙◌, subst, arith, length-append, true≢false, bytes_eq, codes, false}
+use Rattle.std.proofs.Common.{◌≡◌, ℕ, zero, suc, ◌+◌, ◌<◌, ◌≤◌, Option, None, Some, List, [], ◌∷◌, ◌++◌, length, map, take, All, refl, sym, subst, arith, length-append, bytes_eq, codes, false}
 use Rattle.std.specs.List.{IsDistinct, AllByRecursion}
-use Rattle.std.proofs.lemmas.Bool.{false_from_ne_true}
 use Rattle.std.proofs.lemmas.List.{length-map, append_cancel_right}
 use Rattle.std.proofs.lemmas.List.Elements.{All-weaker, All-append, All-nil, All-cons, All-head, All-tail}
 use Rattle.std.proofs.lemmas.Map.Keys.{IsDistinct-head, IsDistinct-tail, IsDistinct-cons, IsDistinct-from_apart}
-use Rattle.std.proofs.lemmas.Slice.Eq.{bytes_eq-Decides}
 use Rattle.ice_base.specs.declared.number.SignalNo.{SignalNo}
+use Rattle.ice_base.proofs.TextLines.{all_append}
 use Rattle.ice_base_values.specs.Order.{At}
 use Rattle.ice_net.specs.declared.cell.Cell.{Cell}
 use Rattle.ice_net.specs.declared.port.Port.{Port}
 use Rattle.ice_net.specs.NetlistData.{NetlistData}
 use Rattle.ice_net.specs.Formed.{IsBelow, IsPortBelow, IsFormedCell, IsFormed}
 use Rattle.ice_net.proofs.NetlistLaws.{formed_more}
+use Rattle.ice_net_additions.proofs.AddedNames.{differ, differing, one_below}
 use Rattle.ice_carry_tails.specs.Tails.{tail_name, tail_names, tail, tails, read_behind, with_tails}
 use Rattle.ice_carry_tails.specs.TailLaws.{CanTakeTails}
 use Rattle.ice_carry_tails.specs.Tailable.{IsPlainName}
@@ -22,9 +22,6 @@ use Rattle.ice_carry_tails.proofs.Taken.{in_use}
 -- ---- cells
 IsThree : Ins → Type 0
 IsThree ins = length ins ≡ 3
-
-one_below : (most : ℕ) (s : ℕ) → s < most → All (IsBelow most) (Some (record { 0 = s }) ∷ [])
-one_below most s lt = All-cons (IsBelow most) (Some (record { 0 = s })) [] lt (All-nil (IsBelow most))
 
 tails_formed : (most next : ℕ) (lists : List Ins) → ((j : ℕ) (ins : Ins) → At lists j ins → All (IsBelow most) ins) → ((j : ℕ) (ins : Ins) → At lists j ins → length ins ≡ 3)
     → next + length lists ≤ most → All (IsFormedCell most) (tails next lists)
@@ -81,11 +78,6 @@ with_tails_formed n tables formed can cells_few =
     more a b = omega arith
 
 -- ---- names
-differ : (xs ys : List ℕ) → (xs ≡ ys → ⊥) → bytes_eq xs ys ≡ false
-differ xs ys ne = false_from_ne_true (bytes_eq xs ys) (λ t. ne ((bytes_eq-Decides xs ys).0 t))
-
-differing : (xs ys : List ℕ) → bytes_eq xs ys ≡ false → xs ≡ ys → ⊥
-differing xs ys f e = true≢false (sym ((bytes_eq-Decides xs ys).1 e) ∙ f)
 
 -- names that differ do so with the same end
 ends_differ : (xs ys : List ℕ) → bytes_eq xs ys ≡ false → bytes_eq (tail_name xs) (tail_name ys) ≡ false
@@ -105,10 +97,6 @@ news_once [] (suc k) once = none_twice
 news_once (x ∷ xs) (suc k) once =
     IsDistinct-cons bytes_eq (tail_name x) (map tail_name (take k xs)) (others_differ x xs k (IsDistinct-head bytes_eq x xs once)) (news_once xs k (IsDistinct-tail bytes_eq x xs once))
 
-rec_both : {X : Type 0} (P : X → Type 0) (xs ys : List X) → AllByRecursion P xs → AllByRecursion P ys → AllByRecursion P (xs ++ ys)
-rec_both P [] ys left right = right
-rec_both P (x ∷ xs) ys left right = (left.0, rec_both P xs ys left.1 right)
-
 plain_apart : (name : List ℕ) → IsPlainName name → (xs : List (List ℕ)) → AllByRecursion (λ y. bytes_eq name y ≡ false) (map tail_name xs)
 plain_apart name plain [] = tt
 plain_apart name plain (x ∷ xs) = (differ name (tail_name x) (plain x), plain_apart name plain xs)
@@ -117,7 +105,7 @@ both_once : (xs news : List (List ℕ)) → IsDistinct bytes_eq xs → All IsPla
 both_once [] news left all right = right
 both_once (x ∷ xs) news left all right =
     IsDistinct-cons bytes_eq x (xs ++ map tail_name news)
-    (rec_both (λ y. bytes_eq x y ≡ false) xs (map tail_name news) (IsDistinct-head bytes_eq x xs left) (plain_apart x (All-head IsPlainName x xs all) news))
+    (all_append (λ y. bytes_eq x y ≡ false) xs (map tail_name news) (IsDistinct-head bytes_eq x xs left) (plain_apart x (All-head IsPlainName x xs all) news))
     (both_once xs news (IsDistinct-tail bytes_eq x xs left) (All-tail IsPlainName x xs all) right)
 
 pub names_once : (names : List (List ℕ)) (k : ℕ) → IsDistinct bytes_eq names → All IsPlainName names → IsDistinct bytes_eq (names ++ tail_names names k)

@@ -1,11 +1,9 @@
 -- A netlist with added carries goes through the same steps.
-use Rattle.std.proofs.Common.{◌≡◌, ℕ, ◌+◌, ◌<◌, Bool, true, false, Option, None, Some, List, [], ◌∷◌, ◌++◌, length, map, All, refl, ap, sym, ◌∙◌, subst, arith, min}
+use Rattle.std.proofs.Common.{◌≡◌, ℕ, ◌+◌, ◌<◌, Bool, true, false, Option, None, Some, List, [], ◌∷◌, ◌++◌, length, map, All, refl, ap, sym, ◌∙◌, arith}
 use Rattle.std.specs.Prelude.{slice_get, slice_index_or}
 use Rattle.std.specs.List.{zip}
 use Rattle.std.proofs.lemmas.List.{length-map, map-append, get_or_append_left}
-use Rattle.std.proofs.lemmas.List.Elements.{All-head, All-tail, All-get_or}
-use Rattle.std.proofs.lemmas.Option.{get_or_from_slice_get, slice_get_within}
-use Rattle.std.proofs.lemmas.Slice.Zip.{length-zip}
+use Rattle.std.proofs.lemmas.List.Elements.{All-head, All-tail}
 use Rattle.ice_base.specs.declared.number.SignalNo.{SignalNo}
 use Rattle.ice_base_values.specs.Order.{At}
 use Rattle.ice_base_values.specs.Inputs.{reading}
@@ -21,11 +19,13 @@ use Rattle.ice_net.specs.Drives.{at_input, bare_drive, kind_drive, pad_drive, bu
 use Rattle.ice_net.specs.Flops.{is_edge, fired}
 use Rattle.ice_net.specs.Formed.{IsBelow, IsPortBelow, IsFormedCell, IsFormed}
 use Rattle.ice_net.specs.Meaning.{State, enable_level, set_level, kept_by, clock_by, kept_after, signal_value, step, start, shows}
+use Rattle.ice_check.proofs.Graphs.{cell_formed}
 use Rattle.ice_check.proofs.ListsBelow.{at_below}
+use Rattle.ice_check.proofs.OldSignals.{at_place, kept_long}
 use Rattle.ice_check.proofs.Places.{place_within}
 use Rattle.ice_carry_tails.specs.Tails.{tails}
 use Rattle.ice_carry_tails.proofs.Added.{Ins}
-use Rattle.ice_carry_tails.proofs.NewDrivers.{grown, buffer_same, cell_kept, at_place}
+use Rattle.ice_carry_tails.proofs.NewDrivers.{grown, buffer_same, cell_kept}
 use Rattle.ice_carry_tails.proofs.NewValues.{Follows, follows}
 
 module _ (n : NetlistData) (names : List (List ℕ)) (lists : List Ins) (v after : ℕ → Bool) (f : Follows n v after) where
@@ -127,11 +127,6 @@ module _ (n : NetlistData) (names : List (List ℕ)) (lists : List Ins) (v after
       ∙ ap (λ xs. tick v cell ∷ xs) (all_ticks cells (All-tail (IsFormedCell count) cell cells all))
 
   -- ---- what ports drive
-  formed_at : IsFormed n → (i : ℕ) (cell : Cell) → At n.cells i cell → IsFormedCell count cell
-  formed_at formed i cell at =
-      subst (IsFormedCell count) (get_or_from_slice_get n.cells i cell cell at)
-      (All-get_or (IsFormedCell count) n.cells i cell (slice_get_within n.cells i cell at) formed.cells)
-
   port_same : IsFormed n → (port : Port) → IsPortBelow count port → port_drive new.cells after port ≡ port_drive n.cells v port
   port_same formed port below =
       ap (drive_by new.cells after port) (buffer_same n names lists port.signal.0)
@@ -140,12 +135,12 @@ module _ (n : NetlistData) (names : List (List ℕ)) (lists : List Ins) (v after
       there : (i : ℕ) → (cell : Cell) × At n.cells i cell → buffer_drive after (slice_get new.cells i) ≡ buffer_drive v (slice_get n.cells i)
       there i (cell, at) =
           ap (buffer_drive after) (cell_kept n names lists i cell at)
-          ∙ drive_same cell.kind cell.ins (formed_at formed i cell at).ins_below
+          ∙ drive_same cell.kind cell.ins (cell_formed n formed i cell at).ins_below
           ∙ ap (buffer_drive v) (sym at)
 
       by : (o : Option ℕ) → ((i : ℕ) → o ≡ Some i → i < length (map pin_of n.cells)) → drive_by new.cells after port o ≡ drive_by n.cells v port o
       by None within = ap (bare_drive port.way) (f.old port.signal.0 below)
-      by (Some i) within = there i (at_place n names lists i (let lt = within i refl in let long = length-map n.cells pin_of in omega (arith, lt, long)))
+      by (Some i) within = there i (at_place n i (let lt = within i refl in let long = length-map n.cells pin_of in omega (arith, lt, long)))
 
   ports_same : IsFormed n → (ports : List Port) → All (IsPortBelow count) ports → map (port_drive new.cells after) ports ≡ map (port_drive n.cells v) ports
   ports_same formed [] all = refl
@@ -171,18 +166,11 @@ module _ (n : NetlistData) (names : List (List ℕ)) (lists : List Ins) (formed 
       (λ i lt. ap (λ xs. slice_index_or xs i false) r.kept
       ∙ get_or_append_left s.kept (map (λ (cell : Cell). false) (tails (length n.names) lists)) false i (let long = r.long in omega (arith, lt, long)))
 
-  kept_long : (s : State) → length s.kept ≡ length n.cells → length s.clocks ≡ length n.cells → (v : ℕ → Bool) → length (kept_after v n.cells s) ≡ length n.cells
-  kept_long s long clocks_long v =
-      length-map (zip n.cells (zip s.kept s.clocks)) (λ (x : Cell × (Bool × Option Bool)). kept_by v x.0.kind x.0.ins x.1.0 x.1.1)
-      ∙ length-zip n.cells (zip s.kept s.clocks)
-      ∙ ap (min (length n.cells)) (length-zip s.kept s.clocks)
-      ∙ (let e : min (length n.cells) (min (length s.kept) (length s.clocks)) ≡ length n.cells = omega (arith, long, clocks_long) in e)
-
   stepped : Simulates (step n) (step whole) (AreTied n lists) (λ levels. Unit {0})
   stepped s t levels allowed r =
       let f = tied s t r levels in (
         record {
-          long = kept_long s r.long r.clocks_long (signal_value n levels s.kept);
+          long = kept_long n s r.long r.clocks_long (signal_value n levels s.kept);
           clocks_long = length-map n.cells (λ (cell : Cell). clock_by (signal_value n levels s.kept) cell.kind cell.ins);
           kept = ap (λ (u : State). kept_after (signal_value whole levels t.kept) whole.cells u) (state_is s t r)
               ∙ all_kept n names lists (signal_value n levels s.kept) (signal_value whole levels t.kept) f n.cells s.kept s.clocks formed.cells r.long r.clocks_long;

@@ -1,14 +1,13 @@
 -- Carries at look-up tables read signals in use.
-use Rattle.std.proofs.Common.{◌≡◌, ℕ, zero, suc, ◌+◌, true, Option, None, Some, List, [], ◌∷◌, length, map, take, All, refl, ap, sym, ◌∙◌, subst, arith, length-take-le}
+use Rattle.std.proofs.Common.{◌≡◌, ℕ, zero, suc, true, None, Some, List, [], ◌∷◌, length, map, take, All, refl, ap, sym, ◌∙◌, subst, arith, length-take-le}
 use Rattle.std.specs.Prelude.{slice_index_or}
 use Rattle.std.specs.List.{flat_map}
 use Rattle.std.specs.Option.{option_map_or}
 use Rattle.std.proofs.lemmas.List.{length-map}
 use Rattle.std.proofs.lemmas.List.Elements.{All-nil, All-cons, All-get_or}
 use Rattle.std.proofs.lemmas.Option.{none-some, same_Some, get_or_from_slice_get, slice_get_within}
-use Rattle.ice_base.specs.declared.number.SignalNo.{SignalNo}
 use Rattle.ice_base_values.specs.Order.{At, Has}
-use Rattle.ice_base_values.proofs.Members.{At_left, At_right, map_At}
+use Rattle.ice_base_values.proofs.Members.{map_At}
 use Rattle.ice_net.specs.declared.cell.Cell.{Cell}
 use Rattle.ice_net.specs.declared.kind.CellKind.{CellKind}
 use Rattle.ice_net.specs.declared.kind.CellKind.TheVariants.{Lut, Cover, Carry, Flop, PadCell, Global}
@@ -18,6 +17,7 @@ use Rattle.ice_net.specs.NetlistData.{NetlistData}
 use Rattle.ice_check.specs.Faults.{uses_of}
 use Rattle.ice_check.proofs.ListsBelow.{at_below}
 use Rattle.ice_check.proofs.Places.{wire, has_place}
+use Rattle.ice_check.proofs.Uses.{used_at}
 use Rattle.ice_carry_tails.specs.Tails.{tail_name, tail_names, behind, read_behind}
 use Rattle.ice_carry_tails.specs.TailLaws.{is_lut, IsTableAt, CanTakeTails}
 use Rattle.ice_carry_tails.proofs.Added.{Ins}
@@ -49,15 +49,6 @@ lut_uses Carry ins e = cc e
 lut_uses (Flop falling enable reset) ins e = cc e
 lut_uses (PadCell pin_type pullup) ins e = cc e
 lut_uses Global ins e = cc e
-
-used_at : (cells : List Cell) (i : ℕ) (cell : Cell) (x : Option SignalNo) → At cells i cell → Has (uses_of cell) x → Has (flat_map uses_of cells) x
-used_at [] i cell x at has = absurd (none-some cell at)
-used_at (c ∷ cells) zero cell x at has =
-    let here : Has (uses_of c) x = subst (λ (c : Cell). Has (uses_of c) x) (sym (same_Some c cell at)) has in
-    (here.0, At_left (uses_of c) (flat_map uses_of cells) here.0 x here.1)
-used_at (c ∷ cells) (suc i) cell x at has =
-    let rest = used_at cells i cell x at has in
-    (length (uses_of c) + rest.0, At_right (uses_of c) (flat_map uses_of cells) rest.0 x rest.1)
 
 module _ (n : NetlistData) (tables : List ℕ) (formed : IsFormed n) (can : CanTakeTails n tables) where
   pub table_at : (j i : ℕ) → At tables j i → IsTableAt n i

@@ -11,6 +11,7 @@ use Rattle.ice_net.specs.declared.kind.CellKind.TheVariants as kind
 use Rattle.ice_net.specs.declared.port.Port.{Port}
 use Rattle.ice_net.specs.Drivers.{driver_of}
 use Rattle.ice_net.specs.NetlistData.{NetlistData}
+use Rattle.ice_net.specs.Limits.{most_signals}
 use Rattle.ice_check.specs.Tables.{times}
 use Rattle.ice_cells.specs.Homes.{carriers_of}
 use Rattle.ice_cells.specs.Origins.{origins}
@@ -90,9 +91,6 @@ abbrev pub own_ends : NetlistData → List ℕ → List ℕ
 own_ends n tables = own (luts_of (roles_behind (origins n) n.cells tables)) (length n.cells) tables
 
 -- ---- the whole
--- the most signals of a netlist that is placed
-abbrev pub most_signals : ℕ
-most_signals = 65534
 
 -- how many carries may be added: there are names for them, and room for their signals
 abbrev pub most_tails : NetlistData → ℕ

@@ -60,7 +60,8 @@ fn add_tails(
     requires few { first + length tables.now < 2 ^ 32 }
     requires below { All (λ table. table < length netlist.old.cells) tables.now }
     requires room { HasRoomForCells netlist.old (tails first (map (read_behind netlist.old.cells) tables.now)) }
-    ensures { OnOk result (netlist.new ≡ with_cells netlist.old (tails first (map (read_behind netlist.old.cells) tables.now))) }
+    ensures { OnOk result (netlist.new
+        ≡ with_cells netlist.old (tails first (map (read_behind netlist.old.cells) tables.now))) }
 {
     for (place, table) in tables.iter().enumerate() {
         let cell = tail_of(alloc, &netlist.cells()[*table], first + place as u32)?;

@@ -6,7 +6,7 @@ ghost use Rattle.ice_cells.specs.Origins.{origins};
 ghost use Rattle.ice_cells.specs.Packed.{has_level};
 ghost use Rattle.ice_cells.specs.Tables.{is_place};
 ghost use Rattle.ice_check.specs.Tables.{AreDrivers, AreTimes};
-ghost use Rattle.ice_carry_tails.specs.Ends.{all_read, can_share, chain_ends, ends_chain, is_carry, is_carry_out, is_end, is_free, is_free_by, is_last_carry, most_signals, most_tails, own, own_ends, reads_one_by, tables_of};
+ghost use Rattle.ice_carry_tails.specs.Ends.{all_read, can_share, chain_ends, ends_chain, is_carry, is_carry_out, is_end, is_free, is_free_by, is_last_carry, most_tails, own, own_ends, reads_one_by, tables_of};
 ghost use Rattle.ice_carry_tails.specs.TailLaws.{is_lut};
 
 use crate::reading::{reads_of, signal_at};

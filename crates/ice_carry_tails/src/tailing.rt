@@ -19,8 +19,7 @@ fn grown(alloc: Global, sound: Sound, tables: &[usize]) -> Result<Sound, NoMemor
     ensures { IfOk result (λ made. made ≡ tailed sound) }
 {
     tailed_are_sound();
-    let _cells = sound.netlist().cells();
-    let _ports = sound.netlist().ports();
+    sound.is_sound();
     let made = with_tails(alloc, sound.into_netlist(), tables)?;
     let made = check_sound(alloc, made)?;
     Ok(made)
@@ -33,7 +32,7 @@ fn tailed_is_sound(sound: &Sound)
 {
     tailed_are_sound();
     tailed_show_the_same();
-    let _cells = sound.netlist().cells();
+    sound.is_sound();
 }
 
 // The netlist with its carries; itself where it gets none.

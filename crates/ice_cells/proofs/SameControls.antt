@@ -86,17 +86,17 @@ same_source_self : (a : Option Root) → same_source a a ≡ true
 same_source_self None = refl
 same_source_self (Some a) = same_root_self a
 
-same_level_is : (a b : Bool) → same_level a b ≡ true → a ≡ b
+pub same_level_is : (a b : Bool) → same_level a b ≡ true → a ≡ b
 same_level_is false false e = refl
 same_level_is false true e = cc
 same_level_is true false e = cc
 same_level_is true true e = refl
 
-same_level_self : (a : Bool) → same_level a a ≡ true
+pub same_level_self : (a : Bool) → same_level a a ≡ true
 same_level_self false = refl
 same_level_self true = refl
 
-both : (a b : Bool) → (a && b) ≡ true → (a ≡ true) × (b ≡ true)
+pub both : (a b : Bool) → (a && b) ≡ true → (a ≡ true) × (b ≡ true)
 both true true e = (refl, refl)
 both true false e = cc
 both false b e = cc

@@ -10,6 +10,7 @@ use Rattle.ice_cells.specs.declared.origin.Origin.TheVariants.{Fixed, Pad, Made}
 use Rattle.ice_cells.specs.declared.share.Pair.{Pair}
 use Rattle.std.proofs.lemmas.Bool.{eq-eqb}
 use Rattle.std.proofs.lemmas.Bool.{eqb-true}
+use Rattle.ice_cells.proofs.SameControls.{same_level_is, same_level_self, both}
 
 levels_equal : (a b : Bool) → (origins.eq-value).it (Fixed a) (Fixed b) ≡ same_level a b
 levels_equal false false = refl
@@ -32,16 +33,6 @@ pub pairs_equal : (pairs.eq-value).it ≡ same_pair
 pairs_equal = fun_ext (λ (a : Pair). fun_ext (λ (b : Pair).
     ap (λ (x : Bool). x && (origins.eq-value).it a.second b.second) (origins_equal a.first b.first) ∙ ap (λ (x : Bool). same_origin a.first b.first && x) (origins_equal a.second b.second)))
 
-same_level_is : (a b : Bool) → same_level a b ≡ true → a ≡ b
-same_level_is false false e = refl
-same_level_is false true e = cc
-same_level_is true false e = cc
-same_level_is true true e = refl
-
-same_level_self : (a : Bool) → same_level a a ≡ true
-same_level_self false = refl
-same_level_self true = refl
-
 pub same_origin_is : (a b : Origin) → same_origin a b ≡ true → a ≡ b
 same_origin_is (Fixed a) (Fixed b) e = ap Fixed (same_level_is a b e)
 same_origin_is (Fixed a) (Pad k) e = cc
@@ -57,11 +48,6 @@ pub same_origin_self : (a : Origin) → same_origin a a ≡ true
 same_origin_self (Fixed a) = same_level_self a
 same_origin_self (Pad j) = eq-eqb j j refl
 same_origin_self (Made h) = eq-eqb h h refl
-
-both : (a b : Bool) → (a && b) ≡ true → (a ≡ true) × (b ≡ true)
-both true true e = (refl, refl)
-both true false e = cc
-both false b e = cc
 
 pub same_pair_is : (a b : Pair) → same_pair a b ≡ true → a ≡ b
 same_pair_is a b e =

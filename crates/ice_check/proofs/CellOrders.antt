@@ -32,7 +32,7 @@ place_within s (x ∷ xs) i e = by (is_signal s x) (place_of s xs) (λ k h. plac
     by false None rest e = cc e
     by false (Some k) rest e = let z : suc k ≡ i = same_Some (suc k) i e in let h : k < length xs = rest k refl in omega arith
 
-output_from : (pad cell : Option ℕ) (i : ℕ) → driver_from pad cell ≡ Output i → cell ≡ Some i
+pub output_from : (pad cell : Option ℕ) (i : ℕ) → driver_from pad cell ≡ Output i → cell ≡ Some i
 output_from (Some k) cell i e = cc e
 output_from None (Some j) i e = cc e
 output_from None None i e = cc e

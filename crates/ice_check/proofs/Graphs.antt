@@ -42,7 +42,7 @@ kind_below count (PadCell pin_type pullup) ins all j q at = cc at
 kind_below count Global ins all j q at = present_below count ins all j q at
 
 -- what holds of all cells holds of the one at a place
-cell_formed : (n : NetlistData) → IsFormed n → (i : ℕ) (cell : Cell) → slice_get n.cells i ≡ Some cell → IsFormedCell (length n.names) cell
+pub cell_formed : (n : NetlistData) → IsFormed n → (i : ℕ) (cell : Cell) → slice_get n.cells i ≡ Some cell → IsFormedCell (length n.names) cell
 cell_formed n formed i cell at =
     subst (IsFormedCell (length n.names)) (get_or_from_slice_get n.cells i cell cell at)
     (All-get_or (IsFormedCell (length n.names)) n.cells i cell (slice_get_within n.cells i cell at) formed.cells)

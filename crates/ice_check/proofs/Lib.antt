@@ -7,3 +7,5 @@ pub mod Graphs
 pub mod CellOrders
 pub mod Faulty
 pub mod Places
+pub mod OldSignals
+pub mod Settled

@@ -81,7 +81,8 @@ fn is_portless(netlist: &Netlist, cell: &Cell) -> bool
 
 // Whether the cell at a place is an SB_IO at no port.
 fn portless_at(netlist: &Netlist, place: usize) -> bool
-    ensures { result ≡ cell_is netlist.now (λ (cell : Cell). is_portless netlist.now.ports cell.kind (pin_of cell)) place }
+    ensures { result
+        ≡ cell_is netlist.now (λ (cell : Cell). is_portless netlist.now.ports cell.kind (pin_of cell)) place }
 {
     match netlist.cells().get(place) {
         Some(cell) => is_portless(netlist, cell),

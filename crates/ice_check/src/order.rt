@@ -23,7 +23,8 @@ fn cell_at(drivers: &[Driver], signal: usize) -> Option<usize>
 
 // Puts the cells that drive some signals behind a row.
 fn push_cells(drivers: &[Driver], signals: &[usize], row: &mut Vec<usize>) -> Result<(), NoMemory>
-    ensures { OnOk result (row.new.items ≡ row.old.items ++ cells_at (λ s. slice_index_or drivers.now s Driver.Nothing) signals.now) }
+    ensures { OnOk result (row.new.items
+        ≡ row.old.items ++ cells_at (λ s. slice_index_or drivers.now s Driver.Nothing) signals.now) }
 {
     for &signal in signals {
         if let Some(cell) = cell_at(drivers, signal) {

@@ -1,6 +1,7 @@
 //! Sound netlists.
-ghost use Rattle.std.specs.Prelude.{◌≡◌, length};
+ghost use Rattle.std.specs.Prelude.{◌≡◌, ℕ, List, length};
 ghost use Rattle.ice_base_values.specs.Order.{IsOrder};
+ghost use Rattle.ice_net.specs.Formed.{IsFormed, IsSingle};
 ghost use Rattle.ice_net.specs.Meaning.{depends_on};
 ghost use Rattle.ice_check.specs.Tables.{AreDrivers};
 ghost use Rattle.ice_check.specs.Loops.{cells_before};
@@ -46,6 +47,16 @@ impl Sound {
         ensures sound { IsSound self.now }
     {
         &self.netlist
+    }
+
+    /// The netlist has no fault, and its signals have an order of evaluation.
+    pub fn is_sound(&self)
+        ensures formed { IsFormed self.now }
+        ensures single { IsSingle self.now }
+        ensures sound { IsSound self.now }
+        ensures ordered { (order : List ℕ) × IsOrder (length self.now.names) (depends_on self.now) order }
+    {
+        self.netlist.ports();
     }
 
     /// The cells in an order of evaluation: each after the cells whose outputs its own output depends on.

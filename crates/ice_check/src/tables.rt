@@ -38,7 +38,8 @@ fn blank(alloc: Global, count: usize) -> Result<Vec<Option<usize>>, NoMemory>
 fn settle(table: &mut Vec<Option<usize>>, signal: Option<SignalNo>, place: usize)
     requires { IsBelow (length table.old.items) signal }
     ensures length { length table.new.items ≡ length table.old.items }
-    ensures settled { (s : ℕ) → slice_index_or table.new.items s None ≡ settled (is_signal s signal) (slice_index_or table.old.items s None) place }
+    ensures settled { (s : ℕ) → slice_index_or table.new.items s None
+        ≡ settled (is_signal s signal) (slice_index_or table.old.items s None) place }
 {
     match signal {
         Some(signal) => claim(table, signal.0 as usize, place),
@@ -49,8 +50,10 @@ fn settle(table: &mut Vec<Option<usize>>, signal: Option<SignalNo>, place: usize
 fn claim(table: &mut Vec<Option<usize>>, index: usize, place: usize)
     requires { index < length table.old.items }
     ensures length { length table.new.items ≡ length table.old.items }
-    ensures claimed { slice_index_or table.new.items index None ≡ settled true (slice_index_or table.old.items index None) place }
-    ensures others { (s : ℕ) → s ≢ index → slice_index_or table.new.items s None ≡ slice_index_or table.old.items s None }
+    ensures claimed { slice_index_or table.new.items index None
+        ≡ settled true (slice_index_or table.old.items index None) place }
+    ensures others { (s : ℕ) → s ≢ index → slice_index_or table.new.items s None
+        ≡ slice_index_or table.old.items s None }
 {
     if let None = table[index] {
         table[index] = Some(place);
@@ -84,7 +87,8 @@ fn tally(table: &mut Vec<usize>, signal: Option<SignalNo>, most: usize)
     requires room { (s : ℕ) → slice_index_or table.old.items s 0 ≤ most }
     requires most { most < 9223372036854775808 }
     ensures length { length table.new.items ≡ length table.old.items }
-    ensures tallied { (s : ℕ) → slice_index_or table.new.items s 0 ≡ slice_index_or table.old.items s 0 + once (is_signal s signal) }
+    ensures tallied { (s : ℕ) → slice_index_or table.new.items s 0
+        ≡ slice_index_or table.old.items s 0 + once (is_signal s signal) }
 {
     match signal {
         Some(signal) => add_one(table, signal.0 as usize),

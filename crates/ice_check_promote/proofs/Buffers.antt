@@ -15,17 +15,12 @@ use Rattle.ice_check.specs.Faults.{uses_of}
 use Rattle.ice_check.specs.Tables.{once, times}
 use Rattle.ice_check_promote.specs.Promoted.{buffered, buffered_pin, buffered_first, buffered_ins, buffered_cell, buffer, buffers}
 use Rattle.ice_check.proofs.Places.{wire}
+use Rattle.ice_net_additions.proofs.AddedNames.{other, next_number, first_number}
 
 -- ---- the list of buffers
 pub length_buffers : (next : ℕ) (clocks : List ℕ) → length (buffers next clocks) ≡ length clocks
 length_buffers next [] = refl
 length_buffers next (c ∷ clocks) = ap suc (length_buffers (next + 1) clocks)
-
-first_number : (next : ℕ) → next ≡ next + 0
-first_number next = omega arith
-
-next_number : (next j : ℕ) → next + 1 + j ≡ next + suc j
-next_number next j = omega arith
 
 pub buffer_at : (next : ℕ) (clocks : List ℕ) (j clock : ℕ) → At clocks j clock → At (buffers next clocks) j (buffer clock (next + j))
 buffer_at next [] j clock at = absurd (none-some clock at)
@@ -50,12 +45,6 @@ count_no_pins s next [] = refl
 count_no_pins s next (c ∷ clocks) = let rest = count_no_pins s (next + 1) clocks in omega (arith, rest)
 
 -- ---- their outputs
-other : (s t : ℕ) → s < t → (t == s) ≡ false
-other s t lt = by (t == s) refl
-  where
-    by : (b : Bool) → (t == s) ≡ b → b ≡ false
-    by true e = let same : t ≡ s = eqb-true t s e in absurd (omega arith)
-    by false e = refl
 
 pub outs_above : (s next : ℕ) (clocks : List ℕ) → s < next → place_of s (map output_of (buffers next clocks)) ≡ None
 outs_above s next [] lt = refl

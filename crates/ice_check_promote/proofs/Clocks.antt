@@ -1,22 +1,23 @@
 -- The clocks that are promoted are signals that flip-flops read, and they are few.
-use Rattle.std.proofs.Common.{◌≡◌, ℕ, zero, suc, ◌+◌, ◌-◌, ◌<◌, ◌≤◌, ◌==◌, true, Option, None, Some, List, [], ◌∷◌, length, map, filter, ap, sym, subst, arith, ltb-true, length-take, min}
+use Rattle.std.proofs.Common.{◌≡◌, ℕ, zero, suc, ◌+◌, ◌-◌, ◌<◌, ◌≤◌, ◌==◌, true, Option, None, Some, List, [], ◌∷◌, length, map, filter, ap, arith, ltb-true, length-take, min}
 use Rattle.std.specs.Prelude.{slice_index_or}
 use Rattle.std.specs.List.{flat_map, range_with_len}
 use Rattle.std.proofs.lemmas.Bool.{and_parts}
 use Rattle.std.proofs.lemmas.Option.{none-some, same_Some}
 use Rattle.ice_base.specs.declared.number.SignalNo.{SignalNo}
 use Rattle.ice_base_values.specs.Order.{At, Has}
-use Rattle.ice_base_values.proofs.Members.{filter_Has, map_Has, At_left, At_right}
+use Rattle.ice_base_values.proofs.Members.{filter_Has, map_Has}
 use Rattle.ice_base_values.proofs.Places.{At_take}
-use Rattle.ice_net.specs.declared.cell.Cell.{Cell}
 use Rattle.ice_net.specs.declared.kind.CellKind.{CellKind}
 use Rattle.ice_net.specs.declared.kind.CellKind.TheVariants.{Lut, Cover, Carry, Flop, PadCell, Global}
 use Rattle.ice_net.specs.NetlistData.{NetlistData}
 use Rattle.ice_net.specs.Drives.{uses_by}
+use Rattle.ice_net.specs.Limits.{most_signals}
 use Rattle.ice_check.specs.Faults.{uses_of, is_used}
 use Rattle.ice_check.specs.Tables.{times}
-use Rattle.ice_check_promote.specs.Promoted.{clock_by, clock_of, is_clock, settled_of, is_promotable, most_signals, promoted_clocks}
+use Rattle.ice_check_promote.specs.Promoted.{clock_by, clock_of, is_clock, settled_of, is_promotable, promoted_clocks}
 use Rattle.ice_check.proofs.Places.{wire, times_has, has_place}
+use Rattle.ice_check.proofs.Uses.{used_at}
 
 in_range : (a count i x : ℕ) → At (range_with_len a count) i x → x < a + count
 in_range a zero i x at = absurd (none-some x at)
@@ -35,7 +36,7 @@ promotable n free j clock at =
 pub clock_below : (n : NetlistData) (free j clock : ℕ) → At (promoted_clocks n free) j clock → clock < length n.names
 clock_below n free j clock at = (promotable n free j clock at).0
 
-first_in : (ins : List (Option SignalNo)) (x : SignalNo) → slice_index_or ins 0 None ≡ Some x → At ins 0 (Some x)
+pub first_in : (ins : List (Option SignalNo)) (x : SignalNo) → slice_index_or ins 0 None ≡ Some x → At ins 0 (Some x)
 first_in [] x e = absurd (none-some x e)
 first_in (pin ∷ pins) x e = ap Some e
 
@@ -47,15 +48,6 @@ clock_read Carry ins x e = absurd (none-some x e)
 clock_read (Flop falling enable reset) ins x e = (0, first_in ins x e)
 clock_read (PadCell pin_type pullup) ins x e = absurd (none-some x e)
 clock_read Global ins x e = absurd (none-some x e)
-
-pub used_at : (cells : List Cell) (i : ℕ) (cell : Cell) (x : Option SignalNo) → At cells i cell → Has (uses_of cell) x → Has (flat_map uses_of cells) x
-used_at [] i cell x at has = absurd (none-some cell at)
-used_at (c ∷ cells) zero cell x at has =
-    let here : Has (uses_of c) x = subst (λ (c : Cell). Has (uses_of c) x) (sym (same_Some c cell at)) has in
-    (here.0, At_left (uses_of c) (flat_map uses_of cells) here.0 x here.1)
-used_at (c ∷ cells) (suc i) cell x at has =
-    let rest = used_at cells i cell x at has in
-    (length (uses_of c) + rest.0, At_right (uses_of c) (flat_map uses_of cells) rest.0 x rest.1)
 
 pub clock_used : (n : NetlistData) (free j clock : ℕ) → At (promoted_clocks n free) j clock → is_used n clock ≡ true
 clock_used n free j clock at =

@@ -11,6 +11,7 @@ use Rattle.ice_net.specs.declared.port.Port.{Port}
 use Rattle.ice_net.specs.NetlistData.{NetlistData}
 use Rattle.ice_net.specs.Formed.{IsBelow, IsPortBelow, IsFormedCell, IsFormed}
 use Rattle.ice_net.proofs.NetlistLaws.{formed_more}
+use Rattle.ice_net_additions.proofs.AddedNames.{one_below}
 use Rattle.ice_check_promote.specs.Promoted.{buffered_pin, buffered_first, buffered_ins, buffered_cell, buffer, buffers, with_buffers, promoted_clocks, promoted}
 use Rattle.ice_check_promote.proofs.Buffers.{length_buffers, buffered_below}
 use Rattle.ice_check_promote.proofs.NewDrivers.{length_names}
@@ -47,9 +48,6 @@ module _ (count : ℕ) (clocks : List ℕ) where
   }
   cell_formed (PadCell pin_type pullup) line ins outs h = h
   cell_formed Global line ins outs h = h
-
-one_below : (most : ℕ) (s : ℕ) → s < most → All (IsBelow most) (Some (record { 0 = s }) ∷ [])
-one_below most s lt = All-cons (IsBelow most) (Some (record { 0 = s })) [] lt (All-nil (IsBelow most))
 
 buffers_formed : (most next : ℕ) (clocks : List ℕ) → ((j clock : ℕ) → At clocks j clock → clock < most) → next + length clocks ≤ most → All (IsFormedCell most) (buffers next clocks)
 buffers_formed most next [] below room = All-nil (IsFormedCell most)

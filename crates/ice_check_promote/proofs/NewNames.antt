@@ -1,16 +1,17 @@
 -- The names of the buffers' signals differ from all others, and from each other.
-use Rattle.std.proofs.Common.{◌≡◌, ℕ, zero, suc, ◌+◌, ◌-◌, ◌<◌, ◌≤◌, Bool, true, false, List, [], ◌∷◌, ◌++◌, length, take, filter, get_or, All, sym, ap, ◌∙◌, arith, if◌then◌else◌, bytes_eq, codes, true≢false}
+use Rattle.std.proofs.Common.{◌≡◌, ℕ, zero, suc, ◌+◌, ◌-◌, ◌<◌, ◌≤◌, Bool, true, false, List, [], ◌∷◌, ◌++◌, length, take, filter, get_or, All, ap, ◌∙◌, arith, if◌then◌else◌, bytes_eq, codes}
 use Rattle.std.specs.Prelude.{min}
 use Rattle.std.specs.List.{IsDistinct, AllByRecursion, range_with_len}
-use Rattle.std.proofs.lemmas.Bool.{false_from_ne_true}
 use Rattle.std.proofs.lemmas.List.{append_cancel_right, get_or-map, length-map}
 use Rattle.std.proofs.lemmas.List.Elements.{All-head, All-tail}
 use Rattle.std.proofs.lemmas.Map.Keys.{IsDistinct-head, IsDistinct-tail, IsDistinct-cons, IsDistinct-from_apart, apart_from_distinct}
 use Rattle.std.proofs.lemmas.Option.{slice_get-get_or}
-use Rattle.std.proofs.lemmas.Slice.Eq.{bytes_eq-Decides}
+use Rattle.ice_base.proofs.TextLines.{all_append}
 use Rattle.ice_net.specs.NetlistData.{NetlistData}
 use Rattle.ice_net.specs.Formed.{IsFormed, IsSingle}
-use Rattle.ice_check_promote.specs.Promoted.{buffered_name, is_promotable, most_signals, promoted_clocks}
+use Rattle.ice_net.specs.Limits.{most_signals}
+use Rattle.ice_net_additions.proofs.AddedNames.{differ, differing}
+use Rattle.ice_check_promote.specs.Promoted.{buffered_name, is_promotable, promoted_clocks}
 use Rattle.ice_check_promote.specs.Promotable.{IsPlainName, CanBePromoted}
 use Rattle.ice_check_promote.specs.Filling.{buffer_names, CanTakeBuffers}
 use Rattle.ice_check_promote.proofs.Clocks.{clock_below, few_clocks}
@@ -62,11 +63,6 @@ pub clocks_below : (n : NetlistData) (free : ℕ) → All (λ clock. clock < len
 clocks_below n free k d lt = clock_below n free k (get_or (promoted_clocks n free) k d) (slice_get-get_or (promoted_clocks n free) k d lt)
 
 -- ---- names that differ
-differ : (xs ys : List ℕ) → (xs ≡ ys → ⊥) → bytes_eq xs ys ≡ false
-differ xs ys ne = false_from_ne_true (bytes_eq xs ys) (λ t. ne ((bytes_eq-Decides xs ys).0 t))
-
-differing : (xs ys : List ℕ) → bytes_eq xs ys ≡ false → xs ≡ ys → ⊥
-differing xs ys f e = true≢false (sym ((bytes_eq-Decides xs ys).1 e) ∙ f)
 
 -- names that differ do so with the same end
 ends_differ : (xs ys : List ℕ) → bytes_eq xs ys ≡ false → bytes_eq (buffered_name xs) (buffered_name ys) ≡ false
@@ -85,14 +81,11 @@ news_apart n free once i j d less below =
     (apart_from_distinct bytes_eq n.names (get_or clocks i 0) (get_or clocks j 0) [] once (clocks_rise n free i j less lt) (clocks_below n free j 0 lt))
 
 -- ---- lists without doubles, one behind the other
-rec_both : {X : Type 0} (P : X → Type 0) (xs ys : List X) → AllByRecursion P xs → AllByRecursion P ys → AllByRecursion P (xs ++ ys)
-rec_both P [] ys left right = right
-rec_both P (x ∷ xs) ys left right = (left.0, rec_both P xs ys left.1 right)
 
 distinct_both : {X : Type 0} (e : X → X → Bool) (Q : X → Type 0) (xs ys : List X) → IsDistinct e xs → All Q xs → IsDistinct e ys → ((x : X) → Q x → AllByRecursion (λ y. e x y ≡ false) ys) → IsDistinct e (xs ++ ys)
 distinct_both e Q [] ys left all right apart = right
 distinct_both e Q (x ∷ xs) ys left all right apart =
-    IsDistinct-cons e x (xs ++ ys) (rec_both (λ y. e x y ≡ false) xs ys (IsDistinct-head e x xs left) (apart x (All-head Q x xs all)))
+    IsDistinct-cons e x (xs ++ ys) (all_append (λ y. e x y ≡ false) xs ys (IsDistinct-head e x xs left) (apart x (All-head Q x xs all)))
     (distinct_both e Q xs ys (IsDistinct-tail e x xs left) (All-tail Q x xs all) right apart)
 
 plain_apart : (n : NetlistData) (name : List ℕ) → IsPlainName name → (clocks : List ℕ) → AllByRecursion (λ y. bytes_eq name y ≡ false) (buffer_names n clocks)

@@ -1,14 +1,14 @@
 -- A sound netlist stays sound where clocks have buffers.
-use Rattle.std.proofs.Common.{◌≡◌, ◌⊎◌, ℕ, zero, suc, ◌+◌, ◌-◌, ◌<◌, ◌≤◌, Bool, true, false, ◌&&◌, ◌||◌, nat_lt, Option, None, Some, List, [], ◌∷◌, ◌++◌, length, map, inl, inr, refl, ap, sym, ◌∙◌, subst, arith, if◌then◌else◌, ltb-true, lt-ltb, true≢false}
+use Rattle.std.proofs.Common.{◌≡◌, ◌⊎◌, ℕ, zero, suc, ◌+◌, ◌-◌, ◌<◌, ◌≤◌, Bool, true, false, ◌&&◌, ◌||◌, nat_lt, Option, None, Some, List, [], ◌∷◌, ◌++◌, length, map, inl, inr, refl, ap, sym, ◌∙◌, subst, arith, ltb-true, lt-ltb, true≢false}
 use Rattle.std.specs.Prelude.{slice_get, slice_index_or}
 use Rattle.std.specs.List.{flat_map}
 use Rattle.std.specs.Option.{option_map_or}
 use Rattle.std.proofs.Math.Path.{fun_ext}
 use Rattle.std.proofs.lemmas.Bool.{cases_lt, and_parts, or_cases, or_left, or_right}
 use Rattle.std.proofs.lemmas.Grind.{flat_map-append}
-use Rattle.std.proofs.lemmas.Option.{none-some, same_Some, slice_get-get_or, slice_get_within}
+use Rattle.std.proofs.lemmas.Option.{none-some, same_Some, slice_get-get_or}
 use Rattle.ice_base.specs.declared.number.SignalNo.{SignalNo}
-use Rattle.ice_base_values.specs.Order.{At, Has, IsCycleBelow}
+use Rattle.ice_base_values.specs.Order.{At, Has}
 use Rattle.ice_base_values.proofs.Cycles.{cycle_below_same}
 use Rattle.ice_base_values.proofs.Members.{At_left, At_right, At_parts, map_At, At_within}
 use Rattle.ice_base_values.specs.Inputs.{present}
@@ -22,43 +22,16 @@ use Rattle.ice_check.specs.Faults.{first_number, uses_of, is_used, shown_by, is_
 use Rattle.ice_check.specs.Loops.{HasNoLoop}
 use Rattle.ice_check.specs.Sound.{IsSound}
 use Rattle.ice_check.specs.Tables.{times}
+use Rattle.ice_check.proofs.OldSignals.{depends_below, cycle_old}
 use Rattle.ice_check.proofs.ListsBelow.{pads_below, outputs_below}
 use Rattle.ice_check_promote.specs.Promoted.{buffered_cell, buffer, buffers, with_buffers, promoted_clocks, promoted}
 use Rattle.ice_check.proofs.Places.{wire, place_has, has_place, times_above, times_append}
+use Rattle.ice_check.proofs.FirstNumbers.{pass_all, none_of}
 use Rattle.ice_check_promote.proofs.Buffers.{at_buffer, pin_same, count_no_pins, count_outs_above, count_outs, buffers_use, ins_old}
-use Rattle.ice_check_promote.proofs.NewDrivers.{length_names, pins_are, outputs_are, buffered_same, pads_same, driver_old, driver_new, depends_old, depends_below, reads_new}
+use Rattle.ice_check_promote.proofs.NewDrivers.{length_names, pins_are, outputs_are, buffered_same, pads_same, driver_old, driver_new, depends_old, reads_new}
 use Rattle.ice_check_promote.proofs.Clocks.{clock_below, clock_used}
 
 -- ---- numbers that no test takes
-pub never : (test : ℕ → Bool) (k count j : ℕ) → first_number test k count ≡ None → k ≤ j → j < k + count → test j ≡ true → ⊥
-never test k zero j none le lt on = absurd (omega (arith, le, lt))
-never test k (suc count) j none le lt on = by (test k) refl none (never test (k + 1) count j)
-  where
-    by : (b : Bool) → test k ≡ b → (if b then Some k else first_number test (k + 1) count) ≡ None
-        → (first_number test (k + 1) count ≡ None → k + 1 ≤ j → j < k + 1 + count → test j ≡ true → ⊥) → ⊥
-    by true is e rest = none-some k (sym e)
-    by false is e rest = elim (cases_lt k j) [
-      | inl further ↦ rest e (omega (arith, further)) (omega (arith, lt)) on
-      | inr here ↦ (let same : k ≡ j = omega (arith, here, le) in true≢false (sym on ∙ ap test (sym same) ∙ is))
-    ]
-
-pub all_pass : (test : ℕ → Bool) (k count : ℕ) → ((j : ℕ) → k ≤ j → j < k + count → test j ≡ true → ⊥) → first_number test k count ≡ None
-all_pass test k zero none = refl
-all_pass test k (suc count) none = by (test k) refl (all_pass test (k + 1) count (λ j le lt. none j (omega (arith, le)) (omega (arith, lt))))
-  where
-    here : test k ≡ true → ⊥
-    here on = none k (omega arith) (omega arith) on
-
-    by : (b : Bool) → test k ≡ b → first_number test (k + 1) count ≡ None → (if b then Some k else first_number test (k + 1) count) ≡ None
-    by true is rest = absurd (here is)
-    by false is rest = rest
-
--- the same from 0 on
-none_of : (test : ℕ → Bool) (count j : ℕ) → first_number test 0 count ≡ None → j < count → test j ≡ true → ⊥
-none_of test count j none lt on = never test 0 count j none (omega arith) (omega (arith, lt)) on
-
-pass_all : (test : ℕ → Bool) (count : ℕ) → ((j : ℕ) → j < count → test j ≡ true → ⊥) → first_number test 0 count ≡ None
-pass_all test count none = all_pass test 0 count (λ j le lt on. none j (let l : j < 0 + count = lt in omega (arith, l)) on)
 
 module _ (n : NetlistData) (clocks : List ℕ) (formed : IsFormed n) (below : (j clock : ℕ) → At clocks j clock → clock < length n.names) where
   abbrev count : ℕ
@@ -172,7 +145,7 @@ module _ (n : NetlistData) (clocks : List ℕ) (formed : IsFormed n) (below : (j
 
   -- ---- loops
   reads_old : (s q : ℕ) → IsNumber s → Has (depends_on new s) q → q < count
-  reads_old s q (old lt) has = depends_below n clocks formed s lt q (subst (λ (xs : List ℕ). Has xs q) (depends_old n clocks s lt) has)
+  reads_old s q (old lt) has = depends_below n formed s q (subst (λ (xs : List ℕ). Has xs q) (depends_old n clocks s lt) has)
   reads_old s q (added_at j clock at e) has =
       one (subst (λ (xs : List ℕ). Has xs q) (ap (depends_on new) e ∙ ap present (reads_new n clocks formed j clock at)) has)
     where
@@ -180,26 +153,10 @@ module _ (n : NetlistData) (clocks : List ℕ) (formed : IsFormed n) (below : (j
       one (zero, here) = subst (λ k. k < count) (same_Some clock q here) (below j clock at)
       one (suc i, here) = absurd (none-some q here)
 
-  cycle_old : (cycle : List ℕ) → IsCycleBelow (length new.names) (depends_on new) cycle → (i point : ℕ) → At cycle i point → point < count
-  cycle_old cycle c zero point at =
-      let last = length cycle - 1 in
-      let some = c.closes.some in
-      let end = slice_get-get_or cycle last 0 (omega (arith, some)) in
-      reads_old (slice_index_or cycle last 0) point (which (slice_index_or cycle last 0) (c.within last (slice_index_or cycle last 0) end))
-      (c.closes.closed point (slice_index_or cycle last 0) at end)
-  cycle_old cycle c (suc i) point at =
-      let lt = slice_get_within cycle (suc i) point at in
-      let before = slice_get-get_or cycle i 0 (omega (arith, lt)) in
-      reads_old (slice_index_or cycle i 0) point (which (slice_index_or cycle i 0) (c.within i (slice_index_or cycle i 0) before))
-      (c.closes.next i (slice_index_or cycle i 0) point before (subst (λ k. At cycle k point) (one_more i) at))
-    where
-      one_more : (k : ℕ) → suc k ≡ k + 1
-      one_more k = omega arith
-
   loopless_after : HasNoLoop n → HasNoLoop new
   loopless_after h = record {
     none = λ cycle c. h.none cycle (cycle_below_same count (depends_on new) (depends_on n) cycle (λ p lt. depends_old n clocks p lt)
-        (record { within = cycle_old cycle c; closes = c.closes }));
+        (record { within = cycle_old count (length new.names) (depends_on new) (λ s q lt has. reads_old s q (which s lt) has) cycle c; closes = c.closes }));
   }
 
   -- ---- pads

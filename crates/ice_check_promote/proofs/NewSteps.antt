@@ -1,11 +1,9 @@
 -- A netlist with buffers goes through the same steps.
-use Rattle.std.proofs.Common.{◌≡◌, ℕ, zero, suc, ◌+◌, ◌<◌, ◌==◌, Bool, true, false, Option, None, Some, List, [], ◌∷◌, ◌++◌, length, map, All, refl, ap, sym, ◌∙◌, subst, arith, min, if◌then◌else◌, eqb-true}
+use Rattle.std.proofs.Common.{◌≡◌, ℕ, zero, suc, ◌+◌, ◌<◌, ◌==◌, Bool, true, false, Option, None, Some, List, [], ◌∷◌, ◌++◌, length, map, All, refl, ap, sym, ◌∙◌, arith, if◌then◌else◌, eqb-true}
 use Rattle.std.specs.Prelude.{slice_get, slice_index_or}
 use Rattle.std.specs.List.{zip}
 use Rattle.std.proofs.lemmas.List.{length-map, map-append, get_or_append_left}
-use Rattle.std.proofs.lemmas.List.Elements.{All-head, All-tail, All-get_or}
-use Rattle.std.proofs.lemmas.Option.{get_or_from_slice_get, slice_get_within}
-use Rattle.std.proofs.lemmas.Slice.Zip.{length-zip}
+use Rattle.std.proofs.lemmas.List.Elements.{All-head, All-tail}
 use Rattle.ice_base.specs.declared.number.SignalNo.{SignalNo}
 use Rattle.ice_base_values.specs.Order.{At}
 use Rattle.ice_base_values.specs.Inputs.{reading}
@@ -21,10 +19,12 @@ use Rattle.ice_net.specs.Drives.{at_input, bare_drive, kind_drive, pad_drive, bu
 use Rattle.ice_net.specs.Flops.{is_edge, fired}
 use Rattle.ice_net.specs.Formed.{IsBelow, IsPortBelow, IsFormedCell, IsFormed}
 use Rattle.ice_net.specs.Meaning.{State, enable_level, set_level, kept_by, clock_by, kept_after, signal_value, step, start, shows}
+use Rattle.ice_check.proofs.Graphs.{cell_formed}
 use Rattle.ice_check.proofs.ListsBelow.{at_below}
+use Rattle.ice_check.proofs.OldSignals.{at_place, kept_long}
 use Rattle.ice_check_promote.specs.Promoted.{buffered, buffered_pin, buffered_first, buffered_ins, buffered_cell, buffers, with_buffers}
 use Rattle.ice_check.proofs.Places.{place_within}
-use Rattle.ice_check_promote.proofs.NewDrivers.{buffer_same, cell_kept, at_place}
+use Rattle.ice_check_promote.proofs.NewDrivers.{buffer_same, cell_kept}
 use Rattle.ice_check_promote.proofs.NewValues.{Follows, follows}
 
 -- ---- what inputs read
@@ -151,11 +151,6 @@ module _ (n : NetlistData) (clocks : List ℕ) (v after : ℕ → Bool) (f : Fol
       ∙ ap (λ xs. tick v cell ∷ xs) (all_ticks cells (All-tail (IsFormedCell count) cell cells all))
 
   -- ---- what ports drive
-  formed_at : IsFormed n → (i : ℕ) (cell : Cell) → At n.cells i cell → IsFormedCell count cell
-  formed_at formed i cell at =
-      subst (IsFormedCell count) (get_or_from_slice_get n.cells i cell cell at)
-      (All-get_or (IsFormedCell count) n.cells i cell (slice_get_within n.cells i cell at) formed.cells)
-
   port_same : IsFormed n → (port : Port) → IsPortBelow count port → port_drive (with_buffers n clocks).cells after port ≡ port_drive n.cells v port
   port_same formed port below =
       ap (drive_by (with_buffers n clocks).cells after port) (buffer_same n clocks port.signal.0)
@@ -164,12 +159,12 @@ module _ (n : NetlistData) (clocks : List ℕ) (v after : ℕ → Bool) (f : Fol
       there : (i : ℕ) → (cell : Cell) × At n.cells i cell → buffer_drive after (slice_get (with_buffers n clocks).cells i) ≡ buffer_drive v (slice_get n.cells i)
       there i (cell, at) =
           ap (buffer_drive after) (cell_kept n clocks i cell at)
-          ∙ drive_same cell.kind cell.ins (formed_at formed i cell at).ins_below
+          ∙ drive_same cell.kind cell.ins (cell_formed n formed i cell at).ins_below
           ∙ ap (buffer_drive v) (sym at)
 
       by : (o : Option ℕ) → ((i : ℕ) → o ≡ Some i → i < length (map pin_of n.cells)) → drive_by (with_buffers n clocks).cells after port o ≡ drive_by n.cells v port o
       by None within = ap (bare_drive port.way) (f.old port.signal.0 below)
-      by (Some i) within = there i (at_place n clocks i (let lt = within i refl in let long = length-map n.cells pin_of in omega (arith, lt, long)))
+      by (Some i) within = there i (at_place n i (let lt = within i refl in let long = length-map n.cells pin_of in omega (arith, lt, long)))
 
   ports_same : IsFormed n → (ports : List Port) → All (IsPortBelow count) ports → map (port_drive (with_buffers n clocks).cells after) ports ≡ map (port_drive n.cells v) ports
   ports_same formed [] all = refl
@@ -198,18 +193,11 @@ module _ (n : NetlistData) (clocks : List ℕ) (formed : IsFormed n) (below : (j
       (λ i lt. ap (λ xs. slice_index_or xs i false) r.kept
       ∙ get_or_append_left s.kept (map (λ (cell : Cell). false) (buffers (length n.names) clocks)) false i (let long = r.long in omega (arith, lt, long)))
 
-  kept_long : (s : State) → length s.kept ≡ length n.cells → length s.clocks ≡ length n.cells → (v : ℕ → Bool) → length (kept_after v n.cells s) ≡ length n.cells
-  kept_long s long clocks_long v =
-      length-map (zip n.cells (zip s.kept s.clocks)) (λ (x : Cell × (Bool × Option Bool)). kept_by v x.0.kind x.0.ins x.1.0 x.1.1)
-      ∙ length-zip n.cells (zip s.kept s.clocks)
-      ∙ ap (min (length n.cells)) (length-zip s.kept s.clocks)
-      ∙ (let e : min (length n.cells) (min (length s.kept) (length s.clocks)) ≡ length n.cells = omega (arith, long, clocks_long) in e)
-
   stepped : Simulates (step n) (step (with_buffers n clocks)) (AreTied n clocks) (λ levels. Unit {0})
   stepped s t levels allowed r =
       let f = tied s t r levels in (
         record {
-          long = kept_long s r.long r.clocks_long (signal_value n levels s.kept);
+          long = kept_long n s r.long r.clocks_long (signal_value n levels s.kept);
           clocks_long = length-map n.cells (λ (cell : Cell). clock_by (signal_value n levels s.kept) cell.kind cell.ins);
           kept = ap (λ (u : State). kept_after (signal_value (with_buffers n clocks) levels t.kept) (with_buffers n clocks).cells u) (state_is s t r)
               ∙ all_kept n clocks (signal_value n levels s.kept) (signal_value (with_buffers n clocks) levels t.kept) f n.cells s.kept s.clocks formed.cells r.long r.clocks_long;

@@ -7,6 +7,7 @@ use Rattle.ice_net.specs.declared.kind.CellKind.{CellKind}
 use Rattle.ice_net.specs.declared.kind.CellKind.TheVariants.{Lut, Cover, Carry, Flop, PadCell, Global}
 use Rattle.ice_net.specs.NetlistData.{NetlistData}
 use Rattle.ice_net.specs.Drivers.{output_of}
+use Rattle.ice_net.specs.Limits.{most_signals}
 use Rattle.ice_check.specs.Tables.{times}
 
 -- ---- which clocks
@@ -42,10 +43,6 @@ settled_of cell = if is_settled cell.kind then output_of cell else None
 -- a clock that may take a global network: it is not the output of such a cell
 abbrev pub is_promotable : NetlistData → ℕ → Bool
 is_promotable n s = is_clock n s && times s (map settled_of n.cells) == 0
-
--- the most signals of a netlist that is placed
-abbrev pub most_signals : ℕ
-most_signals = 65534
 
 -- the clocks that are promoted: the first ones, at most as many as there are free global networks and room for new signals
 abbrev pub promoted_clocks : NetlistData → ℕ → List ℕ

@@ -2,7 +2,8 @@
 ghost use Rattle.std.specs.Prelude.{◌≡◌, ◌<◌, ◌-◌, min, length, take, IfOk};
 ghost use Rattle.std.specs.List.{filter, range_with_len};
 ghost use Rattle.ice_check_promote.specs.Filling.{AreCounts};
-ghost use Rattle.ice_check_promote.specs.Promoted.{is_promotable, most_signals, promoted_clocks};
+ghost use Rattle.ice_net.specs.Limits.{most_signals};
+ghost use Rattle.ice_check_promote.specs.Promoted.{is_promotable, promoted_clocks};
 
 use crate::counting::{Counts, counts_of};
 use ice_base::NoMemory;
@@ -40,7 +41,8 @@ fn first_promotable(
     most: usize,
 ) -> Result<Vec<u32>, NoMemory>
     requires { AreCounts netlist.now counts.now }
-    ensures { IfOk result (λ clocks. clocks.items ≡ take most (filter (is_promotable netlist.now) (range_with_len 0 (length netlist.now.names)))) }
+    ensures { IfOk result (λ clocks. clocks.items
+        ≡ take most (filter (is_promotable netlist.now) (range_with_len 0 (length netlist.now.names)))) }
 {
     let mut clocks = Vec::new(alloc);
     for signal in 0..netlist.signals() {

@@ -80,7 +80,8 @@ fn add_cells(
     requires targets { AreTargets targets.now }
     requires formed { All (IsFormedCell targets.now.count) cells.now }
     requires room { HasRoomForCells made.old (map (buffered_cell targets.now.count targets.now.clocks.items) cells.now) }
-    ensures { OnOk result (made.new ≡ with_cells made.old (map (buffered_cell targets.now.count targets.now.clocks.items) cells.now)) }
+    ensures { OnOk result (made.new
+        ≡ with_cells made.old (map (buffered_cell targets.now.count targets.now.clocks.items) cells.now)) }
 {
     for cell in cells {
         made.cell(targets.cell(alloc, cell)?)?;

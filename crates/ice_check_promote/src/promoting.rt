@@ -21,9 +21,8 @@ fn promoted_copy(alloc: Global, sound: &Sound, free: u32) -> Result<Option<Sound
 {
     promoted_are_sound();
     promoted_show_the_same();
+    sound.is_sound();
     let netlist = sound.netlist();
-    let _cells = netlist.cells();
-    let _ports = netlist.ports();
     let clocks = promoted_clocks(alloc, netlist, free)?;
     if clocks.is_empty() {
         return Ok(None);

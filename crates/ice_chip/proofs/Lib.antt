@@ -2,6 +2,7 @@ pub mod Entries
 pub mod GroupRows
 mod Firsts
 pub mod Keys
+pub mod SameKinds
 mod Listing
 mod NamePlaces
 mod NamedRows
@@ -9,7 +10,7 @@ mod Numbering
 mod Readers
 mod RowPlaces
 pub mod Prefixes
-mod WireNamesRead
+pub mod WireNamesRead
 mod FunctionNamesRead
 mod FirstBytes
 mod FirstOfAll

@@ -8,7 +8,7 @@ use Rattle.ice_base.proofs.Keys.{bytes_same}
 use Rattle.ice_chip.proofs.Prefixes.{number_behind_read, number_within_read, if_meets, number_meets, number_or_meets, numbered_or_meets}
 
 -- ---- each name is read
-of_cell : (cell : ℕ) (pin : List ℕ) → cell < 8 → tile_wire (codes "lutff_" ++ digit cell ∷ pin) ≡ cell_wire cell pin
+pub of_cell : (cell : ℕ) (pin : List ℕ) → cell < 8 → tile_wire (codes "lutff_" ++ digit cell ∷ pin) ≡ cell_wire cell pin
 of_cell cell pin lt = ap (λ o. numbered_or cell_wire o (outer_wire (codes "lutff_" ++ digit cell ∷ pin))) (number_within_read 8 (codes "lutff_") cell pin lt (omega arith))
 
 of_pad : (pio : ℕ) (pin : List ℕ) → pio < 2 → tile_wire (codes "io_" ++ digit pio ∷ pin) ≡ pad_wire pio pin

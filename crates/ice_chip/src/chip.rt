@@ -92,6 +92,13 @@ impl Chip {
         self.parts.wires
     }
 
+    /// The rows of a chip have no fault.
+    pub fn is_chip(&self)
+        ensures { IsChip self.now }
+    {
+        let _ = &self.parts;
+    }
+
     /// The number of the switch rows.
     pub fn rows(&self) -> u32
         ensures { result ≡ length (rows_of self.now.groups) }

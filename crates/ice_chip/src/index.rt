@@ -162,7 +162,8 @@ pub fn column_buffers(
     alloc: Global,
     parts: &ChipParts,
 ) -> Result<IndexMap<TileAt, TileAt>, NoMemory>
-    ensures { IfOk result (λ buffers. buffers.entries ≡ firsts same_tile [] (map served_tile (filter (buffer_counts (parts_view parts.now).tiles (parts_view parts.now).functions) (parts_view parts.now).colbuf))) }
+    ensures { IfOk result (λ buffers. buffers.entries
+        ≡ firsts same_tile [] (map served_tile (filter (buffer_counts (parts_view parts.now).tiles (parts_view parts.now).functions) (parts_view parts.now).colbuf))) }
 {
     let kinds = BufferKinds::new(&parts.functions);
     let mut buffers = IndexMap::new(alloc);

@@ -30,7 +30,8 @@ fn note_place(
     name: &[u8],
     place: usize,
 ) -> Result<(), NoMemory>
-    ensures { OnOk result (by_text places.new.entries ≡ with_first bytes_eq (by_text places.old.entries) (name.now, place)) }
+    ensures { OnOk result (by_text places.new.entries
+        ≡ with_first bytes_eq (by_text places.old.entries) (name.now, place)) }
 {
     if places.get(name).is_none() {
         let key = Vec::from_slice(alloc, name)?;
@@ -50,7 +51,8 @@ pub fn place_of(places: &IndexMap<Vec<u8>, usize>, name: &[u8]) -> Option<usize>
 impl FunctionPlaces {
     // Notes where a function stands, unless one of its kind and name stands before.
     fn note(&mut self, alloc: Global, function: &Function, place: usize) -> Result<(), NoMemory>
-        ensures { OnOk result (by_kind self.new ≡ put_kind (by_kind self.old) function.now.kind (function.now.name, place)) }
+        ensures { OnOk result (by_kind self.new
+            ≡ put_kind (by_kind self.old) function.now.kind (function.now.name, place)) }
     {
         let name = function.name.as_bytes();
         match function.kind {
@@ -64,7 +66,8 @@ impl FunctionPlaces {
     // Notes where these functions stand, in order.
     #[tactic(auto, using(crate::proofs::NamePlaces::next_function))]
     fn note_all(&mut self, alloc: Global, functions: &[Function]) -> Result<(), NoMemory>
-        ensures { OnOk result (by_kind self.new ≡ function_places (by_kind self.old) 0 (map function_view functions.now)) }
+        ensures { OnOk result (by_kind self.new
+            ≡ function_places (by_kind self.old) 0 (map function_view functions.now)) }
     {
         for (place, function) in functions.iter().enumerate() {
             self.note(alloc, function, place)?;
@@ -74,7 +77,8 @@ impl FunctionPlaces {
 
     /// The places of these functions.
     pub fn new(alloc: Global, functions: &[Function]) -> Result<FunctionPlaces, NoMemory>
-        ensures { IfOk result (λ places. by_kind places ≡ function_places no_places 0 (map function_view functions.now)) }
+        ensures { IfOk result (λ places. by_kind places
+            ≡ function_places no_places 0 (map function_view functions.now)) }
     {
         let mut places = FunctionPlaces {
             io: IndexMap::new(alloc),

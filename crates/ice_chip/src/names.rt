@@ -47,7 +47,8 @@ fn number_sought(names: &IndexSet<Vec<u8>>, name: &[u8]) -> usize
 
 // Notes that the wire has the name at the place, unless another has it there already.
 fn note_wire(alloc: Global, names: &mut NameIndex, row: &NameRow) -> Result<(), NoMemory>
-    ensures { OnOk result (numbered_of names.new ≡ with_named (numbered_of names.old) (placed_wire (name_view row.now))) }
+    ensures { OnOk result (numbered_of names.new
+        ≡ with_named (numbered_of names.old) (placed_wire (name_view row.now))) }
 {
     let number = number_of(alloc, &mut names.texts, row.name.as_bytes())?;
     let key = NumberedName {
@@ -60,7 +61,8 @@ fn note_wire(alloc: Global, names: &mut NameIndex, row: &NameRow) -> Result<(), 
 impl NameIndex {
     // Notes the names of these rows at places with a tile, in order.
     fn note_all(&mut self, alloc: Global, parts: &ChipParts) -> Result<(), NoMemory>
-        ensures { OnOk result (numbered_of self.new ≡ numbered (numbered_of self.old) (map placed_wire (placed_names (parts_view parts.now)))) }
+        ensures { OnOk result (numbered_of self.new
+            ≡ numbered (numbered_of self.old) (map placed_wire (placed_names (parts_view parts.now)))) }
     {
         for row in &parts.names {
             if parts.tile_at(row.tile).is_some() {
@@ -72,7 +74,8 @@ impl NameIndex {
 
     /// The names of these rows at places with a tile.
     pub fn new(alloc: Global, parts: &ChipParts) -> Result<NameIndex, NoMemory>
-        ensures { IfOk result (λ names. numbered_of names ≡ numbered no_names (map placed_wire (placed_names (parts_view parts.now)))) }
+        ensures { IfOk result (λ names. numbered_of names
+            ≡ numbered no_names (map placed_wire (placed_names (parts_view parts.now)))) }
     {
         let wires = IndexMap::with_capacity(alloc, parts.names.len())?;
         let texts = IndexSet::new(alloc);
@@ -82,7 +85,8 @@ impl NameIndex {
 
     /// The wire that has the name at the place.
     pub fn wire(&self, tile: TileAt, name: &[u8]) -> Option<u32>
-        ensures { result ≡ lookup (same_numbered (record { tile = tile; number = number_of_name (numbered_of self.now).texts name.now })) (numbered_of self.now).wires }
+        ensures { result
+            ≡ lookup (same_numbered (record { tile = tile; number = number_of_name (numbered_of self.now).texts name.now })) (numbered_of self.now).wires }
     {
         let number = number_sought(&self.texts, name);
         self.wires.get(&NumberedName { tile, number }).copied()

@@ -30,7 +30,8 @@ fn count_of(groups: &[Group]) -> usize {
 
 /// The place of each row of these groups, in order.
 pub fn row_places(alloc: Global, groups: &[Group]) -> Result<Vec<RowPlace>, NoMemory>
-    ensures { IfOk result (λ places. map (row_at (map group_view groups.now)) places.items ≡ map Some (rows_of (map group_view groups.now))) }
+    ensures { IfOk result (λ places. map (row_at (map group_view groups.now)) places.items
+        ≡ map Some (rows_of (map group_view groups.now))) }
 {
     let mut places = Vec::with_capacity(alloc, count_of(groups))?;
     for (number, group) in groups.iter().enumerate() {

@@ -16,11 +16,11 @@ use Rattle.ice_chip.specs.LeastLine.{least_of}
 use Rattle.ice_chip.specs.SharedFunction.{same_bit, bit_use, bit_uses, function_uses, group_uses, clash, two_lines, clashes_with, clashes, first_of, shared_function}
 use Rattle.ice_chip.specs.declared.parts.TileLine.{TileLine}
 use Rattle.ice_chip.specs.declared.rows.TileKind.{TileKind}
-use Rattle.ice_chip.specs.declared.rows.TileKind.TheVariants.{Io, Logic, RamBottom, RamTop}
 use Rattle.ice_chip.specs.declared.uses.BitUse.{BitUse}
 use Rattle.ice_chip.specs.declared.uses.KindBit.{KindBit}
 use Rattle.std.proofs.lemmas.Bool.{and_parts}
 use Rattle.ice_base.proofs.Booleans.{and_true, and_false}
+use Rattle.ice_chip.proofs.SameKinds.{kind_same, kind_self}
 
 -- ---- the order of lines
 -- the first of the lines of a use with two others is that with the least of them
@@ -29,35 +29,12 @@ with_least None u v m = grind (arith, common_steps)
 with_least (Some (b, c)) u v m = grind (arith, common_steps)
 
 -- ---- bits
-same_kind_is : (a b : TileKind) → same_kind a b ≡ true → a ≡ b
-same_kind_is Io Io e = refl
-same_kind_is Io Logic e = absurd (true≢false (sym e))
-same_kind_is Io RamBottom e = absurd (true≢false (sym e))
-same_kind_is Io RamTop e = absurd (true≢false (sym e))
-same_kind_is Logic Io e = absurd (true≢false (sym e))
-same_kind_is Logic Logic e = refl
-same_kind_is Logic RamBottom e = absurd (true≢false (sym e))
-same_kind_is Logic RamTop e = absurd (true≢false (sym e))
-same_kind_is RamBottom Io e = absurd (true≢false (sym e))
-same_kind_is RamBottom Logic e = absurd (true≢false (sym e))
-same_kind_is RamBottom RamBottom e = refl
-same_kind_is RamBottom RamTop e = absurd (true≢false (sym e))
-same_kind_is RamTop Io e = absurd (true≢false (sym e))
-same_kind_is RamTop Logic e = absurd (true≢false (sym e))
-same_kind_is RamTop RamBottom e = absurd (true≢false (sym e))
-same_kind_is RamTop RamTop e = refl
-
-same_kind_self : (a : TileKind) → same_kind a a ≡ true
-same_kind_self Io = refl
-same_kind_self Logic = refl
-same_kind_self RamBottom = refl
-same_kind_self RamTop = refl
 
 pub same_bit_is : (a b : KindBit) → same_bit a b ≡ true → a ≡ b
 same_bit_is a b e =
     let kind_and_bit = and_parts (same_kind a.kind b.kind) ((a.bit.row == b.bit.row) && (a.bit.col == b.bit.col)) e in
     let row_and_col = and_parts (a.bit.row == b.bit.row) (a.bit.col == b.bit.col) kind_and_bit.1 in
-    let kinds : a.kind ≡ b.kind = same_kind_is a.kind b.kind kind_and_bit.0 in
+    let kinds : a.kind ≡ b.kind = kind_same a.kind b.kind kind_and_bit.0 in
     let rows : a.bit.row ≡ b.bit.row = eqb-true a.bit.row b.bit.row row_and_col.0 in
     let cols : a.bit.col ≡ b.bit.col = eqb-true a.bit.col b.bit.col row_and_col.1 in
     λ i. record { kind = kinds i; bit = record { row = rows i; col = cols i } }
@@ -66,7 +43,7 @@ pub same_bit_self : (a : KindBit) → same_bit a a ≡ true
 same_bit_self a =
     let rows : (a.bit.row == a.bit.row) ≡ true = grind arith in
     let cols : (a.bit.col == a.bit.col) ≡ true = grind arith in
-    rw (same_kind_self a.kind, rows, cols) refl
+    rw (kind_self a.kind, rows, cols) refl
 
 -- ---- a map of lines
 pub lookup-insert_entry : (es : List (KindBit × ℕ)) (k : KindBit) (v : ℕ) (q : KindBit) → lookup (same_bit q) (insert_entry same_bit es k v) ≡ (if same_bit q k then Some v else lookup (same_bit q) es)

@@ -93,7 +93,8 @@ fn pin_again(
     parts: &ChipParts,
     seen: &mut IndexMap<u32, PinLine>,
 ) -> Result<Option<(u32, u32)>, NoMemory>
-    ensures { IfOk result (λ lines. lines ≡ shared_from (parts_view parts.now).tiles seen.old.entries (parts_view parts.now).names) }
+    ensures { IfOk result (λ lines. lines
+        ≡ shared_from (parts_view parts.now).tiles seen.old.entries (parts_view parts.now).names) }
 {
     for name in &parts.names {
         let lines = note_pin_name(alloc, parts, seen, name)?;

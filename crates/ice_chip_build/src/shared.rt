@@ -89,7 +89,8 @@ impl UsedBits {
 
     // Notes a use of a read function, which clashes with every use of its bit.
     fn note_read(&mut self, place: KindBit, line: u32) -> Result<(), NoMemory>
-        ensures { OnOk result (used_view self.new ≡ with_use (used_view self.old) (record { place = place; is_read = true; line = line }) true) }
+        ensures { OnOk result (used_view self.new
+            ≡ with_use (used_view self.old) (record { place = place; is_read = true; line = line }) true) }
     {
         self.shared = with_clash(self.shared, line, self.any.get(&place).copied());
         note_line(&mut self.any, place, line)?;
@@ -98,7 +99,8 @@ impl UsedBits {
 
     // Notes another use, which clashes with those of read functions.
     fn note_other(&mut self, place: KindBit, line: u32) -> Result<(), NoMemory>
-        ensures { OnOk result (used_view self.new ≡ with_use (used_view self.old) (record { place = place; is_read = false; line = line }) false) }
+        ensures { OnOk result (used_view self.new
+            ≡ with_use (used_view self.old) (record { place = place; is_read = false; line = line }) false) }
     {
         self.shared = with_clash(self.shared, line, self.read.get(&place).copied());
         note_line(&mut self.any, place, line)
@@ -122,7 +124,8 @@ impl UsedBits {
         line: u32,
         bits: &[BitAt],
     ) -> Result<(), NoMemory>
-        ensures { OnOk result (used_view self.new ≡ with_uses (used_view self.old) (map (bit_use kind is_read line) bits.now)) }
+        ensures { OnOk result (used_view self.new
+            ≡ with_uses (used_view self.old) (map (bit_use kind is_read line) bits.now)) }
     {
         for bit in bits {
             let place = KindBit { kind, bit: *bit };
@@ -137,7 +140,8 @@ impl UsedBits {
 
     // Notes the bits of a function.
     fn note_function(&mut self, function: &Function) -> Result<(), NoMemory>
-        ensures { OnOk result (used_view self.new ≡ with_uses (used_view self.old) (function_uses (function_view function.now))) }
+        ensures { OnOk result (used_view self.new
+            ≡ with_uses (used_view self.old) (function_uses (function_view function.now))) }
     {
         let name = function.name.as_bytes();
         if is_read(function.kind, name) {

@@ -25,7 +25,7 @@ use Rattle.ice_chip_laws.proofs.KnownTiles.{known_kind}
 use Rattle.ice_base_values.proofs.Members.{Has_cases, Has_none, find_Has, lookup_Has}
 use Rattle.ice_chip_laws.proofs.NameTests.{passes, buffers, is_own, cell_own, first_type_own, second_type_own, enable_own, buffer_is_one, buffer_is_read}
 use Rattle.ice_base.proofs.Keys.{nat_same, bytes_same}
-use Rattle.ice_chip_laws.proofs.SameKeys.{kind_same, kind_self}
+use Rattle.ice_chip.proofs.SameKinds.{kind_same, kind_self}
 
 -- ---- functions by their names
 line_is : (kind : TileKind) (name : List ℕ) (fs : List FunctionRow) → function_line kind name fs ≡ option_map (λ (f : FunctionRow). f.line) (find (is_function kind name) fs)

@@ -27,7 +27,7 @@ use Rattle.ice_base_values.proofs.Members.{At_left, At_right, At_within, At_map,
 use Rattle.ice_chip_laws.proofs.NameTests.{read_not_foreign}
 use Rattle.ice_chip_laws.proofs.PlaceLaws.{found_at, found_there, bit_listed, number_below}
 use Rattle.ice_base.proofs.Keys.{nat_self}
-use Rattle.ice_chip_laws.proofs.SameKeys.{kind_self}
+use Rattle.ice_chip.proofs.SameKinds.{kind_self}
 
 -- ---- one item before another
 record Before {X : Type 0} (xs : List X) (x y : X) : Type 0 where

@@ -20,6 +20,6 @@ pub fn lookups_are_lawful()
 pub fn chip_is_lawful(chip: &Chip)
     ensures { IsLawful chip.now }
 {
-    chip.wires();
+    chip.is_chip();
     lookups_are_lawful();
 }

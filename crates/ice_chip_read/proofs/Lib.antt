@@ -6,3 +6,4 @@ mod Once
 mod ReadForms
 mod FaultLines
 mod FirstFaults
+mod PlainRows

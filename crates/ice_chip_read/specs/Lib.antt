@@ -8,3 +8,4 @@ pub mod Lines
 pub mod Stops
 pub mod Views
 pub mod FirstFault
+pub mod PlainRows

@@ -39,9 +39,9 @@ pub fn group_bits(alloc: Global, line: u32, names: PlainWords<'_>) -> Result<Bit
     Ok(bits)
 }
 
-// The values that these digits write.
+/// The values that these digits write.
 #[tactic(auto, using(ice_base::proofs::KnownLists::all_begin, ice_base::proofs::KnownLists::value_joins, ice_base::proofs::KnownLists::value_stops, ice_base::proofs::KnownLists::values_end))]
-fn known_values(alloc: Global, line: u32, digits: &[u8]) -> Result<ValueList, ChipStop>
+pub fn known_values(alloc: Global, line: u32, digits: &[u8]) -> Result<ValueList, ChipStop>
     ensures { Gives (λ values. values.items) result (known_values line (values_in digits.now)) }
 {
     let mut values = ValueList::with_capacity(alloc, digits.len())?;

@@ -11,9 +11,11 @@ mod read;
 mod reading;
 mod rows;
 mod section;
+mod text;
 mod words;
 
 pub use fault::ChipStop;
 pub use laws::says_chip_or_first_fault;
-pub use read::{finish, read_chip, take_first, take_line};
+pub use read::{finish, read_chip, take_first};
 pub use reading::Reading;
+pub use text::take_text;

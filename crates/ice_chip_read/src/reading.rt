@@ -72,25 +72,35 @@ pub fn begin(alloc: Global, line: u32, width: u16, height: u16, wires: u32) -> R
     }
 }
 
+// Lets go of the package that is open. Where none is, as in front of most headings, nothing is made anew.
+fn clear_package(alloc: Global, pins: &mut Package)
+    ensures { package_view pins.new ≡ no_package }
+{
+    if pins.name.as_bytes().is_empty() && pins.pins.is_empty() && pins.pads.is_empty() {
+        return;
+    }
+    drop(mem::replace(pins, no_package(alloc)));
+}
+
 /// Ends the section that is open: its group or package joins the others.
 pub fn close(alloc: Global, reading: &mut Reading) -> Result<(), ChipStop>
     ensures { Gives (λ _. reading_view reading.new) result (Ok (with_closed (reading_view reading.old))) }
 {
     let section = mem::replace(&mut reading.section, Section::Rowless);
     let group = mem::replace(&mut reading.group, no_group(alloc));
-    let package = mem::replace(&mut reading.pins, no_package(alloc));
     match section {
         Section::Pins => {
             drop(group);
+            let package = mem::replace(&mut reading.pins, no_package(alloc));
             reading.parts.packages.push(package)?;
         }
         Section::Switches => {
-            drop(package);
+            clear_package(alloc, &mut reading.pins);
             reading.parts.groups.push(group)?;
         }
         _ => {
             drop(group);
-            drop(package);
+            clear_package(alloc, &mut reading.pins);
         }
     }
     Ok(())

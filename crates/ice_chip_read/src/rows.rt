@@ -15,6 +15,7 @@ ghost use Rattle.ice_chip_read.specs.Lines.{
   switch_row,
   row_says,
 };
+ghost use Rattle.ice_chip_read.specs.PlainRows.{row_joins};
 ghost use Rattle.ice_chip_read.specs.Views.{Gives, reading_view};
 
 use crate::ChipStop;
@@ -26,8 +27,8 @@ use crate::section::Section;
 use crate::words::{ended, number, one_word, three, three_from, two, two_from};
 use ice_base::{PlainWords, WireNo, name_of};
 use ice_chip::{
-    ChipFault, Function, NameRow, Package, Pad, Row, TileKind, WireText, function_line, is_foreign,
-    is_read,
+    ChipFault, Function, NameRow, Package, Pad, Row, TileKind, ValueList, WireText, function_line,
+    is_foreign, is_read,
 };
 use std::alloc::Global;
 
@@ -203,6 +204,27 @@ fn name_row(
     Ok(())
 }
 
+/// A row of these values from this source joins the group that is open.
+pub fn push_row(
+    reading: &mut Reading,
+    line: u32,
+    values: ValueList,
+    source: u32,
+) -> Result<(), ChipStop>
+    ensures { Gives (λ _. reading_view reading.new) result (row_joins (reading_view reading.old) line values.items source) }
+{
+    if reading.rows >= MOST_ROWS {
+        return Err(ChipStop::Fault(ChipFault::TooMany { limit: MOST_ROWS }));
+    }
+    reading.group.rows.push(Row {
+        values,
+        source: WireNo(source),
+        line,
+    })?;
+    reading.rows += 1;
+    Ok(())
+}
+
 // `VALUES SRC`
 fn switch_row(
     alloc: Global,
@@ -217,16 +239,7 @@ fn switch_row(
     ended(line, words)?;
     let source = wire_in(line, &reading.parts, source)?;
     let values = values(alloc, line, reading.group.bits.len(), digits)?;
-    if reading.rows >= MOST_ROWS {
-        return Err(ChipStop::Fault(ChipFault::TooMany { limit: MOST_ROWS }));
-    }
-    reading.group.rows.push(Row {
-        values,
-        source: WireNo(source),
-        line,
-    })?;
-    reading.rows += 1;
-    Ok(())
+    push_row(reading, line, values, source)
 }
 
 /// What a row says in the section in which it stands.

@@ -1,2 +1,3 @@
 mod LineWords
 mod Named
+pub mod RowsSaid

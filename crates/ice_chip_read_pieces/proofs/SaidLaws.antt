@@ -16,7 +16,7 @@ use Rattle.ice_chip_read.specs.Whole.{AreReadOfLines}
 use Rattle.ice_chip_read.specs.declared.fault.ChipStop.{ChipStop}
 use Rattle.ice_chip_read.specs.declared.fault.ChipStop.TheVariants.{NoMemory, Fault}
 use Rattle.ice_chip_read_pieces.specs.Held.{HasSaid}
-use Rattle.ice_chip_read_pieces.specs.SoFar.{so_far, with_line, words_at}
+use Rattle.ice_chip_read_pieces.specs.SoFar.{so_far, with_line, with_text, words_at}
 
 -- what is held of lines
 abbrev pub Said : Type 0
@@ -55,15 +55,23 @@ line_behind : (ls : List WordLine) (l : WordLine) → so_far (ls ++ l ∷ []) �
 line_behind [] l = ap (λ said. said >>= (λ r. Ok (Some r))) (no_more (first_says l.0 l.1))
 line_behind (k ∷ ls) l = behind_first l ls (first_says k.0 k.1)
 
--- a line without words
-pub no_words_more : (said : Said) (ls : List WordLine) (number : ℕ) (line : List ℕ) → uncommented (words line) ≡ [] → HasSaid said (so_far ls) → HasSaid said (so_far (ls ++ words_at number line))
-no_words_more said ls number line none h = subst (λ ws. HasSaid said (so_far (ls ++ with_words number ws []))) (sym none) (subst (λ xs. HasSaid said (so_far xs)) (sym (append-nil ls)) h)
+-- a line that may have no words
+text_alike : (said : Result (Option Reading) ChipFault) (number : ℕ) (w : List ℕ) (ws : List (List ℕ)) → with_line said (number, w ∷ ws) ≡ with_text said number (w ∷ ws)
+text_alike (Err fault) number w ws = refl
+text_alike (Ok None) number w ws = refl
+text_alike (Ok (Some r)) number w ws = refl
 
--- a line with words
-pub words_more : (said : Said) (ls : List WordLine) (number : ℕ) (line w : List ℕ) (ws : List (List ℕ)) → uncommented (words line) ≡ w ∷ ws → HasSaid said (with_line (so_far ls) (number, w ∷ ws))
-    → HasSaid said (so_far (ls ++ words_at number line))
-words_more said ls number line w ws some h =
-    subst (λ ws. HasSaid said (so_far (ls ++ with_words number ws []))) (sym some) (subst (HasSaid said) (sym (line_behind ls (number, w ∷ ws))) h)
+no_text : (said : Result (Option Reading) ChipFault) (number : ℕ) → said ≡ with_text said number []
+no_text (Err fault) number = refl
+no_text (Ok None) number = refl
+no_text (Ok (Some r)) number = refl
+
+text_behind : (ls : List WordLine) (number : ℕ) (ws : List (List ℕ)) → so_far (ls ++ with_words number ws []) ≡ with_text (so_far ls) number ws
+text_behind ls number [] = ap so_far (append-nil ls) ∙ no_text (so_far ls) number
+text_behind ls number (w ∷ ws) = line_behind ls (number, w ∷ ws) ∙ text_alike (so_far ls) number w ws
+
+pub text_said : (said : Said) (ls : List WordLine) (number : ℕ) (line : List ℕ) → HasSaid said (with_text (so_far ls) number (uncommented (words line))) → HasSaid said (so_far (ls ++ words_at number line))
+text_said said ls number line h = subst (HasSaid said) (sym (text_behind ls number (uncommented (words line)))) h
 
 -- a stop stays
 pub stops_more : (stop : ChipStop) (ls : List WordLine) (number : ℕ) (ws : List (List ℕ)) → Stops stop (so_far ls) → Stops stop (so_far (ls ++ with_words number ws []))

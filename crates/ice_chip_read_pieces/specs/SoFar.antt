@@ -19,6 +19,13 @@ with_line (Err fault) line = Err fault
 with_line (Ok None) line = first_says line.0 line.1 >>= (λ r. Ok (Some r))
 with_line (Ok (Some r)) line = line_says r line.0 line.1 >>= (λ more. Ok (Some more))
 
+-- the same of a line that may have no words
+abbrev pub with_text : Result (Option Reading) ChipFault → ℕ → List (List ℕ) → Result (Option Reading) ChipFault
+with_text (Err fault) number ws = Err fault
+with_text (Ok None) number [] = Ok None
+with_text (Ok None) number (w ∷ ws) = first_says number (w ∷ ws) >>= (λ r. Ok (Some r))
+with_text (Ok (Some r)) number ws = line_says r number ws >>= (λ more. Ok (Some more))
+
 -- the number and the words of a line, where it has words
 abbrev pub words_at : ℕ → List ℕ → List (ℕ × List (List ℕ))
 words_at number line = with_words number (uncommented (words line)) []

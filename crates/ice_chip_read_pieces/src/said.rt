@@ -1,13 +1,15 @@
 //! What lines of a chip text say so far.
-ghost use Rattle.std.specs.Prelude.{◌≡◌, ℕ, Option, None, Result, Ok, Err, List, ◌∷◌, ◌++◌};
+ghost use Rattle.std.specs.Prelude.{◌≡◌, ℕ, Option, None, Result, Ok, Err, List, ◌++◌};
+ghost use Rattle.ice_base.specs.Comments.{uncommented};
+ghost use Rattle.ice_base.specs.Text.{words};
 ghost use Rattle.ice_chip.specs.declared.fault.ChipFault.{ChipFault};
 ghost use Rattle.ice_chip_read.specs.Reading as lines;
 ghost use Rattle.ice_chip_read.specs.declared.fault.ChipStop.{ChipStop};
-ghost use Rattle.ice_chip_read_pieces.specs.SoFar.{so_far, with_line, words_at};
+ghost use Rattle.ice_chip_read_pieces.specs.SoFar.{so_far, with_text, words_at};
 ghost use Rattle.ice_chip_read_pieces.specs.Held.{HasSaid, said_view};
 
-use ice_base::{PlainLine, plain_words_of};
-use ice_chip_read::{ChipStop, Reading, take_first, take_line};
+use ice_base::{PlainLine, PlainWords, plain_words_of};
+use ice_chip_read::{ChipStop, Reading, take_first, take_text};
 use std::alloc::Global;
 use std::mem;
 
@@ -29,13 +31,22 @@ fn say(said: &mut Said, next: Said)
     drop(mem::replace(said, next));
 }
 
-// The first line that has words. It stands apart, so that later lines don't pay for the room of what it makes.
+// One line more, by its words, where none before it has words. It stands apart, so that later lines don't pay for the room of
+// what it makes.
 #[cold]
 #[inline(never)]
-fn take_first_words(alloc: Global, said: &mut Said, line: PlainLine<'_>)
+fn take_first_words(alloc: Global, said: &mut Said, number: u32, mut words: PlainWords<'_>)
     requires { said_view said.old ≡ Ok None }
-    ensures { HasSaid (said_view said.new) (with_line (Ok None) (line.entry.number, line.entry.first.now ∷ line.entry.others)) }
+    ensures { HasSaid (said_view said.new) (with_text (Ok None) number words.entry) }
 {
+    let Some(first) = words.next() else {
+        return;
+    };
+    let line = PlainLine {
+        number,
+        first,
+        others: words,
+    };
     let next = match take_first(alloc, line) {
         Ok(reading) => Said::Rows(reading),
         Err(fault) => Said::Stopped(ChipStop::Fault(fault)),
@@ -52,16 +63,16 @@ pub fn stop(said: &mut Said, stop: ChipStop)
     say(said, Said::Stopped(stop));
 }
 
-// One line more that has words. What stopped stays so.
+// One line more, by its bytes. What stopped stays so.
 #[inline(always)]
-fn take_words(alloc: Global, said: &mut Said, line: PlainLine<'_>)
-    ensures said { (s : Result (Option lines.Reading) ChipFault) → HasSaid (said_view said.old) s → HasSaid (said_view said.new) (with_line s (line.entry.number, line.entry.first.now ∷ line.entry.others)) }
+fn take_bytes(alloc: Global, said: &mut Said, number: u32, line: &[u8])
+    ensures said { (s : Result (Option lines.Reading) ChipFault) → HasSaid (said_view said.old) s → HasSaid (said_view said.new) (with_text s number (uncommented (words line.now))) }
     ensures stopped { (stop : ChipStop) → said_view said.old ≡ Err stop → said_view said.new ≡ Err stop }
 {
     match said {
-        Said::Nothing => take_first_words(alloc, said, line),
+        Said::Nothing => take_first_words(alloc, said, number, plain_words_of(line)),
         Said::Rows(reading) => {
-            if let Err(fault) = take_line(alloc, reading, line) {
+            if let Err(fault) = take_text(alloc, reading, number, line) {
                 stop(said, fault);
             }
         }
@@ -75,16 +86,5 @@ pub fn take(alloc: Global, said: &mut Said, number: u32, line: &[u8])
     ensures said { (ls : List (ℕ × List (List ℕ))) → HasSaid (said_view said.old) (so_far ls) → HasSaid (said_view said.new) (so_far (ls ++ words_at number line.now)) }
     ensures stopped { (stop : ChipStop) → said_view said.old ≡ Err stop → said_view said.new ≡ Err stop }
 {
-    let mut words = plain_words_of(line);
-    if let Some(first) = words.next() {
-        take_words(
-            alloc,
-            said,
-            PlainLine {
-                number,
-                first,
-                others: words,
-            },
-        );
-    }
+    take_bytes(alloc, said, number, line);
 }

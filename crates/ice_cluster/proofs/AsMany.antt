@@ -74,7 +74,7 @@ opened_alike f cells runs flops others moved =
     ∙ sym (measured_append f (runs_pieces cells 0 runs) (sets_pieces flops))
 
 -- ---- what plain cells need besides
-filled_length : (groups : List TileCells) (plains : List ℕ) → length (filled groups plains) ≡ length groups
+pub filled_length : (groups : List TileCells) (plains : List ℕ) → length (filled groups plains) ≡ length groups
 filled_length [] plains = refl
 filled_length (g ∷ groups) plains = ap suc (filled_length groups (drop (room g) plains))
 

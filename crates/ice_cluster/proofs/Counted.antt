@@ -20,7 +20,7 @@ use Rattle.ice_cells.specs.Same.{same_control}
 use Rattle.ice_cells.specs.Sets.{FlopCell, with_set, sets_of, cells_with}
 use Rattle.ice_cells.proofs.SameControls.{same_control_is, same_control_self}
 use Rattle.ice_cluster.proofs.Grouping.{sets_once, none_once}
-use Rattle.ice_cluster.proofs.Tallies.{nothing_before, one_if, tally, tally_append, tally_permuted}
+use Rattle.ice_cluster.proofs.Tallies.{nothing_before, one_if, tally, tally_append, tally_permuted, before_it, never_next}
 
 abbrev pub group_cells : TileCells → List ℕ
 group_cells group = group.cells
@@ -122,12 +122,6 @@ hit_none control n [] none = refl
 hit_none control n (s ∷ sets) none =
     nothing_more (same_control control s) n (total control n sets) (other_set control s (λ e. none (0, ap Some (sym e)))) (hit_none control n sets (λ has. none (suc has.0, has.1)))
 
-never_next : (i : ℕ) → 0 ≡ suc i → ⊥
-never_next i e = omega arith
-
-before_it : (i j : ℕ) → suc i ≡ suc j → i ≡ j
-before_it i j e = omega arith
-
 pub hit_once : (control : Control) (n : ℕ) (sets : List Control) → StandOnce sets → Has sets control → total control n sets ≡ n
 hit_once control n [] once has = absurd (none-some control has.1)
 hit_once control n (s ∷ sets) once has = by (Has_cases s control sets has) (hit_once control n sets (λ i j p a b. before_it i j (once (suc i) (suc j) p a b)))
@@ -154,7 +148,7 @@ one_set c flop flops s = by (same_control flop.1 s)
         none_more : (n : ℕ) → n ≡ 0 + n
         none_more n = omega arith
 
-four : (a b c d : ℕ) → a + b + (c + d) ≡ a + c + (b + d)
+pub four : (a b c d : ℕ) → a + b + (c + d) ≡ a + c + (b + d)
 four a b c d = omega arith
 
 one_flop : (c : ℕ) (flop : FlopCell) (flops : List FlopCell) (sets : List Control)

@@ -6,7 +6,7 @@ use Rattle.ice_cells.specs.declared.cell.Control.{Control}
 use Rattle.std.specs.List.{flat_map, list_any}
 use Rattle.std.specs.Option.{option_map_or}
 use Rattle.std.specs.Prelude.{option_to_list, ◌||◌, ◌==◌}
-use Rattle.std.proofs.lemmas.List.{map-id, map_more, replicate_more}
+use Rattle.std.proofs.lemmas.List.{map_more, replicate_more}
 use Rattle.std.proofs.lemmas.List.Elements.{filter_map-append}
 use Rattle.std.proofs.lemmas.List.FromFn.{map-range_with_len_more}
 use Rattle.ice_cells.specs.declared.cell.LogicCell.{LogicCell}
@@ -18,6 +18,7 @@ use Rattle.ice_cells.specs.Tables.{gathered}
 use Rattle.ice_cells.proofs.TableLaws.{replicate_table, scattered_table, table_same}
 use Rattle.ice_cells.specs.declared.cluster.TileCells.{TileCells}
 use Rattle.ice_cells.specs.Clusterings.{opened_by, groups_by}
+use Rattle.ice_cells.proofs.RangeFilters.{range_more}
 
 pub filled_append : (a b : List TileCells) (plains : List ℕ) → filled (a ++ b) plains ≡ filled a plains ++ filled b (left a plains)
 filled_append [] b plains = refl
@@ -96,8 +97,6 @@ pub groups_all : (f : Control → List ℕ) (sets : List Control) → groups_pie
 groups_all f sets = groups_from f [] sets 0 refl
 
 -- ---- lists that are filtered number by number
-range_more : (i : ℕ) → range_with_len 0 (i + 1) ≡ range_with_len 0 i ++ i ∷ []
-range_more i = sym (map-id (range_with_len 0 (i + 1))) ∙ map-range_with_len_more (λ x. x) 0 i i (omega arith) ∙ ap (λ xs. xs ++ i ∷ []) (map-id (range_with_len 0 i))
 
 one_or_none : {X : Type 0} (f : ℕ → Option X) (i : ℕ) (o : Option X) → f i ≡ o → filter_map f (i ∷ []) ≡ option_to_list o
 one_or_none f i None e = ap (λ x. cons_option x []) e

@@ -1,5 +1,5 @@
 -- In each order of the cells the same clusters are chunks of runs.
-use Rattle.std.proofs.Common.{◌≡◌, ℕ, suc, ◌+◌, Option, None, List, [], ◌∷◌, ◌++◌, append_assoc, length, map, drop, refl, ap, sym, ◌∙◌, arith}
+use Rattle.std.proofs.Common.{◌≡◌, ℕ, ◌+◌, Option, None, List, [], ◌∷◌, ◌++◌, append_assoc, length, map, drop, refl, ap, sym, ◌∙◌, arith}
 use Rattle.std.specs.Prelude.{flat_map}
 use Rattle.std.specs.List.{range_with_len}
 use Rattle.std.proofs.lemmas.List.{length-append, map-append}
@@ -14,7 +14,7 @@ use Rattle.ice_cells.specs.Clusterings.{opened_by, groups_by, IsClustering}
 use Rattle.ice_cells.specs.Clusters.{room, filled, left, runs_pieces, set_piece, set_pieces, sets_pieces, plain_piece, plain_pieces, loose_flops, loose_plains, with_slots, clusters_of}
 use Rattle.ice_cells.specs.Pieces.{pieces_count}
 use Rattle.ice_cells.specs.Sets.{FlopCell, sets_of, cells_with}
-use Rattle.ice_cluster.proofs.AsMany.{same_length}
+use Rattle.ice_cluster.proofs.AsMany.{same_length, filled_length}
 
 abbrev Chunk : Type 0
 Chunk = Option (ℕ × ℕ)
@@ -56,10 +56,6 @@ by_count (g ∷ a) (h ∷ b) e = ap (λ xs. None ∷ xs) (by_count a b (omega ar
 run_of_filled : (groups : List TileCells) (plains : List ℕ) → map run_in (filled groups plains) ≡ map run_in groups
 run_of_filled [] plains = refl
 run_of_filled (g ∷ groups) plains = ap (λ xs. g.run ∷ xs) (run_of_filled groups (drop (room g) plains))
-
-filled_length : (groups : List TileCells) (plains : List ℕ) → length (filled groups plains) ≡ length groups
-filled_length [] plains = refl
-filled_length (g ∷ groups) plains = ap suc (filled_length groups (drop (room g) plains))
 
 run_of_slots : (groups : List TileCells) → map (λ (c : Cluster). c.run) (map with_slots groups) ≡ map run_in groups
 run_of_slots [] = refl

@@ -13,7 +13,7 @@ use Rattle.ice_cells.specs.Same.{same_control}
 use Rattle.ice_cells.specs.Sets.{FlopCell, with_set, sets_of, cells_with}
 use Rattle.ice_cells.proofs.Permuted.{Has_permuted}
 use Rattle.ice_cells.proofs.SameControls.{same_control_is, same_control_self}
-use Rattle.ice_cluster.proofs.Counted.{total, hit_once, sets_have}
+use Rattle.ice_cluster.proofs.Counted.{total, hit_once, sets_have, four}
 use Rattle.ice_cluster.proofs.Grouping.{sets_once, none_once}
 use Rattle.ice_cluster.proofs.Tallies.{nothing_before, one_if}
 
@@ -47,9 +47,6 @@ set_sum f (s ∷ sets) = f s + set_sum f sets
 abbrev pairs : (Control → ℕ) → List Control → List Control → ℕ
 pairs f [] others = 0
 pairs f (s ∷ sets) others = total s (f s) others + pairs f sets others
-
-four : (a b c d : ℕ) → a + b + (c + d) ≡ a + c + (b + d)
-four a b c d = omega arith
 
 both_ways : (s t : Bool) → (s ≡ true → t ≡ true) → (t ≡ true → s ≡ true) → s ≡ t
 both_ways true t f g = sym (f refl)

@@ -44,10 +44,10 @@ one_in_front o r e f = omega arith
 one_behind : (o r : ℕ) → o ≡ 0 → r ≡ 1 → o + r ≡ 1
 one_behind o r e f = omega arith
 
-never_next : (i : ℕ) → 0 ≡ suc i → ⊥
+pub never_next : (i : ℕ) → 0 ≡ suc i → ⊥
 never_next i e = omega arith
 
-before_it : (i j : ℕ) → suc i ≡ suc j → i ≡ j
+pub before_it : (i j : ℕ) → suc i ≡ suc j → i ≡ j
 before_it i j e = omega arith
 
 here : (x c : ℕ) → x ≡ c → one_if (x == c) ≡ 1

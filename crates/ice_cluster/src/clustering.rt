@@ -19,7 +19,8 @@ fn open_sets<'a>(
     flops: &[(u32, Control)],
     plains: &'a [u32],
 ) -> Result<&'a [u32], NoMemory>
-    ensures { IfOk result (λ rest. (groups.new.items, rest.now) ≡ ends (sets_pieces flops.now) plains.now groups.old.items) }
+    ensures { IfOk result (λ rest. (groups.new.items, rest.now)
+        ≡ ends (sets_pieces flops.now) plains.now groups.old.items) }
 {
     let (sets, lists) = by_sets(alloc, flops)?;
     open_lists(alloc, groups, &sets, lists.as_slice(), plains)

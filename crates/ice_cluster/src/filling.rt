@@ -19,7 +19,8 @@ fn open<'a>(
     run: Option<(u32, u32)>,
     plains: &'a [u32],
 ) -> Result<&'a [u32], NoMemory>
-    ensures { IfOk result (λ rest. (groups.new.items, rest.now) ≡ ends (group_of members.now control run ∷ []) plains.now groups.old.items) }
+    ensures { IfOk result (λ rest. (groups.new.items, rest.now)
+        ≡ ends (group_of members.now control run ∷ []) plains.now groups.old.items) }
 {
     let mut cells = Vec::with_capacity(alloc, 8)?;
     cells.extend_from_slice(members)?;
@@ -43,7 +44,8 @@ fn open_run<'a>(
     members: &[u32],
     plains: &'a [u32],
 ) -> Result<&'a [u32], NoMemory>
-    ensures { IfOk result (λ rest. (groups.new.items, rest.now) ≡ ends (map (run_piece cells.now r members.now) (range_with_len 0 (pieces_count members.now))) plains.now groups.old.items) }
+    ensures { IfOk result (λ rest. (groups.new.items, rest.now)
+        ≡ ends (map (run_piece cells.now r members.now) (range_with_len 0 (pieces_count members.now))) plains.now groups.old.items) }
 {
     let mut rest = plains;
     for k in 0..pieces_count(members) {
@@ -69,7 +71,8 @@ pub(crate) fn open_runs<'a>(
     runs: &[Run],
     plains: &'a [u32],
 ) -> Result<&'a [u32], NoMemory>
-    ensures { IfOk result (λ rest. (groups.new.items, rest.now) ≡ ends (runs_pieces cells.now 0 runs.now) plains.now groups.old.items) }
+    ensures { IfOk result (λ rest. (groups.new.items, rest.now)
+        ≡ ends (runs_pieces cells.now 0 runs.now) plains.now groups.old.items) }
 {
     let mut rest = plains;
     for (r, run) in runs.iter().enumerate() {
@@ -86,7 +89,8 @@ fn open_set<'a>(
     members: &[u32],
     plains: &'a [u32],
 ) -> Result<&'a [u32], NoMemory>
-    ensures { IfOk result (λ rest. (groups.new.items, rest.now) ≡ ends (map (set_piece control members.now) (range_with_len 0 (pieces_count members.now))) plains.now groups.old.items) }
+    ensures { IfOk result (λ rest. (groups.new.items, rest.now)
+        ≡ ends (map (set_piece control members.now) (range_with_len 0 (pieces_count members.now))) plains.now groups.old.items) }
 {
     let mut rest = plains;
     for k in 0..pieces_count(members) {
@@ -104,7 +108,8 @@ fn open_list<'a>(
     members: &[u32],
     plains: &'a [u32],
 ) -> Result<&'a [u32], NoMemory>
-    ensures { IfOk result (λ rest. (groups.new.items, rest.now) ≡ ends (group_pieces sets.now.keys k members.now) plains.now groups.old.items) }
+    ensures { IfOk result (λ rest. (groups.new.items, rest.now)
+        ≡ ends (group_pieces sets.now.keys k members.now) plains.now groups.old.items) }
 {
     let Some(control) = sets.get_index(k) else {
         return Ok(plains);
@@ -120,7 +125,8 @@ pub(crate) fn open_lists<'a>(
     lists: &[Items<u32>],
     plains: &'a [u32],
 ) -> Result<&'a [u32], NoMemory>
-    ensures { IfOk result (λ rest. (groups.new.items, rest.now) ≡ ends (groups_pieces sets.now.keys 0 lists.now) plains.now groups.old.items) }
+    ensures { IfOk result (λ rest. (groups.new.items, rest.now)
+        ≡ ends (groups_pieces sets.now.keys 0 lists.now) plains.now groups.old.items) }
 {
     let mut rest = plains;
     for (k, list) in lists.iter().enumerate() {

@@ -120,6 +120,13 @@ sources_more switches i e table lt below is = record {
 pub source_below : (wires : ℕ) (switches : List Switch) (i : ℕ) (e : Switch) → i < length switches → All (IsBetween wires) switches → (get_or switches i e).source.0 < wires
 source_below wires switches i e lt all = (All-get_or (IsBetween wires) switches i e lt all).source
 
+-- ---- what drives a wire, by the table of all
+pub driver_within : (parts : Parts) (bits : Bits) (drivers : List Driver) (w : ℕ) → AreDrivers parts bits drivers → w < parts.wires → w < length drivers
+driver_within parts bits drivers w are lt = let long = table_long (driver parts bits) parts.wires drivers are in omega (arith, long, lt)
+
+pub driver_found : (parts : Parts) (bits : Bits) (drivers : List Driver) (w : ℕ) (d : Driver) → AreDrivers parts bits drivers → w < parts.wires → get_or drivers w d ≡ driver parts bits w
+driver_found parts bits drivers w d are lt = table_at (driver parts bits) parts.wires drivers are w d lt
+
 -- ---- contention
 firsts_same : {A : Type 0} (f g : ℕ → Option A) (k n : ℕ) → ((w : ℕ) → w < k + n → f w ≡ g w) → first_of f k n ≡ first_of g k n
 firsts_same f g k zero same = refl

@@ -8,6 +8,7 @@ use Rattle.std.proofs.lemmas.Option.{same_Some, get_or_from_slice_get}
 use Rattle.ice_base.specs.declared.number.TileAt.{TileAt}
 use Rattle.ice_base.proofs.Keys.{tile_same}
 use Rattle.ice_base_values.specs.Order.{At}
+use Rattle.ice_base_values.proofs.ListPlaces.{zip_at}
 use Rattle.ice_chip.specs.Database.{Parts}
 use Rattle.ice_chip.specs.Places.{same_tile}
 use Rattle.ice_chip.specs.declared.parts.TileLine.{TileLine}
@@ -34,16 +35,6 @@ tile_at t (u ∷ tiles) k e = of (same_tile u t) refl e (λ m f. tile_at t tiles
     of : (b : Bool) → same_tile u t ≡ b → cond b (Some 0) (option_map suc (tile_place t tiles)) ≡ Some k → ((m : ℕ) → tile_place t tiles ≡ Some m → At tiles m t) → At (u ∷ tiles) k t
     of true is f rec = subst (λ n. At (u ∷ tiles) n t) (same_Some 0 k f) (ap (λ x. Some x) (tile_same u t is))
     of false is f rec = next (tile_place t tiles) f rec
-
--- items at one place of two lists stand there side by side
-zip_at : {A B : Type 0} (xs : List A) (ys : List B) (n : ℕ) (a : A) (b : B) → At xs n a → At ys n b → At (zip xs ys) n (a, b)
-zip_at [] ys n a b at there = cc at
-zip_at (c ∷ xs) [] n a b at there = cc there
-zip_at (c ∷ xs) (d ∷ ys) zero a b at there =
-    let one = same_Some c a at in
-    let two = same_Some d b there in
-    λ i. Some (one i, two i)
-zip_at (c ∷ xs) (d ∷ ys) (suc n) a b at there = zip_at xs ys n a b at there
 
 -- ---- what stores keep
 module _ (parts : Parts) (bits : Bits) (bonded : List Pad) (levels : List Bool) (v : Point → Bool) (state : State) (n : ℕ) (s : Store) (at : At (stores parts) n s) where

@@ -1,6 +1,7 @@
 pub mod Members
 pub mod Graphs
 pub mod Walks
+pub mod CellDigits
 pub mod DifferentTiles
 pub mod PointPlaces
 pub mod Switches
@@ -15,6 +16,7 @@ pub mod GlobalsNamed
 pub mod DirectGlobals
 pub mod KeptLevels
 pub mod PinRoles
+pub mod OtherTypes
 pub mod RowValues
 pub mod FirstOf
 pub mod RowsOn

@@ -9,16 +9,17 @@ use Rattle.ice_base.proofs.Keys.{nat_same, bytes_same}
 use Rattle.ice_base_values.specs.Order.{Has}
 use Rattle.ice_base_values.proofs.Together.{Has_head, Has_tail}
 use Rattle.ice_chip.specs.Database.{Parts}
-use Rattle.ice_chip.specs.Digits.{digit, numbered_or}
+use Rattle.ice_chip.specs.Digits.{digit}
 use Rattle.ice_chip.specs.Lookups.{kind_at, names_of, wire_named, placed_at}
 use Rattle.ice_chip.specs.PinNames.{is_global_name, cell_pin, is_output_of, is_input_name, is_output_name}
-use Rattle.ice_chip.specs.WireNames.{global_name, in_out_enable_name, cell_wire, outer_wire, tile_wire}
+use Rattle.ice_chip.specs.WireNames.{global_name, in_out_enable_name, cell_wire, tile_wire}
 use Rattle.ice_chip.specs.declared.rows.TileKind.{TileKind}
 use Rattle.ice_chip.specs.declared.rows.TileKind.TheVariants.{Io, Logic, RamBottom, RamTop}
 use Rattle.ice_chip.specs.declared.placed.PlacedName.{PlacedName}
 use Rattle.ice_chip.specs.declared.wire_names.TileWire.{TileWire}
 use Rattle.ice_chip.specs.declared.wire_names.TileWire.TheVariants as wire
-use Rattle.ice_chip.proofs.Prefixes.{digit_is, number_within_read, set_number}
+use Rattle.ice_chip.proofs.Prefixes.{digit_is, set_number}
+use Rattle.ice_chip.proofs.WireNamesRead.{of_cell}
 use Rattle.ice_chip_laws.specs.Names.{HasNames, HasName}
 use Rattle.ice_chip_laws.specs.Pins.{HasPins, AreOnePin, is_pin_in, is_pin_name}
 use Rattle.ice_decode.specs.declared.role.Role.{Role}
@@ -102,9 +103,6 @@ cell_told (a ∷ b ∷ c ∷ d ∷ e ∷ f ∷ i ∷ g ∷ rest) p pin is =
           omega arith,
           λ j. ea j ∷ eb j ∷ ec j ∷ ed j ∷ ee j ∷ ef j ∷ ei j ∷ eg j ∷ told j,
         )
-
-of_cell : (cell : ℕ) (pin : List ℕ) → cell < 8 → tile_wire (codes "lutff_" ++ digit cell ∷ pin) ≡ cell_wire cell pin
-of_cell cell pin lt = ap (λ o. numbered_or cell_wire o (outer_wire (codes "lutff_" ++ digit cell ∷ pin))) (number_within_read 8 (codes "lutff_") cell pin lt (omega arith))
 
 -- a name of an output of a cell is a pin's
 cell_out : (name : List ℕ) (p : ℕ) (pin : List ℕ) → ((cell : ℕ) → (w : TileWire) × (cell_wire cell (47 ∷ p ∷ pin) ≡ Some w) × (is_output_of Logic w ≡ true))

@@ -48,7 +48,7 @@ read_has P (Some p ∷ reads) all q (zero, at) = subst P (same_Some p q at) all.
 read_has P (Some p ∷ reads) all q (suc i, at) = read_has P reads all.1 q (i, at)
 
 -- ---- names
-named_below : (parts : Parts) → IsRead parts → (t : TileAt) (name : List ℕ) (w : ℕ) → wire_named parts t name ≡ Some w → w < parts.wires
+pub named_below : (parts : Parts) → IsRead parts → (t : TileAt) (name : List ℕ) (w : ℕ) → wire_named parts t name ≡ Some w → w < parts.wires
 named_below parts read t name w e =
     lookup_all (λ (k : ℕ). k < parts.wires) (same_placed (placed_at t name)) (map placed_wire (placed_names parts))
     (All-map (λ (e : PlacedName × ℕ). e.1 < parts.wires) placed_wire (placed_names parts) (All-filter (is_placed parts.tiles) (λ (n : WireName). n.wire < parts.wires) parts.names read.named_wires)) w e

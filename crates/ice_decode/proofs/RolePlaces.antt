@@ -1,8 +1,8 @@
 -- The cells that wires are carries of are cells of the chip.
-use Rattle.std.proofs.Common.{◌≡◌, ◌⊎◌, ℕ, suc, ◌+◌, ◌-◌, ◌*◌, ◌<◌, ◌≤◌, Bool, true, false, cond, List, [], ◌∷◌, Some, None, Option, inl, inr, refl, ap, sym, subst, eqb, leb, filter, arith}
-use Rattle.std.specs.Prelude.{◌&&◌, codes, bytes_eq}
+use Rattle.std.proofs.Common.{◌≡◌, ◌⊎◌, ℕ, suc, ◌+◌, ◌-◌, ◌*◌, ◌<◌, Bool, true, false, cond, List, [], ◌∷◌, Some, None, Option, inl, inr, refl, ap, sym, subst, filter}
+use Rattle.std.specs.Prelude.{codes, bytes_eq}
 use Rattle.std.specs.Map.{lookup}
-use Rattle.std.proofs.lemmas.Bool.{leb-true, cond_both}
+use Rattle.std.proofs.lemmas.Bool.{cond_both}
 use Rattle.std.proofs.lemmas.Option.{same_Some}
 use Rattle.ice_base.specs.declared.number.TileAt.{TileAt}
 use Rattle.ice_chip.specs.Database.{Parts}
@@ -25,6 +25,7 @@ use Rattle.ice_decode.proofs.Members.{Has_filter, Has_map}
 use Rattle.ice_base.proofs.Keys.{tile_same}
 use Rattle.ice_base.proofs.Options.{option_map_some}
 use Rattle.ice_decode.proofs.PointPlaces.{carry_at}
+use Rattle.ice_decode.proofs.CellDigits.{digit_small}
 
 -- a cell of a logic tile
 pub record IsCell (parts : Parts) (t : TileAt) (i : ℕ) : Type 0 where
@@ -46,24 +47,6 @@ abbrev FitsIf : Parts → Option Role → Type 0
 FitsIf parts None = Unit {0}
 FitsIf parts (Some role) = Fits parts role
 
--- ---- the number of a cell
-cell_number : (name : List ℕ) → (number_at name 6 < 8) ⊎ (cell_pin name ≡ [])
-cell_number [] = inr refl
-cell_number (a ∷ []) = inr refl
-cell_number (a ∷ b ∷ []) = inr refl
-cell_number (a ∷ b ∷ c ∷ []) = inr refl
-cell_number (a ∷ b ∷ c ∷ d ∷ []) = inr refl
-cell_number (a ∷ b ∷ c ∷ d ∷ e ∷ []) = inr refl
-cell_number (a ∷ b ∷ c ∷ d ∷ e ∷ f ∷ []) = inr refl
-cell_number (a ∷ b ∷ c ∷ d ∷ e ∷ f ∷ i ∷ []) = inr refl
-cell_number (a ∷ b ∷ c ∷ d ∷ e ∷ f ∷ i ∷ g ∷ pin) =
-    by (eqb a 108 && eqb b 117 && eqb c 116 && eqb d 102 && eqb e 102 && eqb f 95 && leb 48 i) (leb i 55) (eqb g 47) refl
-  where
-    by : (x y z : Bool) → leb i 55 ≡ y → (i - 48 < 8) ⊎ (cond ((x && y) && z) pin [] ≡ [])
-    by x true z e = let le : i ≤ 55 = leb-true i 55 e in inl (omega arith)
-    by true false z e = inr refl
-    by false false z e = inr refl
-
 -- ---- the roles of names
 global_fits : (parts : Parts) (name : List ℕ) → FitsIf parts (global_role name)
 global_fits parts name = cond_both (is_global_name name) (Some (Global (number_at name 10))) None (FitsIf parts) (λ e. tt) (λ e. tt)
@@ -83,7 +66,7 @@ logic_fits : (parts : Parts) (t : TileAt) (name : List ℕ) → kind_at parts t 
 logic_fits parts t name logic =
     cond_both (bytes_eq name (codes "carry_in_mux")) (Some (CarryIn t)) _ (FitsIf parts) (λ e. tt)
     (λ e. cond_both (bytes_eq name (codes "lutff_global/cen")) (Some ClockEnable) _ (FitsIf parts) (λ f. tt)
-    (λ f. or_fits parts (output_role t (number_at name 6) (cell_pin name)) name (output_fits parts t (number_at name 6) (cell_pin name) logic (cell_number name))))
+    (λ f. or_fits parts (output_role t (number_at name 6) (cell_pin name)) name (output_fits parts t (number_at name 6) (cell_pin name) logic (digit_small name))))
 
 io_fits : (parts : Parts) (t : TileAt) (name : List ℕ) → FitsIf parts (io_role t name)
 io_fits parts t name =

@@ -28,7 +28,7 @@ pub counted : (parts : Parts) → count_points parts ≡ parts.wires + 8 * lengt
 counted parts = ap (λ n. parts.wires + n) (cells_long (logic_tiles parts))
 
 -- the place of a point in an order is below the number of the points and one
-place_below : (parts : Parts) (bits : Bits) (extras : List (ℕ × ℕ × ℕ)) (order : List Point) → IsOrderOf parts bits extras order → (i : ℕ) (p : Point) → At order i p → i < count_points parts + 1
+pub place_below : (parts : Parts) (bits : Bits) (extras : List (ℕ × ℕ × ℕ)) (order : List Point) → IsOrderOf parts bits extras order → (i : ℕ) (p : Point) → At order i p → i < count_points parts + 1
 place_below parts bits extras order o i p at =
     let lt = slice_get_within order i p at in
     let few = o.few in

@@ -48,7 +48,8 @@ impl Circuit {
     pub fn driver(&self, wire: WireNo) -> Option<RowNo>
         requires { wire.0 < length self.now.drivers }
         ensures kept { slice_get (map row_of self.now.drivers) wire.0 ≡ Some result }
-        ensures driver { (parts : Parts) → IsCircuitOf parts self.now.configuration self.now → wire.0 < parts.wires → IsDriverOf parts (bits_of self.now.configuration) wire.0 result }
+        ensures driver { (parts : Parts) → IsCircuitOf parts self.now.configuration self.now → wire.0 < parts.wires
+            → IsDriverOf parts (bits_of self.now.configuration) wire.0 result }
     {
         self.row_kept(wire)
     }
@@ -70,7 +71,8 @@ impl Circuit {
     /// Whether a global has the level of a pad: its extra bit is set.
     pub fn takes_pad(&self, global: u8) -> bool
         ensures kept { result ≡ slice_index_or self.now.direct global false }
-        ensures told { (parts : Parts) → IsCircuitOf parts self.now.configuration self.now → result ≡ takes_pad parts self.now.configuration.extras global }
+        ensures told { (parts : Parts) → IsCircuitOf parts self.now.configuration self.now
+            → result ≡ takes_pad parts self.now.configuration.extras global }
     {
         direct_at(self.direct(), global)
     }
@@ -96,7 +98,8 @@ impl Circuit {
         direct: [bool; 8],
         order: Vec<Point>,
     ) -> Circuit
-        ensures { result ≡ record { configuration = bits; drivers = drivers.items; direct = direct; order = order.items } }
+        ensures { result
+            ≡ record { configuration = bits; drivers = drivers.items; direct = direct; order = order.items } }
     {
         Circuit {
             bits,

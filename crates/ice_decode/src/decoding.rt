@@ -27,7 +27,8 @@ fn check_contention(chip: &Chip, bits: &Bits, drivers: &[Driver]) -> Result<(), 
     ensures none { OnOk result (contention chip.now (bits_of bits.now) ≡ None) }
     ensures fault { IfErr result (IsFaultOf chip.now (bits_of bits.now) bits.now.extras) }
 {
-    let (_wires, _extras) = (chip.wires(), bits.extras());
+    let _bits = bits;
+    chip.is_chip();
     match contention(drivers) {
         None => Ok(()),
         Some((wire, first, second)) => Err(DecodeFault::Contention {
@@ -51,7 +52,7 @@ fn check_foreign(
     ensures none { OnOk result (IsOfChip chip.now (bits_of bits.now) bits.now.extras) }
     ensures fault { IfErr result (IsFaultOf chip.now (bits_of bits.now) bits.now.extras) }
 {
-    let _wires = chip.wires();
+    chip.is_chip();
     if let Some(wire) = foreign_source(alloc, chip, switches)? {
         return Err(DecodeFault::ForeignSource { wire });
     }
@@ -79,7 +80,7 @@ fn check_loops(
     ensures loopless { OnOk result (HasNoLoop chip.now (bits_of bits.now) bits.now.extras) }
     ensures fault { IfErr result (IsFaultOf chip.now (bits_of bits.now) bits.now.extras) }
 {
-    let _wires = chip.wires();
+    chip.is_chip();
     match search(alloc, chip, bits, drivers, direct)? {
         Found::Order(order) => Ok(order),
         Found::Loop(wires) => Err(DecodeFault::ChipLoop { wires }),

@@ -55,7 +55,7 @@ fn eight_globals(chip: &Chip, bits: &Bits) -> [bool; 8]
 pub(crate) fn direct_globals(chip: &Chip, bits: &Bits) -> [bool; 8]
     ensures { AreDirect chip.now bits.now.extras result }
 {
-    let _wires = chip.wires();
+    chip.is_chip();
     eight_globals(chip, bits)
 }
 

@@ -42,7 +42,7 @@ fn graph_of_points(
     requires points { AreAllPoints chip.now numbering.now }
     ensures { IfOk result (IsGraphOf numbering.now (depends_on chip.now (bits_of bits.now) bits.now.extras)) }
 {
-    let _wires = chip.wires();
+    chip.is_chip();
     let mut graph = Graph::new(alloc);
     let mut reads = Vec::new(alloc);
     let mut row = Vec::new(alloc);

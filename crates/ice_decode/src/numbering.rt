@@ -124,7 +124,8 @@ impl Numbering {
     // Adds the number of a point, where there is one.
     fn add_number(&self, read: Option<Point>, row: &mut Vec<usize>) -> Result<(), NoMemory>
         requires { IsNumbered self.now read }
-        ensures { OnOk result (map (slice_get self.now) row.new.items ≡ map (slice_get self.now) row.old.items ++ map (λ p. Some p) (present (read ∷ []))) }
+        ensures { OnOk result (map (slice_get self.now) row.new.items
+            ≡ map (slice_get self.now) row.old.items ++ map (λ p. Some p) (present (read ∷ []))) }
     {
         let Some(point) = read else {
             return Ok(());

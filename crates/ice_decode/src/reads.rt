@@ -97,7 +97,8 @@ fn add_output_reads(
     cell: u8,
     inputs: &mut Vec<Option<Point>>,
 ) -> Result<(), NoMemory>
-    ensures { OnOk result (inputs.new.items ≡ inputs.old.items ++ (if has_flop chip.now (bits_of bits.now) tile cell then [] else cell_inputs chip.now tile cell)) }
+    ensures { OnOk result (inputs.new.items
+        ≡ inputs.old.items ++ (if has_flop chip.now (bits_of bits.now) tile cell then [] else cell_inputs chip.now tile cell)) }
 {
     if has_flop(chip, bits, tile, cell) {
         return Ok(());
@@ -114,7 +115,8 @@ fn add_global_reads(
     inputs: &mut Vec<Option<Point>>,
 ) -> Result<(), NoMemory>
     requires { AreDirect chip.now bits.now.extras direct.now }
-    ensures { OnOk result (inputs.new.items ≡ inputs.old.items ++ (if takes_pad chip.now bits.now.extras global then [] else global_feed chip.now global ∷ [])) }
+    ensures { OnOk result (inputs.new.items
+        ≡ inputs.old.items ++ (if takes_pad chip.now bits.now.extras global then [] else global_feed chip.now global ∷ [])) }
 {
     if takes_pad(chip, bits, direct, global) {
         return Ok(());
@@ -132,7 +134,8 @@ fn add_role_reads(
     inputs: &mut Vec<Option<Point>>,
 ) -> Result<(), NoMemory>
     requires { AreDirect chip.now bits.now.extras direct.now }
-    ensures { OnOk result (inputs.new.items ≡ inputs.old.items ++ role_reads chip.now (bits_of bits.now) bits.now.extras role) }
+    ensures { OnOk result (inputs.new.items
+        ≡ inputs.old.items ++ role_reads chip.now (bits_of bits.now) bits.now.extras role) }
 {
     match role {
         Role::Plain | Role::PadInput(_) | Role::CarryIn(_) | Role::ClockEnable => Ok(()),
@@ -157,7 +160,8 @@ fn add_wire_reads(
 ) -> Result<(), NoMemory>
     requires direct { AreDirect chip.now bits.now.extras direct.now }
     requires wire { wire.0 < chip.now.wires }
-    ensures { OnOk result (inputs.new.items ≡ inputs.old.items ++ driven_reads chip.now (bits_of bits.now) bits.now.extras (role_of chip.now wire.0) driver) }
+    ensures { OnOk result (inputs.new.items
+        ≡ inputs.old.items ++ driven_reads chip.now (bits_of bits.now) bits.now.extras (role_of chip.now wire.0) driver) }
 {
     match driver {
         Driver::Several(_, _) => Ok(()),
@@ -195,7 +199,8 @@ pub fn add_reads(
     requires drivers { AreDrivers chip.now (bits_of bits.now) drivers.now }
     requires direct { AreDirect chip.now bits.now.extras direct.now }
     requires point { HasWire chip.now point }
-    ensures { OnOk result (inputs.new.items ≡ inputs.old.items ++ reads chip.now (bits_of bits.now) bits.now.extras point) }
+    ensures { OnOk result (inputs.new.items
+        ≡ inputs.old.items ++ reads chip.now (bits_of bits.now) bits.now.extras point) }
 {
     match point {
         Point::Wire(wire) => {

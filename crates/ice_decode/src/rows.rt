@@ -45,7 +45,8 @@ fn have_values(tile: &TileBits, bits: &[BitAt], values: &[bool]) -> bool
 
 // The place of the first row of a group whose values the bits have.
 fn place_with(tile: &TileBits, group: &Group) -> Option<usize>
-    ensures number { option_map (λ place. group.now.first.0 + place) result ≡ number_with (map (bit_in tile.now) group.now.bits.items) (group_view group.now).first (group_view group.now).rows }
+    ensures number { option_map (λ place. group.now.first.0 + place) result
+        ≡ number_with (map (bit_in tile.now) group.now.bits.items) (group_view group.now).first (group_view group.now).rows }
     ensures within { IfSome result (λ place. place < length group.now.rows.items) }
 {
     for place in 0..group.rows.len() {
@@ -59,7 +60,8 @@ fn place_with(tile: &TileBits, group: &Group) -> Option<usize>
 // The place of the row of a group that is on.
 #[tactic(auto, using(crate::proofs::RowsOn::off_there))]
 fn place_on(bits: &Bits, group: &Group) -> Option<usize>
-    ensures number { option_map (λ place. group.now.first.0 + place) result ≡ row_on (bits_of bits.now) (group_view group.now) }
+    ensures number { option_map (λ place. group.now.first.0 + place) result
+        ≡ row_on (bits_of bits.now) (group_view group.now) }
     ensures within { IfSome result (λ place. place < length group.now.rows.items) }
 {
     let tile = bits.tile(group.tile)?;
@@ -92,7 +94,7 @@ fn switch_on(bits: &Bits, group: &Group) -> Option<Switch>
 pub(crate) fn switches_on(alloc: Global, chip: &Chip, bits: &Bits) -> Result<Vec<Switch>, NoMemory>
     ensures { IfOk result (λ switches. switches.items ≡ switches_on (bits_of bits.now) chip.now.groups) }
 {
-    let _wires = chip.wires();
+    chip.is_chip();
     let mut switches = Vec::new(alloc);
     for group in chip.groups() {
         if let Some(switch) = switch_on(bits, group) {

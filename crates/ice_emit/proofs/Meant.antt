@@ -9,7 +9,7 @@ use Rattle.ice_decode.specs.Faults.{HasNoLoop}
 use Rattle.ice_decode.specs.declared.driver.Switch.{Switch}
 use Rattle.ice_graph.specs.Leading.{Route}
 use Rattle.ice_place_defs.specs.Plan.{Plan}
-use Rattle.ice_emit_meaning_laws.specs.Feeds.{FeedsNoGlobal}
+use Rattle.ice_emit_meaning_laws.specs.Feeds.{FaultsAreRings, IsRingless}
 use Rattle.ice_emit_set_laws.specs.SetLaws.{SetsDesigns, SetsNoGroups, design_bits}
 use Rattle.ice_emit_rows_laws.specs.Wanted.{AreWanted, AreNoGroups, IsWired, set_bits}
 use Rattle.ice_emit_defs.specs.Arrivals.{Held}
@@ -34,8 +34,13 @@ Means parts =
 
 abbrev pub Unloops : Parts → Type 0
 Unloops parts =
-    (rows : PackageRows) (plan : Plan) (pullups : List Bool) (wanted : List Switch) (held : Held) (bits : Bits) (extras : List (ℕ × ℕ × ℕ)) → extras ≡ plan_extras parts plan → FeedsNoGlobal parts → IsPlaced parts rows plan pullups → AreLed parts plan wanted held → AreSet parts plan wanted held bits
+    (rows : PackageRows) (plan : Plan) (pullups : List Bool) (wanted : List Switch) (held : Held) (bits : Bits) (extras : List (ℕ × ℕ × ℕ)) → extras ≡ plan_extras parts plan → IsRingless parts → IsPlaced parts rows plan pullups → AreLed parts plan wanted held → AreSet parts plan wanted held bits
     → IsWired parts bits wanted → HasNoLoop parts bits extras
+
+abbrev pub Rings : Parts → Type 0
+Rings parts =
+    (rows : PackageRows) (plan : Plan) (pullups : List Bool) (wanted : List Switch) (held : Held) (bits : Bits) (extras : List (ℕ × ℕ × ℕ)) → extras ≡ plan_extras parts plan → IsPlaced parts rows plan pullups → AreLed parts plan wanted held → AreSet parts plan wanted held bits
+    → IsWired parts bits wanted → FaultsAreRings parts bits extras
 
 module _ (parts : Parts) (rows : PackageRows) (plan : Plan) (pullups : List Bool) (routes : List Route) (k : Configuration) (leads : Leads parts) (apart : SetsNoGroups parts) (sets : SetsDesigns parts) (drives : Drives parts)
     (placed : IsPlaced parts rows plan pullups) (trees : AreTrees parts plan routes) (written : IsWritten parts plan pullups routes k) where
@@ -68,6 +73,10 @@ module _ (parts : Parts) (rows : PackageRows) (plan : Plan) (pullups : List Bool
       subst (λ (bits : Bits). Realises parts plan wanted bits k.extras) same
       (means rows plan pullups wanted held (set_bits parts wanted own) k.extras written.extras (subst (λ (bits : Bits). HasNoLoop parts bits k.extras) (sym same) loopless) placed led set wired)
 
-  pub have_no_loop : Unloops parts → FeedsNoGlobal parts → HasNoLoop parts (bits_of k) k.extras
-  have_no_loop unloops unfed =
-      subst (λ (bits : Bits). HasNoLoop parts bits k.extras) same (unloops rows plan pullups wanted held (set_bits parts wanted own) k.extras written.extras unfed placed led set wired)
+  pub have_no_loop : Unloops parts → IsRingless parts → HasNoLoop parts (bits_of k) k.extras
+  have_no_loop unloops ringless =
+      subst (λ (bits : Bits). HasNoLoop parts bits k.extras) same (unloops rows plan pullups wanted held (set_bits parts wanted own) k.extras written.extras ringless placed led set wired)
+
+  pub have_ring : Rings parts → FaultsAreRings parts (bits_of k) k.extras
+  have_ring rings =
+      subst (λ (bits : Bits). FaultsAreRings parts bits k.extras) same (rings rows plan pullups wanted held (set_bits parts wanted own) k.extras written.extras placed led set wired)

@@ -6,7 +6,7 @@ ghost use Rattle.ice_graph.specs.Leading.{route_of};
 ghost use Rattle.ice_emit_nets.specs.Plans.{plan_in, plan_of};
 ghost use Rattle.ice_pads.specs.Globals.{numbers};
 ghost use Rattle.ice_emit_defs.specs.Functions.{settings};
-ghost use Rattle.ice_emit_meaning_laws.specs.Feeds.{FeedsNoGlobal};
+ghost use Rattle.ice_emit_meaning_laws.specs.Feeds.{FaultsAreRings, IsRingless};
 ghost use Rattle.ice_bits_rows.specs.Index.{IsIndexOf};
 ghost use Rattle.ice_emit_rows_laws.specs.Wanted.{IsWired};
 ghost use Rattle.ice_emit_defs.specs.Realised.{Realises};
@@ -31,7 +31,9 @@ use ice_chip::Chip;
 use ice_cluster::laws::cells_stand_in_one_slot;
 use ice_emit_bits::{Setting, set_all, turn_all_on};
 use ice_emit_led_laws::laws::roots_are_led_to_pins;
-use ice_emit_meaning_laws::laws::{bits_have_no_loop, bits_realise_their_design};
+use ice_emit_meaning_laws::laws::{
+    bits_have_no_loop, bits_realise_their_design, faulty_bits_have_a_ring,
+};
 use ice_emit_nets::{Placed, placed_of, wires_of};
 use ice_emit_rows_laws::laws::wanted_rows_drive;
 use ice_emit_set_laws::laws::designs_are_set;
@@ -145,13 +147,15 @@ pub fn indexed_emit(
     requires trees { AreTrees chip.now (plan_of design.now clusters.now placement.now pads.now) (map route_of trees.now) }
     ensures written { IfOk result (IsWritten chip.now (plan_of design.now clusters.now placement.now pads.now) pads.now.pullups (map route_of trees.now)) }
     ensures driven { IfOk result (λ bits. IsWired chip.now (bits_of bits) (wanted_rows chip.now (plan_of design.now clusters.now placement.now pads.now) (map route_of trees.now))) }
-    ensures loopless { IfOk result (λ bits. FeedsNoGlobal chip.now → HasNoLoop chip.now (bits_of bits) bits.extras) }
+    ensures loopless { IfOk result (λ bits. IsRingless chip.now → HasNoLoop chip.now (bits_of bits) bits.extras) }
+    ensures ring { IfOk result (λ bits. FaultsAreRings chip.now (bits_of bits) bits.extras) }
     ensures realised { IfOk result (λ bits. HasNoLoop chip.now (bits_of bits) bits.extras → Realises chip.now (plan_of design.now clusters.now placement.now pads.now) (wanted_rows chip.now (plan_of design.now clusters.now placement.now pads.now) (map route_of trees.now)) (bits_of bits) bits.extras) }
 {
     roots_are_led_to_pins(chip);
     designs_are_set(chip);
     wanted_rows_drive(chip);
     bits_have_no_loop(chip);
+    faulty_bits_have_a_ring(chip);
     bits_realise_their_design(chip);
     let placed = placed_of(chip, design, clusters, placement, pads);
     let rows = rows_of(alloc, &placed, index, trees)?;
@@ -165,9 +169,9 @@ pub fn indexed_emit(
 /// types and pull-ups, of inputs that nothing reads, and of the column buffers that globals pass; and the extra bits of the globals
 /// that direct global buffers have, by rising global. No other bit is set.
 ///
-/// Each wanted row drives its wire, and no other wire has a driver. Decoding these bits gives no fault but a loop, and no loop where no
-/// global of the chip is fed by a global, as where each is fed in an IO tile. Where they have no loop the ports' pads show for every
-/// list of levels what the design shows, and every other pad is off.
+/// Each wanted row drives its wire, and no other wire has a driver. Decoding these bits gives a fault only where globals of the chip feed
+/// each other in a ring, which none do where each is fed in an IO tile. Where they have no loop the ports' pads show for every list of
+/// levels what the design shows, and every other pad is off.
 ///
 /// # Errors
 /// Want of memory alone; more than 4,294,967,295 trees count as such.
@@ -184,7 +188,8 @@ pub fn emit(
     requires trees { AreTrees chip.now (plan_of design.now clusters.now placement.now pads.now) (map route_of trees.now) }
     ensures written { IfOk result (IsWritten chip.now (plan_of design.now clusters.now placement.now pads.now) pads.now.pullups (map route_of trees.now)) }
     ensures driven { IfOk result (λ bits. IsWired chip.now (bits_of bits) (wanted_rows chip.now (plan_of design.now clusters.now placement.now pads.now) (map route_of trees.now))) }
-    ensures loopless { IfOk result (λ bits. FeedsNoGlobal chip.now → HasNoLoop chip.now (bits_of bits) bits.extras) }
+    ensures loopless { IfOk result (λ bits. IsRingless chip.now → HasNoLoop chip.now (bits_of bits) bits.extras) }
+    ensures ring { IfOk result (λ bits. FaultsAreRings chip.now (bits_of bits) bits.extras) }
     ensures realised { IfOk result (λ bits. HasNoLoop chip.now (bits_of bits) bits.extras → Realises chip.now (plan_of design.now clusters.now placement.now pads.now) (wanted_rows chip.now (plan_of design.now clusters.now placement.now pads.now) (map route_of trees.now)) (bits_of bits) bits.extras) }
 {
     let index = index_of(alloc, chip)?;

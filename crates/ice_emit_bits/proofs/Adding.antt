@@ -1,5 +1,5 @@
 -- Bits that are added to others: one, several of a tile, and lists of things that each add some.
-use Rattle.std.proofs.Common.{◌≡◌, ℕ, zero, suc, ◌+◌, ◌<◌, ◌≤◌, Bool, true, false, cond, Some, List, [], ◌∷◌, ◌++◌, length, map, get_or, drop, add-one, refl, sym, ap, ◌∙◌, arith}
+use Rattle.std.proofs.Common.{◌≡◌, ℕ, zero, suc, ◌+◌, ◌<◌, ◌≤◌, Bool, true, false, cond, Some, List, [], ◌∷◌, length, map, get_or, drop, add-one, refl, sym, ap, ◌∙◌, arith}
 use Rattle.std.specs.Prelude.{◌&&◌, ◌||◌}
 use Rattle.std.specs.List.{list_any}
 use Rattle.std.proofs.lemmas.Option.{slice_get-get_or}
@@ -22,7 +22,7 @@ none_or false m e = sym e
 pub nothing_added : (parts : Parts) (k : Configuration) (more : Bits) → IsOf parts k → ((t : TileAt) (b : BitAt) → more t b ≡ false) → Adds parts k k more
 nothing_added parts k more form none = record { form = form; extras = refl; bits = λ t b. none_or (bits_of k t b) (more t b) (none t b) }
 
-or_assoc : (a b x : Bool) → ((a || b) || x) ≡ (a || (b || x))
+pub or_assoc : (a b x : Bool) → ((a || b) || x) ≡ (a || (b || x))
 or_assoc true b x = refl
 or_assoc false b x = refl
 

@@ -47,7 +47,7 @@ pub fn turn_on(bits: &mut Bits, chip: &Chip, row: RowNo)
     if row.0 >= chip.rows() {
         return;
     }
-    chip.wires();
+    chip.is_chip();
     chip_is_lawful(chip);
     let (group, values) = chip.row(row);
     set_ones(bits, chip, group.tile, &group.bits, &values.values);
@@ -74,7 +74,7 @@ pub fn set_one(bits: &mut Bits, chip: &Chip, tile: TileAt, name: &[u8], number: 
     requires form { IsOf chip.now bits.old }
     ensures { Adds chip.now bits.old bits.new (λ t b. sets_one chip.now t b (setting_of tile name.now number)) }
 {
-    chip.wires();
+    chip.is_chip();
     if let Some(place) = place_of(chip, tile, name, number) {
         set_if(bits, chip, tile, place, true);
     }

@@ -31,9 +31,10 @@ use Rattle.ice_cells.specs.declared.cluster.Cluster.{Cluster}
 use Rattle.ice_cells.specs.declared.root.Root.{Root}
 use Rattle.ice_cells.specs.declared.root.Root.TheVariants.{PadIn, CellOut, GlobalOut, CarryOut}
 use Rattle.ice_pads.specs.Globals.{has_name, global_wire}
-use Rattle.ice_pads.specs.PadWires.{is_io_at, is_io_tile, has_io_wire}
+use Rattle.ice_pads.specs.PadWires.{is_io_tile, has_io_wire}
 use Rattle.ice_pads.specs.Passing.{first_passing}
 use Rattle.ice_bits_rows.specs.WireNames.{has_output_name}
+use Rattle.ice_pads.proofs.IoKinds.{io_kind}
 use Rattle.ice_sites.specs.Site.{has_wire, has_cell}
 use Rattle.ice_place_defs.specs.Plan.{Plan, Slot, slot_in, in_tile, first_slot, slot_among, slot_of}
 use Rattle.ice_emit_nets.specs.Nets.{pad_wire, slot_wire, root_wire}
@@ -141,13 +142,6 @@ passing_told test n (suc left) m e = by (test n) refl e (passing_told test (n + 
     by : (b : Bool) → test n ≡ b → cond b (Some n) (first_passing test (n + 1) left) ≡ Some m → (first_passing test (n + 1) left ≡ Some m → test m ≡ true) → test m ≡ true
     by true is f later = ap test (sym (same_Some n m f)) ∙ is
     by false is f later = later f
-
-io_kind : (o : Option TileKind) → is_io_at o ≡ true → o ≡ Some Io
-io_kind None e = absurd (true≢false (sym e))
-io_kind (Some Io) e = refl
-io_kind (Some Logic) e = absurd (true≢false (sym e))
-io_kind (Some RamBottom) e = absurd (true≢false (sym e))
-io_kind (Some RamTop) e = absurd (true≢false (sym e))
 
 -- an IO tile has the wire
 pub io_wire : (parts : Parts) (t : TileAt) (name : List ℕ) → has_io_wire parts t name ≡ true → (kind_at parts t ≡ Some Io) × ((w : ℕ) × (wire_named parts t name ≡ Some w))

@@ -45,7 +45,7 @@ use Rattle.ice_emit_led_laws.proofs.Edges.{usable_switch}
 use Rattle.ice_emit_led_laws.proofs.Growing.{tree_leads, end_is, sink_has}
 
 -- ---- nets
-net_told : (wire : Option ℕ) (sinks : List (List WireNo)) (net : Bare) → net_with wire sinks ≡ Some net → (wire ≡ Some net.0) × (net.1 ≡ sinks) × ((targets : List WireNo) × Has sinks targets)
+pub net_told : (wire : Option ℕ) (sinks : List (List WireNo)) (net : Bare) → net_with wire sinks ≡ Some net → (wire ≡ Some net.0) × (net.1 ≡ sinks) × ((targets : List WireNo) × Has sinks targets)
 net_told None sinks net e = absurd (none-some net e)
 net_told (Some w) [] net e = absurd (none-some net e)
 net_told (Some w) (sink ∷ sinks) net e =
@@ -60,7 +60,7 @@ in_range : (n k : ℕ) → k < n → Has (range_with_len 0 n) k
 in_range n k lt = let e : 0 + k ≡ k = omega arith in (k, subst (λ (m : ℕ). At (range_with_len 0 n) k m) e (At_range 0 n k lt))
 
 -- a sink of a root
-sink_told : (all : List End) (root : Root) (targets : List WireNo) → Has (sinks_of all root) targets → (e : End) × Has all e × (e.0 ≡ root) × (e.1 ≡ targets)
+pub sink_told : (all : List End) (root : Root) (targets : List WireNo) → Has (sinks_of all root) targets → (e : End) × Has all e × (e.0 ≡ root) × (e.1 ≡ targets)
 sink_told all root targets has = let got = Has_mapped_by (target_of root) all targets has in let same = by {e = got.0} (same_root got.0.0 root) refl got.2 in (got.0, got.1, same.0, same.1)
   where
     by : {e : End} (b : Bool) → same_root e.0 root ≡ b → cond b (Some e.1) None ≡ Some targets → (e.0 ≡ root) × (e.1 ≡ targets)

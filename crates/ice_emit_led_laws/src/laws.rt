@@ -16,9 +16,11 @@ use ice_cluster::laws::{cells_stand_in_one_slot, runs_stand_in_chunks};
 /// The rows that are turned on are sound and enter different wires, and none is the wire of a root or of a carry. Each comes from a
 /// wire that rows lead to from a root that is read, or brings a carry of a run to an input or into a tile.
 pub fn rows_lead_on_from_roots(chip: &Chip)
-    ensures { (rows : PackageRows) (plan : Plan) (pullups : List Bool) (routes : List Route) → IsPlaced chip.now rows plan pullups → AreTrees chip.now plan routes → AreRowsLed chip.now plan (wanted_rows chip.now plan routes) }
+    ensures { (rows : PackageRows) (plan : Plan) (pullups : List Bool) (routes : List Route)
+        → IsPlaced chip.now rows plan pullups → AreTrees chip.now plan routes
+        → AreRowsLed chip.now plan (wanted_rows chip.now plan routes) }
 {
-    chip.wires();
+    chip.is_chip();
     chip_is_lawful(chip);
     wire_names_are_read();
     cells_stand_in_one_slot();
@@ -39,9 +41,11 @@ pub fn pins_are_led()
 /// Where trees lead over usable rows from the roots of a placed design to its sinks, the rows that are turned on enter different
 /// wires and lead from each root to all pins that read it, and to no other; and the carries of runs come to where they go on.
 pub fn roots_are_led_to_pins(chip: &Chip)
-    ensures { (rows : PackageRows) (plan : Plan) (pullups : List Bool) (routes : List Route) → IsPlaced chip.now rows plan pullups → AreTrees chip.now plan routes → AreLed chip.now plan (wanted_rows chip.now plan routes) (held_by chip.now plan routes) }
+    ensures { (rows : PackageRows) (plan : Plan) (pullups : List Bool) (routes : List Route)
+        → IsPlaced chip.now rows plan pullups → AreTrees chip.now plan routes
+        → AreLed chip.now plan (wanted_rows chip.now plan routes) (held_by chip.now plan routes) }
 {
-    chip.wires();
+    chip.is_chip();
     rows_lead_on_from_roots(chip);
     pins_are_led();
 }

@@ -1,6 +1,6 @@
 -- The cell whose output or table a wire is, is a cell of a logic tile.
-use Rattle.std.proofs.Common.{◌≡◌, ◌⊎◌, ℕ, ◌-◌, ◌<◌, ◌≤◌, Bool, true, false, cond, List, [], ◌∷◌, Some, None, Option, inl, inr, refl, sym, subst, eqb, leb, leb-true, arith}
-use Rattle.std.specs.Prelude.{◌&&◌, codes, bytes_eq}
+use Rattle.std.proofs.Common.{◌≡◌, ◌⊎◌, ℕ, ◌-◌, ◌<◌, List, [], ◌∷◌, Some, None, Option, inl, inr, refl, sym, subst}
+use Rattle.std.specs.Prelude.{codes, bytes_eq}
 use Rattle.std.proofs.lemmas.Bool.{cond_both}
 use Rattle.ice_base.specs.declared.number.TileAt.{TileAt}
 use Rattle.ice_chip.specs.Database.{Parts}
@@ -14,6 +14,7 @@ use Rattle.ice_decode.specs.declared.role.Role.{Role}
 use Rattle.ice_decode.specs.declared.role.Role.TheVariants.{Plain, Output, LookUp, CarryOut, PadInput, Global, CarryIn, ClockEnable}
 use Rattle.ice_decode.specs.Roles.{number_at, global_role, output_role, or_global, logic_role, io_role, role_in, role_or, first_role, role_of}
 use Rattle.ice_decode.proofs.RolePlaces.{IsCell}
+use Rattle.ice_decode.proofs.CellDigits.{digit_small}
 
 -- what is said of the cell that a role names
 abbrev pub Fits : Parts → Role → Type 0
@@ -29,23 +30,6 @@ Fits parts ClockEnable = Unit {0}
 abbrev FitsIf : Parts → Option Role → Type 0
 FitsIf parts None = Unit {0}
 FitsIf parts (Some role) = Fits parts role
-
-cell_number : (name : List ℕ) → (number_at name 6 < 8) ⊎ (cell_pin name ≡ [])
-cell_number [] = inr refl
-cell_number (a ∷ []) = inr refl
-cell_number (a ∷ b ∷ []) = inr refl
-cell_number (a ∷ b ∷ c ∷ []) = inr refl
-cell_number (a ∷ b ∷ c ∷ d ∷ []) = inr refl
-cell_number (a ∷ b ∷ c ∷ d ∷ e ∷ []) = inr refl
-cell_number (a ∷ b ∷ c ∷ d ∷ e ∷ f ∷ []) = inr refl
-cell_number (a ∷ b ∷ c ∷ d ∷ e ∷ f ∷ i ∷ []) = inr refl
-cell_number (a ∷ b ∷ c ∷ d ∷ e ∷ f ∷ i ∷ g ∷ pin) =
-    by (eqb a 108 && eqb b 117 && eqb c 116 && eqb d 102 && eqb e 102 && eqb f 95 && leb 48 i) (leb i 55) (eqb g 47) refl
-  where
-    by : (x y z : Bool) → leb i 55 ≡ y → (i - 48 < 8) ⊎ (cond ((x && y) && z) pin [] ≡ [])
-    by x true z e = let le : i ≤ 55 = leb-true i 55 e in inl (omega arith)
-    by true false z e = inr refl
-    by false false z e = inr refl
 
 module _ (parts : Parts) where
   global_fits : (name : List ℕ) → FitsIf parts (global_role name)
@@ -66,7 +50,7 @@ module _ (parts : Parts) where
   logic_fits t name logic =
       cond_both (bytes_eq name (codes "carry_in_mux")) (Some (CarryIn t)) _ (FitsIf parts) (λ e. tt)
       (λ e. cond_both (bytes_eq name (codes "lutff_global/cen")) (Some ClockEnable) _ (FitsIf parts) (λ f. tt)
-      (λ f. or_fits (output_role t (number_at name 6) (cell_pin name)) name (output_fits t (number_at name 6) (cell_pin name) logic (cell_number name))))
+      (λ f. or_fits (output_role t (number_at name 6) (cell_pin name)) name (output_fits t (number_at name 6) (cell_pin name) logic (digit_small name))))
 
   io_fits : (t : TileAt) (name : List ℕ) → FitsIf parts (io_role t name)
   io_fits t name =

@@ -1,4 +1,4 @@
--- The bits of a placed and routed design have no fault, but for loops.
+-- The bits of a placed and routed design have no fault but a loop, which is a ring of globals.
 use Rattle.std.proofs.Common.{◌≡◌, ◌⊎◌, ℕ, zero, suc, ◌+◌, ◌/◌, Bool, true, false, cond, Option, None, Some, List, [], ◌∷◌, ◌++◌, length, take, find, inl, inr, refl, sym, ap, ◌∙◌, subst, true≢false, eqb-true}
 use Rattle.std.specs.Prelude.{◌&&◌, ◌||◌, ◌==◌, not, nat_eq, option_map, codes}
 use Rattle.std.specs.Cmp.Lexicographic.{pointwise}
@@ -20,9 +20,11 @@ use Rattle.ice_base.proofs.Keys.{tile_self, nat_self}
 use Rattle.ice_decode.specs.declared.driver.Switch.{Switch}
 use Rattle.ice_decode.specs.Direct.{is_padin}
 use Rattle.ice_decode.specs.Drivers.{driver, switches_on}
-use Rattle.ice_decode.specs.Faults.{or_else, first_of, contended_by, contention, is_memory_output, is_foreign_wire, foreign_source, is_output_part, is_input_type, is_read, is_input_read, has_wrong_type, HasNoLoop}
+use Rattle.ice_decode.specs.Faults.{or_else, first_of, contended_by, contention, is_memory_output, is_foreign_wire, foreign_source, is_output_part, is_input_type, is_read, is_input_read, has_wrong_type, wrong_pad, HasNoLoop}
 use Rattle.ice_decode.specs.Pads.{pads, pin_type}
-use Rattle.ice_decode.specs.Refusals.{IsFaultless}
+use Rattle.ice_decode.specs.Refusals.{IsFaultless, IsFaultOf, IsOfChip}
+use Rattle.ice_decode.specs.declared.fault.DecodeFault.{DecodeFault}
+use Rattle.ice_decode.specs.declared.fault.DecodeFault.TheVariants.{Contention, ForeignSource, ForeignFunction, ForeignExtra, ChipLoop, PinType, NoMemory}
 use Rattle.ice_cells.specs.declared.design.DesignPad.{DesignPad}
 use Rattle.ice_cells.specs.Formed.{IsPad}
 use Rattle.ice_bits_rows.specs.Bundles.{is_private}
@@ -30,10 +32,12 @@ use Rattle.ice_bits_rows.specs.Sound.{is_alone, is_sound}
 use Rattle.ice_bits_rows.specs.WireNames.{has_memory_name}
 use Rattle.ice_emit_rows_laws.specs.Wanted.{IsRowOf}
 use Rattle.ice_emit_defs.specs.Led.{IsBare}
+use Rattle.ice_emit_meaning_laws.specs.Feeds.{HasGlobalRing}
 use Rattle.ice_emit_meaning_laws.proofs.Premises.{Premises}
-use Rattle.ice_emit_meaning_laws.proofs.AllWires.{entered_or_bare}
+use Rattle.ice_emit_meaning_laws.proofs.OtherWires.{entered_or_bare}
 use Rattle.ice_emit_meaning_laws.proofs.DirectGlobals.{is_known}
 use Rattle.ice_emit_meaning_laws.proofs.Read.{item_beside}
+use Rattle.ice_emit_meaning_laws.proofs.Rings.{ring_of}
 
 -- ---- lists
 first_of_none : {A : Type 0} (f : ℕ → Option A) → ((k : ℕ) → f k ≡ None) → (k more : ℕ) → first_of f k more ≡ None
@@ -135,9 +139,21 @@ module _ (g : Premises) where
           let off = unread pad there none in
           ap (λ m. not (is_output_part (m / 4)) || (is_input_read g.parts g.bits pad && not (is_input_type m))) zero_type ∙ ap (λ b. false || (b && false)) off
 
+  -- ---- no fault but a loop
+  of_chip : IsOfChip g.parts g.bits g.extras
+  of_chip = record { uncontended = uncontended; sources = sourced; functions = g.are_set.own; extras_known = find_none (λ e. not (is_padin g.parts e)) g.extras (λ e has. ap not (is_known g e has)) }
+
+  all_typed : wrong_pad g.parts g.bits ≡ None
+  all_typed = find_none (has_wrong_type g.parts g.bits) (pads g.parts) typed
+
   pub faultless : HasNoLoop g.parts g.bits g.extras → IsFaultless g.parts g.bits g.extras
-  faultless loopless = record {
-    of_chip = record { uncontended = uncontended; sources = sourced; functions = g.are_set.own; extras_known = find_none (λ e. not (is_padin g.parts e)) g.extras (λ e has. ap not (is_known g e has)) };
-    loopless = loopless;
-    types = find_none (has_wrong_type g.parts g.bits) (pads g.parts) typed;
-  }
+  faultless loopless = record { of_chip = of_chip; loopless = loopless; types = all_typed }
+
+  pub faulty : (fault : DecodeFault) → IsFaultOf g.parts g.bits g.extras fault → (fault ≡ NoMemory → ⊥) → HasGlobalRing g.parts
+  faulty (Contention wire rows) is known = absurd (let none = of_chip.uncontended in cc (is, none))
+  faulty (ForeignSource wire) is known = absurd (let first = is.first in let none = of_chip.sources in cc (first, none))
+  faulty (ForeignFunction tile line) is known = absurd (let first = is.first in let none = of_chip.functions in cc (first, none))
+  faulty (ForeignExtra extra) is known = absurd (let first = is.first in let none = of_chip.extras_known in cc (first, none))
+  faulty (ChipLoop wires) is known = ring_of g is.is_loop.cycle is.is_loop.closes
+  faulty (PinType pad value) is known = absurd (let first = is.first in let none = all_typed in cc (first, none))
+  faulty NoMemory is known = absurd (known refl)

@@ -1,12 +1,15 @@
 -- Whether a global feeds one, looked up for each of the eight.
-use Rattle.std.proofs.Common.{◌≡◌, ◌≢◌, ℕ, zero, suc, ◌<◌, ◌==◌, Bool, true, false, Option, None, Some, List, refl, sym, ap, ◌∙◌, arith, true≢false}
+use Rattle.std.proofs.Common.{◌≡◌, ◌≢◌, ℕ, zero, suc, ◌<◌, ◌==◌, Bool, true, false, Option, None, Some, List, [], get_or, refl, sym, ap, ◌∙◌, arith, true≢false}
 use Rattle.std.specs.Prelude.{◌||◌, ◌↔◌, not, option_map, codes, IfSome, IsTrue}
 use Rattle.std.specs.Option.{option_map_or, option_and_then}
 use Rattle.std.proofs.lemmas.Bool.{eqb-true, eq-eqb}
+use Rattle.std.proofs.lemmas.Option.{slice_get-get_or}
 use Rattle.ice_base.proofs.Booleans.{or_true}
 use Rattle.ice_base.proofs.Options.{option_map_some}
 use Rattle.ice_base.specs.declared.number.TileAt.{TileAt}
 use Rattle.ice_base.specs.declared.number.WireNo.{WireNo}
+use Rattle.ice_base_values.specs.Order.{Has}
+use Rattle.ice_base_values.proofs.Cycles.{cycle_goes_on}
 use Rattle.ice_base_values.proofs.Members.{Has_all}
 use Rattle.ice_chip.specs.Database.{Parts}
 use Rattle.ice_chip.specs.IsRead.{IsRead}
@@ -18,7 +21,7 @@ use Rattle.ice_decode.specs.declared.role.Role.{Role}
 use Rattle.ice_decode.specs.declared.role.Role.TheVariants.{Plain, Output, LookUp, CarryOut, PadInput, Global, CarryIn, ClockEnable}
 use Rattle.ice_decode.specs.Reads.{global_feed, wire_point, at_pin_of}
 use Rattle.ice_decode.specs.Roles.{role_of}
-use Rattle.ice_emit_meaning_laws.specs.Feeds.{FeedsNoGlobal, feed_of, is_fed_by_global, is_global, some_fed_below}
+use Rattle.ice_emit_meaning_laws.specs.Feeds.{FeedsNoGlobal, HasGlobalRing, IsRingless, feeders, global_numbers, feed_of, is_fed_by_global, is_global, some_fed_below}
 use Rattle.ice_emit_meaning_laws.proofs.IoFeeds.{number}
 
 -- a wire that is found by a name is one of the chip
@@ -44,7 +47,7 @@ is_feed : (parts : Parts) (o : Option TileAt) → at_pin_of parts o (codes "fabo
 is_feed parts None = refl
 is_feed parts (Some t) = refl
 
-found_feed : (parts : Parts) (n w : ℕ) → global_feed parts n ≡ Some (wire_point w) → feed_of parts n ≡ Some w
+pub found_feed : (parts : Parts) (n w : ℕ) → global_feed parts n ≡ Some (wire_point w) → feed_of parts n ≡ Some w
 found_feed parts n w e =
     let wire = option_map_some wire_point (feed_of parts n) (wire_point w) (sym (is_feed parts (global_of parts n)) ∙ e) in
     wire.1 ∙ ap (λ (x : ℕ). Some x) (ap number wire.2)
@@ -93,3 +96,32 @@ flipped false e = refl
 
 pub told : (parts : Parts) → IsRead parts → IsLawful parts → (some : Bool) → some ≡ some_fed_below parts 8 → IsTrue (not some) ↔ FeedsNoGlobal parts
 told parts read lawful some looked = (λ e. none_fed parts read lawful (sym looked ∙ flipped some e), λ feeds. ap not (looked ∙ unfed_below parts feeds 8))
+
+-- ---- rings
+-- a global that is fed by one has a wire that is one
+module _ (parts : Parts) (feeds : FeedsNoGlobal parts) (n m : ℕ) where
+  at_role : (w : ℕ) → feed_of parts n ≡ Some w → (r : Role) → role_of parts w ≡ r → Has (global_numbers r) m → ⊥
+  at_role w found Plain is has = cc has.1
+  at_role w found (Output t i) is has = cc has.1
+  at_role w found (LookUp t i) is has = cc has.1
+  at_role w found (CarryOut t i) is has = cc has.1
+  at_role w found (PadInput pad) is has = cc has.1
+  at_role w found (Global k) is has = feeds.none n k w (is_feed parts (global_of parts n) ∙ ap (option_map wire_point) found) is
+  at_role w found (CarryIn t) is has = cc has.1
+  at_role w found ClockEnable is has = cc has.1
+
+  never_fed : Has (feeders parts n) m → ⊥
+  never_fed has = by (feed_of parts n) refl has
+    where
+      by : (o : Option ℕ) → feed_of parts n ≡ o → Has (option_map_or (λ w. global_numbers (role_of parts w)) o []) m → ⊥
+      by None found has = cc has.1
+      by (Some w) found has = at_role w found (role_of parts w) refl has
+
+pub ring_fed : (parts : Parts) → FeedsNoGlobal parts → HasGlobalRing parts → ⊥
+ring_fed parts feeds (ring, c) =
+    let first = get_or ring 0 0 in
+    let next = cycle_goes_on (feeders parts) ring c first (0, slice_get-get_or ring 0 0 c.some) in
+    never_fed parts feeds first next.0 next.1
+
+pub ringless : (parts : Parts) → IsRead parts → IsLawful parts → (some : Bool) → some ≡ some_fed_below parts 8 → IsTrue (not some) → IsRingless parts
+ringless parts read lawful some looked none = record { none = ring_fed parts ((told parts read lawful some looked).0 none) }

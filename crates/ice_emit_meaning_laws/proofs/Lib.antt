@@ -10,7 +10,8 @@ mod WireLevels
 mod DirectGlobals
 mod Arriving
 mod CellRoles
-mod AllWires
+mod OtherWires
+mod Rings
 mod PadTypes
 mod Faultless
 mod Steps

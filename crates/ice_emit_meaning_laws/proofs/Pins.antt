@@ -18,6 +18,7 @@ use Rattle.ice_decode.specs.declared.role.Role.TheVariants.{Plain, Output, Carry
 use Rattle.ice_decode.specs.Roles.{number_at, role_in, role_or, role_of}
 use Rattle.ice_decode.proofs.GlobalsNamed.{global_pin}
 use Rattle.ice_decode.proofs.PinRoles.{pin_role, global_any}
+use Rattle.ice_decode.proofs.OtherTypes.{each_two}
 
 -- ---- small numbers
 pub each_eight : (P : ℕ → Type 0) → P 0 → P 1 → P 2 → P 3 → P 4 → P 5 → P 6 → P 7 → (i : ℕ) → i < 8 → P i
@@ -37,11 +38,6 @@ each_four P a b c d (suc zero) lt = b
 each_four P a b c d (suc (suc zero)) lt = c
 each_four P a b c d (suc (suc (suc zero))) lt = d
 each_four P a b c d (suc (suc (suc (suc k)))) lt = absurd (omega arith)
-
-pub each_two : (P : ℕ → Type 0) → P 0 → P 1 → (k : ℕ) → k < 2 → P k
-each_two P a b zero lt = a
-each_two P a b (suc zero) lt = b
-each_two P a b (suc (suc k)) lt = absurd (omega arith)
 
 -- ---- names of pins
 -- the name is a pin's in tiles of the kind, where its wire is this

@@ -14,8 +14,7 @@ use Rattle.ice_chip.specs.Places.{same_pad}
 use Rattle.ice_chip.specs.Within.{IsPad, IsPackage}
 use Rattle.ice_chip.proofs.Keys.{pad_same}
 use Rattle.ice_chip.specs.declared.rows.Pad.{Pad}
-use Rattle.ice_chip.specs.declared.rows.TileKind.{TileKind}
-use Rattle.ice_chip.specs.declared.rows.TileKind.TheVariants.{Io, Logic, RamBottom, RamTop}
+use Rattle.ice_chip.specs.declared.rows.TileKind.TheVariants.{Io}
 use Rattle.ice_decode.proofs.Members.{Has_left, Has_right}
 use Rattle.ice_cells.specs.declared.cell.LogicCell.{LogicCell}
 use Rattle.ice_cells.specs.declared.design.Design.{Design}
@@ -24,7 +23,8 @@ use Rattle.ice_cells.specs.declared.root.Root.{Root}
 use Rattle.ice_cells.specs.declared.root.Root.TheVariants.{PadIn, CellOut, GlobalOut, CarryOut}
 use Rattle.ice_cells.specs.Readings.{carry_root, cell_roots, pad_roots, roots_read, is_read}
 use Rattle.ice_cells.specs.Same.{same_root, same_source}
-use Rattle.ice_pads.specs.PadWires.{is_io_at, is_io_tile, has_io_wire}
+use Rattle.ice_pads.specs.PadWires.{is_io_tile, has_io_wire}
+use Rattle.ice_pads.proofs.IoKinds.{io_kind}
 use Rattle.ice_emit_meaning_laws.proofs.Premises.{Premises}
 
 -- ---- items of lists
@@ -81,12 +81,6 @@ module _ (d : Design) where
   feed_reads b o at r e = readable r (Has_right (from_carries ++ from_cells ++ from_pads) d.globals (Some r) (b, at ∙ ap (λ (x : Option Root). Some x) e))
 
 -- ---- tiles of pads
-io_kind : (o : Option TileKind) → is_io_at o ≡ true → o ≡ Some Io
-io_kind None e = absurd (true≢false (sym e))
-io_kind (Some Io) e = refl
-io_kind (Some Logic) e = absurd (true≢false (sym e))
-io_kind (Some RamBottom) e = absurd (true≢false (sym e))
-io_kind (Some RamTop) e = absurd (true≢false (sym e))
 
 some_there : {X : Type 0} (o : Option X) → is_some o ≡ true → (x : X) × (o ≡ Some x)
 some_there None e = absurd (true≢false (sym e))

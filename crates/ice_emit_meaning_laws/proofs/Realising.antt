@@ -16,10 +16,10 @@ use Rattle.ice_emit_defs.specs.Realised.{Realises}
 use Rattle.ice_emit_defs.specs.Routed.{IsPlaced}
 use Rattle.ice_emit_defs.specs.Set.{AreSet}
 use Rattle.ice_emit_defs.specs.Written.{plan_extras}
-use Rattle.ice_emit_meaning_laws.specs.Feeds.{FeedsNoGlobal}
-use Rattle.ice_emit_meaning_laws.proofs.AllWires.{unfed_loopless}
+use Rattle.ice_emit_meaning_laws.specs.Feeds.{FaultsAreRings, IsRingless}
 use Rattle.ice_emit_meaning_laws.proofs.Premises.{Premises}
-use Rattle.ice_emit_meaning_laws.proofs.Faultless.{faultless}
+use Rattle.ice_emit_meaning_laws.proofs.Faultless.{faultless, faulty}
+use Rattle.ice_emit_meaning_laws.proofs.Rings.{ringless_loopless}
 use Rattle.ice_emit_meaning_laws.proofs.Steps.{shows_same, off_elsewhere}
 
 realised : (g : Premises) → HasNoLoop g.parts g.bits g.extras → Realises g.parts g.plan g.wanted g.bits g.extras
@@ -59,5 +59,8 @@ module _ (parts : Parts) (read : IsRead parts) (lawful : IsLawful parts) (slots 
   pub realise : HasNoLoop parts bits extras → IsPlaced parts bonded plan pullups → AreLed parts plan wanted held → AreSet parts plan wanted held bits → IsWired parts bits wanted → Realises parts plan wanted bits extras
   realise loopless placed led are_set wired = realised (premises placed led are_set wired) loopless
 
-  pub have_no_loop : FeedsNoGlobal parts → IsPlaced parts bonded plan pullups → AreLed parts plan wanted held → AreSet parts plan wanted held bits → IsWired parts bits wanted → HasNoLoop parts bits extras
-  have_no_loop unfed placed led are_set wired = unfed_loopless (premises placed led are_set wired) unfed
+  pub have_no_loop : IsRingless parts → IsPlaced parts bonded plan pullups → AreLed parts plan wanted held → AreSet parts plan wanted held bits → IsWired parts bits wanted → HasNoLoop parts bits extras
+  have_no_loop ringless placed led are_set wired = ringless_loopless (premises placed led are_set wired) ringless
+
+  pub have_ring : IsPlaced parts bonded plan pullups → AreLed parts plan wanted held → AreSet parts plan wanted held bits → IsWired parts bits wanted → FaultsAreRings parts bits extras
+  have_ring placed led are_set wired = faulty (premises placed led are_set wired)

@@ -14,6 +14,7 @@ use Rattle.ice_base_values.specs.Machine.{Simulates}
 use Rattle.ice_base_values.proofs.Machines.{shows_always_alike}
 use Rattle.ice_base_values.proofs.Members.{At_map, At_within}
 use Rattle.ice_base_values.proofs.Values.{value_at_more}
+use Rattle.ice_base_values.proofs.ListPlaces.{all_alike}
 use Rattle.ice_chip.specs.Lookups.{kind_at, wire_named}
 use Rattle.ice_chip.specs.Places.{same_tile}
 use Rattle.ice_chip.specs.WireNames.{input_name, clock_name, clock_enable_name, set_reset_name, pad_output_name, output_enable_name}
@@ -43,6 +44,7 @@ use Rattle.ice_decode.proofs.KeptLevels.{kept_stepped, clock_stepped, cell_stand
 use Rattle.ice_decode.proofs.PointPlaces.{wire_at}
 use Rattle.ice_decode.proofs.RolePlaces as places
 use Rattle.ice_decode.proofs.Valued.{faultless_valued}
+use Rattle.ice_decode.proofs.OtherTypes.{other_untyped}
 use Rattle.ice_cells.specs.declared.cell.Control.{Control}
 use Rattle.ice_cells.specs.declared.cell.LogicCell.{LogicCell}
 use Rattle.ice_cells.specs.declared.design.Design.{Design}
@@ -64,17 +66,13 @@ use Rattle.ice_emit_meaning_laws.proofs.Premises.{Premises}
 use Rattle.ice_emit_meaning_laws.proofs.Arriving.{v, arrives, pin_reads, root_reads, table_given}
 use Rattle.ice_emit_meaning_laws.proofs.Starts.{Starts}
 use Rattle.ice_emit_meaning_laws.proofs.Faultless.{faultless}
-use Rattle.ice_emit_meaning_laws.proofs.PadTypes.{pad_there, other_untyped, io_or_other}
+use Rattle.ice_emit_meaning_laws.proofs.PadTypes.{pad_there, io_or_other}
 use Rattle.ice_emit_meaning_laws.proofs.Pins.{clock_plain, enable_is, reset_plain, pad_output_plain, pad_enable_plain}
 use Rattle.ice_emit_meaning_laws.proofs.Read.{IsReadable, cell_reads, pad_reads, io_wire, pad_below}
 use Rattle.ice_emit_meaning_laws.proofs.Slots.{below, logic_there}
 use Rattle.ice_emit_meaning_laws.proofs.WireLevels.{HasLevel, HaveLevels, Reads, wire_made}
 
 -- ---- lists and machines
-all_alike : {X Y : Type 0} (y : Y) (xs : List X) (i : ℕ) → slice_index_or (map (λ x. y) xs) i y ≡ y
-all_alike y [] i = refl
-all_alike y (x ∷ xs) zero = refl
-all_alike y (x ∷ xs) (suc i) = all_alike y xs i
 
 -- two lists of one length give the same, item by item
 maps_alike : {X Y Z : Type 0} (f : X → Z) (h : Y → Z) (xs : List X) (ys : List Y) → length xs ≡ length ys → ((k : ℕ) (x : X) (y : Y) → At xs k x → At ys k y → f x ≡ h y) → map f xs ≡ map h ys
@@ -333,7 +331,7 @@ module _ (g : Premises) (loopless : HasNoLoop g.parts g.bits g.extras) where
 
         by : (kind_at g.parts pad.tile ≡ Some Io) ⊎ (kind_at g.parts pad.tile ≡ Some Io → ⊥) → IsPad port → drive_at g.parts g.bits s.kept now pad ≡ pad_drives node_now port
         by (inr other) (inl one) =
-            ap (λ n. part_drive (n / 4) level enable held) (other_untyped g pad other lt) ∙ sym (ap (λ n. pad_drive n (at_root false node_now port.drive) (at_root false node_now port.enable)) one.0)
+            ap (λ n. part_drive (n / 4) level enable held) (other_untyped g.parts g.bits g.chip_read pad other lt) ∙ sym (ap (λ n. pad_drive n (at_root false node_now port.drive) (at_root false node_now port.enable)) one.0)
         by (inr other) (inr (inl two)) = absurd (other (io_wire g.parts pad.tile (pad_output_name pad.pio) (wires.output (inl two.0))).0)
         by (inr other) (inr (inr three)) = absurd (other (io_wire g.parts pad.tile (pad_output_name pad.pio) (wires.output (inr three))).0)
         by (inl io) form =

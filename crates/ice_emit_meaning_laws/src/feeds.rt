@@ -1,6 +1,6 @@
 //! Whether globals of a chip feed each other.
 ghost use Rattle.std.specs.Prelude.{◌≡◌, ◌<◌, ◌↔◌, IsTrue, IfSome, option_map};
-ghost use Rattle.ice_emit_meaning_laws.specs.Feeds.{FeedsNoGlobal, feed_of, is_fed_by_global, is_global, some_fed_below};
+ghost use Rattle.ice_emit_meaning_laws.specs.Feeds.{FeedsNoGlobal, IsRingless, feed_of, is_fed_by_global, is_global, some_fed_below};
 
 use ice_base::WireNo;
 use ice_chip::{Chip, fabout_name};
@@ -49,11 +49,12 @@ fn some_fed_below(chip: &Chip, number: u8) -> bool
 }
 
 /// Whether no wire that feeds a global of the chip is a global itself: whether a global's tile has a global's wire as its `fabout` is
-/// looked up for each of the eight. It takes no memory.
+/// looked up for each of the eight. If so, none feed each other in a ring. It takes no memory.
 pub fn feeds_no_global(chip: &Chip) -> bool
-    ensures { IsTrue result ↔ FeedsNoGlobal chip.now }
+    ensures feeds { IsTrue result ↔ FeedsNoGlobal chip.now }
+    ensures ringless { IsTrue result → IsRingless chip.now }
 {
-    chip.wires();
+    chip.is_chip();
     chip_is_lawful(chip);
     !some_fed_below(chip, 8)
 }

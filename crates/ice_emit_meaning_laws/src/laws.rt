@@ -12,7 +12,7 @@ ghost use Rattle.ice_emit_defs.specs.Realised.{Realises};
 ghost use Rattle.ice_emit_defs.specs.Routed.{IsPlaced};
 ghost use Rattle.ice_emit_defs.specs.Set.{AreSet};
 ghost use Rattle.ice_emit_defs.specs.Written.{plan_extras};
-ghost use Rattle.ice_emit_meaning_laws.specs.Feeds.{AreFedByIo, FeedsNoGlobal};
+ghost use Rattle.ice_emit_meaning_laws.specs.Feeds.{AreFedByIo, FaultsAreRings, FeedsNoGlobal, IsRingless};
 
 use ice_chip::Chip;
 use ice_chip_laws::chip_is_lawful;
@@ -28,18 +28,29 @@ use ice_cluster::laws::{
 pub fn bits_realise_their_design(chip: &Chip)
     ensures { (package_rows : PackageRows) (plan : Plan) (pullups : List Bool) (wanted : List Switch) (held : Held) (bits : Bits) (extras : List (ℕ × ℕ × ℕ)) → extras ≡ plan_extras chip.now plan → HasNoLoop chip.now bits extras → IsPlaced chip.now package_rows plan pullups → AreLed chip.now plan wanted held → AreSet chip.now plan wanted held bits → IsWired chip.now bits wanted → Realises chip.now plan wanted bits extras }
 {
-    chip.wires();
+    chip.is_chip();
     chip_is_lawful(chip);
     cells_stand_in_one_slot();
     flops_are_driven_as_their_cluster();
     runs_stand_in_chunks();
 }
 
-/// The bits of a placed and routed design have no loop where no global of the chip is fed by a global.
+/// The bits of a placed and routed design have no loop where no globals of the chip feed each other in a ring.
 pub fn bits_have_no_loop(chip: &Chip)
-    ensures { (package_rows : PackageRows) (plan : Plan) (pullups : List Bool) (wanted : List Switch) (held : Held) (bits : Bits) (extras : List (ℕ × ℕ × ℕ)) → extras ≡ plan_extras chip.now plan → FeedsNoGlobal chip.now → IsPlaced chip.now package_rows plan pullups → AreLed chip.now plan wanted held → AreSet chip.now plan wanted held bits → IsWired chip.now bits wanted → HasNoLoop chip.now bits extras }
+    ensures { (package_rows : PackageRows) (plan : Plan) (pullups : List Bool) (wanted : List Switch) (held : Held) (bits : Bits) (extras : List (ℕ × ℕ × ℕ)) → extras ≡ plan_extras chip.now plan → IsRingless chip.now → IsPlaced chip.now package_rows plan pullups → AreLed chip.now plan wanted held → AreSet chip.now plan wanted held bits → IsWired chip.now bits wanted → HasNoLoop chip.now bits extras }
 {
-    chip.wires();
+    chip.is_chip();
+    chip_is_lawful(chip);
+    cells_stand_in_one_slot();
+    flops_are_driven_as_their_cluster();
+    runs_stand_in_chunks();
+}
+
+/// The bits of a placed and routed design have a fault only where globals of the chip feed each other in a ring.
+pub fn faulty_bits_have_a_ring(chip: &Chip)
+    ensures { (package_rows : PackageRows) (plan : Plan) (pullups : List Bool) (wanted : List Switch) (held : Held) (bits : Bits) (extras : List (ℕ × ℕ × ℕ)) → extras ≡ plan_extras chip.now plan → IsPlaced chip.now package_rows plan pullups → AreLed chip.now plan wanted held → AreSet chip.now plan wanted held bits → IsWired chip.now bits wanted → FaultsAreRings chip.now bits extras }
+{
+    chip.is_chip();
     chip_is_lawful(chip);
     cells_stand_in_one_slot();
     flops_are_driven_as_their_cluster();

@@ -5,5 +5,4 @@ mod Slotting
 mod Rooting
 mod Numbers
 mod Netting
-mod Passed
 mod Leaving

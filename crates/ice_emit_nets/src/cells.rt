@@ -73,7 +73,8 @@ fn push_numbered(
     i: usize,
     c: u32,
 ) -> Result<(), NoMemory>
-    ensures { OnOk result (ends.new.items ≡ ends.old.items ++ slot_gives (cell_ends chip.now) cells.now tile i (Some c)) }
+    ensures { OnOk result (ends.new.items
+        ≡ ends.old.items ++ slot_gives (cell_ends chip.now) cells.now tile i (Some c)) }
 {
     match cell_at(cells, c) {
         None => Ok(()),
@@ -108,7 +109,8 @@ pub(crate) fn push_slots(
     tile: TileAt,
     slots: &[Option<u32>],
 ) -> Result<(), NoMemory>
-    ensures { OnOk result (ends.new.items ≡ ends.old.items ++ slots_give (cell_ends chip.now) cells.now tile 0 slots.now) }
+    ensures { OnOk result (ends.new.items
+        ≡ ends.old.items ++ slots_give (cell_ends chip.now) cells.now tile 0 slots.now) }
 {
     for (i, slot) in slots.iter().enumerate() {
         push_slot(alloc, ends, chip, cells, tile, i, *slot)?;

@@ -39,7 +39,8 @@ fn push_cluster_at(
     cluster: &Cluster,
     tile: Option<TileAt>,
 ) -> Result<(), NoMemory>
-    ensures { OnOk result (ends.new.items ≡ ends.old.items ++ option_map_or (cluster_ends chip.now cells.now cluster.now) tile []) }
+    ensures { OnOk result (ends.new.items
+        ≡ ends.old.items ++ option_map_or (cluster_ends chip.now cells.now cluster.now) tile []) }
 {
     match tile {
         None => Ok(()),
@@ -56,7 +57,8 @@ fn push_clusters(
     tiles: &[TileAt],
     clusters: &[Cluster],
 ) -> Result<(), NoMemory>
-    ensures { OnOk result (ends.new.items ≡ ends.old.items ++ clusters_give (cell_ends chip.now) (control_ends chip.now) cells.now tiles.now clusters.now) }
+    ensures { OnOk result (ends.new.items
+        ≡ ends.old.items ++ clusters_give (cell_ends chip.now) (control_ends chip.now) cells.now tiles.now clusters.now) }
 {
     for (k, cluster) in clusters.iter().enumerate() {
         push_cluster_at(alloc, ends, chip, cells, cluster, tile_at(tiles, k))?;

@@ -47,7 +47,8 @@ fn push_nets(
     lists: Vec<Items<Sink>>,
 ) -> Result<(), NoMemory>
     requires { AreNumbered nets.old.items }
-    ensures nets { OnOk result (bare_nets nets.new.items ≡ bare_nets nets.old.items ++ kind_nets wires.now lists.items) }
+    ensures nets { OnOk result (bare_nets nets.new.items
+        ≡ bare_nets nets.old.items ++ kind_nets wires.now lists.items) }
     ensures numbers { OnOk result (AreNumbered nets.new.items) }
 {
     let mut rest = lists.into_iter();

@@ -68,7 +68,8 @@ pub fn nets_of(
     placement: &Placement,
     pads: &Pads,
 ) -> Result<Vec<Net>, NoMemory>
-    ensures nets { IfOk result (λ nets. map bare_net nets.items ≡ nets_of chip.now (plan_of design.now clusters.now placement.now pads.now)) }
+    ensures nets { IfOk result (λ nets. map bare_net nets.items
+        ≡ nets_of chip.now (plan_of design.now clusters.now placement.now pads.now)) }
     ensures numbers { IfOk result (λ nets. map net_number nets.items ≡ range_with_len 0 (length nets.items)) }
 {
     nets_in(alloc, &placed_of(chip, design, clusters, placement, pads))

@@ -129,7 +129,8 @@ pub(crate) fn push_globals(
     direct: &[bool],
     roots: &[Option<Root>],
 ) -> Result<(), NoMemory>
-    ensures { OnOk result (ends.new.items ≡ ends.old.items ++ map (load_end chip.now) (globals_loads chip.now numbers.now (fed_roots direct.now roots.now))) }
+    ensures { OnOk result (ends.new.items
+        ≡ ends.old.items ++ map (load_end chip.now) (globals_loads chip.now numbers.now (fed_roots direct.now roots.now))) }
 {
     for (k, root) in roots.iter().enumerate() {
         let read = fed_root(direct, k, *root);

@@ -92,7 +92,8 @@ pub(crate) fn push_load(
     pin: TilePin,
     root: Option<Root>,
 ) -> Result<(), NoMemory>
-    ensures { OnOk result (ends.new.items ≡ ends.old.items ++ map (load_end chip.now) (load_at tile (pin_in pin) root)) }
+    ensures { OnOk result (ends.new.items
+        ≡ ends.old.items ++ map (load_end chip.now) (load_at tile (pin_in pin) root)) }
 {
     let Some(root) = root else {
         return Ok(());

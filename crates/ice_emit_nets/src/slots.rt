@@ -79,7 +79,8 @@ pub(crate) fn slots_of(
     alloc: Global,
     placed: &Placed<'_>,
 ) -> Result<Vec<Option<(TileAt, usize)>>, NoMemory>
-    ensures { IfOk result (λ slots. slots.items ≡ table (slot_of (plan_in placed.now)) (length placed.now.design.now.cells)) }
+    ensures { IfOk result (λ slots. slots.items
+        ≡ table (slot_of (plan_in placed.now)) (length placed.now.design.now.cells)) }
 {
     let mut slots = no_slots(alloc, placed.design.cells().len())?;
     note_clusters(&mut slots, placed.tiles, placed.clusters);

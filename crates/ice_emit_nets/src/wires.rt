@@ -81,7 +81,8 @@ fn slot_wires(
 
 // The outputs of the cells of a placed design.
 fn cell_wires(alloc: Global, placed: &Placed<'_>) -> Result<Vec<Option<WireNo>>, NoMemory>
-    ensures { IfOk result (λ wires. wires.items ≡ map (slot_no placed.now.chip.now) (table (slot_of (plan_in placed.now)) (length placed.now.design.now.cells))) }
+    ensures { IfOk result (λ wires. wires.items
+        ≡ map (slot_no placed.now.chip.now) (table (slot_of (plan_in placed.now)) (length placed.now.design.now.cells))) }
 {
     let slots = slots_of(alloc, placed)?;
     slot_wires(alloc, placed.chip, slots.as_slice())

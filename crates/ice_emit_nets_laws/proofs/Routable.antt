@@ -1,43 +1,27 @@
 -- The nets of a placed design can be routed.
-use Rattle.std.proofs.Common.{◌≡◌, ℕ, ◌<◌, Bool, true, false, cond, Option, None, Some, List, [], ◌∷◌, refl, sym, ap, subst, arith}
-use Rattle.std.proofs.lemmas.Option.{none-some, same_Some, slice_get_within}
+use Rattle.std.proofs.Common.{◌≡◌, ℕ, ◌<◌, Bool, true, Some, List, sym, subst, arith}
+use Rattle.std.proofs.lemmas.Option.{slice_get_within}
 use Rattle.ice_base.specs.declared.number.WireNo.{WireNo}
 use Rattle.ice_base_values.specs.Order.{At, Has}
 use Rattle.ice_base_values.proofs.Members.{At_map}
 use Rattle.ice_chip.specs.Database.{Parts, PackageRows}
 use Rattle.ice_cells.specs.Readings.{is_read}
-use Rattle.ice_cells.specs.Same.{same_root}
 use Rattle.ice_cells.specs.declared.root.Root.{Root}
 use Rattle.ice_chip.specs.WireNames.{wire_name}
 use Rattle.ice_core.specs.declared.net.Net.{Net}
 use Rattle.ice_graph.specs.Network.{Network}
 use Rattle.ice_place_defs.specs.Plan.{Plan}
-use Rattle.ice_emit_nets.specs.Ends.{End, ends}
-use Rattle.ice_emit_nets.specs.Nets.{Bare, bare_net, root_wire, roots, target_of, sinks_of, net_with, net_of, nets_of}
+use Rattle.ice_emit_nets.specs.Ends.{ends}
+use Rattle.ice_emit_nets.specs.Nets.{Bare, bare_net, root_wire, roots, sinks_of, net_of, nets_of}
 use Rattle.ice_negotiate_defs.specs.Rounds.{AreNets}
 use Rattle.ice_negotiate_defs.specs.Trees.{AreSinks}
 use Rattle.ice_emit_rows_laws.proofs.Mapped.{Has_mapped_by}
 use Rattle.ice_emit_led_laws.specs.Trees.{IsOnChip}
 use Rattle.ice_emit_led_laws.proofs.Reading.{end_read}
-use Rattle.ice_emit_led_laws.proofs.Roots.{root_same, root_at}
+use Rattle.ice_emit_led_laws.proofs.Roots.{root_at}
+use Rattle.ice_emit_led_laws.proofs.Trees.{sink_told, net_told}
 use Rattle.ice_emit_nets_laws.specs.Routing.{IsFabric, AreNetsOf}
 use Rattle.ice_emit_nets_laws.proofs.Targets.{named_below, each_target, target_below}
-
--- a net has the wire of its root, and its sinks
-net_told : (wire : Option ℕ) (sinks : List (List WireNo)) (net : Bare) → net_with wire sinks ≡ Some net → (wire ≡ Some net.0) × (net.1 ≡ sinks) × ((targets : List WireNo) × Has sinks targets)
-net_told None sinks net e = absurd (none-some net e)
-net_told (Some w) [] net e = absurd (none-some net e)
-net_told (Some w) (sink ∷ sinks) net e =
-    let same : (w, sink ∷ sinks) ≡ net = same_Some (w, sink ∷ sinks) net e in
-    (ap (λ (n : Bare). Some n.0) same, ap (λ (n : Bare). n.1) (sym same), (sink, (0, refl)))
-
--- a sink of a root
-sink_told : (all : List End) (root : Root) (targets : List WireNo) → Has (sinks_of all root) targets → (e : End) × Has all e × (e.0 ≡ root) × (e.1 ≡ targets)
-sink_told all root targets has = let got = Has_mapped_by (target_of root) all targets has in let same = by {e = got.0} (same_root got.0.0 root) refl got.2 in (got.0, got.1, same.0, same.1)
-  where
-    by : {e : End} (b : Bool) → same_root e.0 root ≡ b → cond b (Some e.1) None ≡ Some targets → (e.0 ≡ root) × (e.1 ≡ targets)
-    by {e = e} true is f = (root_same e.0 root is, same_Some e.1 targets f)
-    by false is f = absurd (none-some targets f)
 
 module _ (parts : Parts) (rows : PackageRows) (plan : Plan) (pullups : List Bool) (on : IsOnChip parts rows plan pullups) where
   -- the sinks of a root have targets, which are wires of the chip

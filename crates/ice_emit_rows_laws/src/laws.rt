@@ -20,7 +20,7 @@ use ice_chip_laws::chip_is_lawful;
 pub fn wanted_rows_drive(chip: &Chip)
     ensures { (wanted : List Switch) (more : Bits) → AreWanted chip.now wanted → AreNoGroups chip.now more → IsWired chip.now (set_bits chip.now wanted more) wanted }
 {
-    chip.wires();
+    chip.is_chip();
     chip_is_lawful(chip);
 }
 

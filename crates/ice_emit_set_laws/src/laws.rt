@@ -11,7 +11,7 @@ pub fn designs_are_set(chip: &Chip)
     ensures apart { SetsNoGroups chip.now }
     ensures set { SetsDesigns chip.now }
 {
-    chip.wires();
+    chip.is_chip();
     chip.enables();
     chip_is_lawful(chip);
     function_names_are_read();

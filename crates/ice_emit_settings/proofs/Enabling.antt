@@ -6,8 +6,7 @@ use Rattle.std.specs.Option.{option_map_or}
 use Rattle.std.proofs.lemmas.List.Folds.{list_any-append}
 use Rattle.std.proofs.lemmas.List.Sums.{fold-append}
 use Rattle.indexmap.specs.IndexSet.{insert_key, insert_all}
-use Rattle.ice_base.proofs.Keys.{nat_self, tile_self}
-use Rattle.ice_chip.proofs.Keys.{pad_same}
+use Rattle.ice_chip.proofs.Keys.{pad_same, pad_self}
 use Rattle.ice_chip.specs.FunctionNames.{input_enable_function}
 use Rattle.ice_chip.specs.Places.{same_pad}
 use Rattle.ice_chip.specs.declared.rows.Pad.{Pad}
@@ -15,6 +14,7 @@ use Rattle.ice_cells.specs.declared.design.DesignPad.{DesignPad}
 use Rattle.ice_emit_nets.specs.Sides.{sides}
 use Rattle.ice_emit_nets.proofs.Siding.{sides_are, sides_step, sides_end}
 use Rattle.ice_emit_rows_laws.specs.Settings.{Setting}
+use Rattle.ice_emit_bits.proofs.Adding.{or_assoc}
 use Rattle.ice_emit_defs.specs.Functions.{setting_if, read_pads, is_read_pad, is_needed, enable_settings}
 use Rattle.ice_emit_settings.specs.Enables.{read_pads_at, one_needed, needed_places, disabled_by}
 
@@ -63,12 +63,6 @@ all_read pads ports k old new le inv =
     ap (insert_all same_pad new) none ∙ inv ∙ ap (insert_all same_pad old) (reads_are pads ports)
 
 -- ---- what is gathered has the same pads
-pad_self : (p : Pad) → same_pad p p ≡ true
-pad_self p = rw (tile_self p.tile, nat_self p.pio) refl
-
-or_assoc : (a b x : Bool) → ((a || b) || x) ≡ (a || (b || x))
-or_assoc true b x = refl
-or_assoc false b x = refl
 
 one_more : (q : Pad) (ks : List Pad) (p : Pad) → list_any (same_pad q) (insert_key same_pad ks p) ≡ (list_any (same_pad q) ks || same_pad q p)
 one_more q ks p = by (list_any (same_pad p) ks) refl

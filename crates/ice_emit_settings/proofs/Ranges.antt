@@ -1,12 +1,9 @@
 -- What is made of numbers one after another.
-use Rattle.std.proofs.Common.{◌≡◌, ℕ, ◌+◌, ◌++◌, ◌∷◌, [], List, zero, suc, ap, sym, ◌∙◌, arith, add-one, append-nil}
+use Rattle.std.proofs.Common.{◌≡◌, ℕ, ◌+◌, ◌++◌, ◌∷◌, [], List, ap, sym, ◌∙◌, arith, add-one, append-nil}
 use Rattle.std.specs.List.{flat_map, range_with_len}
 use Rattle.std.proofs.lemmas.List.{append_assoc}
 use Rattle.std.proofs.lemmas.List.Concat.{flat_map-append}
-
-range_suc : (n a : ℕ) → range_with_len a (suc n) ≡ range_with_len a n ++ (a + n) ∷ []
-range_suc zero a = let e : a ≡ a + 0 = omega arith in ap (λ x. x ∷ []) e
-range_suc (suc n) a = let e : a + 1 + n ≡ a + suc n = omega arith in ap (λ l. a ∷ l) (range_suc n (a + 1) ∙ ap (λ x. range_with_len (a + 1) n ++ x ∷ []) e)
+use Rattle.ice_base.proofs.Ranges.{range_suc}
 
 -- what is made of a range and of the number behind it
 pub made_more : {A : Type 0} (f : ℕ → List A) (n : ℕ) (start old new : List A) → old ≡ start ++ flat_map f (range_with_len 0 n) → new ≡ old ++ f n → new ≡ start ++ flat_map f (range_with_len 0 (n + 1))

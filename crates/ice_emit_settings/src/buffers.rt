@@ -20,7 +20,8 @@ fn push_served(
     global: u8,
     served: Option<TileAt>,
 ) -> Result<(), NoMemory>
-    ensures { OnOk result (views made.new.items ≡ views made.old.items ++ option_map_or (buffer_at tile global) served []) }
+    ensures { OnOk result (views made.new.items
+        ≡ views made.old.items ++ option_map_or (buffer_at tile global) served []) }
 {
     match served {
         None => Ok(()),
@@ -78,7 +79,8 @@ fn push_rows(
     rows: &[RowNo],
 ) -> Result<(), NoMemory>
     requires { known.now ≡ global_wires chip.now }
-    ensures { OnOk result (views made.new.items ≡ views made.old.items ++ flat_map (buffer_settings chip.now) (switches chip.now rows.now)) }
+    ensures { OnOk result (views made.new.items
+        ≡ views made.old.items ++ flat_map (buffer_settings chip.now) (switches chip.now rows.now)) }
 {
     for k in 0..rows.len() {
         push_buffer(made, chip, known, rows[k])?;
@@ -96,7 +98,8 @@ pub fn push_buffers(
     chip: &Chip,
     rows: &[RowNo],
 ) -> Result<(), NoMemory>
-    ensures { OnOk result (views made.new.items ≡ views made.old.items ++ flat_map (buffer_settings chip.now) (switches chip.now rows.now)) }
+    ensures { OnOk result (views made.new.items
+        ≡ views made.old.items ++ flat_map (buffer_settings chip.now) (switches chip.now rows.now)) }
 {
     let known = global_wires(alloc, chip)?;
     push_rows(made, chip, &known, rows)

@@ -54,7 +54,8 @@ fn push_entry(
     entry: u8,
 ) -> Result<(), NoMemory>
     requires { entry < 16 }
-    ensures { OnOk result (views made.new.items ≡ views made.old.items ++ entry_settings tile (cell_function cell) table entry) }
+    ensures { OnOk result (views made.new.items
+        ≡ views made.old.items ++ entry_settings tile (cell_function cell) table entry) }
 {
     let place = entry_place(entry);
     push_if(
@@ -69,7 +70,8 @@ fn push_entry(
 
 // Adds the entries of a table that are 1.
 fn push_table(made: &mut Vec<Setting>, tile: TileAt, cell: u8, table: u16) -> Result<(), NoMemory>
-    ensures { OnOk result (views made.new.items ≡ views made.old.items ++ table_settings tile (cell_function cell) table) }
+    ensures { OnOk result (views made.new.items
+        ≡ views made.old.items ++ table_settings tile (cell_function cell) table) }
 {
     for entry in 0..16u8 {
         push_entry(made, tile, cell, table, entry)?;
@@ -79,7 +81,8 @@ fn push_table(made: &mut Vec<Setting>, tile: TileAt, cell: u8, table: u16) -> Re
 
 // Adds how a flip-flop is set or reset.
 fn push_reset(made: &mut Vec<Setting>, tile: TileAt, cell: u8, reset: Reset) -> Result<(), NoMemory>
-    ensures { OnOk result (views made.new.items ≡ views made.old.items ++ reset_settings tile (cell_function cell) reset) }
+    ensures { OnOk result (views made.new.items
+        ≡ views made.old.items ++ reset_settings tile (cell_function cell) reset) }
 {
     match reset {
         Reset::Nothing | Reset::SyncReset => Ok(()),
@@ -100,7 +103,8 @@ fn push_flop(
     cell: u8,
     flop: Option<(Control, Reset)>,
 ) -> Result<(), NoMemory>
-    ensures { OnOk result (views made.new.items ≡ views made.old.items ++ flop_settings tile (cell_function cell) flop) }
+    ensures { OnOk result (views made.new.items
+        ≡ views made.old.items ++ flop_settings tile (cell_function cell) flop) }
 {
     let Some((_, reset)) = flop else {
         return Ok(());
@@ -122,7 +126,8 @@ pub fn push_cell(
     table: u16,
     logic: &LogicCell,
 ) -> Result<(), NoMemory>
-    ensures { OnOk result (views made.new.items ≡ views made.old.items ++ (table_settings tile (cell_function cell) table ++ setting_if logic.now.carry tile (cell_function cell) 8 ++ flop_settings tile (cell_function cell) logic.now.flop)) }
+    ensures { OnOk result (views made.new.items
+        ≡ views made.old.items ++ (table_settings tile (cell_function cell) table ++ setting_if logic.now.carry tile (cell_function cell) 8 ++ flop_settings tile (cell_function cell) logic.now.flop)) }
 {
     push_table(made, tile, cell, table)?;
     push_if(made, logic.carry, tile, TileFunction::Cell(cell), CARRY)?;

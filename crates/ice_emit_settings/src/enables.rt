@@ -45,7 +45,8 @@ fn add_read(pads: &mut IndexSet<Pad>, port: DesignPad, pad: Pad) -> Result<(), N
 
 // The same, if there is a pad for it.
 fn add_read_at(pads: &mut IndexSet<Pad>, port: DesignPad, pad: Option<Pad>) -> Result<(), NoMemory>
-    ensures { OnOk result (pads.new.keys ≡ insert_all same_pad pads.old.keys (option_map_or (read_pads_at port) pad [])) }
+    ensures { OnOk result (pads.new.keys
+        ≡ insert_all same_pad pads.old.keys (option_map_or (read_pads_at port) pad [])) }
 {
     match pad {
         None => Ok(()),
@@ -82,7 +83,8 @@ fn add_needed(
     pad: Pad,
     enable: Pad,
 ) -> Result<(), NoMemory>
-    ensures { OnOk result (found.new.keys ≡ insert_all same_pad found.old.keys (one_needed read.now.keys (pad, enable))) }
+    ensures { OnOk result (found.new.keys
+        ≡ insert_all same_pad found.old.keys (one_needed read.now.keys (pad, enable))) }
 {
     if is_among(read, pad) {
         add(found, enable)?;
@@ -96,7 +98,8 @@ fn add_all_needed(
     read: &IndexSet<Pad>,
     enables: &IndexMap<Pad, Pad>,
 ) -> Result<(), NoMemory>
-    ensures { OnOk result (found.new.keys ≡ insert_all same_pad found.old.keys (needed_places read.now.keys enables.now.entries)) }
+    ensures { OnOk result (found.new.keys
+        ≡ insert_all same_pad found.old.keys (needed_places read.now.keys enables.now.entries)) }
 {
     for (pad, enable) in enables.iter() {
         add_needed(found, read, *pad, *enable)?;
@@ -124,7 +127,8 @@ fn push_each(
     needed: &IndexSet<Pad>,
     enables: &IndexMap<Pad, Pad>,
 ) -> Result<(), NoMemory>
-    ensures { OnOk result (views made.new.items ≡ views made.old.items ++ flat_map (disabled_by needed.now.keys) enables.now.entries) }
+    ensures { OnOk result (views made.new.items
+        ≡ views made.old.items ++ flat_map (disabled_by needed.now.keys) enables.now.entries) }
 {
     for (_, enable) in enables.iter() {
         push_enable(made, needed, *enable)?;
@@ -138,7 +142,8 @@ fn needed_of(
     read: &IndexSet<Pad>,
     enables: &IndexMap<Pad, Pad>,
 ) -> Result<IndexSet<Pad>, NoMemory>
-    ensures { IfOk result (λ found. found.keys ≡ insert_all same_pad [] (needed_places read.now.keys enables.now.entries)) }
+    ensures { IfOk result (λ found. found.keys
+        ≡ insert_all same_pad [] (needed_places read.now.keys enables.now.entries)) }
 {
     let mut found = IndexSet::new(alloc);
     let done = add_all_needed(&mut found, read, enables);
@@ -165,7 +170,8 @@ pub fn push_enables(
     pads: &[Pad],
     ports: &[DesignPad],
 ) -> Result<(), NoMemory>
-    ensures { OnOk result (views made.new.items ≡ views made.old.items ++ flat_map (enable_settings (enables_of chip.now) (read_pads pads.now ports.now)) (enables_of chip.now)) }
+    ensures { OnOk result (views made.new.items
+        ≡ views made.old.items ++ flat_map (enable_settings (enables_of chip.now) (read_pads pads.now ports.now)) (enables_of chip.now)) }
 {
     let enables = chip.enables();
     let read = read_of(alloc, pads, ports)?;

@@ -15,7 +15,8 @@ pub fn push(
     function: TileFunction,
     number: u8,
 ) -> Result<(), NoMemory>
-    ensures { OnOk result (views made.new.items ≡ views made.old.items ++ setting tile (function_name function) number ∷ []) }
+    ensures { OnOk result (views made.new.items
+        ≡ views made.old.items ++ setting tile (function_name function) number ∷ []) }
 {
     made.push(Setting {
         tile,
@@ -36,7 +37,8 @@ pub fn push_if(
     function: TileFunction,
     number: u8,
 ) -> Result<(), NoMemory>
-    ensures { OnOk result (views made.new.items ≡ views made.old.items ++ setting_if wanted tile (function_name function) number) }
+    ensures { OnOk result (views made.new.items
+        ≡ views made.old.items ++ setting_if wanted tile (function_name function) number) }
 {
     if wanted {
         push(made, tile, function, number)?;

@@ -95,7 +95,8 @@ fn push_port_at(
     port: DesignPad,
     place: Option<(Pad, bool)>,
 ) -> Result<(), NoMemory>
-    ensures { OnOk result (views made.new.items ≡ views made.old.items ++ option_map_or (port_gives chip.now port) place []) }
+    ensures { OnOk result (views made.new.items
+        ≡ views made.old.items ++ option_map_or (port_gives chip.now port) place []) }
 {
     match place {
         None => Ok(()),
@@ -122,7 +123,8 @@ pub fn push_ports(
     pullups: &[bool],
     ports: &[DesignPad],
 ) -> Result<(), NoMemory>
-    ensures { OnOk result (views made.new.items ≡ views made.old.items ++ ports_settings chip.now pads.now pullups.now ports.now) }
+    ensures { OnOk result (views made.new.items
+        ≡ views made.old.items ++ ports_settings chip.now pads.now pullups.now ports.now) }
 {
     for (k, port) in ports.iter().enumerate() {
         push_port_at(made, chip, *port, place_at(pads, pullups, k))?;

@@ -1,5 +1,6 @@
 pub mod Command
+pub mod Names
 pub mod Plays
-pub mod Rows
 pub mod Ends
 pub mod Run
+pub mod Rows

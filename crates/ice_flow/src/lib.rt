@@ -1,7 +1,6 @@
 //! The flow: what the words after the program's name ask for is done.
 #![tactic(auto)]
 
-mod request;
 mod top_call;
 
 pub use ice_flow_frame::{Cause, Done, FileRole};

@@ -9,6 +9,7 @@ use Rattle.ice_flow_frame.specs.Causes.{status_of}
 use Rattle.ice_flow_frame.specs.Commands.{IsDone, IsTrueOf}
 use Rattle.ice_flow_frame.specs.Reading.{TellsLong}
 use Rattle.ice_flow_frame.specs.Rows.{GoodRow, IsHeld}
+use Rattle.ice_flow_frame.specs.Told.{telling}
 use Rattle.ice_flow_frame.specs.Texts.{text_at}
 use Rattle.ice_flow_frame.proofs.CommandRows.{Lawful, StandsAlone, done_row, good_row, read_fault_row, write_fault_row, too_long_row}
 use Rattle.ice_flow_frame.proofs.Standings.{of_done}
@@ -17,12 +18,12 @@ use Rattle.ice_flow_chip_frame.proofs.RowLaws.{IsLater, IsOnBits, chip_row, asc_
 use Rattle.ice_flow_chip_frame.proofs.Told.{told}
 use Rattle.ice_flow_back_cmd.specs.Asked.{Back}
 use Rattle.ice_flow_back_cmd.specs.BackRows.{HeadlineRow, IsBackAnswer}
-use Rattle.ice_flow_back_cmd.specs.Command.{Stands, back_files}
+use Rattle.ice_flow_back_cmd.specs.Command.{StandsForBack, back_files}
 
 abbrev Then : List (List ℕ) → PackageRows → Cause → Type 0
 Then texts bonded = IsDone
 
-never : (name : List ℕ) (t : List (List ℕ)) → Stands name t Usage → ⊥
+never : (name : List ℕ) (t : List (List ℕ)) → StandsForBack name t Usage → ⊥
 never name t m = elim (told (Then t) name t Usage m) [ inl so ↦ so | inr behind ↦ behind.stands ]
 
 pub lawful : (b : Back) → Lawful (back_files b)
@@ -42,14 +43,14 @@ on_bits : (b : Back) → IsOnBits (back_files b) Then b.package_name
 on_bits b = record {
   lawful = lawful b;
   stands = λ t cause m. m;
-  later = λ t bonded cause done. of_done IsLater (λ arrangement tallies. tt) (λ role put. tt) cause done;
+  later = λ t bonded cause done. of_done IsLater (λ arrangement tallies kept. tt) (λ role put. tt) cause done;
 }
 
 -- ---- the headline
 headline_row : (b : Back) (old new : Meaning) (cause : Cause) (status : ℕ) → GoodRow (back_files b) old new cause status → HeadlineRow b old new status
 headline_row b old new cause status good zero_status tells =
     let done = good.done zero_status in
-    let held : IsHeld (back_files b) old new done.0 done.1.items = good.held done.0 done.1 done.2 tells in
+    let held : IsHeld (back_files b) old new done.0 (telling done.1 done.2) = good.held done.0 done.1 done.2 done.3 tells in
     (held.texts, text_at held.made 1, held.hold, held.there.0 tt, held.gives.0.is_shown)
 
 -- ---- all rows

@@ -1,14 +1,8 @@
 -- What `back` is asked for.
-use Rattle.std.specs.Prelude.{ℕ, List, [], ◌∷◌}
+use Rattle.std.specs.Prelude.{[], ◌∷◌}
 use Rattle.ice_flow_frame.specs.declared.cause.FileRole.TheVariants.{Chip, Asc, Blif}
 use Rattle.ice_flow_frame.specs.Reading.{Files}
-
--- the words of `back CHIP PACKAGE ASC BLIF`: names of files, and the name of a package
-pub record Back : Type 0 where
-  pub chip : List ℕ
-  pub package_name : List ℕ
-  pub asc : List ℕ
-  pub blif : List ℕ
+pub use Rattle.ice_flow_words.specs.Requests.{Back}
 
 -- the files that are read, in the order of reading
 abbrev pub files_of : Back → Files

@@ -3,4 +3,3 @@ pub mod Headline
 pub mod Made
 pub mod Command
 pub mod BackRows
-pub mod Requests

@@ -1,5 +1,7 @@
 //! Going back: two texts are read, and the text of the netlist of the bits is written.
 ghost use Rattle.std.specs.Prelude.{◌≡◌, ◌∷◌, ℕ, List, true, None, Ok, IfOk, IfErr};
+ghost use Rattle.ice_flow_frame.specs.Told.{told_in};
+ghost use Rattle.ice_desk.specs.Desk.{SameTest};
 ghost use Rattle.ice_flow_frame.specs.Causes.{status_of};
 ghost use Rattle.ice_flow_frame.specs.Commands.{InFiles, IsRefusal, IsTrueOf};
 ghost use Rattle.ice_flow_frame.specs.Reading.{TellsLong};
@@ -8,9 +10,9 @@ ghost use Rattle.ice_chip_read.specs.Whole.{chip_says};
 ghost use Rattle.ice_flow_chip_frame.specs.Standing.{IsRead};
 ghost use Rattle.ice_flow_back_cmd.specs.Asked.{outputs_of};
 ghost use Rattle.ice_flow_back_cmd.specs.BackRows.{IsBackAnswer};
-ghost use Rattle.ice_flow_back_cmd.specs.Command.{Stands, back_files};
-ghost use Rattle.ice_flow_back_cmd.specs.Made.{IsMade};
-ghost use Rattle.ice_flow_back_cmd.specs.Requests.{request_view};
+ghost use Rattle.ice_flow_back_cmd.specs.Command.{StandsForBack, back_files};
+ghost use Rattle.ice_flow_back_cmd.specs.Made.{IsMadeByBack};
+ghost use Rattle.ice_flow_words.specs.Views.{back_view};
 
 use crate::netlist_text::back_text;
 use ice_asc::read_asc;
@@ -26,21 +28,9 @@ use ice_flow_frame::{
     Cause, CommandFile, Done, FileRole, Made, Texts, asc_refusal, bits_refusal, chip_refusal,
     made_text,
 };
+use ice_flow_words::BackRequest;
 use ice_pads::PinFault;
 use std::alloc::Global;
-
-/// To write the netlist of the bits of one file on the chip of another, with a port for each pad of the package.
-#[derive(Clone, Copy)]
-pub struct BackRequest<'a> {
-    /// The name of the file of the chip database.
-    pub chip: &'a str,
-    /// The name of the package.
-    pub package_name: &'a str,
-    /// The name of the file of bits.
-    pub asc: &'a str,
-    /// The name of the file that the netlist is written to.
-    pub blif: &'a str,
-}
 
 // The text of the netlist of bits on a chip, which a chip text and the texts behind it say.
 fn back_read(
@@ -51,8 +41,8 @@ fn back_read(
     bits: &Bits,
 ) -> Result<Made, Cause>
     requires { (chip_text : List ℕ) × (chip_says chip_text ≡ Ok chip.now) }
-    ensures made { (chip_text : List ℕ) → IsRead (chip_text ∷ texts.now) chip.now bits.now → IfOk result (λ made. IsMade package_name.now (chip_text ∷ texts.now) made.texts made.arrangement made.tallies.items) }
-    ensures refused { (chip_text : List ℕ) → IsRead (chip_text ∷ texts.now) chip.now bits.now → IfErr result (λ cause. IsRefusal (Stands package_name.now (chip_text ∷ texts.now)) cause) }
+    ensures made { (chip_text : List ℕ) → IsRead (chip_text ∷ texts.now) chip.now bits.now → IfOk result (λ made. IsMadeByBack package_name.now (chip_text ∷ texts.now) made.texts made.arrangement (told_in made)) }
+    ensures refused { (chip_text : List ℕ) → IsRead (chip_text ∷ texts.now) chip.now bits.now → IfErr result (λ cause. IsRefusal (StandsForBack package_name.now (chip_text ∷ texts.now)) cause) }
 {
     pins_are_words();
     let Some(bonded) = chip.package(package_name.as_bytes()) else {
@@ -71,8 +61,8 @@ fn back_read(
 // The text of the netlist of the bits of the text behind the chip's on the chip.
 fn back_on(alloc: Global, package_name: &str, texts: &Texts, chip: &Chip) -> Result<Made, Cause>
     requires { (chip_text : List ℕ) × (chip_says chip_text ≡ Ok chip.now) }
-    ensures made { (chip_text : List ℕ) → chip_says chip_text ≡ Ok chip.now → IfOk result (λ made. IsMade package_name.now (chip_text ∷ texts.now) made.texts made.arrangement made.tallies.items) }
-    ensures refused { (chip_text : List ℕ) → chip_says chip_text ≡ Ok chip.now → IfErr result (λ cause. IsRefusal (Stands package_name.now (chip_text ∷ texts.now)) cause) }
+    ensures made { (chip_text : List ℕ) → chip_says chip_text ≡ Ok chip.now → IfOk result (λ made. IsMadeByBack package_name.now (chip_text ∷ texts.now) made.texts made.arrangement (told_in made)) }
+    ensures refused { (chip_text : List ℕ) → chip_says chip_text ≡ Ok chip.now → IfErr result (λ cause. IsRefusal (StandsForBack package_name.now (chip_text ∷ texts.now)) cause) }
 {
     match read_asc(alloc, texts.at(1), chip) {
         Ok(bits) => back_read(alloc, package_name, texts, chip, &bits),
@@ -80,10 +70,16 @@ fn back_on(alloc: Global, package_name: &str, texts: &Texts, chip: &Chip) -> Res
     }
 }
 
-impl<'a> ChipMaking for BackRequest<'a> {
-    ghost stands = { λ request texts cause. Stands request.package_name.now texts cause };
+// What is written of bits: the netlist of their circuit, with a port for each pad of the package of this name.
+#[derive(Clone, Copy)]
+struct InPackage<'a> {
+    package_name: &'a str,
+}
 
-    ghost gives = { λ request texts made arrangement tallies. IsMade request.package_name.now texts made arrangement tallies };
+impl<'a> ChipMaking for InPackage<'a> {
+    ghost stands = { λ in_package texts cause. StandsForBack in_package.package_name.now texts cause };
+
+    ghost gives = { λ in_package texts made arrangement told. IsMadeByBack in_package.package_name.now texts made arrangement told };
 
     fn make(&self, alloc: Global, reader: ChipReader, texts: &Texts) -> Result<Made, Cause> {
         match reader.finish() {
@@ -106,13 +102,16 @@ pub fn back_files<D: Desk>(alloc: Global, desk: &mut D, request: &BackRequest<'_
     requires chip { D.may_read desk.old request.now.chip.now }
     requires asc { D.may_read desk.old request.now.asc.now }
     requires blif { D.may_write desk.old request.now.blif.now }
+    ensures tells { (D.seen desk.new).tells ≡ (D.seen desk.old).tells }
+    ensures names_read { SameTest (D.may_read desk.old) (D.may_read desk.new) }
+    ensures names_written { SameTest (D.may_write desk.old) (D.may_write desk.new) }
     ensures status { result.status ≡ status_of result.cause }
-    ensures cause { IsTrueOf (back_files (request_view request.now)) (D.seen desk.old) (D.seen desk.new) result.cause }
-    ensures rows { IsBackAnswer (request_view request.now) (D.seen desk.old) (D.seen desk.new) result }
-    ensures said { (D.seen desk.old).tells ≡ true → SaidBy (InFiles (outputs_of (request_view request.now))) (D.seen desk.old) (D.seen desk.new) result.cause }
-    ensures kept { (D.seen desk.old).tells ≡ true → KeptRow (InFiles (outputs_of (request_view request.now))) None (D.seen desk.old) (D.seen desk.new) result.cause }
-    ensures made { MadeRow (InFiles (outputs_of (request_view request.now))) None (D.seen desk.old) (D.seen desk.new) result.cause }
-    ensures silent { SilentRow (InFiles (outputs_of (request_view request.now))) (D.seen desk.old) (D.seen desk.new) result.cause }
+    ensures cause { IsTrueOf (back_files (back_view request.now)) (D.seen desk.old) (D.seen desk.new) result.cause }
+    ensures rows { IsBackAnswer (back_view request.now) (D.seen desk.old) (D.seen desk.new) result }
+    ensures said { (D.seen desk.old).tells ≡ true → SaidBy (InFiles (outputs_of (back_view request.now))) (D.seen desk.old) (D.seen desk.new) result.cause }
+    ensures kept { (D.seen desk.old).tells ≡ true → KeptRow (InFiles (outputs_of (back_view request.now))) None (D.seen desk.old) (D.seen desk.new) result.cause }
+    ensures made { MadeRow (InFiles (outputs_of (back_view request.now))) None (D.seen desk.old) (D.seen desk.new) result.cause }
+    ensures silent { SilentRow (InFiles (outputs_of (back_view request.now))) (D.seen desk.old) (D.seen desk.new) result.cause }
     ensures given { TellsLong (D.seen desk.new) result.cause }
 {
     let files = [CommandFile {
@@ -123,5 +122,8 @@ pub fn back_files<D: Desk>(alloc: Global, desk: &mut D, request: &BackRequest<'_
         role: FileRole::Blif,
         name: request.blif,
     }];
-    write_made_on_chip(alloc, desk, request.chip, &files, request, &outputs)
+    let in_package = InPackage {
+        package_name: request.package_name,
+    };
+    write_made_on_chip(alloc, desk, request.chip, &files, &in_package, &outputs)
 }

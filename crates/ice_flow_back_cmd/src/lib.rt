@@ -4,4 +4,4 @@
 mod command;
 mod netlist_text;
 
-pub use command::{BackRequest, back_files};
+pub use command::back_files;

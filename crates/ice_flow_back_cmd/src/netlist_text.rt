@@ -49,7 +49,7 @@ pub(crate) fn back_text(
     ensures text { IfOk result (λ text. text.items ≡ blif_text (back_netlist chip.now (bits_of circuit.now.configuration) circuit.now.configuration.extras (package_view bonded.now))) }
     ensures says { IfOk result (λ text. SaysBits chip.now circuit.now.configuration (package_view bonded.now) text.items) }
 {
-    let _wires = chip.wires();
+    chip.is_chip();
     let netlist = back(alloc, chip, circuit, bonded)?;
     let text = text_of(alloc, &netlist)?;
     Ok(text)

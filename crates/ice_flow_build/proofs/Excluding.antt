@@ -1,6 +1,6 @@
 -- Of one arrangement: routes without a shared wire, a sink that can't be reached, and permitted rounds that all end with an overused wire
 -- leave each other out, whatever graph and nets they are stated of.
-use Rattle.std.proofs.Common.{◌≡◌, ◌∙◌, ℕ, List, [], ◌∷◌, suc, Some, length, map, slice_get, replicate, Result, Ok, inl, inr, refl, sym, ap, subst, None}
+use Rattle.std.proofs.Common.{◌≡◌, ◌∙◌, ℕ, List, [], ◌∷◌, suc, Bool, true, false, Option, None, Some, length, map, slice_get, replicate, MatchBool, if◌then◌else◌, Result, Ok, inl, inr, refl, sym, ap, subst}
 use Rattle.std.proofs.lemmas.Bool.{cases_order}
 use Rattle.ice_base.specs.declared.number.NetNo.{NetNo}
 use Rattle.ice_base.specs.declared.number.TileAt.{TileAt}
@@ -16,12 +16,19 @@ use Rattle.ice_graph.specs.declared.edge.Edge.{Edge}
 use Rattle.ice_graph.specs.declared.tree.Tree.{Tree}
 use Rattle.ice_graph.specs.Network.{Network}
 use Rattle.ice_emit_nets.specs.Nets.{Bare, bare_net}
-use Rattle.ice_negotiate_defs.specs.Logs.{AllEndOverused}
-use Rattle.ice_negotiate_defs.specs.Tallies.{AreTallies}
-use Rattle.ice_negotiate_defs.specs.Rounds.{Past, IsRound, IsMoved, IsFirstFrom, AreAll, AreRounds, AreReachedBefore, IsUnreachable}
+use Rattle.ice_negotiate_defs.specs.Determined.{OpensAtOne}
+use Rattle.ice_negotiate_defs.specs.Fitting.{wholes}
+use Rattle.ice_negotiate_defs.specs.Logs.{AllEndOverusedFrom}
+use Rattle.ice_negotiate_defs.specs.Tallies.{AreTalliesFrom}
+use Rattle.ice_negotiate_defs.specs.Rounds.{Past, IsRound, IsMoved, IsFirstFrom, AreRoundsFrom, AreReachedBefore, IsUnreachable, MoveFirst}
+use Rattle.ice_negotiate_defs.specs.declared.kept.Kept.{Kept}
+use Rattle.ice_negotiate_defs.specs.declared.kept.Kept.TheVariants.{Whole}
+use Rattle.ice_claim_opening.specs.Opened.{IsOpened}
 use Rattle.ice_negotiate_defs.specs.Trees.{IsTree, AreReached, IsCause, route_of}
 use Rattle.ice_negotiate_defs.specs.declared.stop.TreeStop.TheVariants.{Unreachable}
-use Rattle.ice_negotiate_defs.proofs.Repeating.{reached_all, routed_free}
+use Rattle.ice_negotiate_defs.proofs.Fitting.{whole_at}
+use Rattle.ice_negotiate_defs.proofs.Repeating.{reached_all}
+use Rattle.ice_negotiate_defs.proofs.Unchanged.{verdict_unchanged}
 use Rattle.ice_negotiate_defs.specs.declared.fault.Routed.{Routed}
 use Rattle.ice_pads.specs.Assign.{PadsData, assign_of}
 use Rattle.ice_pads.specs.declared.fault.PinFault.{PinFault}
@@ -29,10 +36,15 @@ use Rattle.ice_place.specs.declared.arrangement.Arrangement.{Arrangement}
 use Rattle.ice_place_defs.specs.Plan.{Plan}
 use Rattle.ice_base_values.proofs.Members.{At_map, map_At}
 use Rattle.ice_words.specs.Grips.{Shut}
-use Rattle.ice_flow_build.specs.Answers.{IsRouting, IsStuck, IsGivenUp, IsRouted}
+use Rattle.ice_flow_build.specs.Answers.{IsOpeningOf, IsRouting, IsStuck, IsGivenUp, IsRouted, opening_in}
 use Rattle.ice_flow_build.specs.Laid.{Task, IsLaidOut, arrangement_in, plan_in}
 use Rattle.ice_flow_build.specs.Placements.{IsRoutedSo, IsStuckOn, IsGivenUpOn}
+use Rattle.ice_flow_build.specs.declared.answer.Effort.{Effort}
 use Rattle.ice_flow_build.specs.declared.answer.Layout.{Layout}
+
+-- what rounds begin from
+abbrev Opening : Type 0
+Opening = Option (List (Option Tree))
 
 -- ---- the same nets
 -- each net of the others is one of these by its root and its sinks
@@ -115,8 +127,8 @@ round_as graph other nets others round history counts moved old new same is = re
       moved_as graph other round history counts moved n found.0 net before after same.edges found.2 found.3 (is.each n found.0 before after found.1 was now);
 }
 
-first_as : (graph other : Network) (nets others : List Net) (one : Past) → AreSameRouting graph other nets others → IsFirstFrom graph nets None one → IsFirstFrom other others None one
-first_as graph other nets others one same is = record {
+first_as : (graph other : Network) (nets others : List Net) (opening : Opening) (one : Past) → AreSameRouting graph other nets others → IsFirstFrom graph nets opening one → IsFirstFrom other others opening one
+first_as graph other nets others opening one same is = record {
   before = is.before;
   begins = is.begins;
   counts = is.counts;
@@ -124,13 +136,13 @@ first_as graph other nets others one same is = record {
   occupied = is.occupied;
   number = is.number;
   fresh = subst (λ (wires : ℕ). one.history ≡ replicate wires 0) same.wires is.fresh;
-  movers = subst (λ (n : ℕ). AreAll n one.moved) same.long is.movers;
+  movers = subst (λ (n : ℕ). MoveFirst n opening one.moved) same.long is.movers;
   done = round_as graph other nets others 1 one.history is.counts one.moved is.before one.trees same is.done;
 }
 
-rounds_as : (graph other : Network) (nets others : List Net) (rounds : List Past) → AreSameRouting graph other nets others → AreRounds graph nets rounds → AreRounds other others rounds
-rounds_as graph other nets others rounds same are = record {
-  first = λ one at. first_as graph other nets others one same (are.first one at);
+rounds_as : (graph other : Network) (nets others : List Net) (opening : Opening) (rounds : List Past) → AreSameRouting graph other nets others → AreRoundsFrom graph nets opening rounds → AreRoundsFrom other others opening rounds
+rounds_as graph other nets others opening rounds same are = record {
+  first = λ one at. first_as graph other nets others opening one same (are.first one at);
   follow = λ k one next at to.
       let is = are.follow k one next at to in
       record {
@@ -142,17 +154,31 @@ rounds_as graph other nets others rounds same are = record {
   counted = λ k one at. let is = are.counted k one at in (is.0 ∙ same.wires, is.1);
 }
 
-overused_as : (graph other : Network) (nets others : List Net) (permitted : ℕ) (logs : List RoundLog) (tallies : List Shut) → AreSameRouting graph other nets others
-    → AllEndOverused graph nets permitted logs tallies → AllEndOverused other others permitted logs tallies
-overused_as graph other nets others permitted logs tallies same all = record {
+overused_as : (graph other : Network) (nets others : List Net) (opening : Opening) (permitted : ℕ) (logs : List RoundLog) (tallies : List Shut) → AreSameRouting graph other nets others
+    → AllEndOverusedFrom graph nets opening permitted logs tallies → AllEndOverusedFrom other others opening permitted logs tallies
+overused_as graph other nets others opening permitted logs tallies same all = record {
   past = all.past;
-  rounds = rounds_as graph other nets others all.past same all.rounds;
+  rounds = rounds_as graph other nets others opening all.past same all.rounds;
   all = all.all;
   overused = all.overused;
   logs_of = all.logs_of;
-  tallies_of = subst (λ (wires : ℕ). AreTallies wires all.past tallies) same.wires all.tallies_of;
+  tallies_of = subst (λ (wires : ℕ). AreTalliesFrom wires opening all.past tallies) same.wires all.tallies_of;
   reached = subst (λ (n : ℕ). AreReachedBefore other others n) same.long (reached_before graph other nets others (length nets) same all.reached);
 }
+
+-- an opening in which nets keep their trees at price 1
+opens_as : (graph other : Network) (nets others : List Net) (opening : Opening) → AreSameRouting graph other nets others → OpensAtOne graph nets opening → OpensAtOne other others opening
+opens_as graph other nets others None same is = tt
+opens_as graph other nets others (Some kept) same is = λ n net tree at here.
+    let found = same.alike n net at in
+    tree_as graph.edges other.edges (λ w. 1) found.0 net tree same.edges found.2 found.3 (is n found.0 tree found.1 here)
+
+opens_at_one : (graph : Network) (nets : List Net) (effort : Effort) (kept : List Kept) → IsOpeningOf graph nets effort kept → OpensAtOne graph nets (opening_in effort kept)
+opens_at_one graph nets effort kept is = by effort.opening is
+  where
+    by : (asked : Bool) → MatchBool asked (IsOpened graph nets effort.workers kept) (kept ≡ []) → OpensAtOne graph nets (if asked then Some (wholes kept) else None)
+    by true opened = λ n net tree at here. (opened.each n net (Whole tree) at (whole_at kept n tree here)).joined
+    by false none = tt
 
 -- ---- a sink that can't be reached is the first one
 -- of two such sinks of a net
@@ -209,21 +235,25 @@ stuck_as graph other nets others net sink same back is =
         (subst (λ (root : WireNo). IsCause edges root b.sinks.items (Unreachable sink)) r (subst (λ (sinks : List (List WireNo)). IsCause edges a.root sinks (Unreachable sink)) s cause))
 
 -- ---- of one placed design
-routed_not_stuck : (parts : Parts) (plan : Plan) (rounds : ℕ) (routed : Routed) (net : NetNo) (sink : WireNo) → IsRouted parts plan rounds routed → IsStuck parts plan net sink → ⊥
-routed_not_stuck parts plan rounds routed net sink (graph, nets, one, are) (other, others, two, stuck) =
+routed_not_stuck : (parts : Parts) (plan : Plan) (effort : Effort) (kept : List Kept) (routed : Routed) (net : NetNo) (sink : WireNo) → IsRouted parts plan effort kept routed → IsStuck parts plan net sink → ⊥
+routed_not_stuck parts plan effort kept routed net sink (graph, nets, one, opened, are) (other, others, two, stuck) =
     let same = same_routing parts plan graph other nets others one two in
     reached_all other others net sink (subst (λ (n : ℕ). AreReachedBefore other others n) same.long (reached_before graph other nets others (length nets) same are.reached)) stuck
 
-given_up_not_stuck : (parts : Parts) (plan : Plan) (rounds : ℕ) (logs : List RoundLog) (tallies : List Shut) (net : NetNo) (sink : WireNo) → IsGivenUp parts plan rounds logs tallies
+given_up_not_stuck : (parts : Parts) (plan : Plan) (effort : Effort) (kept : List Kept) (logs : List RoundLog) (tallies : List Shut) (net : NetNo) (sink : WireNo) → IsGivenUp parts plan effort kept logs tallies
     → IsStuck parts plan net sink → ⊥
-given_up_not_stuck parts plan rounds logs tallies net sink (graph, nets, one, all) (other, others, two, stuck) =
+given_up_not_stuck parts plan effort kept logs tallies net sink (graph, nets, one, opened, all) (other, others, two, stuck) =
     let same = same_routing parts plan graph other nets others one two in
     reached_all other others net sink (subst (λ (n : ℕ). AreReachedBefore other others n) same.long (reached_before graph other nets others (length nets) same all.reached)) stuck
 
-routed_not_given_up : (parts : Parts) (plan : Plan) (rounds : ℕ) (routed : Routed) (logs : List RoundLog) (tallies : List Shut) → IsRouted parts plan rounds routed
-    → IsGivenUp parts plan rounds logs tallies → ⊥
-routed_not_given_up parts plan rounds routed logs tallies (graph, nets, one, are) (other, others, two, all) =
-    routed_free graph nets None rounds routed logs tallies are (overused_as other graph others nets rounds logs tallies (same_routing parts plan other graph others nets two one) all)
+-- whatever two openings they begin from
+routed_not_given_up : (parts : Parts) (plan : Plan) (effort : Effort) (kept its : List Kept) (routed : Routed) (logs : List RoundLog) (tallies : List Shut) → IsRouted parts plan effort kept routed
+    → IsGivenUp parts plan effort its logs tallies → ⊥
+routed_not_given_up parts plan effort kept its routed logs tallies (graph, nets, one, opened, are) (other, others, two, also, all) =
+    let same = same_routing parts plan other graph others nets two one in
+    verdict_unchanged graph nets (opening_in effort kept) (opening_in effort its) effort.rounds routed logs tallies
+    (opens_at_one graph nets effort kept opened) (opens_as other graph others nets (opening_in effort its) same (opens_at_one other others effort its also))
+    are (overused_as other graph others nets (opening_in effort its) effort.rounds logs tallies same all)
 
 stuck_at_one : (parts : Parts) (plan : Plan) (net other : NetNo) (sink last : WireNo) → IsStuck parts plan net sink → IsStuck parts plan other last → (net ≡ other) × (sink ≡ last)
 stuck_at_one parts plan net other sink last (graph, nets, one, stuck) (graph', nets', two, stuck') =
@@ -251,23 +281,23 @@ same_layout task a b one two e =
     whole d d' r r' c c' p p' t t' e f g h i = cc
 
 -- ---- of one arrangement
-pub routed_not_stuck_on : (task : Task) (rounds : ℕ) (arrangement : Arrangement) (routed : Routed) (net : NetNo) (sink : WireNo) → IsRoutedSo task rounds arrangement routed
+pub routed_not_stuck_on : (task : Task) (effort : Effort) (arrangement : Arrangement) (kept : List Kept) (routed : Routed) (net : NetNo) (sink : WireNo) → IsRoutedSo task effort arrangement kept routed
     → IsStuckOn task arrangement net sink → ⊥
-routed_not_stuck_on task rounds arrangement routed net sink (one, is, on, so) (layout, laid, here, stuck) =
+routed_not_stuck_on task effort arrangement kept routed net sink (one, is, on, so) (layout, laid, here, stuck) =
     let same = same_layout task layout one laid is (here ∙ sym on) in
-    routed_not_stuck task.parts (plan_in one) rounds routed net sink so (subst (λ (l : Layout). IsStuck task.parts (plan_in l) net sink) same stuck)
+    routed_not_stuck task.parts (plan_in one) effort kept routed net sink so (subst (λ (l : Layout). IsStuck task.parts (plan_in l) net sink) same stuck)
 
-pub routed_not_given_up_on : (task : Task) (rounds : ℕ) (arrangement : Arrangement) (routed : Routed) (logs : List RoundLog) (tallies : List Shut) → IsRoutedSo task rounds arrangement routed
-    → IsGivenUpOn task rounds arrangement logs tallies → ⊥
-routed_not_given_up_on task rounds arrangement routed logs tallies (one, is, on, so) (layout, laid, here, all) =
+pub routed_not_given_up_on : (task : Task) (effort : Effort) (arrangement : Arrangement) (kept its : List Kept) (routed : Routed) (logs : List RoundLog) (tallies : List Shut) → IsRoutedSo task effort arrangement kept routed
+    → IsGivenUpOn task effort arrangement its logs tallies → ⊥
+routed_not_given_up_on task effort arrangement kept its routed logs tallies (one, is, on, so) (layout, laid, here, all) =
     let same = same_layout task layout one laid is (here ∙ sym on) in
-    routed_not_given_up task.parts (plan_in one) rounds routed logs tallies so (subst (λ (l : Layout). IsGivenUp task.parts (plan_in l) rounds logs tallies) same all)
+    routed_not_given_up task.parts (plan_in one) effort kept its routed logs tallies so (subst (λ (l : Layout). IsGivenUp task.parts (plan_in l) effort its logs tallies) same all)
 
-pub given_up_not_stuck_on : (task : Task) (rounds : ℕ) (arrangement : Arrangement) (logs : List RoundLog) (tallies : List Shut) (net : NetNo) (sink : WireNo) → IsGivenUpOn task rounds arrangement logs tallies
+pub given_up_not_stuck_on : (task : Task) (effort : Effort) (arrangement : Arrangement) (kept : List Kept) (logs : List RoundLog) (tallies : List Shut) (net : NetNo) (sink : WireNo) → IsGivenUpOn task effort arrangement kept logs tallies
     → IsStuckOn task arrangement net sink → ⊥
-given_up_not_stuck_on task rounds arrangement logs tallies net sink (layout, laid, here, all) (other, laid', there, stuck) =
+given_up_not_stuck_on task effort arrangement kept logs tallies net sink (layout, laid, here, all) (other, laid', there, stuck) =
     let same = same_layout task other layout laid' laid (there ∙ sym here) in
-    given_up_not_stuck task.parts (plan_in layout) rounds logs tallies net sink all (subst (λ (l : Layout). IsStuck task.parts (plan_in l) net sink) same stuck)
+    given_up_not_stuck task.parts (plan_in layout) effort kept logs tallies net sink all (subst (λ (l : Layout). IsStuck task.parts (plan_in l) net sink) same stuck)
 
 pub stuck_on_one : (task : Task) (arrangement : Arrangement) (net other : NetNo) (sink last : WireNo) → IsStuckOn task arrangement net sink → IsStuckOn task arrangement other last
     → (net ≡ other) × (sink ≡ last)

@@ -17,7 +17,7 @@ use Rattle.ice_pack_laws.specs.PackLaws.{IsSoundInOrder}
 use Rattle.ice_emit_defs.specs.Realised.{Realises, port_levels}
 use Rattle.ice_emit_defs.specs.Written.{IsWritten, wanted_rows}
 use Rattle.ice_flow_build.specs.Laid.{IsLaidOut, StandsOn, plan_in, task_of}
-use Rattle.ice_flow_build.specs.Shown.{IsCircuitOf}
+use Rattle.ice_flow_build.specs.Shown.{RealisesNetlist}
 use Rattle.ice_flow_build.specs.declared.answer.Layout.{Layout}
 
 -- the design has a pad for each port
@@ -33,7 +33,7 @@ design_long n =
 
 pub shows : (n : NetlistData) (order : List ℕ) → IsSoundInOrder n order → DesignsShowTheSame → (parts : Parts) (name : List ℕ) (constraints : List Constraint) (layout : Layout) (routes : List Route) (k : Configuration)
     → IsLaidOut (task_of parts name constraints n) layout → StandsOn parts name layout → IsWritten parts (plan_in layout) layout.pads.pullups routes k
-    → Realises parts (plan_in layout) (wanted_rows parts (plan_in layout) routes) (bits_of k) k.extras → IsCircuitOf n layout.pads.ports parts k
+    → Realises parts (plan_in layout) (wanted_rows parts (plan_in layout) routes) (bits_of k) k.extras → RealisesNetlist n layout.pads.ports parts k
 shows n order sound same parts name constraints layout routes k laid stands written real = record {
   form = written.form;
   faultless = real.faultless;

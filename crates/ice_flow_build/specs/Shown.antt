@@ -21,7 +21,7 @@ pub record ShowsSame (n : NetlistData) (ports : List Pad) (parts : Parts) (bits 
       → chip.shows parts bits extras bonded (pad ∷ []) steps ≡ replicate (length steps) (Off ∷ [])
 
 -- The bits are a circuit of the chip without a fault, which shows what the netlist shows, whichever pads the package has.
-pub record IsCircuitOf (n : NetlistData) (ports : List Pad) (parts : Parts) (k : Configuration) : Type 0 where
+pub record RealisesNetlist (n : NetlistData) (ports : List Pad) (parts : Parts) (k : Configuration) : Type 0 where
   pub form : IsOf parts k
   pub faultless : IsFaultless parts (bits_of k) k.extras
   pub shows_same : (bonded : List Pad) → ShowsSame n ports parts (bits_of k) k.extras bonded

@@ -8,9 +8,9 @@ use ice_base::{NetNo, NoMemory, WireNo};
 use ice_bits::Bits;
 use ice_carry::CarryFault;
 use ice_cells::{Clusters, Design, Items};
-use ice_core::RoundLog;
+use ice_core::{Net, RoundLog};
 use ice_decode::DecodeFault;
-use ice_negotiate_defs::Routed;
+use ice_negotiate_defs::{Kept, Routed};
 use ice_pads::{Pads, PinFault};
 use ice_place::{Arrangement, PlaceFault, Placement};
 use ice_words::Tally;
@@ -24,8 +24,10 @@ pub struct Effort {
     pub seed: u64,
     /// How many rounds of routing are permitted, from 1 to 64.
     pub rounds: u32,
-    /// How many workers route, from 1 to 8. The answer does not depend on it.
+    /// How many workers route, from 1 to 8. Without the opening the answer does not depend on it.
     pub workers: u32,
+    /// Whether workers first take whole nets, with which the rounds begin.
+    pub opening: bool,
 }
 
 /// A placed design: its logic cells in clusters by their ranks, the pads of its ports, and the tile of each cluster.
@@ -66,11 +68,26 @@ impl fmt::Debug for Layout {
     }
 }
 
+/// A placed design with its nets, which are routed.
+#[derive(Drop)]
+pub struct RoutedLayout {
+    /// The placed design.
+    pub layout: Layout,
+    /// Its nets.
+    pub nets: Vec<Net>,
+    /// What the opening left of them; nothing where there was none.
+    pub kept: Vec<Kept>,
+    /// Their trees, and what happened in the rounds that led to them.
+    pub routed: Routed,
+}
+
 /// A placed and routed design with its bits.
 #[derive(Drop)]
 pub struct Built {
     /// The placed design.
     pub layout: Layout,
+    /// What the opening left of its nets; nothing where there was none.
+    pub kept: Vec<Kept>,
     /// The trees of its nets, and what happened in the rounds that led to them.
     pub routed: Routed,
     /// The bits of the chip.
@@ -103,7 +120,9 @@ pub enum BuildFault {
         layout: Layout,
         /// How many nets it has.
         nets: u32,
-        /// The logs of the rounds in order.
+        /// What the opening left of them; nothing where there was none.
+        kept: Vec<Kept>,
+        /// The logs of the rounds in order, behind that of the opening.
         logs: Vec<RoundLog>,
         /// The tallies of the rounds in order.
         tallies: Vec<Tally>,

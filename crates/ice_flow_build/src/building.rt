@@ -3,7 +3,7 @@ ghost use Rattle.std.specs.Prelude.{IfOk, IfErr};
 ghost use Rattle.ice_bits_rows.specs.Index.{IsIndexOf};
 ghost use Rattle.ice_flow_build.specs.Answers.{IsBuilt, IsComplete, IsFault};
 ghost use Rattle.ice_flow_build.specs.Laid.{task_of};
-ghost use Rattle.ice_flow_build.specs.Shown.{IsCircuitOf};
+ghost use Rattle.ice_flow_build.specs.Shown.{RealisesNetlist};
 ghost use Rattle.ice_flow_build.specs.Stages.{IsPermitted};
 
 use crate::answer::{BuildFault, Built, Effort};
@@ -34,9 +34,9 @@ fn indexed_build<G: Gate + Sync, R: Threads + Sync>(
 ) -> Result<Built, BuildFault>
     requires index { IsIndexOf chip.now index.now }
     requires effort { IsPermitted effort }
-    ensures built { IfOk result (IsBuilt (task_of chip.now name.now pcf.now sound.now) effort.rounds) }
-    ensures circuit { IfOk result (λ built. IsCircuitOf sound.now built.layout.pads.ports chip.now built.bits) }
-    ensures fault { IfErr result (IsFault (task_of chip.now name.now pcf.now sound.now) effort.rounds) }
+    ensures built { IfOk result (IsBuilt (task_of chip.now name.now pcf.now sound.now) effort) }
+    ensures circuit { IfOk result (λ built. RealisesNetlist sound.now built.layout.pads.ports chip.now built.bits) }
+    ensures fault { IfErr result (IsFault (task_of chip.now name.now pcf.now sound.now) effort) }
     ensures complete { IsComplete (task_of chip.now name.now pcf.now sound.now) result }
 {
     layouts_stand_on_their_chip(chip, sound);
@@ -55,7 +55,7 @@ fn indexed_build<G: Gate + Sync, R: Threads + Sync>(
 /// Builds a netlist on a chip, in the package of that name: the bits, with the placed design and its trees. The netlist is packed, the
 /// runs of its carries are made, its cells are put into clusters, its ports get pads, its clusters get places, first by first fit and
 /// then improved from a seed; its nets are routed over the usable rows of the chip in at most so many rounds, from 1 to 64, by 1 to 8
-/// workers, each in a thread, on whom nothing depends; and the bits of all that are set, and no others.
+/// workers, each in a thread, on whom nothing depends unless they open the rounds; and the bits of all that are set, and no others.
 ///
 /// The bits are a circuit without a fault, which for every list of levels shows at the ports' pads, step by step, what the netlist
 /// shows, and drives no other pad. On a chip on which a global is fed by a global the decoder is asked for it.
@@ -63,8 +63,8 @@ fn indexed_build<G: Gate + Sync, R: Threads + Sync>(
 /// # Errors
 /// In this order: the fault of the pins exactly where `assign` has one; that of the places exactly where the first placement has one;
 /// the first sink to which no walk leads, and permitted rounds that all end with an overused wire, each with the placed design of
-/// which it is true; the decoder's fault of the bits, only where a global of the chip is fed by a global. Want of memory may come at
-/// any time; more than 65,536 nets count as such.
+/// which it is true; the decoder's fault of the bits, only where globals of the chip feed each other in a ring. Want of memory may come
+/// at any time; more than 65,536 nets count as such.
 pub fn build<G: Gate + Sync, R: Threads + Sync>(
     rt: &R,
     alloc: Global,
@@ -76,9 +76,9 @@ pub fn build<G: Gate + Sync, R: Threads + Sync>(
     gate: &G,
 ) -> Result<Built, BuildFault>
     requires { IsPermitted effort }
-    ensures built { IfOk result (IsBuilt (task_of chip.now name.now pcf.now sound.now) effort.rounds) }
-    ensures circuit { IfOk result (λ built. IsCircuitOf sound.now built.layout.pads.ports chip.now built.bits) }
-    ensures fault { IfErr result (IsFault (task_of chip.now name.now pcf.now sound.now) effort.rounds) }
+    ensures built { IfOk result (IsBuilt (task_of chip.now name.now pcf.now sound.now) effort) }
+    ensures circuit { IfOk result (λ built. RealisesNetlist sound.now built.layout.pads.ports chip.now built.bits) }
+    ensures fault { IfErr result (IsFault (task_of chip.now name.now pcf.now sound.now) effort) }
     ensures complete { IsComplete (task_of chip.now name.now pcf.now sound.now) result }
 {
     match index_of(alloc, chip) {

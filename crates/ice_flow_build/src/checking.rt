@@ -2,7 +2,7 @@
 ghost use Rattle.std.specs.Prelude.{◌⊎◌, IfErr, OnOk};
 ghost use Rattle.ice_bits.specs.Configuration.{bits_of};
 ghost use Rattle.ice_decode.specs.Faults.{HasNoLoop};
-ghost use Rattle.ice_emit_meaning_laws.specs.Feeds.{FeedsNoGlobal};
+ghost use Rattle.ice_emit_meaning_laws.specs.Feeds.{IsRingless};
 ghost use Rattle.ice_flow_build.specs.Stages.{IsBitsFault};
 
 use crate::answer::BuildFault;
@@ -14,7 +14,6 @@ use std::alloc::Global;
 
 // Asks the decoder.
 fn check_decoded(alloc: Global, chip: &Chip, bits: &Bits) -> Result<(), BuildFault>
-    requires { FeedsNoGlobal chip.now → ⊥ }
     ensures loopless { OnOk result (HasNoLoop chip.now (bits_of bits.now) bits.now.extras) }
     ensures fault { IfErr result (IsBitsFault chip.now bits.now) }
 {
@@ -27,7 +26,7 @@ fn check_decoded(alloc: Global, chip: &Chip, bits: &Bits) -> Result<(), BuildFau
 /// # Errors
 /// The decoder's fault; want of memory.
 pub fn check_loops(alloc: Global, chip: &Chip, bits: &Bits) -> Result<(), BuildFault>
-    ensures loopless { OnOk result (FeedsNoGlobal chip.now ⊎ HasNoLoop chip.now (bits_of bits.now) bits.now.extras) }
+    ensures loopless { OnOk result (IsRingless chip.now ⊎ HasNoLoop chip.now (bits_of bits.now) bits.now.extras) }
     ensures fault { IfErr result (IsBitsFault chip.now bits.now) }
 {
     if feeds_no_global(chip) {

@@ -7,7 +7,7 @@ ghost use Rattle.ice_pcf.specs.declared.constraint.Constraint.{Constraint};
 ghost use Rattle.ice_emit_defs.specs.Realised.{Realises};
 ghost use Rattle.ice_emit_defs.specs.Written.{IsWritten, wanted_rows};
 ghost use Rattle.ice_flow_build.specs.Laid.{IsLaidOut, IsOnSites, StandsOn, plan_in, task_of};
-ghost use Rattle.ice_flow_build.specs.Shown.{IsCircuitOf};
+ghost use Rattle.ice_flow_build.specs.Shown.{RealisesNetlist};
 ghost use Rattle.ice_flow_build.specs.declared.answer.Layout.{Layout};
 
 use ice_carry_form_laws::laws::{designs_are_formed, designs_have_values, designs_show_the_same};
@@ -22,9 +22,8 @@ use ice_sites::clusters_stand_on_sites;
 pub fn designs_stand_on_their_chip(chip: &Chip, sound: &Sound)
     ensures { (name : List ℕ) (constraints : List Constraint) (layout : Layout) → IsOnSites (task_of chip.now name constraints sound.now) layout → StandsOn chip.now name layout }
 {
-    chip.wires();
-    sound.netlist().cells();
-    sound.signal_order();
+    chip.is_chip();
+    sound.is_sound();
     designs_are_formed();
     designs_have_values();
     ranks_give_clusterings();
@@ -42,9 +41,8 @@ pub fn layouts_stand_on_their_chip(chip: &Chip, sound: &Sound)
 /// The bits of the placed and routed design of a sound netlist are a circuit that shows what the netlist shows, where they realise
 /// the design.
 pub fn realised_layouts_show_their_netlist(sound: &Sound)
-    ensures { (parts : Parts) (name : List ℕ) (constraints : List Constraint) (layout : Layout) (routes : List Route) (k : Configuration) → IsLaidOut (task_of parts name constraints sound.now) layout → StandsOn parts name layout → IsWritten parts (plan_in layout) layout.pads.pullups routes k → Realises parts (plan_in layout) (wanted_rows parts (plan_in layout) routes) (bits_of k) k.extras → IsCircuitOf sound.now layout.pads.ports parts k }
+    ensures { (parts : Parts) (name : List ℕ) (constraints : List Constraint) (layout : Layout) (routes : List Route) (k : Configuration) → IsLaidOut (task_of parts name constraints sound.now) layout → StandsOn parts name layout → IsWritten parts (plan_in layout) layout.pads.pullups routes k → Realises parts (plan_in layout) (wanted_rows parts (plan_in layout) routes) (bits_of k) k.extras → RealisesNetlist sound.now layout.pads.ports parts k }
 {
-    sound.netlist().cells();
-    sound.signal_order();
+    sound.is_sound();
     designs_show_the_same();
 }

@@ -1,31 +1,38 @@
 //! The trees and the bits of a placed design.
 ghost use Rattle.std.specs.Prelude.{◌≡◌, ◌≤◌, length, IfOk, IfErr};
+ghost use Rattle.std.specs.Bool.{OnTrue};
 ghost use Rattle.ice_bits.specs.Configuration.{bits_of};
 ghost use Rattle.ice_decode.specs.Faults.{HasNoLoop};
 ghost use Rattle.ice_emit.specs.Placed.{IsPlacedOn};
-ghost use Rattle.ice_emit_meaning_laws.specs.Feeds.{FeedsNoGlobal};
+ghost use Rattle.ice_emit_meaning_laws.specs.Feeds.{FaultsAreRings, IsRingless};
 ghost use Rattle.ice_emit_nets_laws.specs.Routing.{AreNetsOf};
 ghost use Rattle.ice_bits_rows.specs.Index.{IsIndexOf};
 ghost use Rattle.ice_emit_defs.specs.Realised.{Realises};
 ghost use Rattle.ice_emit_defs.specs.Routed.{AreTrees};
 ghost use Rattle.ice_emit_defs.specs.Written.{IsWritten, wanted_rows};
-ghost use Rattle.ice_flow_build.specs.Answers.{IsRouted, net_count, routes_in};
+ghost use Rattle.ice_negotiate_defs.specs.Fitting.{Fits};
+ghost use Rattle.ice_negotiate_defs.specs.Leading.{OpeningLeads};
+ghost use Rattle.ice_negotiate_defs.specs.Logs.{AreRoutedFrom, IsFaultFrom};
+ghost use Rattle.ice_negotiate_defs.specs.Rounds.{AreNets};
+ghost use Rattle.ice_flow_build.specs.Answers.{IsOpeningOf, IsRouted, net_count, opening_in, routes_in};
 ghost use Rattle.ice_flow_build.specs.Laid.{plan_in};
-ghost use Rattle.ice_flow_build.specs.Stages.{IsPermitted, IsRouteFault, IsFinished, IsEndFault, unrouted};
+ghost use Rattle.ice_flow_build.specs.Stages.{IsPermitted, IsRouteFault, IsRoutedLayout, IsFinished, IsEndFault, unrouted};
 ghost use Rattle.ice_flow_build.specs.declared.answer.BuildFault.TheVariants.{NoMemory as out_of_memory};
 
 use crate::aiming::aimed_fabric;
-use crate::answer::{BuildFault, Built, Effort, Layout};
+use crate::answer::{BuildFault, Built, Effort, Layout, RoutedLayout};
 use ice_base::NoMemory;
 use ice_bits_rows::{Index, index_of};
 use ice_chip::Chip;
+use ice_claim_opening::opening;
 use ice_core::Net;
 use ice_desk::Gate;
 use ice_emit::indexed_emit;
 use ice_emit_nets::nets_of;
 use ice_emit_nets_laws::laws::{placed_nets_are_routable, routed_nets_are_trees};
-use ice_negotiate::negotiate;
-use ice_negotiate_defs::{RouteFault, Routed};
+use ice_graph::Graph;
+use ice_negotiate::{negotiate, negotiate_from};
+use ice_negotiate_defs::{Kept, RouteFault, Routed};
 use std::alloc::Global;
 use std::thread::Threads;
 
@@ -56,7 +63,63 @@ pub fn nets_in(alloc: Global, chip: &Chip, layout: &Layout) -> Result<Vec<Net>, 
     Ok(nets)
 }
 
-/// The trees of the nets of a placed design, as [`route`] makes them, by the index of the chip's groups.
+// What the opening leaves of the nets: nothing where it is not asked for.
+fn open<G: Gate + Sync, R: Threads + Sync>(
+    rt: &R,
+    alloc: Global,
+    graph: &Graph,
+    nets: &[Net],
+    effort: Effort,
+    gate: &G,
+) -> Result<Vec<Kept>, NoMemory>
+    requires workers { (1 ≤ effort.workers) × (effort.workers ≤ 8) }
+    requires wires { graph.now.wires ≤ 1048576 }
+    requires few { length nets.now ≤ 65536 }
+    requires nets { AreNets graph.now nets.now }
+    ensures opened { IfOk result (λ kept. IsOpeningOf graph.now nets.now effort kept.items) }
+    ensures fits { IfOk result (λ kept. OnTrue effort.opening (Fits graph.now nets.now kept.items)) }
+{
+    if !effort.opening {
+        return Ok(Vec::new(alloc));
+    }
+    let kept = opening(rt, alloc, graph, nets, effort.workers, gate)?;
+    Ok(kept)
+}
+
+// The trees of nets from what the opening left of them, if there was one.
+#[tactic(auto, using(crate::proofs::Opening::opening_leads))]
+fn route_from<G: Gate + Sync, R: Threads + Sync>(
+    rt: &R,
+    alloc: Global,
+    graph: &Graph,
+    nets: &[Net],
+    kept: &[Kept],
+    effort: Effort,
+    gate: &G,
+) -> Result<Routed, RouteFault>
+    requires effort { IsPermitted effort }
+    requires wires { graph.now.wires ≤ 1048576 }
+    requires few { length nets.now ≤ 65536 }
+    requires nets { AreNets graph.now nets.now }
+    requires fits { OnTrue effort.opening (Fits graph.now nets.now kept.now) }
+    ensures leads { OpeningLeads graph.now nets.now (opening_in effort kept.now) }
+    ensures routed { IfOk result (AreRoutedFrom graph.now nets.now (opening_in effort kept.now) effort.rounds) }
+    ensures fault { IfErr result (IsFaultFrom graph.now nets.now (opening_in effort kept.now) effort.rounds) }
+{
+    let Effort {
+        seed: _,
+        rounds,
+        workers,
+        opening,
+    } = effort;
+    if opening {
+        return negotiate_from(rt, alloc, graph, nets, kept, rounds, workers, gate);
+    }
+    negotiate(rt, alloc, graph, nets, rounds, workers, gate)
+}
+
+/// The trees of the nets of a placed design, as [`route`] makes them, by the index of the chip's groups; and in `kept`, which is empty, what the opening
+/// left of the nets.
 ///
 /// # Errors
 /// The first sink to which no walk leads; permitted rounds that all end with an overused wire; want of memory.
@@ -68,6 +131,7 @@ pub fn indexed_route<G: Gate + Sync, R: Threads + Sync>(
     layout: &Layout,
     nets: &[Net],
     effort: Effort,
+    kept: &mut Vec<Kept>,
     gate: &G,
 ) -> Result<Routed, RouteFault>
     requires index { IsIndexOf chip.now index.now }
@@ -75,19 +139,20 @@ pub fn indexed_route<G: Gate + Sync, R: Threads + Sync>(
     requires nets { AreNetsOf chip.now (plan_in layout.now) nets.now }
     requires few { length nets.now ≤ 65536 }
     requires effort { IsPermitted effort }
-    ensures routed { IfOk result (IsRouted chip.now (plan_in layout.now) effort.rounds) }
+    ensures routed { IfOk result (IsRouted chip.now (plan_in layout.now) effort kept.new.items) }
     ensures trees { IfOk result (λ routed. AreTrees chip.now (plan_in layout.now) (routes_in routed)) }
-    ensures fault { IfErr result (IsRouteFault chip.now (plan_in layout.now) effort.rounds) }
+    ensures fault { IfErr result (IsRouteFault chip.now (plan_in layout.now) effort kept.new.items) }
 {
     let _wires = chip.wires();
     placed_nets_are_routable();
     routed_nets_are_trees();
     let graph = aimed_fabric(alloc, chip, index, nets)?;
-    negotiate(rt, alloc, &graph, nets, effort.rounds, effort.workers, gate)
+    *kept = open(rt, alloc, &graph, nets, effort, gate)?;
+    route_from(rt, alloc, &graph, nets, kept, effort, gate)
 }
 
 /// The trees of the nets of a placed design, in at most so many rounds, from 1 to 64, by 1 to 8 workers, each in a thread, on whom
-/// nothing depends. No bits are set.
+/// nothing depends without the opening. No bits are set.
 ///
 /// # Errors
 /// The first sink to which no walk leads; permitted rounds that all end with an overused wire; want of memory.
@@ -98,31 +163,33 @@ pub fn route<G: Gate + Sync, R: Threads + Sync>(
     layout: &Layout,
     nets: &[Net],
     effort: Effort,
+    kept: &mut Vec<Kept>,
     gate: &G,
 ) -> Result<Routed, RouteFault>
     requires placed { IsPlacedOn chip.now (plan_in layout.now) layout.now.pads.pullups }
     requires nets { AreNetsOf chip.now (plan_in layout.now) nets.now }
     requires few { length nets.now ≤ 65536 }
     requires effort { IsPermitted effort }
-    ensures routed { IfOk result (IsRouted chip.now (plan_in layout.now) effort.rounds) }
+    ensures routed { IfOk result (IsRouted chip.now (plan_in layout.now) effort kept.new.items) }
     ensures trees { IfOk result (λ routed. AreTrees chip.now (plan_in layout.now) (routes_in routed)) }
-    ensures fault { IfErr result (IsRouteFault chip.now (plan_in layout.now) effort.rounds) }
+    ensures fault { IfErr result (IsRouteFault chip.now (plan_in layout.now) effort kept.new.items) }
 {
     match index_of(alloc, chip) {
-        Ok(index) => indexed_route(rt, alloc, chip, &index, layout, nets, effort, gate),
+        Ok(index) => indexed_route(rt, alloc, chip, &index, layout, nets, effort, kept, gate),
         Err(NoMemory) => Err(RouteFault::NoMemory),
     }
 }
 
 // Why nothing is built of a placed design with so many nets that is not routed.
-fn unrouted(layout: Layout, nets: u32, fault: RouteFault) -> BuildFault
-    ensures { result ≡ unrouted layout nets fault }
+fn unrouted(layout: Layout, nets: u32, kept: Vec<Kept>, fault: RouteFault) -> BuildFault
+    ensures { result ≡ unrouted layout nets kept fault }
 {
     match fault {
         RouteFault::Unreachable { net, sink } => BuildFault::Unreachable { layout, net, sink },
         RouteFault::GaveUp { logs, tallies } => BuildFault::GaveUp {
             layout,
             nets,
+            kept,
             logs,
             tallies,
         },
@@ -135,19 +202,27 @@ fn write(
     alloc: Global,
     chip: &Chip,
     index: &Index<'_>,
-    layout: Layout,
-    routed: Routed,
+    made: RoutedLayout,
 ) -> Result<Built, BuildFault>
     requires index { IsIndexOf chip.now index.now }
-    requires placed { IsPlacedOn chip.now (plan_in layout) layout.pads.pullups }
-    requires trees { AreTrees chip.now (plan_in layout) (routes_in routed) }
-    ensures layout { IfOk result (λ built. built.layout ≡ layout) }
-    ensures routed { IfOk result (λ built. built.routed ≡ routed) }
-    ensures written { IfOk result (λ built. IsWritten chip.now (plan_in layout) layout.pads.pullups (routes_in routed) built.bits) }
-    ensures loopless { IfOk result (λ built. FeedsNoGlobal chip.now → HasNoLoop chip.now (bits_of built.bits) built.bits.extras) }
-    ensures realised { IfOk result (λ built. HasNoLoop chip.now (bits_of built.bits) built.bits.extras → Realises chip.now (plan_in layout) (wanted_rows chip.now (plan_in layout) (routes_in built.routed)) (bits_of built.bits) built.bits.extras) }
+    requires placed { IsPlacedOn chip.now (plan_in made.layout) made.layout.pads.pullups }
+    requires trees { AreTrees chip.now (plan_in made.layout) (routes_in made.routed) }
+    ensures layout { IfOk result (λ built. built.layout ≡ made.layout) }
+    ensures kept { IfOk result (λ built. built.kept ≡ made.kept) }
+    ensures routed { IfOk result (λ built. built.routed ≡ made.routed) }
+    ensures written { IfOk result (λ built. IsWritten chip.now (plan_in made.layout) made.layout.pads.pullups (routes_in made.routed) built.bits) }
+    ensures loopless { IfOk result (λ built. IsRingless chip.now → HasNoLoop chip.now (bits_of built.bits) built.bits.extras) }
+    ensures ring { IfOk result (λ built. FaultsAreRings chip.now (bits_of built.bits) built.bits.extras) }
+    ensures realised { IfOk result (λ built. HasNoLoop chip.now (bits_of built.bits) built.bits.extras → Realises chip.now (plan_in made.layout) (wanted_rows chip.now (plan_in made.layout) (routes_in built.routed)) (bits_of built.bits) built.bits.extras) }
     ensures stop { IfErr result (λ fault. fault ≡ out_of_memory) }
 {
+    let RoutedLayout {
+        layout,
+        nets,
+        kept,
+        routed,
+    } = made;
+    drop(nets);
     match indexed_emit(
         alloc,
         chip,
@@ -160,20 +235,63 @@ fn write(
     ) {
         Ok(bits) => Ok(Built {
             layout,
+            kept,
             routed,
             bits,
         }),
         Err(NoMemory) => {
-            drop((layout, routed));
+            drop((layout, kept, routed));
             Err(BuildFault::NoMemory)
         }
+    }
+}
+
+/// A placed design with its nets, routed within the permitted rounds.
+///
+/// # Errors
+/// A sink that can't be reached, or permitted rounds that all end with an overused wire, with the placed design; want of memory.
+pub fn route_layout<G: Gate + Sync, R: Threads + Sync>(
+    rt: &R,
+    alloc: Global,
+    chip: &Chip,
+    index: &Index<'_>,
+    layout: Layout,
+    effort: Effort,
+    gate: &G,
+) -> Result<RoutedLayout, BuildFault>
+    requires index { IsIndexOf chip.now index.now }
+    requires placed { IsPlacedOn chip.now (plan_in layout) layout.pads.pullups }
+    requires effort { IsPermitted effort }
+    ensures routed { IfOk result (IsRoutedLayout chip.now effort layout) }
+    ensures fault { IfErr result (IsEndFault chip.now effort layout) }
+{
+    let mut kept = Vec::new(alloc);
+    let nets = nets_in(alloc, chip, &layout)?;
+    match indexed_route(
+        rt,
+        alloc,
+        chip,
+        index,
+        &layout,
+        nets.as_slice(),
+        effort,
+        &mut kept,
+        gate,
+    ) {
+        Err(fault) => Err(unrouted(layout, nets.len() as u32, kept, fault)),
+        Ok(routed) => Ok(RoutedLayout {
+            layout,
+            nets,
+            kept,
+            routed,
+        }),
     }
 }
 
 /// The bits of a placed design, routed within the permitted rounds.
 ///
 /// # Errors
-/// A sink that can't be reached, or permitted rounds that all end with an overused wire, with the placed design; want of memory.
+/// Those of [`route_layout`].
 pub fn finish<G: Gate + Sync, R: Threads + Sync>(
     rt: &R,
     alloc: Global,
@@ -186,23 +304,14 @@ pub fn finish<G: Gate + Sync, R: Threads + Sync>(
     requires index { IsIndexOf chip.now index.now }
     requires placed { IsPlacedOn chip.now (plan_in layout) layout.pads.pullups }
     requires effort { IsPermitted effort }
-    ensures finished { IfOk result (IsFinished chip.now effort.rounds layout) }
-    ensures loopless { IfOk result (λ built. FeedsNoGlobal chip.now → HasNoLoop chip.now (bits_of built.bits) built.bits.extras) }
+    ensures finished { IfOk result (IsFinished chip.now effort layout) }
+    ensures loopless { IfOk result (λ built. IsRingless chip.now → HasNoLoop chip.now (bits_of built.bits) built.bits.extras) }
+    ensures ring { IfOk result (λ built. FaultsAreRings chip.now (bits_of built.bits) built.bits.extras) }
     ensures realised { IfOk result (λ built. HasNoLoop chip.now (bits_of built.bits) built.bits.extras → Realises chip.now (plan_in layout) (wanted_rows chip.now (plan_in layout) (routes_in built.routed)) (bits_of built.bits) built.bits.extras) }
-    ensures fault { IfErr result (IsEndFault chip.now effort.rounds layout) }
+    ensures fault { IfErr result (IsEndFault chip.now effort layout) }
 {
-    let nets = nets_in(alloc, chip, &layout)?;
-    match indexed_route(
-        rt,
-        alloc,
-        chip,
-        index,
-        &layout,
-        nets.as_slice(),
-        effort,
-        gate,
-    ) {
-        Err(fault) => Err(unrouted(layout, nets.len() as u32, fault)),
-        Ok(routed) => write(alloc, chip, index, layout, routed),
+    match route_layout(rt, alloc, chip, index, layout, effort, gate) {
+        Ok(made) => write(alloc, chip, index, made),
+        Err(fault) => Err(fault),
     }
 }

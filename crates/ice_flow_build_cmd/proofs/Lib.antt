@@ -6,3 +6,4 @@ pub mod Making
 pub mod Holding
 pub mod BuildLaws
 pub mod ReadNames
+pub mod Shown

@@ -9,18 +9,19 @@ use Rattle.ice_flow_frame.specs.declared.giving.Refused.{Refused}
 use Rattle.ice_flow_frame.specs.Commands.{HasGivenUp, IsParting, IsRefused, IsTrueOf}
 use Rattle.ice_flow_frame.specs.Ends.{IsMadeOf, IsReport, IsReported, IsToldLong, text_of, unreported}
 use Rattle.ice_flow_frame.specs.Reading.{most_bytes, File, IsUnread, TellsLong}
+use Rattle.ice_flow_frame.specs.Told.{told_in}
 use Rattle.ice_flow_frame.specs.Texts.{AreTexts, OfTexts}
 use Rattle.ice_flow_frame.proofs.Commanding.{of_given_up, unread_is_true}
 use Rattle.ice_flow_frame.proofs.Ended.{made_of_texts, told_of_texts}
 use Rattle.ice_flow_build_cmd.specs.Asked.{Build, files_of, file_asked, parting_of}
 use Rattle.ice_flow_build_cmd.specs.Command.{build_files}
-use Rattle.ice_flow_build_cmd.specs.Made.{IsMade}
+use Rattle.ice_flow_build_cmd.specs.Made.{IsMadeByBuild}
 use Rattle.ice_flow_build_cmd.specs.Parting.{TellsOf, HasReport, IsRefusedWith}
 use Rattle.ice_flow_build_cmd.proofs.Refusing.{not_none}
 
 -- ---- what was made of texts that were read
 pub made_so : (b : Build) (old new : Meaning) (t : List (List ℕ)) (result : Result Made Refused) → AreTexts (files_of b) old t → new.makes ≡ old.makes
-    → IfOk result (λ made. IsMade b t made.texts made.arrangement made.tallies.items) → IfErr result (IsRefusedWith b t) → IsMadeOf (build_files b) old new (unreported result)
+    → IfOk result (λ made. IsMadeByBuild b t made.texts made.arrangement (told_in made)) → IfErr result (IsRefusedWith b t) → IsMadeOf (build_files b) old new (unreported result)
 made_so b old new t (Ok made) are same gives refused = made_of_texts (build_files b) old new t (Ok made) are same gives tt
 made_so b old new t (Err refusal) are same gives refused = made_of_texts (build_files b) old new t (Err refusal.cause) are same tt refused.refusal
 
@@ -51,7 +52,7 @@ reported_so b old t (Err refusal) are refused =
 
 -- ---- texts that were not all read
 unread_gave : (b : Build) (old new : Meaning) (cause : Cause) → IsUnread (files_of b) old new cause → HasGivenUp cause → ⊥
-unread_gave b old new cause is gave = of_given_up (λ c. IsUnread (files_of b) old new c → ⊥) (λ arrangement logs tallies never. never) cause gave is
+unread_gave b old new cause is gave = of_given_up (λ c. IsUnread (files_of b) old new c → ⊥) (λ arrangement logs tallies kept never. never) cause gave is
 
 parting_gave : (asked : Option (List ℕ)) (cause : Cause) → IsParting (file_asked Report asked) cause → HasGivenUp cause
 parting_gave None cause never = absurd never

@@ -13,33 +13,34 @@ use Rattle.ice_pcf.specs.declared.constraint.Constraint.{Constraint}
 use Rattle.ice_flow_prepare.specs.Prepared.{prepared_on}
 use Rattle.ice_flow_build.specs.Answers.{pins_said, places_said}
 use Rattle.ice_flow_build.specs.Laid.{Task, task_of}
+use Rattle.ice_flow_build.specs.declared.answer.Effort.{Effort}
 use Rattle.ice_flow_frame.specs.declared.cause.Cause.{Cause}
 use Rattle.ice_flow_frame.specs.declared.cause.Cause.TheVariants.{BadBlif, BadPcf, BadChip, BadPin, Overfull}
 use Rattle.ice_flow_frame.specs.Texts.{text_at}
 use Rattle.ice_flow_frame.proofs.Standings.{behind, then_stands}
 use Rattle.ice_flow_build_cmd.specs.Asked.{IsAsked}
 use Rattle.ice_flow_build_cmd.specs.BuildRows.{IsRead}
-use Rattle.ice_flow_build_cmd.specs.Standing.{IsEnd, PlacesStand, TaskStands, NetStands, BlifStands, PcfStands, Stands}
+use Rattle.ice_flow_build_cmd.specs.Standing.{IsEnd, PlacesStand, TaskStands, NetStands, BlifStands, PcfStands, StandsForBuild}
 
 -- ---- from how texts stand, down to how what was read of them stands
-pub pcf_stands : (name : List ℕ) (rounds : ℕ) (t : List (List ℕ)) (parts : Parts) (cause : Cause) → chip_says (text_at t 1) ≡ Ok parts → Stands name rounds t cause
-    → PcfStands name rounds (text_at t 2) (text_at t 3) parts cause
-pcf_stands name rounds t parts cause e m = then_stands (chip_says (text_at t 1)) BadChip (PcfStands name rounds (text_at t 2) (text_at t 3)) parts cause e m
+pub pcf_stands : (name : List ℕ) (effort : Effort) (t : List (List ℕ)) (parts : Parts) (cause : Cause) → chip_says (text_at t 1) ≡ Ok parts → StandsForBuild name effort t cause
+    → PcfStands name effort (text_at t 2) (text_at t 3) parts cause
+pcf_stands name effort t parts cause e m = then_stands (chip_says (text_at t 1)) BadChip (PcfStands name effort (text_at t 2) (text_at t 3)) parts cause e m
 
-pub blif_stands : (name : List ℕ) (rounds : ℕ) (t : List (List ℕ)) (parts : Parts) (constraints : List Constraint) (cause : Cause) → IsRead t parts constraints → Stands name rounds t cause
-    → BlifStands name rounds (text_at t 3) parts constraints cause
-blif_stands name rounds t parts constraints cause read m =
-    then_stands (text_says (text_at t 2)) BadPcf (BlifStands name rounds (text_at t 3) parts) constraints cause read.are_constraints (pcf_stands name rounds t parts cause read.is_chip m)
+pub blif_stands : (name : List ℕ) (effort : Effort) (t : List (List ℕ)) (parts : Parts) (constraints : List Constraint) (cause : Cause) → IsRead t parts constraints → StandsForBuild name effort t cause
+    → BlifStands name effort (text_at t 3) parts constraints cause
+blif_stands name effort t parts constraints cause read m =
+    then_stands (text_says (text_at t 2)) BadPcf (BlifStands name effort (text_at t 3) parts) constraints cause read.are_constraints (pcf_stands name effort t parts cause read.is_chip m)
 
-pub net_stands : (name : List ℕ) (rounds : ℕ) (t : List (List ℕ)) (parts : Parts) (constraints : List Constraint) (circuit : NetlistData) (cause : Cause) → IsRead t parts constraints
-    → netlist_of (text_at t 3) ≡ Ok circuit → Stands name rounds t cause → NetStands name rounds parts constraints circuit cause
-net_stands name rounds t parts constraints circuit cause read e m =
-    then_stands (netlist_of (text_at t 3)) BadBlif (NetStands name rounds parts constraints) circuit cause e (blif_stands name rounds t parts constraints cause read m)
+pub net_stands : (name : List ℕ) (effort : Effort) (t : List (List ℕ)) (parts : Parts) (constraints : List Constraint) (circuit : NetlistData) (cause : Cause) → IsRead t parts constraints
+    → netlist_of (text_at t 3) ≡ Ok circuit → StandsForBuild name effort t cause → NetStands name effort parts constraints circuit cause
+net_stands name effort t parts constraints circuit cause read e m =
+    then_stands (netlist_of (text_at t 3)) BadBlif (NetStands name effort parts constraints) circuit cause e (blif_stands name effort t parts constraints cause read m)
 
-sound_stands : (name : List ℕ) (rounds : ℕ) (parts : Parts) (constraints : List Constraint) (circuit : NetlistData) (cause : Cause) → IsSound circuit
-    → NetStands name rounds parts constraints circuit cause → TaskStands (task_of parts name constraints (prepared_on parts circuit)) rounds cause
-sound_stands name rounds parts constraints circuit cause sound (inl bad) = absurd (faulty circuit bad.0 bad.3 bad.2 sound)
-sound_stands name rounds parts constraints circuit cause sound (inr good) = good.1
+sound_stands : (name : List ℕ) (effort : Effort) (parts : Parts) (constraints : List Constraint) (circuit : NetlistData) (cause : Cause) → IsSound circuit
+    → NetStands name effort parts constraints circuit cause → TaskStands (task_of parts name constraints (prepared_on parts circuit)) effort cause
+sound_stands name effort parts constraints circuit cause sound (inl bad) = absurd (faulty circuit bad.0 bad.3 bad.2 sound)
+sound_stands name effort parts constraints circuit cause sound (inr good) = good.1
 
 -- a task is made of what was read
 parts_of : (name : List ℕ) (t : List (List ℕ)) (task : Task) (asked : IsAsked name t task) → task_of task.parts name task.constraints (prepared_on task.parts asked.circuit) ≡ task
@@ -47,46 +48,46 @@ parts_of name t task asked =
     ap (λ (x : List ℕ). task_of task.parts x task.constraints (prepared_on task.parts asked.circuit)) (sym asked.is_name)
     ∙ ap (λ (n : NetlistData). task_of task.parts task.name task.constraints n) (sym asked.is_prepared)
 
-pub task_stands : (name : List ℕ) (rounds : ℕ) (t : List (List ℕ)) (task : Task) (cause : Cause) → IsAsked name t task → Stands name rounds t cause → TaskStands task rounds cause
-task_stands name rounds t task cause asked m =
-    subst (λ (x : Task). TaskStands x rounds cause) (parts_of name t task asked)
-    (sound_stands name rounds task.parts task.constraints asked.circuit cause asked.is_sound
-    (net_stands name rounds t task.parts task.constraints asked.circuit cause (record { is_chip = asked.is_chip; are_constraints = asked.are_constraints }) asked.is_circuit m))
+pub task_stands : (name : List ℕ) (effort : Effort) (t : List (List ℕ)) (task : Task) (cause : Cause) → IsAsked name t task → StandsForBuild name effort t cause → TaskStands task effort cause
+task_stands name effort t task cause asked m =
+    subst (λ (x : Task). TaskStands x effort cause) (parts_of name t task asked)
+    (sound_stands name effort task.parts task.constraints asked.circuit cause asked.is_sound
+    (net_stands name effort t task.parts task.constraints asked.circuit cause (record { is_chip = asked.is_chip; are_constraints = asked.are_constraints }) asked.is_circuit m))
 
-pub places_stand : (name : List ℕ) (rounds : ℕ) (t : List (List ℕ)) (task : Task) (pads : PadsData) (cause : Cause) → IsAsked name t task → pins_said task ≡ Ok pads → Stands name rounds t cause
-    → PlacesStand task rounds cause
-places_stand name rounds t task pads cause asked said m = then_stands (pins_said task) BadPin (λ found. PlacesStand task rounds) pads cause said (task_stands name rounds t task cause asked m)
+pub places_stand : (name : List ℕ) (effort : Effort) (t : List (List ℕ)) (task : Task) (pads : PadsData) (cause : Cause) → IsAsked name t task → pins_said task ≡ Ok pads → StandsForBuild name effort t cause
+    → PlacesStand task effort cause
+places_stand name effort t task pads cause asked said m = then_stands (pins_said task) BadPin (λ found. PlacesStand task effort) pads cause said (task_stands name effort t task cause asked m)
 
-pub end_stands : (name : List ℕ) (rounds : ℕ) (t : List (List ℕ)) (task : Task) (pads : PadsData) (first : List TileAt) (cause : Cause) → IsAsked name t task → pins_said task ≡ Ok pads
-    → places_said task ≡ Ok first → Stands name rounds t cause → IsEnd task rounds cause
-end_stands name rounds t task pads first cause asked pins places m =
-    then_stands (places_said task) Overfull (λ found. IsEnd task rounds) first cause places (places_stand name rounds t task pads cause asked pins m)
+pub end_stands : (name : List ℕ) (effort : Effort) (t : List (List ℕ)) (task : Task) (pads : PadsData) (first : List TileAt) (cause : Cause) → IsAsked name t task → pins_said task ≡ Ok pads
+    → places_said task ≡ Ok first → StandsForBuild name effort t cause → IsEnd task effort cause
+end_stands name effort t task pads first cause asked pins places m =
+    then_stands (places_said task) Overfull (λ found. IsEnd task effort) first cause places (places_stand name effort t task pads cause asked pins m)
 
 -- ---- and up again
-pub read_so : (name : List ℕ) (rounds : ℕ) (t : List (List ℕ)) (parts : Parts) (constraints : List Constraint) (cause : Cause) → IsRead t parts constraints
-    → BlifStands name rounds (text_at t 3) parts constraints cause → Stands name rounds t cause
-read_so name rounds t parts constraints cause read m =
-    behind (chip_says (text_at t 1)) BadChip (PcfStands name rounds (text_at t 2) (text_at t 3)) parts cause read.is_chip
-    (behind (text_says (text_at t 2)) BadPcf (BlifStands name rounds (text_at t 3) parts) constraints cause read.are_constraints m)
+pub read_so : (name : List ℕ) (effort : Effort) (t : List (List ℕ)) (parts : Parts) (constraints : List Constraint) (cause : Cause) → IsRead t parts constraints
+    → BlifStands name effort (text_at t 3) parts constraints cause → StandsForBuild name effort t cause
+read_so name effort t parts constraints cause read m =
+    behind (chip_says (text_at t 1)) BadChip (PcfStands name effort (text_at t 2) (text_at t 3)) parts cause read.is_chip
+    (behind (text_says (text_at t 2)) BadPcf (BlifStands name effort (text_at t 3) parts) constraints cause read.are_constraints m)
 
-pub net_so : (name : List ℕ) (rounds : ℕ) (t : List (List ℕ)) (parts : Parts) (constraints : List Constraint) (circuit : NetlistData) (cause : Cause) → IsRead t parts constraints
-    → netlist_of (text_at t 3) ≡ Ok circuit → NetStands name rounds parts constraints circuit cause → Stands name rounds t cause
-net_so name rounds t parts constraints circuit cause read e m =
-    read_so name rounds t parts constraints cause read (behind (netlist_of (text_at t 3)) BadBlif (NetStands name rounds parts constraints) circuit cause e m)
+pub net_so : (name : List ℕ) (effort : Effort) (t : List (List ℕ)) (parts : Parts) (constraints : List Constraint) (circuit : NetlistData) (cause : Cause) → IsRead t parts constraints
+    → netlist_of (text_at t 3) ≡ Ok circuit → NetStands name effort parts constraints circuit cause → StandsForBuild name effort t cause
+net_so name effort t parts constraints circuit cause read e m =
+    read_so name effort t parts constraints cause read (behind (netlist_of (text_at t 3)) BadBlif (NetStands name effort parts constraints) circuit cause e m)
 
-pub asked_so : (name : List ℕ) (rounds : ℕ) (t : List (List ℕ)) (task : Task) (cause : Cause) → IsAsked name t task → TaskStands task rounds cause → Stands name rounds t cause
-asked_so name rounds t task cause asked m =
-    net_so name rounds t task.parts task.constraints asked.circuit cause (record { is_chip = asked.is_chip; are_constraints = asked.are_constraints }) asked.is_circuit
-    (inr (asked.is_sound, subst (λ (x : Task). TaskStands x rounds cause) (sym (parts_of name t task asked)) m))
+pub asked_so : (name : List ℕ) (effort : Effort) (t : List (List ℕ)) (task : Task) (cause : Cause) → IsAsked name t task → TaskStands task effort cause → StandsForBuild name effort t cause
+asked_so name effort t task cause asked m =
+    net_so name effort t task.parts task.constraints asked.circuit cause (record { is_chip = asked.is_chip; are_constraints = asked.are_constraints }) asked.is_circuit
+    (inr (asked.is_sound, subst (λ (x : Task). TaskStands x effort cause) (sym (parts_of name t task asked)) m))
 
-pub pins_so : (name : List ℕ) (rounds : ℕ) (t : List (List ℕ)) (task : Task) (pads : PadsData) (cause : Cause) → IsAsked name t task → pins_said task ≡ Ok pads → PlacesStand task rounds cause
-    → Stands name rounds t cause
-pins_so name rounds t task pads cause asked said m = asked_so name rounds t task cause asked (behind (pins_said task) BadPin (λ found. PlacesStand task rounds) pads cause said m)
+pub pins_so : (name : List ℕ) (effort : Effort) (t : List (List ℕ)) (task : Task) (pads : PadsData) (cause : Cause) → IsAsked name t task → pins_said task ≡ Ok pads → PlacesStand task effort cause
+    → StandsForBuild name effort t cause
+pins_so name effort t task pads cause asked said m = asked_so name effort t task cause asked (behind (pins_said task) BadPin (λ found. PlacesStand task effort) pads cause said m)
 
-pub end_so : (name : List ℕ) (rounds : ℕ) (t : List (List ℕ)) (task : Task) (pads : PadsData) (first : List TileAt) (cause : Cause) → IsAsked name t task → pins_said task ≡ Ok pads
-    → places_said task ≡ Ok first → IsEnd task rounds cause → Stands name rounds t cause
-end_so name rounds t task pads first cause asked pins places m =
-    pins_so name rounds t task pads cause asked pins (behind (places_said task) Overfull (λ found. IsEnd task rounds) first cause places m)
+pub end_so : (name : List ℕ) (effort : Effort) (t : List (List ℕ)) (task : Task) (pads : PadsData) (first : List TileAt) (cause : Cause) → IsAsked name t task → pins_said task ≡ Ok pads
+    → places_said task ≡ Ok first → IsEnd task effort cause → StandsForBuild name effort t cause
+end_so name effort t task pads first cause asked pins places m =
+    pins_so name effort t task pads cause asked pins (behind (places_said task) Overfull (λ found. IsEnd task effort) first cause places m)
 
 -- ---- texts say one task
 one_value : {A E : Type 0} (said : Result A E) (value other : A) → said ≡ Ok value → said ≡ Ok other → value ≡ other

@@ -22,49 +22,52 @@ use Rattle.ice_pcf.specs.declared.constraint.Constraint.{Constraint}
 use Rattle.ice_pcf.specs.declared.fault.PcfFault.{PcfFault}
 use Rattle.ice_place.specs.declared.fault.PlaceFault.{PlaceFault}
 use Rattle.ice_flow_prepare.specs.Prepared.{prepared_on}
+use Rattle.ice_flow_build.specs.declared.answer.Effort.{Effort}
+use Rattle.ice_negotiate_defs.specs.declared.kept.Kept.{Kept}
 use Rattle.ice_words.specs.Grips.{Shut}
-use Rattle.ice_flow_build.specs.Answers.{pins_said, places_said}
+use Rattle.ice_flow_build.specs.Answers.{pins_said, places_said, HasBadBits, HasPlaceFault}
 use Rattle.ice_flow_build.specs.Laid.{Task, task_of}
+use Rattle.ice_flow_frame.specs.Tells.{IsAbout}
 use Rattle.ice_flow_frame.specs.declared.cause.Cause.{Cause}
 use Rattle.ice_flow_frame.specs.declared.cause.Cause.TheVariants.{Good, Usage, BadBlif, BadPcf, BadChip, BadNet, BadPin, Overfull, Unreachable, GaveUp, ReadFault, WriteFault, NoMemory, BadAsc, BadBits, TooLong, BadLevels, BadDelays}
 use Rattle.ice_flow_frame.specs.declared.cause.FileRole.{FileRole}
 use Rattle.ice_flow_frame.specs.Texts.{text_at}
 use Rattle.ice_flow_frame.proofs.Standings.{fault_alone, then_stands}
 use Rattle.ice_flow_build_cmd.specs.Asked.{IsAsked, Asks}
-use Rattle.ice_flow_build_cmd.specs.BuildRows.{HasChipFault, HasPcfFault, HasBlifFault, HasPlaceFault, IsRead, SaysNetlist, IsTried, IsAbout}
-use Rattle.ice_flow_build_cmd.specs.Made.{IsStuckOn, IsGivenUpOn, HasBadBits}
-use Rattle.ice_flow_build_cmd.specs.Standing.{IsEnd, PlacesStand, TaskStands, NetStands, BlifStands, PcfStands, Stands}
+use Rattle.ice_flow_build_cmd.specs.BuildRows.{HasChipFault, HasPcfFault, HasBlifFault, IsRead, SaysNetlist, IsTried}
+use Rattle.ice_flow_build_cmd.specs.Made.{IsStuckOn, IsGivenUpOn}
+use Rattle.ice_flow_build_cmd.specs.Standing.{IsEnd, PlacesStand, TaskStands, NetStands, BlifStands, PcfStands, StandsForBuild}
 
 -- ---- causes, by what is known of them
 -- what is true of each answer behind pins and places without a fault
-pub of_end : (P : Cause → Type 0) (task : Task) (rounds : ℕ) → ((arrangement : Arrangement) (tallies : Vec Shut) → P (Good arrangement tallies)) → ((role : FileRole) (put : ℕ) → P (WriteFault role put))
+pub of_end : (P : Cause → Type 0) (task : Task) (effort : Effort) → ((arrangement : Arrangement) (tallies : Vec Shut) (kept : Vec Kept) → P (Good arrangement tallies kept)) → ((role : FileRole) (put : ℕ) → P (WriteFault role put))
     → ((arrangement : Arrangement) (net : NetNo) (sink : WireNo) → IsStuckOn task arrangement net sink → P (Unreachable arrangement net sink))
-    → ((arrangement : Arrangement) (logs : Vec RoundLog) (tallies : Vec Shut) → IsGivenUpOn task rounds arrangement logs.items tallies.items → P (GaveUp arrangement logs tallies))
-    → ((fault : DecodeFault) → HasBadBits task rounds fault → P (BadBits fault)) → (cause : Cause) → IsEnd task rounds cause → P cause
-of_end P task rounds good cut stuck gave bits (Good arrangement tallies) is = good arrangement tallies
-of_end P task rounds good cut stuck gave bits Usage is = absurd is
-of_end P task rounds good cut stuck gave bits (BadBlif fault) is = absurd is
-of_end P task rounds good cut stuck gave bits (BadPcf fault) is = absurd is
-of_end P task rounds good cut stuck gave bits (BadChip fault) is = absurd is
-of_end P task rounds good cut stuck gave bits (BadNet fault) is = absurd is
-of_end P task rounds good cut stuck gave bits (BadPin fault) is = absurd is
-of_end P task rounds good cut stuck gave bits (Overfull fault) is = absurd is
-of_end P task rounds good cut stuck gave bits (Unreachable arrangement net sink) is = stuck arrangement net sink is
-of_end P task rounds good cut stuck gave bits (GaveUp arrangement logs tallies) is = gave arrangement logs tallies is
-of_end P task rounds good cut stuck gave bits (ReadFault role) is = absurd is
-of_end P task rounds good cut stuck gave bits (WriteFault role put) is = cut role put
-of_end P task rounds good cut stuck gave bits NoMemory is = absurd is
-of_end P task rounds good cut stuck gave bits (BadAsc fault) is = absurd is
-of_end P task rounds good cut stuck gave bits (BadBits fault) is = bits fault is
-of_end P task rounds good cut stuck gave bits (TooLong role limit) is = absurd is
-of_end P task rounds good cut stuck gave bits (BadLevels line) is = absurd is
-of_end P task rounds good cut stuck gave bits (BadDelays line) is = absurd is
+    → ((arrangement : Arrangement) (logs : Vec RoundLog) (tallies : Vec Shut) (kept : Vec Kept) → IsGivenUpOn task effort arrangement kept.items logs.items tallies.items → P (GaveUp arrangement logs tallies kept))
+    → ((fault : DecodeFault) → HasBadBits task effort fault → P (BadBits fault)) → (cause : Cause) → IsEnd task effort cause → P cause
+of_end P task effort good cut stuck gave bits (Good arrangement tallies kept) is = good arrangement tallies kept
+of_end P task effort good cut stuck gave bits Usage is = absurd is
+of_end P task effort good cut stuck gave bits (BadBlif fault) is = absurd is
+of_end P task effort good cut stuck gave bits (BadPcf fault) is = absurd is
+of_end P task effort good cut stuck gave bits (BadChip fault) is = absurd is
+of_end P task effort good cut stuck gave bits (BadNet fault) is = absurd is
+of_end P task effort good cut stuck gave bits (BadPin fault) is = absurd is
+of_end P task effort good cut stuck gave bits (Overfull fault) is = absurd is
+of_end P task effort good cut stuck gave bits (Unreachable arrangement net sink) is = stuck arrangement net sink is
+of_end P task effort good cut stuck gave bits (GaveUp arrangement logs tallies kept) is = gave arrangement logs tallies kept is
+of_end P task effort good cut stuck gave bits (ReadFault role) is = absurd is
+of_end P task effort good cut stuck gave bits (WriteFault role put) is = cut role put
+of_end P task effort good cut stuck gave bits NoMemory is = absurd is
+of_end P task effort good cut stuck gave bits (BadAsc fault) is = absurd is
+of_end P task effort good cut stuck gave bits (BadBits fault) is = bits fault is
+of_end P task effort good cut stuck gave bits (TooLong role limit) is = absurd is
+of_end P task effort good cut stuck gave bits (BadLevels line) is = absurd is
+of_end P task effort good cut stuck gave bits (BadDelays line) is = absurd is
 
 -- what is true of each answer behind pins and places, too
-pub of_tried : (P : Cause → Type 0) → ((arrangement : Arrangement) (tallies : Vec Shut) → P (Good arrangement tallies)) → ((role : FileRole) (put : ℕ) → P (WriteFault role put))
-    → ((arrangement : Arrangement) (net : NetNo) (sink : WireNo) → P (Unreachable arrangement net sink)) → ((arrangement : Arrangement) (logs : Vec RoundLog) (tallies : Vec Shut) → P (GaveUp arrangement logs tallies))
+pub of_tried : (P : Cause → Type 0) → ((arrangement : Arrangement) (tallies : Vec Shut) (kept : Vec Kept) → P (Good arrangement tallies kept)) → ((role : FileRole) (put : ℕ) → P (WriteFault role put))
+    → ((arrangement : Arrangement) (net : NetNo) (sink : WireNo) → P (Unreachable arrangement net sink)) → ((arrangement : Arrangement) (logs : Vec RoundLog) (tallies : Vec Shut) (kept : Vec Kept) → P (GaveUp arrangement logs tallies kept))
     → ((fault : DecodeFault) → P (BadBits fault)) → (cause : Cause) → IsTried cause → P cause
-of_tried P good cut stuck gave bits (Good arrangement tallies) is = good arrangement tallies
+of_tried P good cut stuck gave bits (Good arrangement tallies kept) is = good arrangement tallies kept
 of_tried P good cut stuck gave bits Usage is = absurd is
 of_tried P good cut stuck gave bits (BadBlif fault) is = absurd is
 of_tried P good cut stuck gave bits (BadPcf fault) is = absurd is
@@ -73,7 +76,7 @@ of_tried P good cut stuck gave bits (BadNet fault) is = absurd is
 of_tried P good cut stuck gave bits (BadPin fault) is = absurd is
 of_tried P good cut stuck gave bits (Overfull fault) is = absurd is
 of_tried P good cut stuck gave bits (Unreachable arrangement net sink) is = stuck arrangement net sink
-of_tried P good cut stuck gave bits (GaveUp arrangement logs tallies) is = gave arrangement logs tallies
+of_tried P good cut stuck gave bits (GaveUp arrangement logs tallies kept) is = gave arrangement logs tallies kept
 of_tried P good cut stuck gave bits (ReadFault role) is = absurd is
 of_tried P good cut stuck gave bits (WriteFault role put) is = cut role put
 of_tried P good cut stuck gave bits NoMemory is = absurd is
@@ -84,9 +87,9 @@ of_tried P good cut stuck gave bits (BadLevels line) is = absurd is
 of_tried P good cut stuck gave bits (BadDelays line) is = absurd is
 
 -- what is true of each answer that tells an arrangement
-pub of_about : (P : Cause → Type 0) (arrangement : Arrangement) → ((tallies : Vec Shut) → P (Good arrangement tallies)) → ((net : NetNo) (sink : WireNo) → P (Unreachable arrangement net sink))
-    → ((logs : Vec RoundLog) (tallies : Vec Shut) → P (GaveUp arrangement logs tallies)) → (cause : Cause) → IsAbout arrangement cause → P cause
-of_about P arrangement good stuck gave (Good told tallies) is = subst (λ (x : Arrangement). P (Good x tallies)) (sym is) (good tallies)
+pub of_about : (P : Cause → Type 0) (arrangement : Arrangement) → ((tallies : Vec Shut) (kept : Vec Kept) → P (Good arrangement tallies kept)) → ((net : NetNo) (sink : WireNo) → P (Unreachable arrangement net sink))
+    → ((logs : Vec RoundLog) (tallies : Vec Shut) (kept : Vec Kept) → P (GaveUp arrangement logs tallies kept)) → (cause : Cause) → IsAbout arrangement cause → P cause
+of_about P arrangement good stuck gave (Good told tallies kept) is = subst (λ (x : Arrangement). P (Good x tallies kept)) (sym is) (good tallies kept)
 of_about P arrangement good stuck gave Usage is = absurd is
 of_about P arrangement good stuck gave (BadBlif fault) is = absurd is
 of_about P arrangement good stuck gave (BadPcf fault) is = absurd is
@@ -95,7 +98,7 @@ of_about P arrangement good stuck gave (BadNet fault) is = absurd is
 of_about P arrangement good stuck gave (BadPin fault) is = absurd is
 of_about P arrangement good stuck gave (Overfull fault) is = absurd is
 of_about P arrangement good stuck gave (Unreachable told net sink) is = subst (λ (x : Arrangement). P (Unreachable x net sink)) (sym is) (stuck net sink)
-of_about P arrangement good stuck gave (GaveUp told logs tallies) is = subst (λ (x : Arrangement). P (GaveUp x logs tallies)) (sym is) (gave logs tallies)
+of_about P arrangement good stuck gave (GaveUp told logs tallies kept) is = subst (λ (x : Arrangement). P (GaveUp x logs tallies kept)) (sym is) (gave logs tallies kept)
 of_about P arrangement good stuck gave (ReadFault role) is = absurd is
 of_about P arrangement good stuck gave (WriteFault role put) is = absurd is
 of_about P arrangement good stuck gave NoMemory is = absurd is
@@ -106,67 +109,67 @@ of_about P arrangement good stuck gave (BadLevels line) is = absurd is
 of_about P arrangement good stuck gave (BadDelays line) is = absurd is
 
 -- ---- what is told
-abbrev pub Told : List ℕ → ℕ → List (List ℕ) → Cause → Type 0
-Told name rounds t (Good arrangement tallies) = Unit {0}
-Told name rounds t (WriteFault role put) = Unit {0}
-Told name rounds t (BadChip fault) = HasChipFault fault t
-Told name rounds t (BadPcf fault) = HasPcfFault fault t
-Told name rounds t (BadBlif fault) = HasBlifFault fault t
-Told name rounds t (BadNet fault) = SaysNetlist (λ circuit. IsFaultOf circuit fault × (fault ≢ net_fault.NoMemory)) t
-Told name rounds t (BadPin fault) = Asks name (λ task. pins_said task ≡ Err fault) t
-Told name rounds t (Overfull fault) = Asks name (HasPlaceFault fault) t
-Told name rounds t (Unreachable arrangement net sink) = Asks name (λ task. IsStuckOn task arrangement net sink) t
-Told name rounds t (GaveUp arrangement logs tallies) = Asks name (λ task. IsGivenUpOn task rounds arrangement logs.items tallies.items) t
-Told name rounds t (BadBits fault) = Asks name (λ task. HasBadBits task rounds fault) t
-Told name rounds t cause = ⊥
+abbrev pub Told : List ℕ → Effort → List (List ℕ) → Cause → Type 0
+Told name effort t (Good arrangement tallies kept) = Unit {0}
+Told name effort t (WriteFault role put) = Unit {0}
+Told name effort t (BadChip fault) = HasChipFault fault t
+Told name effort t (BadPcf fault) = HasPcfFault fault t
+Told name effort t (BadBlif fault) = HasBlifFault fault t
+Told name effort t (BadNet fault) = SaysNetlist (λ circuit. IsFaultOf circuit fault × (fault ≢ net_fault.NoMemory)) t
+Told name effort t (BadPin fault) = Asks name (λ task. pins_said task ≡ Err fault) t
+Told name effort t (Overfull fault) = Asks name (HasPlaceFault fault) t
+Told name effort t (Unreachable arrangement net sink) = Asks name (λ task. IsStuckOn task arrangement net sink) t
+Told name effort t (GaveUp arrangement logs tallies kept) = Asks name (λ task. IsGivenUpOn task effort arrangement kept.items logs.items tallies.items) t
+Told name effort t (BadBits fault) = Asks name (λ task. HasBadBits task effort fault) t
+Told name effort t cause = ⊥
 
-told_end : (name : List ℕ) (rounds : ℕ) (t : List (List ℕ)) (task : Task) (cause : Cause) → IsAsked name t task → IsEnd task rounds cause → Told name rounds t cause
-told_end name rounds t task cause asked m =
-    of_end (Told name rounds t) task rounds (λ arrangement tallies. tt) (λ role put. tt) (λ arrangement net sink stuck. record { task = task; is_asked = asked; is_so = stuck })
-    (λ arrangement logs tallies given. record { task = task; is_asked = asked; is_so = given }) (λ fault is. record { task = task; is_asked = asked; is_so = is }) cause m
+told_end : (name : List ℕ) (effort : Effort) (t : List (List ℕ)) (task : Task) (cause : Cause) → IsAsked name t task → IsEnd task effort cause → Told name effort t cause
+told_end name effort t task cause asked m =
+    of_end (Told name effort t) task effort (λ arrangement tallies kept. tt) (λ role put. tt) (λ arrangement net sink stuck. record { task = task; is_asked = asked; is_so = stuck })
+    (λ arrangement logs tallies kept given. record { task = task; is_asked = asked; is_so = given }) (λ fault is. record { task = task; is_asked = asked; is_so = is }) cause m
 
-told_places : (name : List ℕ) (rounds : ℕ) (t : List (List ℕ)) (task : Task) (pads : PadsData) (said : Result (List TileAt) PlaceFault) (cause : Cause) → IsAsked name t task
-    → pins_said task ≡ Ok pads → places_said task ≡ said → PlacesStand task rounds cause → Told name rounds t cause
-told_places name rounds t task pads (Err fault) cause asked pins is m =
-    subst (Told name rounds t) (sym (fault_alone (places_said task) Overfull (λ first. IsEnd task rounds) fault cause is m)) (record { task = task; is_asked = asked; is_so = (pads, pins, is) })
-told_places name rounds t task pads (Ok first) cause asked pins is m =
-    told_end name rounds t task cause asked (then_stands (places_said task) Overfull (λ found. IsEnd task rounds) first cause is m)
+told_places : (name : List ℕ) (effort : Effort) (t : List (List ℕ)) (task : Task) (pads : PadsData) (said : Result (List TileAt) PlaceFault) (cause : Cause) → IsAsked name t task
+    → pins_said task ≡ Ok pads → places_said task ≡ said → PlacesStand task effort cause → Told name effort t cause
+told_places name effort t task pads (Err fault) cause asked pins is m =
+    subst (Told name effort t) (sym (fault_alone (places_said task) Overfull (λ first. IsEnd task effort) fault cause is m)) (record { task = task; is_asked = asked; is_so = (pads, pins, is) })
+told_places name effort t task pads (Ok first) cause asked pins is m =
+    told_end name effort t task cause asked (then_stands (places_said task) Overfull (λ found. IsEnd task effort) first cause is m)
 
-told_pins : (name : List ℕ) (rounds : ℕ) (t : List (List ℕ)) (task : Task) (said : Result PadsData PinFault) (cause : Cause) → IsAsked name t task → pins_said task ≡ said
-    → TaskStands task rounds cause → Told name rounds t cause
-told_pins name rounds t task (Err fault) cause asked is m =
-    subst (Told name rounds t) (sym (fault_alone (pins_said task) BadPin (λ pads. PlacesStand task rounds) fault cause is m)) (record { task = task; is_asked = asked; is_so = is })
-told_pins name rounds t task (Ok pads) cause asked is m =
-    told_places name rounds t task pads (places_said task) cause asked is refl (then_stands (pins_said task) BadPin (λ found. PlacesStand task rounds) pads cause is m)
+told_pins : (name : List ℕ) (effort : Effort) (t : List (List ℕ)) (task : Task) (said : Result PadsData PinFault) (cause : Cause) → IsAsked name t task → pins_said task ≡ said
+    → TaskStands task effort cause → Told name effort t cause
+told_pins name effort t task (Err fault) cause asked is m =
+    subst (Told name effort t) (sym (fault_alone (pins_said task) BadPin (λ pads. PlacesStand task effort) fault cause is m)) (record { task = task; is_asked = asked; is_so = is })
+told_pins name effort t task (Ok pads) cause asked is m =
+    told_places name effort t task pads (places_said task) cause asked is refl (then_stands (pins_said task) BadPin (λ found. PlacesStand task effort) pads cause is m)
 
-told_net : (name : List ℕ) (rounds : ℕ) (t : List (List ℕ)) (parts : Parts) (constraints : List Constraint) (circuit : NetlistData) (cause : Cause) → IsRead t parts constraints
-    → netlist_of (text_at t 3) ≡ Ok circuit → NetStands name rounds parts constraints circuit cause → Told name rounds t cause
-told_net name rounds t parts constraints circuit cause read e (inl bad) = subst (Told name rounds t) (sym bad.1) (record { parts = parts; constraints = constraints; circuit = circuit; is_read = read; is_circuit = e; is_so = (bad.2, bad.3) })
-told_net name rounds t parts constraints circuit cause read e (inr good) =
+told_net : (name : List ℕ) (effort : Effort) (t : List (List ℕ)) (parts : Parts) (constraints : List Constraint) (circuit : NetlistData) (cause : Cause) → IsRead t parts constraints
+    → netlist_of (text_at t 3) ≡ Ok circuit → NetStands name effort parts constraints circuit cause → Told name effort t cause
+told_net name effort t parts constraints circuit cause read e (inl bad) = subst (Told name effort t) (sym bad.1) (record { parts = parts; constraints = constraints; circuit = circuit; is_read = read; is_circuit = e; is_so = (bad.2, bad.3) })
+told_net name effort t parts constraints circuit cause read e (inr good) =
     let task = task_of parts name constraints (prepared_on parts circuit) in
     let asked : IsAsked name t task = record { circuit = circuit; is_chip = read.is_chip; is_name = refl; are_constraints = read.are_constraints; is_circuit = e; is_sound = good.0; is_prepared = refl } in
-    told_pins name rounds t task (pins_said task) cause asked refl good.1
+    told_pins name effort t task (pins_said task) cause asked refl good.1
 
-told_blif : (name : List ℕ) (rounds : ℕ) (t : List (List ℕ)) (parts : Parts) (constraints : List Constraint) (said : Result NetlistData BlifFault) (cause : Cause) → IsRead t parts constraints
-    → netlist_of (text_at t 3) ≡ said → BlifStands name rounds (text_at t 3) parts constraints cause → Told name rounds t cause
-told_blif name rounds t parts constraints (Err fault) cause read is m =
-    subst (Told name rounds t) (sym (fault_alone (netlist_of (text_at t 3)) BadBlif (NetStands name rounds parts constraints) fault cause is m)) (parts, constraints, read, is)
-told_blif name rounds t parts constraints (Ok circuit) cause read is m =
-    told_net name rounds t parts constraints circuit cause read is (then_stands (netlist_of (text_at t 3)) BadBlif (NetStands name rounds parts constraints) circuit cause is m)
+told_blif : (name : List ℕ) (effort : Effort) (t : List (List ℕ)) (parts : Parts) (constraints : List Constraint) (said : Result NetlistData BlifFault) (cause : Cause) → IsRead t parts constraints
+    → netlist_of (text_at t 3) ≡ said → BlifStands name effort (text_at t 3) parts constraints cause → Told name effort t cause
+told_blif name effort t parts constraints (Err fault) cause read is m =
+    subst (Told name effort t) (sym (fault_alone (netlist_of (text_at t 3)) BadBlif (NetStands name effort parts constraints) fault cause is m)) (parts, constraints, read, is)
+told_blif name effort t parts constraints (Ok circuit) cause read is m =
+    told_net name effort t parts constraints circuit cause read is (then_stands (netlist_of (text_at t 3)) BadBlif (NetStands name effort parts constraints) circuit cause is m)
 
-told_pcf : (name : List ℕ) (rounds : ℕ) (t : List (List ℕ)) (parts : Parts) (said : Result (List Constraint) PcfFault) (cause : Cause) → chip_says (text_at t 1) ≡ Ok parts
-    → text_says (text_at t 2) ≡ said → PcfStands name rounds (text_at t 2) (text_at t 3) parts cause → Told name rounds t cause
-told_pcf name rounds t parts (Err fault) cause chip is m =
-    subst (Told name rounds t) (sym (fault_alone (text_says (text_at t 2)) BadPcf (BlifStands name rounds (text_at t 3) parts) fault cause is m)) (parts, chip, is)
-told_pcf name rounds t parts (Ok constraints) cause chip is m =
-    told_blif name rounds t parts constraints (netlist_of (text_at t 3)) cause (record { is_chip = chip; are_constraints = is }) refl
-    (then_stands (text_says (text_at t 2)) BadPcf (BlifStands name rounds (text_at t 3) parts) constraints cause is m)
+told_pcf : (name : List ℕ) (effort : Effort) (t : List (List ℕ)) (parts : Parts) (said : Result (List Constraint) PcfFault) (cause : Cause) → chip_says (text_at t 1) ≡ Ok parts
+    → text_says (text_at t 2) ≡ said → PcfStands name effort (text_at t 2) (text_at t 3) parts cause → Told name effort t cause
+told_pcf name effort t parts (Err fault) cause chip is m =
+    subst (Told name effort t) (sym (fault_alone (text_says (text_at t 2)) BadPcf (BlifStands name effort (text_at t 3) parts) fault cause is m)) (parts, chip, is)
+told_pcf name effort t parts (Ok constraints) cause chip is m =
+    told_blif name effort t parts constraints (netlist_of (text_at t 3)) cause (record { is_chip = chip; are_constraints = is }) refl
+    (then_stands (text_says (text_at t 2)) BadPcf (BlifStands name effort (text_at t 3) parts) constraints cause is m)
 
-told_chip : (name : List ℕ) (rounds : ℕ) (t : List (List ℕ)) (said : Result Parts ChipFault) (cause : Cause) → chip_says (text_at t 1) ≡ said → Stands name rounds t cause → Told name rounds t cause
-told_chip name rounds t (Err fault) cause is m =
-    subst (Told name rounds t) (sym (fault_alone (chip_says (text_at t 1)) BadChip (PcfStands name rounds (text_at t 2) (text_at t 3)) fault cause is m)) is
-told_chip name rounds t (Ok parts) cause is m =
-    told_pcf name rounds t parts (text_says (text_at t 2)) cause is refl (then_stands (chip_says (text_at t 1)) BadChip (PcfStands name rounds (text_at t 2) (text_at t 3)) parts cause is m)
+told_chip : (name : List ℕ) (effort : Effort) (t : List (List ℕ)) (said : Result Parts ChipFault) (cause : Cause) → chip_says (text_at t 1) ≡ said → StandsForBuild name effort t cause → Told name effort t cause
+told_chip name effort t (Err fault) cause is m =
+    subst (Told name effort t) (sym (fault_alone (chip_says (text_at t 1)) BadChip (PcfStands name effort (text_at t 2) (text_at t 3)) fault cause is m)) is
+told_chip name effort t (Ok parts) cause is m =
+    told_pcf name effort t parts (text_says (text_at t 2)) cause is refl (then_stands (chip_says (text_at t 1)) BadChip (PcfStands name effort (text_at t 2) (text_at t 3)) parts cause is m)
 
-pub told : (name : List ℕ) (rounds : ℕ) (t : List (List ℕ)) (cause : Cause) → Stands name rounds t cause → Told name rounds t cause
-told name rounds t cause m = told_chip name rounds t (chip_says (text_at t 1)) cause refl m
+pub told : (name : List ℕ) (effort : Effort) (t : List (List ℕ)) (cause : Cause) → StandsForBuild name effort t cause → Told name effort t cause
+told name effort t cause m = told_chip name effort t (chip_says (text_at t 1)) cause refl m

@@ -1,29 +1,23 @@
 -- What `build` is asked for, and the task that its three texts say.
-use Rattle.std.specs.Prelude.{◌≡◌, ℕ, Option, None, Some, List, [], ◌∷◌, ◌++◌, Ok}
+use Rattle.std.specs.Prelude.{◌≡◌, ℕ, ◌<◌, Option, None, Some, List, [], ◌∷◌, ◌++◌, length, Ok}
+use Rattle.ice_net.specs.Formed.{IsFormed}
 use Rattle.ice_net.specs.NetlistData.{NetlistData}
 use Rattle.ice_blif.specs.Grammar.{netlist_of}
 use Rattle.ice_check.specs.Sound.{IsSound}
 use Rattle.ice_chip_read.specs.Whole.{chip_says}
 use Rattle.ice_pcf.specs.Grammar.{text_says}
-use Rattle.ice_flow_prepare.specs.Prepared.{prepared_on}
+use Rattle.ice_flow_prepare.specs.Prepared.{most_cells, prepared_on}
 use Rattle.ice_flow_build.specs.Laid.{Task}
 use Rattle.ice_flow_build.specs.declared.answer.Effort.{Effort}
 use Rattle.ice_flow_frame.specs.declared.cause.FileRole.{FileRole}
 use Rattle.ice_flow_frame.specs.declared.cause.FileRole.TheVariants.{Chip, Pcf, Blif, Asc, Pins, Report}
 use Rattle.ice_flow_frame.specs.Reading.{File, Files}
 use Rattle.ice_flow_frame.specs.Texts.{text_at}
+pub use Rattle.ice_flow_words.specs.Requests.{Build}
 
--- the words of `build CHIP PACKAGE PCF BLIF ASC`: names of files, and the name of a package; the names of the files of the reports on the
--- pins and on the routes, each where it is asked for; and how long to try
-pub record Build : Type 0 where
-  pub chip : List ℕ
-  pub package_name : List ℕ
-  pub pcf : List ℕ
-  pub blif : List ℕ
-  pub asc : List ℕ
-  pub pins : Option (List ℕ)
-  pub report : Option (List ℕ)
-  pub effort : Effort
+-- how long to try, and from where
+abbrev pub effort_of : Build → Effort
+effort_of b = record { seed = b.seed; rounds = b.rounds; workers = b.workers; opening = b.opening }
 
 -- the files that are read, in the order of reading
 abbrev pub files_of : Build → Files
@@ -61,6 +55,12 @@ pub record IsAsked (name : List ℕ) (texts : List (List ℕ)) (task : Task) : T
   pub is_circuit : netlist_of (text_at texts 3) ≡ Ok circuit
   pub is_sound : IsSound circuit
   pub is_prepared : task.circuit ≡ prepared_on task.parts circuit
+
+-- the texts say this task, and its netlist as it was read is well formed and has room for what is added
+pub record IsTaskRead (name : List ℕ) (texts : List (List ℕ)) (task : Task) : Type 0 where
+  pub is_asked : IsAsked name texts task
+  pub is_formed : IsFormed is_asked.circuit
+  pub has_room : length is_asked.circuit.cells < most_cells
 
 -- the texts say a task of which this is true
 pub record Asks (name : List ℕ) (IsSo : Task → Type 0) (texts : List (List ℕ)) : Type 0 where

@@ -1,32 +1,70 @@
--- The headline: the text of bits that is written is the netlist that was read.
-use Rattle.std.specs.Prelude.{◌≡◌, ℕ, List, Ok}
+-- The headline: the text of bits that is written is a circuit that shows what the netlist that was read shows.
+use Rattle.std.specs.Prelude.{◌≡◌, ◌≢◌, ℕ, Bool, true, Some, List, [], ◌∷◌, Ok, length, map, replicate}
+use Rattle.ice_base_values.specs.Order.{Has}
+use Rattle.ice_desk.specs.Desk.{Meaning}
 use Rattle.ice_net.specs.NetlistData.{NetlistData}
+use Rattle.ice_net.specs.Meaning as net
+use Rattle.ice_net.specs.declared.drive.Drive.{Drive}
+use Rattle.ice_net.specs.declared.drive.Drive.TheVariants.{Off}
 use Rattle.ice_blif.specs.Grammar.{netlist_of}
-use Rattle.ice_check.specs.Sound.{IsSound}
-use Rattle.ice_chip.specs.Database.{Parts}
-use Rattle.ice_chip_read.specs.Whole.{chip_says}
-use Rattle.ice_pcf.specs.Grammar.{text_says}
+use Rattle.ice_pcf.specs.Grammar as pins
 use Rattle.ice_pcf.specs.declared.constraint.Constraint.{Constraint}
-use Rattle.ice_bits.specs.Configuration.{Configuration}
-use Rattle.ice_asc.specs.Grammar.{asc_in}
-use Rattle.ice_cells.specs.Runs.{design_of}
-use Rattle.ice_pads.specs.Assign.{PadsData, assign_of}
-use Rattle.ice_flow_build.specs.Shown.{IsCircuitOf}
-use Rattle.ice_flow_frame.specs.Texts.{text_at}
+use Rattle.ice_chip.specs.Database.{Parts, PackageRows}
+use Rattle.ice_chip.specs.Lookups.{package_of}
+use Rattle.ice_chip.specs.declared.rows.Pad.{Pad}
+use Rattle.ice_chip_read.specs.Lines as chip
+use Rattle.ice_bits.specs.Configuration.{Configuration, bits_of}
+use Rattle.ice_asc_laws.specs.NamedTiles.{SayBits, worded}
+use Rattle.ice_decode.specs.Meaning as bits
+use Rattle.ice_decode.specs.Pads.{pads}
+use Rattle.ice_decode_laws.specs.NoFault.{HaveNoFault}
+use Rattle.ice_pads.specs.HavePads.{HavePads}
+use Rattle.ice_flow_build_cmd.specs.Asked.{Build}
 
--- The text of bits, read by the database that the first text says, is a circuit without a fault. For every list of levels it shows,
--- step by step, exactly what the netlist of the third text shows, at the pads that the constraints of the second give its ports in the
--- package of this name, and it drives no other pad.
-pub record IsShown (name : List ℕ) (texts : List (List ℕ)) (text : List ℕ) : Type 0 where
+-- What the chip drives at these pads, step by step, where each pad of the package has the level that the step gives it; every other pad has
+-- the level 0.
+abbrev pub driven_at : Parts → Configuration → PackageRows → List Pad → List (Pad → Bool) → List (List Drive)
+driven_at parts k bonded shown steps = bits.shows parts (bits_of k) k.extras bonded.pads shown (map (λ (level : Pad → Bool). map level bonded.pads) steps)
+
+-- The text of bits, read by the database that the chip's text says, is a circuit without a fault. For every list of levels of the package's
+-- pads it shows, step by step, exactly what the netlist shows, at the pads of its ports, and it drives no other pad.
+pub record IsShown (name chip_text pins_text netlist_text bits_text : List ℕ) : Type 0 where
   pub parts : Parts
   pub constraints : List Constraint
   pub circuit : NetlistData
-  pub pads : PadsData
   pub configuration : Configuration
-  pub is_chip : chip_says (text_at texts 1) ≡ Ok parts
-  pub are_constraints : text_says (text_at texts 2) ≡ Ok constraints
-  pub is_circuit : netlist_of (text_at texts 3) ≡ Ok circuit
-  pub is_sound : IsSound circuit
-  pub are_pads : assign_of parts name constraints circuit (design_of circuit) ≡ Ok pads
-  pub decodes : asc_in parts text ≡ Ok configuration
-  pub shows : IsCircuitOf circuit pads.ports parts configuration
+  pub bonded : PackageRows
+  pub ports : List Pad
+  -- what the four texts say
+  pub is_chip : chip.text_says chip_text ≡ Ok parts
+  pub are_constraints : pins.text_says pins_text ≡ Ok constraints
+  pub is_circuit : netlist_of netlist_text ≡ Ok circuit
+  pub say_bits : SayBits parts (worded bits_text) configuration
+  -- the bits have no fault
+  pub faultless : HaveNoFault parts (bits_of configuration) configuration.extras
+  -- the ports have these pads of the package of this name
+  pub is_package : package_of parts name ≡ Some bonded
+  pub have_pads : HavePads bonded constraints circuit ports
+  -- what is driven there, and elsewhere
+  pub at_ports : (steps : List (Pad → Bool)) → driven_at parts configuration bonded ports steps ≡ net.shows circuit (map (λ (level : Pad → Bool). map level ports) steps)
+  pub elsewhere : (steps : List (Pad → Bool)) (pad : Pad) → Has (pads parts) pad → (Has ports pad → ⊥) → driven_at parts configuration bonded (pad ∷ []) steps ≡ replicate (length steps) (Off ∷ [])
+
+-- no report is written to the file of the bits
+abbrev pub IsApart : Build → Type 0
+IsApart b = (b.pins ≢ Some b.asc) × (b.report ≢ Some b.asc)
+
+-- the three files that are read, and the one that is written, hold such texts; the latter unless a report has its name
+pub record HoldShown (b : Build) (old new : Meaning) : Type 0 where
+  pub chip_text : List ℕ
+  pub pins_text : List ℕ
+  pub netlist_text : List ℕ
+  pub bits_text : List ℕ
+  pub holds_chip : old.files b.chip ≡ Some chip_text
+  pub holds_pins : old.files b.pcf ≡ Some pins_text
+  pub holds_netlist : old.files b.blif ≡ Some netlist_text
+  pub holds_bits : IsApart b → new.files b.asc ≡ Some bits_text
+  pub is_shown : IsShown b.package_name chip_text pins_text netlist_text bits_text
+
+-- status 0, where the desk tells its contents
+abbrev pub HeadlineRow : Build → Meaning → Meaning → ℕ → Type 0
+HeadlineRow b old new status = status ≡ 0 → old.tells ≡ true → HoldShown b old new

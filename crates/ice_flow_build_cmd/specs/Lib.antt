@@ -6,5 +6,4 @@ pub mod Ending
 pub mod Standing
 pub mod Parting
 pub mod Command
-pub mod Requests
 pub mod BuildRows

@@ -4,8 +4,6 @@
 mod building;
 mod ending;
 mod files;
-mod request;
 mod texts;
 
 pub use building::build_files;
-pub use request::BuildRequest;

@@ -8,9 +8,8 @@ ghost use Rattle.ice_chip.specs.Lookups.{package_of};
 ghost use Rattle.ice_report.specs.RouteReport.{route_text};
 ghost use Rattle.ice_flow_build_cmd.specs.Ending.{parting_text};
 ghost use Rattle.ice_flow_build_cmd.specs.Reports.{pins_text, text_asked, reports_of, texts_of};
-ghost use Rattle.ice_flow_build_cmd.specs.Requests.{request_view};
+ghost use Rattle.ice_flow_words.specs.Views.{build_view};
 
-use crate::request::BuildRequest;
 use ice_asc::write_asc;
 use ice_base::{NoMemory, to_u32};
 use ice_bits::Bits;
@@ -18,6 +17,7 @@ use ice_chip::Chip;
 use ice_core::RoundLog;
 use ice_flow_build::{Built, Layout};
 use ice_flow_frame::{Texts, one_text};
+use ice_flow_words::BuildRequest;
 use ice_net::Netlist;
 use ice_pads::Pads;
 use ice_report::{pin_report, route_report};
@@ -77,7 +77,7 @@ fn add_pins(
     pads: &Pads,
     texts: &mut Texts,
 ) -> Result<(), NoMemory>
-    ensures { OnOk result (texts.new ≡ texts.old ++ text_asked (request_view request.now).pins (pins_text (package_of chip.now request.now.package_name.now) netlist.now pads.now.ports)) }
+    ensures { OnOk result (texts.new ≡ texts.old ++ text_asked (build_view request.now).pins (pins_text (package_of chip.now request.now.package_name.now) netlist.now pads.now.ports)) }
 {
     if request.pins.is_none() {
         return Ok(());
@@ -94,7 +94,7 @@ fn add_report(
     built: &Built,
     texts: &mut Texts,
 ) -> Result<(), NoMemory>
-    ensures { OnOk result (texts.new ≡ texts.old ++ text_asked (request_view request.now).report (route_text (length built.now.layout.design.cells) (length built.now.layout.clusters.list) (length built.now.routed.trees.items) built.now.routed.logs.items true)) }
+    ensures { OnOk result (texts.new ≡ texts.old ++ text_asked (build_view request.now).report (route_text (length built.now.layout.design.cells) (length built.now.layout.clusters.list) (length built.now.routed.trees.items) built.now.routed.logs.items true)) }
 {
     if request.report.is_none() {
         return Ok(());
@@ -116,7 +116,7 @@ pub fn texts_of(
     netlist: &Netlist,
     built: &Built,
 ) -> Result<Texts, NoMemory>
-    ensures texts { IfOk result (λ texts. texts ≡ texts_of (request_view request.now) (asc_text chip.now built.now.bits) (pins_text (package_of chip.now request.now.package_name.now) netlist.now built.now.layout.pads.ports) (route_text (length built.now.layout.design.cells) (length built.now.layout.clusters.list) (length built.now.routed.trees.items) built.now.routed.logs.items true)) }
+    ensures texts { IfOk result (λ texts. texts ≡ texts_of (build_view request.now) (asc_text chip.now built.now.bits) (pins_text (package_of chip.now request.now.package_name.now) netlist.now built.now.layout.pads.ports) (route_text (length built.now.layout.design.cells) (length built.now.layout.clusters.list) (length built.now.routed.trees.items) built.now.routed.logs.items true)) }
     ensures read_back { IfOk result (λ texts. IsOf chip.now built.now.bits → asc_in chip.now (asc_text chip.now built.now.bits) ≡ Ok built.now.bits) }
 {
     let bits = bits_text(alloc, chip, &built.bits)?;
@@ -134,7 +134,7 @@ fn add_reports(
     built: &Built,
     texts: &mut Texts,
 ) -> Result<(), NoMemory>
-    ensures { OnOk result (texts.new ≡ texts.old ++ reports_of (request_view request.now) (pins_text (package_of chip.now request.now.package_name.now) netlist.now built.now.layout.pads.ports) (route_text (length built.now.layout.design.cells) (length built.now.layout.clusters.list) (length built.now.routed.trees.items) built.now.routed.logs.items true)) }
+    ensures { OnOk result (texts.new ≡ texts.old ++ reports_of (build_view request.now) (pins_text (package_of chip.now request.now.package_name.now) netlist.now built.now.layout.pads.ports) (route_text (length built.now.layout.design.cells) (length built.now.layout.clusters.list) (length built.now.routed.trees.items) built.now.routed.logs.items true)) }
 {
     add_pins(alloc, chip, request, netlist, &built.layout.pads, texts)?;
     add_report(alloc, request, built, texts)
@@ -151,7 +151,7 @@ pub fn parting_text(
     nets: u32,
     logs: &[RoundLog],
 ) -> Result<Option<Vec<u8>>, NoMemory>
-    ensures { IfOk result (λ report. text_of report ≡ parting_text (request_view request.now) layout.now nets logs.now) }
+    ensures { IfOk result (λ report. text_of report ≡ parting_text (build_view request.now) layout.now nets logs.now) }
 {
     if request.report.is_none() {
         return Ok(None);

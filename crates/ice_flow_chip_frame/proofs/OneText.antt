@@ -5,13 +5,14 @@ use Rattle.ice_flow_frame.specs.declared.cause.Cause.TheVariants.{NoMemory}
 use Rattle.ice_flow_frame.specs.declared.giving.Made.{Made}
 use Rattle.ice_flow_frame.specs.Causes.{no_arrangement}
 use Rattle.ice_flow_frame.specs.Commands.{IsRefusal}
+use Rattle.ice_flow_frame.specs.Told.{nothing_told, told_in}
 use Rattle.ice_flow_frame.specs.Texts.{text_at}
 
 -- what is true of the text is true of the one that was made
 pub one_is : (IsSo : List ℕ → Type 0) (text : List ℕ) (result : Result Made Cause) → IsSo text → IfOk result (λ made. made.texts ≡ text ∷ []) → IfOk result (λ made. made.arrangement ≡ no_arrangement)
-    → IfOk result (λ made. made.tallies.items ≡ []) → IfOk result (λ made. IsSo (text_at made.texts 1) × (made.arrangement ≡ no_arrangement) × (made.tallies.items ≡ []))
-one_is IsSo text (Ok made) so one arrangement tallies = (subst (λ (texts : List (List ℕ)). IsSo (text_at texts 1)) (sym one) so, arrangement, tallies)
-one_is IsSo text (Err cause) so one arrangement tallies = tt
+    → IfOk result (λ made. told_in made ≡ nothing_told) → IfOk result (λ made. IsSo (text_at made.texts 1) × (made.arrangement ≡ no_arrangement) × (told_in made ≡ nothing_told))
+one_is IsSo text (Ok made) so one arrangement told = (subst (λ (texts : List (List ℕ)). IsSo (text_at texts 1)) (sym one) so, arrangement, told)
+one_is IsSo text (Err cause) so one arrangement told = tt
 
 -- want of memory refuses texts that stand in any way
 pub none_refused : (Stands : Cause → Type 0) (result : Result Made Cause) → IfErr result (λ cause. cause ≡ NoMemory) → IfErr result (λ cause. IsRefusal Stands cause)

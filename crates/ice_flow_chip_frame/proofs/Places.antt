@@ -1,12 +1,11 @@
 -- From the files behind the first one to all files: each place is one further.
-use Rattle.std.proofs.Common.{◌≡◌, ◌∙◌, ◌≤◌, ◌<◌, ◌+◌, ℕ, zero, suc, Option, Some, List, [], ◌∷◌, length, true, inl, inr, Ok, Err, refl, sym, ap, subst, arith}
+use Rattle.std.proofs.Common.{◌≡◌, ◌∙◌, ◌≤◌, ◌<◌, ℕ, zero, suc, Option, Some, List, [], ◌∷◌, length, true, inl, inr, Ok, Err, refl, sym, subst, arith}
 use Rattle.std.proofs.lemmas.Bool.{cases_lt}
 use Rattle.ice_desk.specs.Desk.{Meaning, SameButReading, Rose, after_one, after_more}
 use Rattle.ice_flow_frame.specs.declared.cause.Cause.{Cause}
 use Rattle.ice_flow_frame.specs.declared.cause.Cause.TheVariants.{Good, Usage, BadBlif, BadPcf, BadChip, BadNet, BadPin, Overfull, Unreachable, GaveUp, ReadFault, WriteFault, NoMemory, BadAsc, BadBits, TooLong, BadLevels, BadDelays}
 use Rattle.ice_flow_frame.specs.declared.cause.FileRole.{FileRole}
-use Rattle.ice_flow_frame.specs.declared.cause.FileRole.TheVariants.{Chip}
-use Rattle.ice_flow_frame.specs.Reading.{most_bytes, File, Files, role_at, name_at, IsTextOf, FitBefore, IsLastRead, IsReadFault, IsTooLong, IsUnread, IsReadStop}
+use Rattle.ice_flow_frame.specs.Reading.{most_bytes, File, Files, role_at, name_at, IsTextOf, FitBefore, IsLastRead, IsUnread, IsReadStop}
 use Rattle.ice_flow_frame.specs.Texts.{AreTexts}
 use Rattle.ice_flow_frame.proofs.ReadStops.{reading_refl, none_before, stopped_at}
 use Rattle.ice_chip_read_pieces.specs.Held.{Held}
@@ -75,7 +74,7 @@ unread_further file files text old mid new (TooLong role limit) is stop = record
   longer = λ bytes t e. stop.longer bytes (is.same.tells ∙ t) (holds_before old mid (name_at files stop.last.place) bytes is.same (subst (λ name. old.files name ≡ Some bytes) (name_further file files stop.last.place stop.last.some) e));
 }
 unread_further file files text old mid new NoMemory is stop = stop ∙ is.same.makes
-unread_further file files text old mid new (Good arrangement tallies) is stop = absurd stop
+unread_further file files text old mid new (Good arrangement tallies kept) is stop = absurd stop
 unread_further file files text old mid new Usage is stop = absurd stop
 unread_further file files text old mid new (BadBlif fault) is stop = absurd stop
 unread_further file files text old mid new (BadPcf fault) is stop = absurd stop
@@ -84,7 +83,7 @@ unread_further file files text old mid new (BadNet fault) is stop = absurd stop
 unread_further file files text old mid new (BadPin fault) is stop = absurd stop
 unread_further file files text old mid new (Overfull fault) is stop = absurd stop
 unread_further file files text old mid new (Unreachable arrangement net sink) is stop = absurd stop
-unread_further file files text old mid new (GaveUp arrangement logs tallies) is stop = absurd stop
+unread_further file files text old mid new (GaveUp arrangement logs tallies kept) is stop = absurd stop
 unread_further file files text old mid new (WriteFault role put) is stop = absurd stop
 unread_further file files text old mid new (BadAsc fault) is stop = absurd stop
 unread_further file files text old mid new (BadBits fault) is stop = absurd stop

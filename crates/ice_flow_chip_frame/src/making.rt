@@ -2,7 +2,7 @@
 ghost use Rattle.std.specs.Prelude.{◌≡◌, ◌<◌, ◌∷◌, ℕ, List, length, true, None, IfOk, IfErr};
 ghost use Rattle.ice_place.specs.declared.arrangement.Arrangement.{Arrangement};
 ghost use Rattle.ice_desk.specs.Desk.{SameButReading, SameTest};
-ghost use Rattle.ice_words.specs.Grips.{Shut};
+ghost use Rattle.ice_flow_frame.specs.Told.{Told, told_in};
 ghost use Rattle.ice_flow_frame.specs.declared.cause.Cause.{Cause};
 ghost use Rattle.ice_flow_frame.specs.Causes.{status_of};
 ghost use Rattle.ice_flow_frame.specs.Reading.{TellsLong};
@@ -26,13 +26,13 @@ pub trait ChipMaking {
     /// How texts stand, the chip's first, by the answer that they have.
     ghost stands: { Self → List (List ℕ) → Cause → Type 0 };
 
-    /// What is made of texts, the chip's first: texts, with the arrangement that they are about and the tallies of its routing.
-    ghost gives: { Self → List (List ℕ) → List (List ℕ) → Arrangement → List Shut → Type 0 };
+    /// What is made of texts, the chip's first: texts, with the arrangement that they are about and what is told of its routing.
+    ghost gives: { Self → List (List ℕ) → List (List ℕ) → Arrangement → Told → Type 0 };
 
     /// What is made of a chip text, for which the reader stands, and of the texts behind it; or why nothing is made.
     fn make(&self, alloc: Global, reader: ChipReader, texts: &Texts) -> Result<Made, Cause>
         requires { StandsForSome reader }
-        ensures given { (chip_text : List ℕ) → StandsFor reader chip_text → IfOk result (λ made. gives self.now (chip_text ∷ texts.now) made.texts made.arrangement made.tallies.items) }
+        ensures given { (chip_text : List ℕ) → StandsFor reader chip_text → IfOk result (λ made. gives self.now (chip_text ∷ texts.now) made.texts made.arrangement (told_in made)) }
         ensures refused { (chip_text : List ℕ) → StandsFor reader chip_text → IfErr result (λ cause. IsRefusal (stands self.now (chip_text ∷ texts.now)) cause) };
 }
 
@@ -69,6 +69,9 @@ pub fn say_made_on_chip<D: Desk, M: ChipMaking>(
 ) -> Done
     requires chip { D.may_read desk.old chip.now }
     requires files { ArePermitted (D.may_read desk.old) (files_view files.now) }
+    ensures tells { (D.seen desk.new).tells ≡ (D.seen desk.old).tells }
+    ensures names_read { SameTest (D.may_read desk.old) (D.may_read desk.new) }
+    ensures names_written { SameTest (D.may_write desk.old) (D.may_write desk.new) }
     ensures status { result.status ≡ status_of result.cause }
     ensures cause { IsTrueOf (command_of (with_chip chip.now (files_view files.now)) (M.stands making.now) (M.gives making.now) Aloud) (D.seen desk.old) (D.seen desk.new) result.cause }
     ensures said { (D.seen desk.old).tells ≡ true → SaidBy Aloud (D.seen desk.old) (D.seen desk.new) result.cause }
@@ -93,6 +96,9 @@ pub fn write_made_on_chip<D: Desk, M: ChipMaking>(
     requires chip { D.may_read desk.old chip.now }
     requires files { ArePermitted (D.may_read desk.old) (files_view files.now) }
     requires outputs { ArePermitted (D.may_write desk.old) (files_view outputs.now) }
+    ensures tells { (D.seen desk.new).tells ≡ (D.seen desk.old).tells }
+    ensures names_read { SameTest (D.may_read desk.old) (D.may_read desk.new) }
+    ensures names_written { SameTest (D.may_write desk.old) (D.may_write desk.new) }
     ensures status { result.status ≡ status_of result.cause }
     ensures cause { IsTrueOf (command_of (with_chip chip.now (files_view files.now)) (M.stands making.now) (M.gives making.now) (InFiles (files_view outputs.now))) (D.seen desk.old) (D.seen desk.new) result.cause }
     ensures said { (D.seen desk.old).tells ≡ true → SaidBy (InFiles (files_view outputs.now)) (D.seen desk.old) (D.seen desk.new) result.cause }

@@ -10,11 +10,8 @@ ghost use Rattle.ice_flow_chip_frame.specs.ChipFiles.{with_chip, HasRead, AreRea
 use ice_chip_read_pieces::ChipReader;
 use ice_desk::{Desk, ReadStop};
 use ice_desk_pieces::read_pieces;
-use ice_flow_frame::{Cause, CommandFile, FileRole, Texts, read_texts};
+use ice_flow_frame::{Cause, CommandFile, FileRole, MOST_BYTES, Texts, read_texts};
 use std::alloc::Global;
-
-/// The most bytes of a text.
-const MOST_BYTES: usize = 268_435_456;
 
 /// What was read of a command's files.
 #[derive(Drop)]

@@ -5,6 +5,7 @@ use Rattle.ice_place.specs.declared.arrangement.Arrangement.{Arrangement}
 use Rattle.ice_desk.specs.Desk.{Meaning, SameButReading, SameButSaying, Rose, after_more, HoldsAfter}
 use Rattle.ice_desk.specs.Said.{SaidRow, IsSilent}
 use Rattle.ice_core.specs.declared.log.RoundLog.{RoundLog}
+use Rattle.ice_negotiate_defs.specs.declared.kept.Kept.{Kept}
 use Rattle.ice_words.specs.Grips.{Shut}
 use Rattle.ice_flow_frame.specs.declared.cause.Cause.{Cause}
 use Rattle.ice_flow_frame.specs.declared.cause.Cause.TheVariants.{Good, Usage, BadBlif, BadPcf, BadChip, BadNet, BadPin, Overfull, Unreachable, GaveUp, ReadFault, WriteFault, NoMemory, BadAsc, BadBits, TooLong, BadLevels, BadDelays}
@@ -13,6 +14,7 @@ use Rattle.ice_flow_frame.specs.Causes.{line_of}
 use Rattle.ice_flow_frame.specs.Reading.{File, Files, name_behind, IsUnread}
 use Rattle.ice_flow_frame.specs.Texts.{text_behind, text_at, AreTexts, OfTexts}
 use Rattle.ice_flow_frame.specs.Writing.{Contents, after_writing, AreWritten, AreWrittenInPart}
+use Rattle.ice_flow_frame.specs.Told.{Told, telling}
 use Rattle.ice_flow_frame.specs.Commands.{Command, Output, Aloud, InFiles, IsRefusal, IsRefused, HasGivenUp, IsParting, IsGiven, IsCut, IsPut, IsTrueOf}
 use Rattle.ice_flow_frame.specs.Rows.{SaidBy, KeptRow, MadeRow}
 use Rattle.ice_flow_frame.specs.Says.{SilentWhereDone}
@@ -23,7 +25,7 @@ use Rattle.ice_flow_frame.proofs.Writes.{made_behind, made_before, other_at, oth
 
 -- what stopped the reading is true of the command
 pub unread_is_true : (k : Command) (old new : Meaning) (cause : Cause) → IsUnread k.files old new cause → IsRefused cause × IsTrueOf k old new cause
-unread_is_true k old new (Good arrangement tallies) is = absurd is
+unread_is_true k old new (Good arrangement tallies kept) is = absurd is
 unread_is_true k old new Usage is = absurd is
 unread_is_true k old new (BadBlif fault) is = absurd is
 unread_is_true k old new (BadPcf fault) is = absurd is
@@ -32,7 +34,7 @@ unread_is_true k old new (BadNet fault) is = absurd is
 unread_is_true k old new (BadPin fault) is = absurd is
 unread_is_true k old new (Overfull fault) is = absurd is
 unread_is_true k old new (Unreachable arrangement net sink) is = absurd is
-unread_is_true k old new (GaveUp arrangement logs tallies) is = absurd is
+unread_is_true k old new (GaveUp arrangement logs tallies kept) is = absurd is
 unread_is_true k old new (ReadFault role) is = (tt, is)
 unread_is_true k old new (WriteFault role put) is = absurd is
 unread_is_true k old new NoMemory is = (tt, is)
@@ -45,7 +47,7 @@ unread_is_true k old new (BadDelays line) is = absurd is
 -- why texts are refused is true of the command
 pub refusal_is_true : (k : Command) (old new : Meaning) (texts : List (List ℕ)) (cause : Cause) → AreTexts k.files old texts → new.makes ≡ old.makes → IsRefusal (k.Stands texts) cause
     → IsRefused cause × IsTrueOf k old new cause
-refusal_is_true k old new texts (Good arrangement tallies) are made is = absurd is
+refusal_is_true k old new texts (Good arrangement tallies kept) are made is = absurd is
 refusal_is_true k old new texts Usage are made is = (tt, ((texts, are, is.0), is.1))
 refusal_is_true k old new texts (BadBlif fault) are made is = (tt, ((texts, are, is.0), is.1))
 refusal_is_true k old new texts (BadPcf fault) are made is = (tt, ((texts, are, is.0), is.1))
@@ -54,7 +56,7 @@ refusal_is_true k old new texts (BadNet fault) are made is = (tt, ((texts, are, 
 refusal_is_true k old new texts (BadPin fault) are made is = (tt, ((texts, are, is.0), is.1))
 refusal_is_true k old new texts (Overfull fault) are made is = (tt, ((texts, are, is.0), is.1))
 refusal_is_true k old new texts (Unreachable arrangement net sink) are made is = (tt, ((texts, are, is.0), is.1))
-refusal_is_true k old new texts (GaveUp arrangement logs tallies) are made is = (tt, ((texts, are, is.0), is.1))
+refusal_is_true k old new texts (GaveUp arrangement logs tallies kept) are made is = (tt, ((texts, are, is.0), is.1))
 refusal_is_true k old new texts (ReadFault role) are made is = absurd is
 refusal_is_true k old new texts (WriteFault role put) are made is = absurd is
 refusal_is_true k old new texts NoMemory are made is = (tt, made)
@@ -100,72 +102,72 @@ cut_behind (InFiles files) texts old mid new role put read is = record {
 -- ---- what was put
 
 -- what is true of each answer of what was put
-of_put : (P : Cause → Type 0) (output : Output) (texts : List (List ℕ)) (on : Arrangement) (counted : List Shut) (old new : Meaning)
-    → ((arrangement : Arrangement) (tallies : Vec Shut) → arrangement ≡ on → tallies.items ≡ counted → IsGiven output texts old new → P (Good arrangement tallies))
-    → ((role : FileRole) (put : ℕ) → IsCut output texts old new role put → P (WriteFault role put)) → (cause : Cause) → IsPut output texts on counted old new cause → P cause
-of_put P output texts on counted old new good cut (Good arrangement tallies) put = good arrangement tallies put.0 put.1 put.2
-of_put P output texts on counted old new good cut Usage put = absurd put
-of_put P output texts on counted old new good cut (BadBlif fault) put = absurd put
-of_put P output texts on counted old new good cut (BadPcf fault) put = absurd put
-of_put P output texts on counted old new good cut (BadChip fault) put = absurd put
-of_put P output texts on counted old new good cut (BadNet fault) put = absurd put
-of_put P output texts on counted old new good cut (BadPin fault) put = absurd put
-of_put P output texts on counted old new good cut (Overfull fault) put = absurd put
-of_put P output texts on counted old new good cut (Unreachable arrangement net sink) put = absurd put
-of_put P output texts on counted old new good cut (GaveUp arrangement logs tallies) put = absurd put
-of_put P output texts on counted old new good cut (ReadFault role) put = absurd put
-of_put P output texts on counted old new good cut (WriteFault role number) put = cut role number put
-of_put P output texts on counted old new good cut NoMemory put = absurd put
-of_put P output texts on counted old new good cut (BadAsc fault) put = absurd put
-of_put P output texts on counted old new good cut (BadBits fault) put = absurd put
-of_put P output texts on counted old new good cut (TooLong role limit) put = absurd put
-of_put P output texts on counted old new good cut (BadLevels line) put = absurd put
-of_put P output texts on counted old new good cut (BadDelays line) put = absurd put
+of_put : (P : Cause → Type 0) (output : Output) (texts : List (List ℕ)) (on : Arrangement) (told : Told) (old new : Meaning)
+    → ((arrangement : Arrangement) (tallies : Vec Shut) (kept : Vec Kept) → arrangement ≡ on → telling tallies kept ≡ told → IsGiven output texts old new → P (Good arrangement tallies kept))
+    → ((role : FileRole) (put : ℕ) → IsCut output texts old new role put → P (WriteFault role put)) → (cause : Cause) → IsPut output texts on told old new cause → P cause
+of_put P output texts on told old new good cut (Good arrangement tallies kept) put = good arrangement tallies kept put.0 put.1 put.2
+of_put P output texts on told old new good cut Usage put = absurd put
+of_put P output texts on told old new good cut (BadBlif fault) put = absurd put
+of_put P output texts on told old new good cut (BadPcf fault) put = absurd put
+of_put P output texts on told old new good cut (BadChip fault) put = absurd put
+of_put P output texts on told old new good cut (BadNet fault) put = absurd put
+of_put P output texts on told old new good cut (BadPin fault) put = absurd put
+of_put P output texts on told old new good cut (Overfull fault) put = absurd put
+of_put P output texts on told old new good cut (Unreachable arrangement net sink) put = absurd put
+of_put P output texts on told old new good cut (GaveUp arrangement logs tallies kept) put = absurd put
+of_put P output texts on told old new good cut (ReadFault role) put = absurd put
+of_put P output texts on told old new good cut (WriteFault role number) put = cut role number put
+of_put P output texts on told old new good cut NoMemory put = absurd put
+of_put P output texts on told old new good cut (BadAsc fault) put = absurd put
+of_put P output texts on told old new good cut (BadBits fault) put = absurd put
+of_put P output texts on told old new good cut (TooLong role limit) put = absurd put
+of_put P output texts on told old new good cut (BadLevels line) put = absurd put
+of_put P output texts on told old new good cut (BadDelays line) put = absurd put
 
-pub put_behind : (output : Output) (texts : List (List ℕ)) (on : Arrangement) (counted : List Shut) (old mid new : Meaning) (cause : Cause) → SameButReading old mid
-    → IsPut output texts on counted mid new cause → IsPut output texts on counted old new cause
-put_behind output texts on counted old mid new cause read put =
-    of_put (λ c. IsPut output texts on counted old new c) output texts on counted mid new (λ arrangement tallies e f given. (e, f, given_behind output texts old mid new read given))
+pub put_behind : (output : Output) (texts : List (List ℕ)) (on : Arrangement) (told : Told) (old mid new : Meaning) (cause : Cause) → SameButReading old mid
+    → IsPut output texts on told mid new cause → IsPut output texts on told old new cause
+put_behind output texts on told old mid new cause read put =
+    of_put (λ c. IsPut output texts on told old new c) output texts on told mid new (λ arrangement tallies kept e f given. (e, f, given_behind output texts old mid new read given))
     (λ role number is. cut_behind output texts old mid new role number read is) cause put
 
 -- what was put is true of the command
-pub put_is_true : (k : Command) (old new : Meaning) (texts : List (List ℕ)) (on : Arrangement) (counted : List Shut) (cause : Cause) → OfTexts k.files old (λ read. k.Gives read texts on counted)
-    → IsPut k.output texts on counted old new cause → IsTrueOf k old new cause
-put_is_true k old new texts on counted cause of put =
-    of_put (λ c. IsTrueOf k old new c) k.output texts on counted old new
-    (λ arrangement tallies e f given. record {
+pub put_is_true : (k : Command) (old new : Meaning) (texts : List (List ℕ)) (on : Arrangement) (told : Told) (cause : Cause) → OfTexts k.files old (λ read. k.Gives read texts on told)
+    → IsPut k.output texts on told old new cause → IsTrueOf k old new cause
+put_is_true k old new texts on told cause of put =
+    of_put (λ c. IsTrueOf k old new c) k.output texts on told old new
+    (λ arrangement tallies kept e f given. record {
       made = texts;
-      texts = subst (λ (shuts : List Shut). OfTexts k.files old (λ read. k.Gives read texts arrangement shuts)) (sym f)
-          (subst (λ (x : Arrangement). OfTexts k.files old (λ read. k.Gives read texts x counted)) (sym e) of);
+      texts = subst (λ (x : Told). OfTexts k.files old (λ read. k.Gives read texts arrangement x)) (sym f)
+          (subst (λ (x : Arrangement). OfTexts k.files old (λ read. k.Gives read texts x told)) (sym e) of);
       given = given;
     })
-    (λ role number is. record { made = texts; arrangement = on; tallies = counted; texts = of; cut = is }) cause put
+    (λ role number is. record { made = texts; arrangement = on; told = told; texts = of; cut = is }) cause put
 
 -- behind what was said, or a front of it, nothing is said
-pub put_said : (texts : List (List ℕ)) (on : Arrangement) (counted : List Shut) (old mid new : Meaning) (cause : Cause) → IsPut Aloud texts on counted mid new cause → SaidBy Aloud old new cause
-put_said texts on counted old mid new cause put =
-    of_put (λ c. SaidBy Aloud old new c) Aloud texts on counted mid new (λ arrangement tallies e f given. λ refused. absurd refused) (λ role number is. λ refused. absurd refused) cause put
+pub put_said : (texts : List (List ℕ)) (on : Arrangement) (told : Told) (old mid new : Meaning) (cause : Cause) → IsPut Aloud texts on told mid new cause → SaidBy Aloud old new cause
+put_said texts on told old mid new cause put =
+    of_put (λ c. SaidBy Aloud old new c) Aloud texts on told mid new (λ arrangement tallies kept e f given. λ refused. absurd refused) (λ role number is. λ refused. absurd refused) cause put
 
 -- the files that were written, or those up to one, were made
-pub put_made : (files : Files) (parting : Option File) (texts : List (List ℕ)) (on : Arrangement) (counted : List Shut) (old new : Meaning) (cause : Cause)
-    → IsPut (InFiles files) texts on counted old new cause → MadeRow (InFiles files) parting old new cause
-put_made files parting texts on counted old new cause put =
-    of_put (λ c. MadeRow (InFiles files) parting old new c) (InFiles files) texts on counted old new (λ arrangement tallies e f given. given.made)
+pub put_made : (files : Files) (parting : Option File) (texts : List (List ℕ)) (on : Arrangement) (told : Told) (old new : Meaning) (cause : Cause)
+    → IsPut (InFiles files) texts on told old new cause → MadeRow (InFiles files) parting old new cause
+put_made files parting texts on told old new cause put =
+    of_put (λ c. MadeRow (InFiles files) parting old new c) (InFiles files) texts on told old new (λ arrangement tallies kept e f given. given.made)
     (λ role number is. (is.before + 1, omega arith, omega (arith, is.few), is.made)) cause put
 
 -- and no others changed
-pub put_kept : (files : Files) (parting : Option File) (texts : List (List ℕ)) (on : Arrangement) (counted : List Shut) (old new : Meaning) (cause : Cause) → old.tells ≡ true
-    → IsPut (InFiles files) texts on counted old new cause → KeptRow (InFiles files) parting old new cause
-put_kept files parting texts on counted old new cause t put =
-    of_put (λ c. KeptRow (InFiles files) parting old new c) (InFiles files) texts on counted old new
-    (λ arrangement tallies e f given. λ name apart. given.hold t name ∙ others_hold name files texts old.files (length files) (omega arith) apart)
+pub put_kept : (files : Files) (parting : Option File) (texts : List (List ℕ)) (on : Arrangement) (told : Told) (old new : Meaning) (cause : Cause) → old.tells ≡ true
+    → IsPut (InFiles files) texts on told old new cause → KeptRow (InFiles files) parting old new cause
+put_kept files parting texts on told old new cause t put =
+    of_put (λ c. KeptRow (InFiles files) parting old new c) (InFiles files) texts on told old new
+    (λ arrangement tallies kept e f given. λ name apart. given.hold t name ∙ others_hold name files texts old.files (length files) (omega arith) apart)
     (λ role number is. λ name apart. is.others t name (other_at name files is.before apart is.few) ∙ others_hold name files texts old.files is.before (omega (arith, is.few)) apart) cause put
 
 -- and the rounds did not give up
-pub put_not_given_up : (files : Files) (texts : List (List ℕ)) (on : Arrangement) (counted : List Shut) (old new : Meaning) (cause : Cause) → IsPut (InFiles files) texts on counted old new cause
+pub put_not_given_up : (files : Files) (texts : List (List ℕ)) (on : Arrangement) (told : Told) (old new : Meaning) (cause : Cause) → IsPut (InFiles files) texts on told old new cause
     → HasGivenUp cause → ⊥
-put_not_given_up files texts on counted old new cause put =
-    of_put (λ c. HasGivenUp c → ⊥) (InFiles files) texts on counted old new (λ arrangement tallies e f given. λ gave. gave) (λ role number is. λ gave. gave) cause put
+put_not_given_up files texts on told old new cause put =
+    of_put (λ c. HasGivenUp c → ⊥) (InFiles files) texts on told old new (λ arrangement tallies kept e f given. λ gave. gave) (λ role number is. λ gave. gave) cause put
 
 -- what was put to files stands while a line is said
 whole_said : (files : Files) (texts : List (List ℕ)) (old mid new : Meaning) → SameButSaying mid new → AreWritten files texts old mid → AreWritten files texts old new
@@ -189,17 +191,17 @@ part_said files texts old mid new role put same is = record {
   others = λ t other ne. ap (λ (held : Contents). held other) same.files ∙ is.others t other ne;
 }
 
-pub put_stays : (files : Files) (texts : List (List ℕ)) (on : Arrangement) (counted : List Shut) (old mid new : Meaning) (cause : Cause) → SameButSaying mid new
-    → IsPut (InFiles files) texts on counted old mid cause → IsPut (InFiles files) texts on counted old new cause
-put_stays files texts on counted old mid new cause same put =
-    of_put (λ c. IsPut (InFiles files) texts on counted old new c) (InFiles files) texts on counted old mid (λ arrangement tallies e f given. (e, f, whole_said files texts old mid new same given))
+pub put_stays : (files : Files) (texts : List (List ℕ)) (on : Arrangement) (told : Told) (old mid new : Meaning) (cause : Cause) → SameButSaying mid new
+    → IsPut (InFiles files) texts on told old mid cause → IsPut (InFiles files) texts on told old new cause
+put_stays files texts on told old mid new cause same put =
+    of_put (λ c. IsPut (InFiles files) texts on told old new c) (InFiles files) texts on told old mid (λ arrangement tallies kept e f given. (e, f, whole_said files texts old mid new same given))
     (λ role number is. part_said files texts old mid new role number same is) cause put
 
 -- ---- a line is said
 
 -- a refusal stays true while a line is said
 pub true_while_said : (k : Command) (old mid new : Meaning) (cause : Cause) → SameButSaying mid new → IsRefused cause → IsTrueOf k old mid cause → IsTrueOf k old new cause
-true_while_said k old mid new (Good arrangement tallies) same refused is = absurd refused
+true_while_said k old mid new (Good arrangement tallies kept) same refused is = absurd refused
 true_while_said k old mid new Usage same refused is = is
 true_while_said k old mid new (BadBlif fault) same refused is = is
 true_while_said k old mid new (BadPcf fault) same refused is = is
@@ -208,7 +210,7 @@ true_while_said k old mid new (BadNet fault) same refused is = is
 true_while_said k old mid new (BadPin fault) same refused is = is
 true_while_said k old mid new (Overfull fault) same refused is = is
 true_while_said k old mid new (Unreachable arrangement net sink) same refused is = is
-true_while_said k old mid new (GaveUp arrangement logs tallies) same refused is = is
+true_while_said k old mid new (GaveUp arrangement logs tallies kept) same refused is = is
 true_while_said k old mid new (ReadFault role) same refused is = fault_said k.files old mid new role same is
 true_while_said k old mid new (WriteFault role put) same refused is = absurd refused
 true_while_said k old mid new NoMemory same refused is = same.makes ∙ is
@@ -226,7 +228,7 @@ refused_said (InFiles files) old new cause said = said
 -- a refusal makes no file, where nothing is left on parting
 pub refused_made : (files : Files) (parting : Option File) (old new : Meaning) (cause : Cause) → IsRefused cause → (IsParting parting cause → ⊥) → new.makes ≡ old.makes
     → MadeRow (InFiles files) parting old new cause
-refused_made files parting old new (Good arrangement tallies) refused stays made = absurd refused
+refused_made files parting old new (Good arrangement tallies kept) refused stays made = absurd refused
 refused_made files parting old new Usage refused stays made = made
 refused_made files parting old new (BadBlif fault) refused stays made = made
 refused_made files parting old new (BadPcf fault) refused stays made = made
@@ -235,8 +237,8 @@ refused_made files parting old new (BadNet fault) refused stays made = made
 refused_made files parting old new (BadPin fault) refused stays made = made
 refused_made files parting old new (Overfull fault) refused stays made = made
 refused_made files parting old new (Unreachable arrangement net sink) refused stays made = made
-refused_made files None old new (GaveUp arrangement logs tallies) refused stays made = made
-refused_made files (Some file) old new (GaveUp arrangement logs tallies) refused stays made = absurd (stays tt)
+refused_made files None old new (GaveUp arrangement logs tallies kept) refused stays made = made
+refused_made files (Some file) old new (GaveUp arrangement logs tallies kept) refused stays made = absurd (stays tt)
 refused_made files parting old new (ReadFault role) refused stays made = made
 refused_made files parting old new (WriteFault role put) refused stays made = absurd refused
 refused_made files parting old new NoMemory refused stays made = made
@@ -247,8 +249,8 @@ refused_made files parting old new (BadLevels line) refused stays made = made
 refused_made files parting old new (BadDelays line) refused stays made = made
 
 -- what is true of each answer of rounds that gave up
-pub of_given_up : (P : Cause → Type 0) → ((arrangement : Arrangement) (logs : Vec RoundLog) (tallies : Vec Shut) → P (GaveUp arrangement logs tallies)) → (cause : Cause) → HasGivenUp cause → P cause
-of_given_up P gave (Good arrangement tallies) is = absurd is
+pub of_given_up : (P : Cause → Type 0) → ((arrangement : Arrangement) (logs : Vec RoundLog) (tallies : Vec Shut) (kept : Vec Kept) → P (GaveUp arrangement logs tallies kept)) → (cause : Cause) → HasGivenUp cause → P cause
+of_given_up P gave (Good arrangement tallies kept) is = absurd is
 of_given_up P gave Usage is = absurd is
 of_given_up P gave (BadBlif fault) is = absurd is
 of_given_up P gave (BadPcf fault) is = absurd is
@@ -257,7 +259,7 @@ of_given_up P gave (BadNet fault) is = absurd is
 of_given_up P gave (BadPin fault) is = absurd is
 of_given_up P gave (Overfull fault) is = absurd is
 of_given_up P gave (Unreachable arrangement net sink) is = absurd is
-of_given_up P gave (GaveUp arrangement logs tallies) is = gave arrangement logs tallies
+of_given_up P gave (GaveUp arrangement logs tallies kept) is = gave arrangement logs tallies kept
 of_given_up P gave (ReadFault role) is = absurd is
 of_given_up P gave (WriteFault role put) is = absurd is
 of_given_up P gave NoMemory is = absurd is
@@ -269,7 +271,7 @@ of_given_up P gave (BadDelays line) is = absurd is
 
 -- where the work is done and nothing was said behind it, nothing was said
 pub silent_behind : (old mid new : Meaning) (cause : Cause) → IsSilent old mid → SilentWhereDone mid new cause → SilentWhereDone old new cause
-silent_behind old mid new (Good arrangement tallies) before silent = record { said = silent.said ∙ before.said; says = silent.says ∙ before.says; say_faults = silent.say_faults ∙ before.say_faults }
+silent_behind old mid new (Good arrangement tallies kept) before silent = record { said = silent.said ∙ before.said; says = silent.says ∙ before.says; say_faults = silent.say_faults ∙ before.say_faults }
 silent_behind old mid new Usage before silent = tt
 silent_behind old mid new (BadBlif fault) before silent = tt
 silent_behind old mid new (BadPcf fault) before silent = tt
@@ -278,7 +280,7 @@ silent_behind old mid new (BadNet fault) before silent = tt
 silent_behind old mid new (BadPin fault) before silent = tt
 silent_behind old mid new (Overfull fault) before silent = tt
 silent_behind old mid new (Unreachable arrangement net sink) before silent = tt
-silent_behind old mid new (GaveUp arrangement logs tallies) before silent = tt
+silent_behind old mid new (GaveUp arrangement logs tallies kept) before silent = tt
 silent_behind old mid new (ReadFault role) before silent = tt
 silent_behind old mid new (WriteFault role put) before silent = tt
 silent_behind old mid new NoMemory before silent = tt

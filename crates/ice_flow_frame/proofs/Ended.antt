@@ -12,12 +12,13 @@ use Rattle.ice_flow_frame.specs.Ends.{IsLineSaid, SameButFiles, AreFilesGiven, I
 use Rattle.ice_flow_frame.specs.Reading.{most_bytes, File, Files, IsLong, TellsLong}
 use Rattle.ice_flow_frame.specs.Rows.{changed_by, MadeRow, IsLeftIn, IsParted}
 use Rattle.ice_flow_frame.specs.Texts.{AreTexts, OfTexts}
+use Rattle.ice_flow_frame.specs.Told.{told_in}
 use Rattle.ice_flow_frame.specs.Writing.{Contents, IsOther}
 use Rattle.ice_flow_frame.proofs.Commanding.{refusal_is_true, put_behind, put_is_true, true_while_said, refused_said, refused_made, of_given_up, put_said, put_made, put_kept, put_stays, put_not_given_up, silent_behind}
 
 -- ---- what came of the making
 pub made_of_texts : (k : Command) (old new : Meaning) (texts : List (List ℕ)) (result : Result Made Cause) → AreTexts k.files old texts → new.makes ≡ old.makes
-    → IfOk result (λ made. k.Gives texts made.texts made.arrangement made.tallies.items) → IfErr result (λ cause. IsRefusal (k.Stands texts) cause) → IsMadeOf k old new result
+    → IfOk result (λ made. k.Gives texts made.texts made.arrangement (told_in made)) → IfErr result (λ cause. IsRefusal (k.Stands texts) cause) → IsMadeOf k old new result
 made_of_texts k old new texts (Ok made) are same gives refused = (texts, are, gives)
 made_of_texts k old new texts (Err refusal) are same gives refused = refusal_is_true k old new texts refusal are same refused
 
@@ -61,6 +62,7 @@ in_files k files = record k { output = InFiles files }
 refused_aloud : (k : Command) (old mid new : Meaning) (cause : Cause) → SameButReading old mid → IsRefused cause → IsTrueOf (aloud k) old mid cause → IsLineSaid mid new cause → IsEndOf (aloud k) old new cause
 refused_aloud k old mid new cause read refused is line = record {
   is_true = true_while_said (aloud k) old mid new cause line.same refused is;
+  tells = line.same.tells ∙ read.tells;
   said = λ t. refused_said Aloud old new cause (after_silence old mid new (line_of cause) (silent_read old mid read) (line.said (read.tells ∙ t)));
   kept = λ t name apart. files_same old new name (line.same.files ∙ read.files);
   made = line.same.makes ∙ read.makes;
@@ -76,6 +78,7 @@ refused_end : (k : Command) (files : Files) (parting : Option File) (old mid new
     → IsTrueOf (with_parting k files parting) old mid cause → IsLineSaid mid new cause → IsEndOf (with_parting k files parting) old new cause
 refused_end k files parting old mid new cause read refused stays is line = record {
   is_true = true_while_said (with_parting k files parting) old mid new cause line.same refused is;
+  tells = line.same.tells ∙ read.tells;
   said = λ t. after_silence old mid new (line_of cause) (silent_read old mid read) (line.said (read.tells ∙ t));
   kept = λ t name apart. files_same old new name (line.same.files ∙ read.files);
   made = refused_made files parting old new cause refused stays (line.same.makes ∙ read.makes);
@@ -114,10 +117,11 @@ left_end k files file text old mid written new cause read gave is of left line =
     let silent = silent_left file.name old mid written read left.same in
     let parted = parted_by (with_parting k files (Some file)) file text old mid written new cause read left line.same of in
     record {
-      is_true = of_given_up (λ c. IsTrueOf (with_parting k files (Some file)) old mid c → IsTrueOf (with_parting k files (Some file)) old new c) (λ arrangement logs tallies. λ x. x) cause gave is;
+      is_true = of_given_up (λ c. IsTrueOf (with_parting k files (Some file)) old mid c → IsTrueOf (with_parting k files (Some file)) old new c) (λ arrangement logs tallies kept. λ x. x) cause gave is;
+      tells = line.same.tells ∙ left.same.tells ∙ read.tells;
       said = λ t. after_silence old written new (line_of cause) silent (line.said (left.same.tells ∙ read.tells ∙ t));
-      kept = λ t name apart. parted.others t name (of_given_up (λ c. IsOther name (changed_by (InFiles files) (Some file) c) → name ≢ file.name) (λ arrangement logs tallies. λ x. x.0) cause gave apart);
-      made = of_given_up (λ c. MadeRow (InFiles files) (Some file) old new c) (λ arrangement logs tallies. parted.made) cause gave;
+      kept = λ t name apart. parted.others t name (of_given_up (λ c. IsOther name (changed_by (InFiles files) (Some file) c) → name ≢ file.name) (λ arrangement logs tallies kept. λ x. x.0) cause gave apart);
+      made = of_given_up (λ c. MadeRow (InFiles files) (Some file) old new c) (λ arrangement logs tallies kept. parted.made) cause gave;
       silent = silent_behind old written new cause silent line.silent;
       parted = λ other e gave_up. subst (λ (f : File). IsParted (with_parting k files (Some file)) f old new cause) (same_file other e) parted;
     }
@@ -141,8 +145,9 @@ refusal_end k files (Some file) (Some text) old mid written new cause read refus
 pub end_is_aloud : (k : Command) (old mid new : Meaning) (result : Result Made Cause) (cause : Cause) → SameButReading old mid → IsMadeOf (aloud k) old mid result → IsEndAloud result mid new cause
     → IsEndOf (aloud k) old new cause
 end_is_aloud k old mid new (Ok made) cause read of end = record {
-  is_true = put_is_true (aloud k) old new made.texts made.arrangement made.tallies.items cause of (put_behind Aloud made.texts made.arrangement made.tallies.items old mid new cause read end.put);
-  said = λ t. put_said made.texts made.arrangement made.tallies.items old mid new cause end.put;
+  is_true = put_is_true (aloud k) old new made.texts made.arrangement (told_in made) cause of (put_behind Aloud made.texts made.arrangement (told_in made) old mid new cause read end.put);
+  tells = end.same.tells ∙ read.tells;
+  said = λ t. put_said made.texts made.arrangement (told_in made) old mid new cause end.put;
   kept = λ t name apart. files_same old new name (end.same.files ∙ read.files);
   made = end.same.makes ∙ read.makes;
   silent = tt;
@@ -154,19 +159,20 @@ end_is_aloud k old mid new (Ok made) cause read of end = record {
 end_is_aloud k old mid new (Err refusal) cause read of end =
     refused_aloud k old mid new cause read (subst IsRefused (sym end.is_cause) of.0) (subst (λ (x : Cause). IsTrueOf (aloud k) old mid x) (sym end.is_cause) of.1) end.line
 
-given_end : (k : Command) (files : Files) (made : Made) (old mid new : Meaning) (cause : Cause) → SameButReading old mid → OfTexts k.files old (λ texts. k.Gives texts made.texts made.arrangement made.tallies.items)
-    → AreFilesGiven files made.texts made.arrangement made.tallies.items mid new cause → IsEndOf (in_files k files) old new cause
+given_end : (k : Command) (files : Files) (made : Made) (old mid new : Meaning) (cause : Cause) → SameButReading old mid → OfTexts k.files old (λ texts. k.Gives texts made.texts made.arrangement (told_in made))
+    → AreFilesGiven files made.texts made.arrangement (told_in made) mid new cause → IsEndOf (in_files k files) old new cause
 given_end k files made old mid new cause read of end =
-    let put = put_stays files made.texts made.arrangement made.tallies.items old end.written new cause end.line.same
-    (put_behind (InFiles files) made.texts made.arrangement made.tallies.items old mid end.written cause read end.put) in
+    let put = put_stays files made.texts made.arrangement (told_in made) old end.written new cause end.line.same
+    (put_behind (InFiles files) made.texts made.arrangement (told_in made) old mid end.written cause read end.put) in
     let silent = silent_written old mid end.written read end.same in
     record {
-      is_true = put_is_true (in_files k files) old new made.texts made.arrangement made.tallies.items cause of put;
+      is_true = put_is_true (in_files k files) old new made.texts made.arrangement (told_in made) cause of put;
+      tells = end.line.same.tells ∙ end.same.tells ∙ read.tells;
       said = λ t. after_silence old end.written new (line_of cause) silent (end.line.said (end.same.tells ∙ read.tells ∙ t));
-      kept = λ t. put_kept files k.parting made.texts made.arrangement made.tallies.items old new cause t put;
-      made = put_made files k.parting made.texts made.arrangement made.tallies.items old new cause put;
+      kept = λ t. put_kept files k.parting made.texts made.arrangement (told_in made) old new cause t put;
+      made = put_made files k.parting made.texts made.arrangement (told_in made) old new cause put;
       silent = silent_behind old end.written new cause silent end.line.silent;
-      parted = λ file e gave. absurd (put_not_given_up files made.texts made.arrangement made.tallies.items old new cause put gave);
+      parted = λ file e gave. absurd (put_not_given_up files made.texts made.arrangement (told_in made) old new cause put gave);
     }
 
 pub end_is_in_files : (k : Command) (files : Files) (old mid new : Meaning) (result : Result Made Refused) (cause : Cause) → SameButReading old mid

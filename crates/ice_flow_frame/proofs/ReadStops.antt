@@ -51,7 +51,7 @@ stopped_at files old mid new place (TooLong of_role limit) p q n some few before
   longer = λ bytes t e. stop.3 bytes (p.tells ∙ t) (subst (λ (f : List ℕ → Option (List ℕ)). f (name_at files place) ≡ Some bytes) (sym p.files) e);
 }
 stopped_at files old mid new place NoMemory p q n some few before stop = q.makes ∙ p.makes
-stopped_at files old mid new place (Good arrangement tallies) p q n some few before stop = absurd stop
+stopped_at files old mid new place (Good arrangement tallies kept) p q n some few before stop = absurd stop
 stopped_at files old mid new place Usage p q n some few before stop = absurd stop
 stopped_at files old mid new place (BadBlif fault) p q n some few before stop = absurd stop
 stopped_at files old mid new place (BadPcf fault) p q n some few before stop = absurd stop
@@ -60,7 +60,7 @@ stopped_at files old mid new place (BadNet fault) p q n some few before stop = a
 stopped_at files old mid new place (BadPin fault) p q n some few before stop = absurd stop
 stopped_at files old mid new place (Overfull fault) p q n some few before stop = absurd stop
 stopped_at files old mid new place (Unreachable arrangement net sink) p q n some few before stop = absurd stop
-stopped_at files old mid new place (GaveUp arrangement logs tallies) p q n some few before stop = absurd stop
+stopped_at files old mid new place (GaveUp arrangement logs tallies kept) p q n some few before stop = absurd stop
 stopped_at files old mid new place (WriteFault of_role put) p q n some few before stop = absurd stop
 stopped_at files old mid new place (BadAsc fault) p q n some few before stop = absurd stop
 stopped_at files old mid new place (BadBits fault) p q n some few before stop = absurd stop
@@ -122,7 +122,7 @@ stops_at_first files old new role limit place t is first = elim (cases_lt is.las
 
 -- the answer that a text is too long, with the text's role
 long_is : (cause : Cause) → IsLong cause → (role : FileRole) × (limit : ℕ) × (cause ≡ TooLong role limit)
-long_is (Good arrangement tallies) is = absurd is
+long_is (Good arrangement tallies kept) is = absurd is
 long_is Usage is = absurd is
 long_is (BadBlif fault) is = absurd is
 long_is (BadPcf fault) is = absurd is
@@ -131,7 +131,7 @@ long_is (BadNet fault) is = absurd is
 long_is (BadPin fault) is = absurd is
 long_is (Overfull fault) is = absurd is
 long_is (Unreachable arrangement net sink) is = absurd is
-long_is (GaveUp arrangement logs tallies) is = absurd is
+long_is (GaveUp arrangement logs tallies kept) is = absurd is
 long_is (ReadFault of_role) is = absurd is
 long_is (WriteFault of_role put) is = absurd is
 long_is NoMemory is = absurd is

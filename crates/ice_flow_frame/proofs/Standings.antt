@@ -25,6 +25,7 @@ use Rattle.ice_pads.specs.declared.fault.PinFault.{PinFault}
 use Rattle.ice_pads.specs.declared.fault.PinFault.TheVariants as pin_fault
 use Rattle.ice_place.specs.declared.fault.PlaceFault.{PlaceFault}
 use Rattle.ice_place.specs.declared.fault.PlaceFault.TheVariants as place_fault
+use Rattle.ice_negotiate_defs.specs.declared.kept.Kept.{Kept}
 use Rattle.ice_words.specs.Grips.{Shut}
 
 -- ---- how texts stand
@@ -60,8 +61,8 @@ pub some_stands : {V : Type 0} (found : Option V) (told : Cause) (then : V → C
 some_stands found told then value cause e is = rw e at is
 
 -- what is true of each answer of done work
-pub of_done : (P : Cause → Type 0) → ((arrangement : Arrangement) (tallies : Vec Shut) → P (Good arrangement tallies)) → ((role : FileRole) (put : ℕ) → P (WriteFault role put)) → (cause : Cause) → IsDone cause → P cause
-of_done P good cut (Good arrangement tallies) done = good arrangement tallies
+pub of_done : (P : Cause → Type 0) → ((arrangement : Arrangement) (tallies : Vec Shut) (kept : Vec Kept) → P (Good arrangement tallies kept)) → ((role : FileRole) (put : ℕ) → P (WriteFault role put)) → (cause : Cause) → IsDone cause → P cause
+of_done P good cut (Good arrangement tallies kept) done = good arrangement tallies kept
 of_done P good cut Usage done = absurd done
 of_done P good cut (BadBlif fault) done = absurd done
 of_done P good cut (BadPcf fault) done = absurd done
@@ -70,7 +71,7 @@ of_done P good cut (BadNet fault) done = absurd done
 of_done P good cut (BadPin fault) done = absurd done
 of_done P good cut (Overfull fault) done = absurd done
 of_done P good cut (Unreachable arrangement net sink) done = absurd done
-of_done P good cut (GaveUp arrangement logs tallies) done = absurd done
+of_done P good cut (GaveUp arrangement logs tallies kept) done = absurd done
 of_done P good cut (ReadFault role) done = absurd done
 of_done P good cut (WriteFault role put) done = cut role put
 of_done P good cut NoMemory done = absurd done

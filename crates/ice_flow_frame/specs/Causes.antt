@@ -28,7 +28,7 @@ abbrev pub no_arrangement : Arrangement
 no_arrangement = record { ranks = []; placement = [] }
 
 abbrev pub status_of : Cause → ℕ
-status_of (Good arrangement tallies) = 0
+status_of (Good arrangement tallies kept) = 0
 status_of Usage = 2
 status_of (BadBlif fault) = 3
 status_of (BadPcf fault) = 4
@@ -37,7 +37,7 @@ status_of (BadNet fault) = 6
 status_of (BadPin fault) = 7
 status_of (Overfull fault) = 8
 status_of (Unreachable arrangement net sink) = 9
-status_of (GaveUp arrangement logs tallies) = 10
+status_of (GaveUp arrangement logs tallies kept) = 10
 status_of (ReadFault role) = 11
 status_of (WriteFault role put) = 12
 status_of NoMemory = 13
@@ -182,7 +182,7 @@ bits_line decode_fault.NoMemory = joined (codes "error 15 bits nomemory\n" ∷ [
 
 -- the line that an answer says: nothing where the work is done
 abbrev pub line_of : Cause → List ℕ
-line_of (Good arrangement tallies) = []
+line_of (Good arrangement tallies kept) = []
 line_of Usage = joined (codes "error 2 usage\n" ∷ [])
 line_of (BadBlif fault) = blif_line fault
 line_of (BadPcf fault) = pcf_line fault
@@ -191,7 +191,7 @@ line_of (BadNet fault) = net_line fault
 line_of (BadPin fault) = pin_line fault
 line_of (Overfull fault) = place_line fault
 line_of (Unreachable arrangement net sink) = two_line (codes "error 9 unreachable net ") net.0 (codes " sink ") sink.0
-line_of (GaveUp arrangement logs tallies) = number_line (codes "error 10 gaveup rounds ") (length logs.items)
+line_of (GaveUp arrangement logs tallies kept) = number_line (codes "error 10 gaveup rounds ") (length tallies.items)
 line_of (ReadFault role) = joined (codes "error 11 read " ∷ role_name role ∷ codes "\n" ∷ [])
 line_of (WriteFault role put) = joined (codes "error 12 write " ∷ role_name role ∷ codes " put " ∷ decimal put ∷ codes "\n" ∷ [])
 line_of NoMemory = joined (codes "error 13 memory\n" ∷ [])

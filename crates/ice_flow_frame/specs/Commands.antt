@@ -11,16 +11,16 @@ use Rattle.ice_flow_frame.specs.Reading.{File, Files, IsReadFault, IsTooLong}
 use Rattle.ice_flow_frame.specs.Refusals.{IsKnown}
 use Rattle.ice_flow_frame.specs.Texts.{text_at, OfTexts}
 use Rattle.ice_flow_frame.specs.Writing.{AreWritten, AreWrittenInPart}
-use Rattle.ice_words.specs.Grips.{Shut}
+use Rattle.ice_flow_frame.specs.Told.{Told, telling}
 
 -- where a command gives what it makes: on the standard output, or to these files, in the order of writing
 pub data Output : Type 0 where
   Aloud : Output
   InFiles : Files → Output
 
--- what texts give: the texts read, the texts made, the arrangement that they are about and the tallies of its routing
+-- what texts give: the texts read, the texts made, the arrangement that they are about and what is told of its routing
 abbrev pub Giving : Type 1
-Giving = List (List ℕ) → List (List ℕ) → Arrangement → List Shut → Type 0
+Giving = List (List ℕ) → List (List ℕ) → Arrangement → Told → Type 0
 
 -- a command with its words
 pub record Command : Type 1 where
@@ -29,7 +29,7 @@ pub record Command : Type 1 where
   -- The texts stand so that this is their answer, beside what the desk and the memory have to do with it: the refusal of what is
   -- wrong first, or that the work is done.
   pub Stands : List (List ℕ) → Cause → Type 0
-  -- what it makes of texts: a text for each place where it gives, with the arrangement that they are about and the tallies of its routing
+  -- what it makes of texts: a text for each place where it gives, with the arrangement that they are about and what is told of its routing
   pub Gives : Giving
   pub output : Output
   -- the file that is written where the rounds gave up, and which texts it may hold then, by the texts that were read and the answer
@@ -45,7 +45,7 @@ command_of files Stands Gives output =
 
 -- the work is done, or a fault of writing came in between
 abbrev pub IsDone : Cause → Type 0
-IsDone (Good arrangement tallies) = Unit {0}
+IsDone (Good arrangement tallies kept) = Unit {0}
 IsDone (WriteFault role put) = Unit {0}
 IsDone cause = ⊥
 
@@ -67,7 +67,7 @@ stands_if IsSo IsOtherwise then cause = IsOtherwise cause ⊎ (IsSo × then caus
 
 -- texts that stand so are refused by this cause, or there was no memory
 abbrev pub IsRefusal : (Cause → Type 0) → Cause → Type 0
-IsRefusal Stands (Good arrangement tallies) = ⊥
+IsRefusal Stands (Good arrangement tallies kept) = ⊥
 IsRefusal Stands (ReadFault role) = ⊥
 IsRefusal Stands (WriteFault role put) = ⊥
 IsRefusal Stands NoMemory = Unit {0}
@@ -76,13 +76,13 @@ IsRefusal Stands cause = Stands cause × IsKnown cause
 
 -- a refusal: neither was the work done, nor did its writing fail
 abbrev pub IsRefused : Cause → Type 0
-IsRefused (Good arrangement tallies) = ⊥
+IsRefused (Good arrangement tallies kept) = ⊥
 IsRefused (WriteFault role put) = ⊥
 IsRefused cause = Unit {0}
 
 -- the rounds gave up
 abbrev pub HasGivenUp : Cause → Type 0
-HasGivenUp (GaveUp arrangement logs tallies) = Unit {0}
+HasGivenUp (GaveUp arrangement logs tallies kept) = Unit {0}
 HasGivenUp cause = ⊥
 
 -- something is left on parting: the rounds gave up, and there is a file for it
@@ -116,31 +116,31 @@ abbrev pub IsCut : Output → List (List ℕ) → Meaning → Meaning → FileRo
 IsCut Aloud texts old new role put = IsSaidInPart (text_at texts 1) old new role put
 IsCut (InFiles files) texts old new role put = AreWrittenInPart files texts old new role put
 
--- how the giving of texts with this arrangement and these tallies ended
-abbrev pub IsPut : Output → List (List ℕ) → Arrangement → List Shut → Meaning → Meaning → Cause → Type 0
-IsPut output texts made_on counted old new (Good arrangement tallies) = (arrangement ≡ made_on) × (tallies.items ≡ counted) × IsGiven output texts old new
-IsPut output texts made_on counted old new (WriteFault role put) = IsCut output texts old new role put
-IsPut output texts made_on counted old new cause = ⊥
+-- how the giving of texts with this arrangement, of whose routing this is told, ended
+abbrev pub IsPut : Output → List (List ℕ) → Arrangement → Told → Meaning → Meaning → Cause → Type 0
+IsPut output texts made_on told old new (Good arrangement tallies kept) = (arrangement ≡ made_on) × (telling tallies kept ≡ told) × IsGiven output texts old new
+IsPut output texts made_on told old new (WriteFault role put) = IsCut output texts old new role put
+IsPut output texts made_on told old new cause = ⊥
 
 -- ---- the answers
 
--- the work is done: what the texts give with this arrangement and these tallies was given whole
-pub record IsGood (k : Command) (old new : Meaning) (arrangement : Arrangement) (tallies : List Shut) : Type 0 where
+-- the work is done: what the texts give with this arrangement, of whose routing this is told, was given whole
+pub record IsGood (k : Command) (old new : Meaning) (arrangement : Arrangement) (told : Told) : Type 0 where
   pub made : List (List ℕ)
-  pub texts : OfTexts k.files old (λ texts. k.Gives texts made arrangement tallies)
+  pub texts : OfTexts k.files old (λ texts. k.Gives texts made arrangement told)
   pub given : IsGiven k.output made old new
 
 -- a write fault: the giving of what the texts give stopped
 pub record IsWriteFault (k : Command) (old new : Meaning) (role : FileRole) (put : ℕ) : Type 0 where
   pub made : List (List ℕ)
   pub arrangement : Arrangement
-  pub tallies : List Shut
-  pub texts : OfTexts k.files old (λ texts. k.Gives texts made arrangement tallies)
+  pub told : Told
+  pub texts : OfTexts k.files old (λ texts. k.Gives texts made arrangement told)
   pub cut : IsCut k.output made old new role put
 
 -- what each cause says of a command, of its texts, and of the desk before and after
 abbrev pub IsTrueOf : Command → Meaning → Meaning → Cause → Type 0
-IsTrueOf k old new (Good arrangement tallies) = IsGood k old new arrangement tallies.items
+IsTrueOf k old new (Good arrangement tallies kept) = IsGood k old new arrangement (telling tallies kept)
 IsTrueOf k old new (ReadFault role) = IsReadFault k.files old new role
 IsTrueOf k old new (WriteFault role put) = IsWriteFault k old new role put
 IsTrueOf k old new NoMemory = new.makes ≡ old.makes

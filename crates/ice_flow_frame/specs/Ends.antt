@@ -4,7 +4,6 @@ use Rattle.std.specs.declared.alloc.Global.{Global}
 use Rattle.ice_place.specs.declared.arrangement.Arrangement.{Arrangement}
 use Rattle.ice_desk.specs.Desk.{Meaning, SameButSaying, SameButWriting, after_one}
 use Rattle.ice_desk.specs.Said.{SaidRow}
-use Rattle.ice_words.specs.Grips.{Shut}
 use Rattle.ice_flow_frame.specs.declared.cause.Cause.{Cause}
 use Rattle.ice_flow_frame.specs.declared.giving.Made.{Made}
 use Rattle.ice_flow_frame.specs.declared.giving.Refused.{Refused}
@@ -14,6 +13,7 @@ use Rattle.ice_flow_frame.specs.Reading.{most_bytes, File, Files, TellsLong}
 use Rattle.ice_flow_frame.specs.Rows.{SaidBy, KeptRow, MadeRow, SilentRow, IsLeftIn, PartingRow}
 use Rattle.ice_flow_frame.specs.Says.{SilentWhereDone}
 use Rattle.ice_flow_frame.specs.Texts.{OfTexts}
+use Rattle.ice_flow_frame.specs.Told.{Told, told_in}
 
 -- ---- what an end does to the desk
 -- the line of the cause was said, as far as no say failed, and nothing where the work is done
@@ -27,10 +27,10 @@ pub record IsRefusalSaid (refusal : Cause) (old new : Meaning) (cause : Cause) :
   pub is_cause : cause ≡ refusal
   pub line : IsLineSaid old new cause
 
--- the first of texts with this arrangement and these tallies was said
-pub record IsTextGiven (texts : List (List ℕ)) (arrangement : Arrangement) (tallies : List Shut) (old new : Meaning) (cause : Cause) : Type 0 where
+-- the first of texts with this arrangement, of whose routing this is told, was said
+pub record IsTextGiven (texts : List (List ℕ)) (arrangement : Arrangement) (told : Told) (old new : Meaning) (cause : Cause) : Type 0 where
   pub same : SameButSaying old new
-  pub put : IsPut Aloud texts arrangement tallies old new cause
+  pub put : IsPut Aloud texts arrangement told old new cause
 
 -- all but files, what is taken, and the counts of writing is as before
 pub record SameButFiles (old new : Meaning) : Type 0 where
@@ -45,10 +45,10 @@ pub record SameButFiles (old new : Meaning) : Type 0 where
   pub write_faults : old.write_faults ≤ new.write_faults
 
 -- the texts were written to these files, one after another, and then the line of the cause was said
-pub record AreFilesGiven (files : Files) (texts : List (List ℕ)) (arrangement : Arrangement) (tallies : List Shut) (old new : Meaning) (cause : Cause) : Type 0 where
+pub record AreFilesGiven (files : Files) (texts : List (List ℕ)) (arrangement : Arrangement) (told : Told) (old new : Meaning) (cause : Cause) : Type 0 where
   pub written : Meaning
   pub same : SameButFiles old written
-  pub put : IsPut (InFiles files) texts arrangement tallies old written cause
+  pub put : IsPut (InFiles files) texts arrangement told old written cause
   pub line : IsLineSaid written new cause
 
 -- this text was written to the file of this name, as far as no call failed
@@ -70,7 +70,7 @@ pub record IsLeftAndSaid (parting : Option File) (report : Option (List ℕ)) (r
   pub said : IsRefusalSaid refusal written new cause
 
 abbrev pub IsEndAloud : Result Made Cause → Meaning → Meaning → Cause → Type 0
-IsEndAloud (Ok made) old new cause = IsTextGiven made.texts made.arrangement made.tallies.items old new cause
+IsEndAloud (Ok made) old new cause = IsTextGiven made.texts made.arrangement (told_in made) old new cause
 IsEndAloud (Err refusal) old new cause = IsRefusalSaid refusal old new cause
 
 -- the text that is to be left
@@ -79,14 +79,14 @@ text_of None = None
 text_of (Some text) = Some text.items
 
 abbrev pub IsEndInFiles : Files → Option File → Result Made Refused → Meaning → Meaning → Cause → Type 0
-IsEndInFiles files parting (Ok made) old new cause = AreFilesGiven files made.texts made.arrangement made.tallies.items old new cause
+IsEndInFiles files parting (Ok made) old new cause = AreFilesGiven files made.texts made.arrangement (told_in made) old new cause
 IsEndInFiles files parting (Err refused) old new cause = IsLeftAndSaid parting (text_of refused.report) refused.cause old new cause
 
 -- ---- what it is to a command
 -- What came of the making, where the desk was seen as `old` before the files were read, and is seen as `new` after: what the texts give,
 -- or a refusal that is true of the command.
 abbrev pub IsMadeOf : Command → Meaning → Meaning → Result Made Cause → Type 0
-IsMadeOf k old new (Ok made) = OfTexts k.files old (λ texts. k.Gives texts made.texts made.arrangement made.tallies.items)
+IsMadeOf k old new (Ok made) = OfTexts k.files old (λ texts. k.Gives texts made.texts made.arrangement (told_in made))
 IsMadeOf k old new (Err refusal) = IsRefused refusal × IsTrueOf k old new refusal
 
 -- no text was too long, or that is the refusal
@@ -108,9 +108,10 @@ abbrev pub IsReported : Command → Meaning → Result Made Refused → Type 0
 IsReported k old (Ok made) = Unit {0}
 IsReported k old (Err refused) = IsReport k old refused.cause (text_of refused.report)
 
--- the end of the command: its cause is true, and what was said and made is as the cause tells
+-- the end of the command: its cause is true, what was said and made is as the cause tells, and the desk still tells its contents, if it did
 pub record IsEndOf (k : Command) (old new : Meaning) (cause : Cause) : Type 0 where
   pub is_true : IsTrueOf k old new cause
+  pub tells : new.tells ≡ old.tells
   pub said : old.tells ≡ true → SaidBy k.output old new cause
   pub kept : old.tells ≡ true → KeptRow k.output k.parting old new cause
   pub made : MadeRow k.output k.parting old new cause

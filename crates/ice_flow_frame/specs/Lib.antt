@@ -6,6 +6,8 @@ pub mod Refusals
 pub mod TextLists
 pub mod Texts
 pub mod Writing
+pub mod Told
 pub mod Commands
 pub mod Rows
 pub mod Ends
+pub mod Tells

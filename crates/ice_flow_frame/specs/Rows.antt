@@ -4,6 +4,7 @@ use Rattle.std.specs.Global.{Vec}
 use Rattle.ice_place.specs.declared.arrangement.Arrangement.{Arrangement}
 use Rattle.ice_desk.specs.Desk.{Meaning, Rose, after_one, HoldsAfter}
 use Rattle.ice_desk.specs.Said.{SaidRow}
+use Rattle.ice_negotiate_defs.specs.declared.kept.Kept.{Kept}
 use Rattle.ice_words.specs.Grips.{Shut}
 use Rattle.ice_flow_frame.specs.declared.cause.Cause.{Cause}
 use Rattle.ice_flow_frame.specs.declared.cause.Cause.TheVariants.{Good, GaveUp, ReadFault, WriteFault, TooLong}
@@ -13,6 +14,7 @@ use Rattle.ice_flow_frame.specs.Says.{SilentWhereDone}
 use Rattle.ice_flow_frame.specs.Reading.{most_bytes, File, Files, role_at, IsReadFault, IsTooLong, IsFirstTooLong, IsInterrupted, IsLong}
 use Rattle.ice_flow_frame.specs.Texts.{text_at, OfTexts, HoldsTexts}
 use Rattle.ice_flow_frame.specs.Writing.{MadeMore, IsOther, HoldFrom}
+use Rattle.ice_flow_frame.specs.Told.{Told, telling}
 use Rattle.ice_flow_frame.specs.Commands.{Command, Output, Aloud, InFiles, IsDone, IsRefused, HasGivenUp, IsWriteFault}
 
 -- Such an answer comes only where the texts are so; and where the files hold texts that are so, it always comes, unless
@@ -23,26 +25,26 @@ pub record ComesExactly (k : Command) (old : Meaning) (IsSuch : Cause → Type 0
 
 -- status 0, or 12 where a fault of writing comes in between: exactly where the texts give something
 abbrev pub DoneRow : Command → Meaning → Cause → Type 0
-DoneRow k old cause = ComesExactly k old IsDone (λ texts. (made : List (List ℕ)) × (arrangement : Arrangement) × (tallies : List Shut) × k.Gives texts made arrangement tallies) cause
+DoneRow k old cause = ComesExactly k old IsDone (λ texts. (made : List (List ℕ)) × (arrangement : Arrangement) × (told : Told) × k.Gives texts made arrangement told) cause
 
 -- what was made stands where it was to be given: the first text was said, or each file holds its text, unless a later one has the same name
 abbrev pub IsThere : Output → List (List ℕ) → Meaning → Meaning → Type 0
 IsThere Aloud texts old new = new.said ≡ old.said ++ text_at texts 1
 IsThere (InFiles files) texts old new = HoldFrom 1 files texts new
 
--- what the texts of the files give with this arrangement and these tallies stands where it was to be given
-pub record IsHeld (k : Command) (old new : Meaning) (arrangement : Arrangement) (tallies : List Shut) : Type 0 where
+-- what the texts of the files give with this arrangement, of whose routing this is told, stands where it was to be given
+pub record IsHeld (k : Command) (old new : Meaning) (arrangement : Arrangement) (told : Told) : Type 0 where
   pub texts : List (List ℕ)
   pub made : List (List ℕ)
   pub hold : HoldsTexts k.files old texts
-  pub gives : k.Gives texts made arrangement tallies
+  pub gives : k.Gives texts made arrangement told
   pub there : IsThere k.output made old new
 
--- status 0: the work is done; and where the desk tells its contents, what was given is what the texts give with the arrangement and
--- the tallies that are told
+-- status 0: the work is done; and where the desk tells its contents, what was given is what the texts give with the arrangement, the
+-- tallies and what the opening left, as they are told
 pub record GoodRow (k : Command) (old new : Meaning) (cause : Cause) (status : ℕ) : Type 0 where
-  pub done : status ≡ 0 → (arrangement : Arrangement) × (tallies : Vec Shut) × (cause ≡ Good arrangement tallies)
-  pub held : (arrangement : Arrangement) (tallies : Vec Shut) → cause ≡ Good arrangement tallies → old.tells ≡ true → IsHeld k old new arrangement tallies.items
+  pub done : status ≡ 0 → (arrangement : Arrangement) × (tallies : Vec Shut) × (kept : Vec Kept) × (cause ≡ Good arrangement tallies kept)
+  pub held : (arrangement : Arrangement) (tallies : Vec Shut) (kept : Vec Kept) → cause ≡ Good arrangement tallies kept → old.tells ≡ true → IsHeld k old new arrangement (telling tallies kept)
 
 -- status 11: only where the count of read faults rose in this call
 abbrev pub ReadFaultRow : Command → Meaning → Meaning → Cause → Type 0
@@ -71,9 +73,9 @@ SaidBy (InFiles files) old new cause = SaidRow old new (line_of cause)
 -- alone, where the rounds gave up
 abbrev pub changed_by : Output → Option File → Cause → Files
 changed_by Aloud parting cause = []
-changed_by (InFiles files) parting (Good arrangement tallies) = files
+changed_by (InFiles files) parting (Good arrangement tallies kept) = files
 changed_by (InFiles files) parting (WriteFault role put) = files
-changed_by (InFiles files) (Some file) (GaveUp arrangement logs tallies) = file ∷ []
+changed_by (InFiles files) (Some file) (GaveUp arrangement logs tallies kept) = file ∷ []
 changed_by (InFiles files) parting cause = []
 
 -- where the desk tells, no other file changed
@@ -84,9 +86,9 @@ KeptRow output parting old new cause = (name : List ℕ) → IsOther name (chang
 -- parting file, where the rounds gave up; and else none
 abbrev pub MadeRow : Output → Option File → Meaning → Meaning → Cause → Type 0
 MadeRow Aloud parting old new cause = new.makes ≡ old.makes
-MadeRow (InFiles files) parting old new (Good arrangement tallies) = MadeMore (length files) old new
+MadeRow (InFiles files) parting old new (Good arrangement tallies kept) = MadeMore (length files) old new
 MadeRow (InFiles files) parting old new (WriteFault role put) = (place : ℕ) × (0 < place) × (place ≤ length files) × MadeMore place old new
-MadeRow (InFiles files) (Some file) old new (GaveUp arrangement logs tallies) = new.makes ≡ after_one old.makes
+MadeRow (InFiles files) (Some file) old new (GaveUp arrangement logs tallies kept) = new.makes ≡ after_one old.makes
 MadeRow (InFiles files) parting old new cause = new.makes ≡ old.makes
 
 -- where a command that writes is done, nothing was said, over every desk

@@ -11,6 +11,7 @@ use ice_check::NetFault;
 use ice_chip::ChipFault;
 use ice_core::RoundLog;
 use ice_decode::DecodeFault;
+use ice_negotiate_defs::Kept;
 use ice_pads::PinFault;
 use ice_pcf::PcfFault;
 use ice_place::{Arrangement, PlaceFault, Placement};
@@ -44,10 +45,11 @@ pub enum FileRole {
 #[derive(Drop)]
 pub enum Cause {
     /// 0: the work is done and every file is written; with the arrangement of what was built, which has no cell where nothing is
-    /// placed, and the tally of each of its rounds of routing.
+    /// placed, the tally of each of its rounds of routing, and what the opening left of its nets, which is nothing where there was none.
     Good {
         arrangement: Arrangement,
         tallies: Vec<Tally>,
+        kept: Vec<Kept>,
     },
     /// 2: the words are no command.
     Usage,
@@ -69,11 +71,13 @@ pub enum Cause {
         net: NetNo,
         sink: WireNo,
     },
-    /// 10: on this arrangement each permitted round ends with an overused wire; with the log and the tally of each.
+    /// 10: on this arrangement each permitted round ends with an overused wire; with the log and the tally of each. The opening's log stands
+    /// before them, and what it left of the nets, where there was one.
     GaveUp {
         arrangement: Arrangement,
         logs: Vec<RoundLog>,
         tallies: Vec<Tally>,
+        kept: Vec<Kept>,
     },
     /// 11: the desk counted a fault of reading.
     ReadFault {
@@ -126,6 +130,13 @@ pub fn no_arrangement(alloc: Global) -> Arrangement
 
 /// The tallies of no round. It takes no memory.
 pub fn no_tallies(alloc: Global) -> Vec<Tally>
+    ensures { result.items ≡ [] }
+{
+    Vec::new(alloc)
+}
+
+/// What is left of no net. It takes no memory.
+pub fn none_kept(alloc: Global) -> Vec<Kept>
     ensures { result.items ≡ [] }
 {
     Vec::new(alloc)

@@ -1,18 +1,20 @@
 //! Giving what a command made: it is said or written; or, where nothing was made, the line of the refusal is said.
 ghost use Rattle.std.specs.Prelude.{◌≡◌, ◌∷◌, [], IfOk, IfErr};
-ghost use Rattle.ice_desk.specs.Desk.{SameButSaying};
+ghost use Rattle.ice_desk.specs.Desk.{SameButSaying, SameTest};
 ghost use Rattle.ice_flow_frame.specs.declared.cause.Cause.TheVariants.{NoMemory as out_of_memory};
 ghost use Rattle.ice_flow_frame.specs.Causes.{no_arrangement, status_of};
 ghost use Rattle.ice_flow_frame.specs.Commands.{Aloud, InFiles, IsPut};
 ghost use Rattle.ice_flow_frame.specs.Ends.{SameButFiles, IsEndAloud, IsEndInFiles};
+ghost use Rattle.ice_flow_frame.specs.Told.{nothing_told, told_in};
 ghost use Rattle.ice_flow_frame.specs.Texts.{files_view, parting_view, ArePermitted, IsPermitted};
 
-use crate::cause::{Cause, Done, FileRole, no_arrangement, no_tallies};
+use crate::cause::{Cause, Done, FileRole, no_arrangement, no_tallies, none_kept};
 use crate::end::{done, finish};
 use crate::files::{CommandFile, Texts, one_text};
 use crate::writing::{leave_report, write_texts};
 use ice_base::NoMemory;
 use ice_desk::{Desk, say_text};
+use ice_negotiate_defs::Kept;
 use ice_place::Arrangement;
 use ice_words::Tally;
 use std::alloc::Global;
@@ -26,16 +28,18 @@ pub struct Made {
     pub arrangement: Arrangement,
     /// The tallies of its rounds in order; there are none where nothing is routed.
     pub tallies: Vec<Tally>,
+    /// What the opening left of its nets; nothing where there was none.
+    pub kept: Vec<Kept>,
 }
 
-/// One text, with the arrangement of no cell and the tallies of no round.
+/// One text, with the arrangement of no cell, the tallies of no round and what is left of no net.
 ///
 /// # Errors
 /// Want of memory alone.
 pub fn made_text(alloc: Global, text: Vec<u8>) -> Result<Made, Cause>
     ensures text { IfOk result (λ made. made.texts ≡ text.items ∷ []) }
     ensures arrangement { IfOk result (λ made. made.arrangement ≡ no_arrangement) }
-    ensures tallies { IfOk result (λ made. made.tallies.items ≡ []) }
+    ensures told { IfOk result (λ made. told_in made ≡ nothing_told) }
     ensures stop { IfErr result (λ cause. cause ≡ out_of_memory) }
 {
     match one_text(alloc, text) {
@@ -43,6 +47,7 @@ pub fn made_text(alloc: Global, text: Vec<u8>) -> Result<Made, Cause>
             texts,
             arrangement: no_arrangement(alloc),
             tallies: no_tallies(alloc),
+            kept: none_kept(alloc),
         }),
         Err(NoMemory) => Err(Cause::NoMemory),
     }
@@ -60,12 +65,15 @@ pub struct Refused {
 // Says the first text, whole or up to a say that failed. Each memory was taken before.
 fn put_aloud<D: Desk>(desk: &mut D, made: Made) -> Cause
     ensures same { SameButSaying (D.seen desk.old) (D.seen desk.new) }
-    ensures put { IsPut Aloud made.texts made.arrangement made.tallies.items (D.seen desk.old) (D.seen desk.new) result }
+    ensures names_read { SameTest (D.may_read desk.old) (D.may_read desk.new) }
+    ensures names_written { SameTest (D.may_write desk.old) (D.may_write desk.new) }
+    ensures put { IsPut Aloud made.texts made.arrangement (told_in made) (D.seen desk.old) (D.seen desk.new) result }
 {
     match say_text(desk, made.texts.at(1)) {
         Ok(()) => Cause::Good {
             arrangement: made.arrangement,
             tallies: made.tallies,
+            kept: made.kept,
         },
         Err(put) => Cause::WriteFault {
             role: FileRole::Standard,
@@ -78,6 +86,8 @@ fn put_aloud<D: Desk>(desk: &mut D, made: Made) -> Cause
 /// made. It takes no memory.
 pub fn end_aloud<D: Desk>(desk: &mut D, made: Result<Made, Cause>) -> Done
     ensures status { result.status ≡ status_of result.cause }
+    ensures names_read { SameTest (D.may_read desk.old) (D.may_read desk.new) }
+    ensures names_written { SameTest (D.may_write desk.old) (D.may_write desk.new) }
     ensures end { IsEndAloud made (D.seen desk.old) (D.seen desk.new) result.cause }
 {
     match made {
@@ -90,12 +100,15 @@ pub fn end_aloud<D: Desk>(desk: &mut D, made: Result<Made, Cause>) -> Done
 fn put_in_files<D: Desk>(desk: &mut D, files: &[CommandFile<'_>], made: Made) -> Cause
     requires { ArePermitted (D.may_write desk.old) (files_view files.now) }
     ensures same { SameButFiles (D.seen desk.old) (D.seen desk.new) }
-    ensures put { IsPut (InFiles (files_view files.now)) made.texts made.arrangement made.tallies.items (D.seen desk.old) (D.seen desk.new) result }
+    ensures names_read { SameTest (D.may_read desk.old) (D.may_read desk.new) }
+    ensures names_written { SameTest (D.may_write desk.old) (D.may_write desk.new) }
+    ensures put { IsPut (InFiles (files_view files.now)) made.texts made.arrangement (told_in made) (D.seen desk.old) (D.seen desk.new) result }
 {
     match write_texts(desk, files, &made.texts) {
         Ok(()) => Cause::Good {
             arrangement: made.arrangement,
             tallies: made.tallies,
+            kept: made.kept,
         },
         Err(stop) => Cause::WriteFault {
             role: stop.role,
@@ -116,6 +129,8 @@ pub fn end_in_files<D: Desk>(
     requires outputs { ArePermitted (D.may_write desk.old) (files_view outputs.now) }
     requires parting { IsPermitted (D.may_write desk.old) (parting_view parting) }
     ensures status { result.status ≡ status_of result.cause }
+    ensures names_read { SameTest (D.may_read desk.old) (D.may_read desk.new) }
+    ensures names_written { SameTest (D.may_write desk.old) (D.may_write desk.new) }
     ensures end { IsEndInFiles (files_view outputs.now) (parting_view parting.entry) made (D.seen desk.old) (D.seen desk.new) result.cause }
 {
     match made {

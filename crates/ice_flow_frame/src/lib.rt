@@ -13,11 +13,12 @@ mod refusal;
 mod say;
 mod writing;
 
-pub use cause::{Cause, Done, FileRole, no_arrangement, no_tallies};
+pub use cause::{Cause, Done, FileRole, no_arrangement, no_tallies, none_kept};
 pub use end::{done, finish};
 pub use files::{CommandFile, Texts, one_text, read_texts};
 pub use giving::{Made, Refused, end_aloud, end_in_files, made_text};
 pub use making::{Making, say_made, without_report};
+pub use reading::MOST_BYTES;
 pub use refusal::{
     asc_refusal, bits_refusal, blif_refusal, chip_refusal, net_refusal, pcf_refusal, pin_refusal,
     place_refusal,

@@ -2,10 +2,10 @@
 ghost use Rattle.std.specs.Prelude.{◌≡◌, ◌<◌, ℕ, List, length, true, None, IfOk, IfErr};
 ghost use Rattle.ice_place.specs.declared.arrangement.Arrangement.{Arrangement};
 ghost use Rattle.ice_desk.specs.Desk.{SameButReading, SameTest};
-ghost use Rattle.ice_words.specs.Grips.{Shut};
 ghost use Rattle.ice_flow_frame.specs.declared.cause.Cause.{Cause};
 ghost use Rattle.ice_flow_frame.specs.Causes.{status_of};
 ghost use Rattle.ice_flow_frame.specs.Reading.{TellsLong};
+ghost use Rattle.ice_flow_frame.specs.Told.{Told, told_in};
 ghost use Rattle.ice_flow_frame.specs.Texts.{files_view, ArePermitted};
 ghost use Rattle.ice_flow_frame.specs.Commands.{Output, command_of, Aloud, IsRefusal, IsTrueOf};
 ghost use Rattle.ice_flow_frame.specs.Ends.{unreported, IsMadeOf, IsToldLong};
@@ -22,12 +22,12 @@ pub trait Making {
     /// How texts stand, by the answer that they have.
     ghost stands: { Self → List (List ℕ) → Cause → Type 0 };
 
-    /// What is made of texts: texts, with the arrangement that they are about and the tallies of its routing.
-    ghost gives: { Self → List (List ℕ) → List (List ℕ) → Arrangement → List Shut → Type 0 };
+    /// What is made of texts: texts, with the arrangement that they are about and what is told of its routing.
+    ghost gives: { Self → List (List ℕ) → List (List ℕ) → Arrangement → Told → Type 0 };
 
     /// What is made of the texts, or why nothing is made.
     fn make(&self, alloc: Global, texts: &Texts) -> Result<Made, Cause>
-        ensures given { IfOk result (λ made. gives self.now texts.now made.texts made.arrangement made.tallies.items) }
+        ensures given { IfOk result (λ made. gives self.now texts.now made.texts made.arrangement (told_in made)) }
         ensures refused { IfErr result (λ cause. IsRefusal (stands self.now texts.now) cause) };
 }
 
@@ -74,6 +74,9 @@ pub fn say_made<D: Desk, M: Making>(
     making: &M,
 ) -> Done
     requires { ArePermitted (D.may_read desk.old) (files_view files.now) }
+    ensures tells { (D.seen desk.new).tells ≡ (D.seen desk.old).tells }
+    ensures names_read { SameTest (D.may_read desk.old) (D.may_read desk.new) }
+    ensures names_written { SameTest (D.may_write desk.old) (D.may_write desk.new) }
     ensures status { result.status ≡ status_of result.cause }
     ensures cause { IsTrueOf (command_of (files_view files.now) (M.stands making.now) (M.gives making.now) Aloud) (D.seen desk.old) (D.seen desk.new) result.cause }
     ensures said { (D.seen desk.old).tells ≡ true → SaidBy Aloud (D.seen desk.old) (D.seen desk.new) result.cause }

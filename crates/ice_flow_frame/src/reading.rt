@@ -8,7 +8,7 @@ use ice_desk::{Desk, ReadStop, read_whole};
 use std::alloc::Global;
 
 /// The most bytes of a text.
-const MOST_BYTES: usize = 268_435_456;
+pub const MOST_BYTES: usize = 268_435_456;
 
 /// The text of one file, which has this role.
 ///

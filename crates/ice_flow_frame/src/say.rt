@@ -291,8 +291,8 @@ fn line_pieces(cause: &Cause) -> [Piece; 5]
         Cause::BadChip(fault) => chip_pieces(*fault),
         Cause::Overfull(fault) => place_pieces(fault),
         Cause::Unreachable { net, sink, .. } => unreachable_pieces(*net, *sink),
-        Cause::GaveUp { logs, .. } => {
-            let rounds = Piece::Number(logs.len() as u64);
+        Cause::GaveUp { tallies, .. } => {
+            let rounds = Piece::Number(tallies.len() as u64);
             three(b"error 10 gaveup rounds ", rounds, b"\n")
         }
         Cause::ReadFault { role } => three(b"error 11 read ", role_name(*role), b"\n"),

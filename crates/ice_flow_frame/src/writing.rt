@@ -20,7 +20,8 @@ pub(crate) struct FileStop {
 fn write_text<D: Desk>(desk: &mut D, file: &CommandFile<'_>, text: &[u8]) -> Result<(), FileStop>
     requires { D.may_write desk.old file.now.name.now }
     ensures same { SameButWriting file.now.name.now (D.seen desk.old) (D.seen desk.new) }
-    ensures names { SameTest (D.may_write desk.old) (D.may_write desk.new) }
+    ensures names_read { SameTest (D.may_read desk.old) (D.may_read desk.new) }
+    ensures names_written { SameTest (D.may_write desk.old) (D.may_write desk.new) }
     ensures made { (D.seen desk.new).makes ≡ after_one (D.seen desk.old).makes }
     ensures written { OnOk result ((D.seen desk.old).tells ≡ true → (D.seen desk.new).files file.now.name.now ≡ Some text.now) }
     ensures stop { IfErr result (λ stop. IsWriteStop (file_view file.now) text.now (D.seen desk.old) (D.seen desk.new) stop.role stop.put) }
@@ -42,6 +43,8 @@ pub(crate) fn write_texts<D: Desk>(
 ) -> Result<(), FileStop>
     requires { ArePermitted (D.may_write desk.old) (files_view files.now) }
     ensures same { SameButFiles (D.seen desk.old) (D.seen desk.new) }
+    ensures names_read { SameTest (D.may_read desk.old) (D.may_read desk.new) }
+    ensures names_written { SameTest (D.may_write desk.old) (D.may_write desk.new) }
     ensures written { OnOk result (AreWritten (files_view files.now) texts.now (D.seen desk.old) (D.seen desk.new)) }
     ensures stop { IfErr result (λ stop. AreWrittenInPart (files_view files.now) texts.now (D.seen desk.old) (D.seen desk.new) stop.role stop.put) }
 {
@@ -62,7 +65,9 @@ pub(crate) fn leave_report<D: Desk>(
     parting: Option<CommandFile<'_>>,
 )
     requires { IsPermitted (D.may_write desk.old) (parting_view parting) }
-    ensures { IsLeft (parting_view parting.entry) (text_of report.now) (D.seen desk.old) (D.seen desk.new) }
+    ensures names_read { SameTest (D.may_read desk.old) (D.may_read desk.new) }
+    ensures names_written { SameTest (D.may_write desk.old) (D.may_write desk.new) }
+    ensures left { IsLeft (parting_view parting.entry) (text_of report.now) (D.seen desk.old) (D.seen desk.new) }
 {
     if let Some(file) = parting {
         if let Some(text) = report {

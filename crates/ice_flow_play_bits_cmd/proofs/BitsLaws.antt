@@ -1,5 +1,5 @@
 -- When each answer of `play-bits` comes, from how its texts stand.
-use Rattle.std.proofs.Common.{◌≡◌, ◌⊎◌, ℕ, Bool, List, length, Result, Ok, Err, inl, inr, refl, sym, subst}
+use Rattle.std.proofs.Common.{◌≡◌, ℕ, Bool, List, length, Result, Ok, Err, inl, inr, refl, sym, subst}
 use Rattle.ice_desk.specs.Desk.{Meaning}
 use Rattle.ice_chip.specs.Database.{PackageRows}
 use Rattle.ice_sim_levels.specs.LevelTexts.{levels_of}
@@ -13,8 +13,8 @@ use Rattle.ice_flow_frame.proofs.TextFacts.{of_weaker}
 use Rattle.ice_flow_chip_frame.proofs.Looks.{then_so, configured_so}
 use Rattle.ice_flow_chip_frame.proofs.RowLaws as bits
 use Rattle.ice_flow_chip_frame.proofs.RowLaws.{IsLater, IsOnBits}
-use Rattle.ice_flow_chip_frame.proofs.Told.{Refuses, IsBehind, told}
-use Rattle.ice_flow_play_bits_cmd.specs.Played.{PlayBits, files_of, LevelsStand, Stands, HasBadLine, play_bits}
+use Rattle.ice_flow_chip_frame.proofs.Told.{told}
+use Rattle.ice_flow_play_bits_cmd.specs.Played.{PlayBits, files_of, LevelsStand, StandsForPlayBits, HasBadLine, play_bits}
 use Rattle.ice_flow_play_bits_cmd.specs.BitsRows.{ChipRow, AscRow, PackageRow, BitsRow, LevelsRow}
 
 abbrev Then : List (List ℕ) → PackageRows → Cause → Type 0
@@ -36,12 +36,12 @@ LineTold bonded text cause = IsDone cause
 
 line_told : (bonded : PackageRows) (text : List ℕ) (cause : Cause) → LevelsStand text bonded cause → LineTold bonded text cause
 line_told bonded text cause m =
-    of_levels (LineTold bonded text) bonded text cause (λ line is. is) (λ c done. of_done (LineTold bonded text) (λ arrangement tallies. tt) (λ role put. tt) c done) m
+    of_levels (LineTold bonded text) bonded text cause (λ line is. is) (λ c done. of_done (LineTold bonded text) (λ arrangement tallies kept. tt) (λ role put. tt) c done) m
 
-never : (name : List ℕ) (t : List (List ℕ)) → Stands name t Usage → ⊥
+never : (name : List ℕ) (t : List (List ℕ)) → StandsForPlayBits name t Usage → ⊥
 never name t m = elim (told (Then t) name t Usage m) [ inl so ↦ so | inr later ↦ line_told later.bonded (text_at t 3) Usage later.stands ]
 
-bad_line : (name : List ℕ) (t : List (List ℕ)) (line : ℕ) → Stands name t (BadLevels line) → HasBadLine name line t
+bad_line : (name : List ℕ) (t : List (List ℕ)) (line : ℕ) → StandsForPlayBits name t (BadLevels line) → HasBadLine name line t
 bad_line name t line m = elim (told (Then t) name t (BadLevels line) m) [
   | inl so ↦ absurd so
   | inr later ↦ record {
@@ -70,7 +70,7 @@ on_bits : (p : PlayBits) → IsOnBits (play_bits p) Then p.package_name
 on_bits p = record {
   lawful = lawful p;
   stands = λ t cause m. m;
-  later = λ t bonded cause m. of_levels IsLater bonded (text_at t 3) cause (λ line is. tt) (λ c done. of_done IsLater (λ arrangement tallies. tt) (λ role put. tt) c done) m;
+  later = λ t bonded cause m. of_levels IsLater bonded (text_at t 3) cause (λ line is. tt) (λ c done. of_done IsLater (λ arrangement tallies kept. tt) (λ role put. tt) c done) m;
 }
 
 -- ---- the rows
@@ -90,6 +90,6 @@ bits_row p old new cause is = bits.bits_row (play_bits p) Then p.package_name (o
 pub levels_row : (p : PlayBits) (old new : Meaning) (cause : Cause) → IsTrueOf (play_bits p) old new cause → LevelsRow p old cause
 levels_row p old new cause is line =
     comes (play_bits p) old new cause (λ c. c ≡ BadLevels line) (HasBadLine p.package_name line) (lawful p) is
-    (λ e. of_weaker (files_of p) old (λ t. Stands p.package_name t (BadLevels line)) (HasBadLine p.package_name line) (λ t m. bad_line p.package_name t line m) (subst (λ (x : Cause). IsTrueOf (play_bits p) old new x) e is).0)
+    (λ e. of_weaker (files_of p) old (λ t. StandsForPlayBits p.package_name t (BadLevels line)) (HasBadLine p.package_name line) (λ t m. bad_line p.package_name t line m) (subst (λ (x : Cause). IsTrueOf (play_bits p) old new x) e is).0)
     (λ t h m. fault_alone (levels_of (length h.bonded.pads) (text_at t 3)) BadLevels (λ levels. IsDone) line cause h.is_line
     (then_so (Then t) p.package_name t h.parts h.configuration h.bonded cause h.is_configured m))

@@ -1,3 +1,2 @@
 pub mod Played
-pub mod Requests
 pub mod BitsRows

@@ -13,17 +13,11 @@ use Rattle.ice_flow_frame.specs.declared.cause.FileRole.TheVariants.{Chip, Asc, 
 use Rattle.ice_flow_frame.specs.Causes.{no_arrangement}
 use Rattle.ice_flow_frame.specs.Commands.{Command, command_of, Aloud, IsDone, stands_by}
 use Rattle.ice_flow_frame.specs.Reading.{Files}
+use Rattle.ice_flow_frame.specs.Told.{Told, nothing_told}
 use Rattle.ice_flow_frame.specs.Texts.{text_at}
 use Rattle.ice_flow_chip_frame.specs.Standing as bits
 use Rattle.ice_flow_chip_frame.specs.Standing.{IsConfigured}
-use Rattle.ice_words.specs.Grips.{Shut}
-
--- the words of `play-bits CHIP PACKAGE ASC LEVELS`: names of files, and the name of a package
-pub record PlayBits : Type 0 where
-  pub chip : List ℕ
-  pub package_name : List ℕ
-  pub asc : List ℕ
-  pub levels : List ℕ
+pub use Rattle.ice_flow_words.specs.Requests.{PlayBits}
 
 -- its files, in the order of reading
 abbrev pub files_of : PlayBits → Files
@@ -36,8 +30,8 @@ abbrev pub LevelsStand : List ℕ → PackageRows → Cause → Type 0
 LevelsStand levels_text bonded = stands_by (levels_of (length bonded.pads) levels_text) BadLevels (λ levels. IsDone)
 
 -- first the chip text is looked at, then the text of bits, then the package, then the bits, and then the levels
-abbrev pub Stands : List ℕ → List (List ℕ) → Cause → Type 0
-Stands name texts = bits.Stands (LevelsStand (text_at texts 3)) name texts
+abbrev pub StandsForPlayBits : List ℕ → List (List ℕ) → Cause → Type 0
+StandsForPlayBits name texts = bits.Stands (LevelsStand (text_at texts 3)) name texts
 
 -- the bits have no fault, and this line of the level text is the first that isn't one level for each pad of the package
 pub record HasBadLine (name : List ℕ) (line : ℕ) (texts : List (List ℕ)) : Type 0 where
@@ -58,8 +52,8 @@ pub record IsPlayed (name : List ℕ) (texts : List (List ℕ)) (text : List ℕ
   pub is_text : text ≡ drives_text (shows parts (bits_of configuration) configuration.extras bonded.pads bonded.pads levels)
 
 -- what is made of the texts; nothing is placed or routed
-abbrev pub IsMade : List ℕ → List (List ℕ) → List (List ℕ) → Arrangement → List Shut → Type 0
-IsMade name texts made arrangement tallies = IsPlayed name texts (text_at made 1) × (arrangement ≡ no_arrangement) × (tallies ≡ [])
+abbrev pub IsMadeByPlayBits : List ℕ → List (List ℕ) → List (List ℕ) → Arrangement → Told → Type 0
+IsMadeByPlayBits name texts made arrangement told = IsPlayed name texts (text_at made 1) × (arrangement ≡ no_arrangement) × (told ≡ nothing_told)
 
 abbrev pub play_bits : PlayBits → Command
-play_bits p = command_of (files_of p) (Stands p.package_name) (IsMade p.package_name) Aloud
+play_bits p = command_of (files_of p) (StandsForPlayBits p.package_name) (IsMadeByPlayBits p.package_name) Aloud

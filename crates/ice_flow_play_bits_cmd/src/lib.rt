@@ -3,4 +3,4 @@
 
 mod play;
 
-pub use play::{BitsRequest, play_bits};
+pub use play::play_bits;

@@ -10,6 +10,7 @@ use Rattle.ice_check.specs.declared.fault.NetFault.{NetFault}
 use Rattle.ice_flow_frame.specs.declared.cause.Cause.{Cause}
 use Rattle.ice_flow_frame.specs.declared.cause.Cause.TheVariants.{BadBlif, BadNet, BadLevels}
 use Rattle.ice_flow_frame.specs.Rows.{ComesExactly}
+use Rattle.ice_flow_frame.specs.Tells.{TellsNetFault}
 use Rattle.ice_flow_frame.specs.Texts.{OfTexts, text_at}
 use Rattle.ice_flow_play_net_cmd.specs.Played.{PlayNet, files_of, IsFaulty, HasBadLine, play_net}
 
@@ -21,16 +22,13 @@ IsMalformed fault texts = netlist_of (text_at texts 1) ≡ Err fault
 abbrev pub BlifRow : PlayNet → Meaning → Cause → Type 0
 BlifRow p old cause = (fault : BlifFault) → ComesExactly (play_net p) old (λ c. c ≡ BadBlif fault) (IsMalformed fault) cause
 
-abbrev pub IsNetFault : Cause → Type 0
-IsNetFault cause = (fault : NetFault) × (cause ≡ BadNet fault)
-
 -- the text has a netlist, which isn't sound
 abbrev pub IsUnsound : List (List ℕ) → Type 0
 IsUnsound texts = (circuit : NetlistData) × (netlist_of (text_at texts 1) ≡ Ok circuit) × (IsSound circuit → ⊥)
 
 -- status 6: exactly where the netlist isn't sound, with a fault that it has and that is looked for before the others
 pub record NetRow (p : PlayNet) (old : Meaning) (cause : Cause) : Type 0 where
-  pub comes : ComesExactly (play_net p) old IsNetFault IsUnsound cause
+  pub comes : ComesExactly (play_net p) old TellsNetFault IsUnsound cause
   pub fault_is : (fault : NetFault) → cause ≡ BadNet fault → OfTexts (files_of p) old (IsFaulty fault)
 
 -- status 17: exactly where a line of the level text is refused, with the first one

@@ -18,13 +18,9 @@ use Rattle.ice_flow_frame.specs.Causes.{no_arrangement}
 use Rattle.ice_flow_frame.specs.Commands.{Command, command_of, Aloud, IsDone, stands_by, stands_if}
 use Rattle.ice_flow_frame.specs.Reading.{Files}
 use Rattle.ice_flow_frame.specs.Refusals.{IsNetCause}
+use Rattle.ice_flow_frame.specs.Told.{Told, nothing_told}
 use Rattle.ice_flow_frame.specs.Texts.{text_at}
-use Rattle.ice_words.specs.Grips.{Shut}
-
--- the words of `play-net BLIF LEVELS`: names of files
-pub record PlayNet : Type 0 where
-  pub blif : List ℕ
-  pub levels : List ℕ
+pub use Rattle.ice_flow_words.specs.Requests.{PlayNet}
 
 -- its files, in the order of reading
 abbrev pub files_of : PlayNet → Files
@@ -41,8 +37,8 @@ abbrev pub NetStands : List ℕ → NetlistData → Cause → Type 0
 NetStands levels_text circuit = stands_if (IsSound circuit) (IsNetCause circuit) (LevelsStand circuit levels_text)
 
 -- first the netlist's text is looked at, then the netlist, and then the levels
-abbrev pub Stands : List (List ℕ) → Cause → Type 0
-Stands texts = stands_by (netlist_of (text_at texts 1)) BadBlif (NetStands (text_at texts 2))
+abbrev pub StandsForPlayNet : List (List ℕ) → Cause → Type 0
+StandsForPlayNet texts = stands_by (netlist_of (text_at texts 1)) BadBlif (NetStands (text_at texts 2))
 
 -- the netlist has no meaning, by this fault
 pub record IsFaulty (fault : NetFault) (texts : List (List ℕ)) : Type 0 where
@@ -68,8 +64,8 @@ pub record IsPlayed (texts : List (List ℕ)) (text : List ℕ) : Type 0 where
   pub is_text : text ≡ drives_text (shows circuit levels)
 
 -- what is made of the texts; nothing is placed or routed
-abbrev pub IsMade : List (List ℕ) → List (List ℕ) → Arrangement → List Shut → Type 0
-IsMade texts made arrangement tallies = IsPlayed texts (text_at made 1) × (arrangement ≡ no_arrangement) × (tallies ≡ [])
+abbrev pub IsMadeByPlayNet : List (List ℕ) → List (List ℕ) → Arrangement → Told → Type 0
+IsMadeByPlayNet texts made arrangement told = IsPlayed texts (text_at made 1) × (arrangement ≡ no_arrangement) × (told ≡ nothing_told)
 
 abbrev pub play_net : PlayNet → Command
-play_net p = command_of (files_of p) Stands IsMade Aloud
+play_net p = command_of (files_of p) StandsForPlayNet IsMadeByPlayNet Aloud

@@ -3,4 +3,4 @@
 
 mod play;
 
-pub use play::{NetRequest, play_net};
+pub use play::play_net;

@@ -1,11 +1,12 @@
 //! Playing a netlist: two texts are read, and the text of drives is said.
 ghost use Rattle.std.specs.Prelude.{◌≡◌, true, None};
+ghost use Rattle.ice_desk.specs.Desk.{SameTest};
 ghost use Rattle.ice_flow_frame.specs.Causes.{status_of};
 ghost use Rattle.ice_flow_frame.specs.Commands.{Aloud, IsTrueOf};
 ghost use Rattle.ice_flow_frame.specs.Reading.{TellsLong};
 ghost use Rattle.ice_flow_frame.specs.Rows.{SaidBy, KeptRow};
-ghost use Rattle.ice_flow_play_net_cmd.specs.Played.{Stands, IsMade, play_net};
-ghost use Rattle.ice_flow_play_net_cmd.specs.Requests.{request_view};
+ghost use Rattle.ice_flow_play_net_cmd.specs.Played.{StandsForPlayNet, IsMadeByPlayNet, play_net};
+ghost use Rattle.ice_flow_words.specs.Views.{net_view};
 
 use ice_base::NoMemory;
 use ice_blif::read_blif;
@@ -15,23 +16,19 @@ use ice_flow_frame::{
     Cause, CommandFile, Done, FileRole, Made, Making, Texts, blif_refusal, made_text, net_refusal,
     say_made,
 };
+use ice_flow_words::PlayNetRequest;
 use ice_sim::play;
 use ice_sim_levels::{LevelFault, read_levels};
 use std::alloc::Global;
 
-/// To play the netlist of one file with the levels of another.
+// What is played of a netlist: what its ports drive.
 #[derive(Clone, Copy)]
-pub struct NetRequest<'a> {
-    /// The name of the netlist's file.
-    pub blif: &'a str,
-    /// The name of the file of levels.
-    pub levels: &'a str,
-}
+struct Playing;
 
-impl<'a> Making for NetRequest<'a> {
-    ghost stands = { λ request texts cause. Stands texts cause };
+impl Making for Playing {
+    ghost stands = { λ playing texts cause. StandsForPlayNet texts cause };
 
-    ghost gives = { λ request texts made arrangement tallies. IsMade texts made arrangement tallies };
+    ghost gives = { λ playing texts made arrangement told. IsMadeByPlayNet texts made arrangement told };
 
     fn make(&self, alloc: Global, texts: &Texts) -> Result<Made, Cause> {
         let netlist = match read_blif(alloc, texts.at(1)) {
@@ -56,11 +53,14 @@ impl<'a> Making for NetRequest<'a> {
 
 /// Plays the netlist of one file with the levels of another: says what the ports drive, step by step, or the line of a
 /// refusal. After a failed say nothing more is said. No file is made.
-pub fn play_net<D: Desk>(alloc: Global, desk: &mut D, request: &NetRequest<'_>) -> Done
+pub fn play_net<D: Desk>(alloc: Global, desk: &mut D, request: &PlayNetRequest<'_>) -> Done
     requires blif { D.may_read desk.old request.now.blif.now }
     requires levels { D.may_read desk.old request.now.levels.now }
+    ensures tells { (D.seen desk.new).tells ≡ (D.seen desk.old).tells }
+    ensures names_read { SameTest (D.may_read desk.old) (D.may_read desk.new) }
+    ensures names_written { SameTest (D.may_write desk.old) (D.may_write desk.new) }
     ensures status { result.status ≡ status_of result.cause }
-    ensures cause { IsTrueOf (play_net (request_view request.now)) (D.seen desk.old) (D.seen desk.new) result.cause }
+    ensures cause { IsTrueOf (play_net (net_view request.now)) (D.seen desk.old) (D.seen desk.new) result.cause }
     ensures said { (D.seen desk.old).tells ≡ true → SaidBy Aloud (D.seen desk.old) (D.seen desk.new) result.cause }
     ensures kept { (D.seen desk.old).tells ≡ true → KeptRow Aloud None (D.seen desk.old) (D.seen desk.new) result.cause }
     ensures made { (D.seen desk.new).makes ≡ (D.seen desk.old).makes }
@@ -76,5 +76,5 @@ pub fn play_net<D: Desk>(alloc: Global, desk: &mut D, request: &NetRequest<'_>) 
             name: request.levels,
         },
     ];
-    say_made(alloc, desk, &files, request)
+    say_made(alloc, desk, &files, &Playing)
 }

@@ -34,7 +34,7 @@ pub fn prepare(alloc: Global, chip: &Chip, sound: Sound) -> Result<Sound, NoMemo
     ensures shows { IfOk result (λ made. (levels : List (List Bool)) → shows made levels ≡ shows sound levels) }
 {
     can_be_promoted(&sound);
-    let _cells = sound.netlist().cells();
+    sound.is_sound();
     let promoted = promote_clocks(alloc, chip, sound)?;
     let made = add_tails(alloc, promoted)?;
     Ok(made)

@@ -15,13 +15,13 @@ use Rattle.ice_net.specs.NetlistData.{NetlistData}
 use Rattle.ice_pads.specs.Assign.{PadsData}
 use Rattle.ice_pcf.specs.declared.constraint.Constraint.{Constraint}
 use Rattle.ice_flow_sample_cmd.specs.Samples.{chip_text, net_text, package_name, IsAsked}
-use Rattle.ice_flow_sample_cmd.specs.Standing.{IsEnd, PlacesStand, TaskStands, NetStands, BlifStands, Stands}
+use Rattle.ice_flow_sample_cmd.specs.Standing.{IsEnd, PlacesStand, TaskStands, NetStands, BlifStands, StandsForSample}
 
 -- ---- from how the texts stand, down to how what was read of them stands
-pub blif_stands : (number : ℕ) (parts : Parts) (cause : Cause) → chip_says chip_text ≡ Ok parts → Stands number cause → BlifStands number parts cause
+pub blif_stands : (number : ℕ) (parts : Parts) (cause : Cause) → chip_says chip_text ≡ Ok parts → StandsForSample number cause → BlifStands number parts cause
 blif_stands number parts cause e m = then_stands (chip_says chip_text) BadChip (BlifStands number) parts cause e m
 
-pub net_stands : (number : ℕ) (parts : Parts) (circuit : NetlistData) (cause : Cause) → chip_says chip_text ≡ Ok parts → netlist_of (net_text number) ≡ Ok circuit → Stands number cause
+pub net_stands : (number : ℕ) (parts : Parts) (circuit : NetlistData) (cause : Cause) → chip_says chip_text ≡ Ok parts → netlist_of (net_text number) ≡ Ok circuit → StandsForSample number cause
     → NetStands parts circuit cause
 net_stands number parts circuit cause chip e m = then_stands (netlist_of (net_text number)) BadBlif (NetStands parts) circuit cause e (blif_stands number parts cause chip m)
 
@@ -35,16 +35,16 @@ parts_of number task asked =
     ap (λ (x : List ℕ). task_of task.parts x [] task.circuit) (sym asked.is_name)
     ∙ ap (λ (c : List Constraint). task_of task.parts task.name c task.circuit) (sym asked.no_constraints)
 
-pub task_stands : (number : ℕ) (task : Task) (cause : Cause) → IsAsked number task → Stands number cause → TaskStands task cause
+pub task_stands : (number : ℕ) (task : Task) (cause : Cause) → IsAsked number task → StandsForSample number cause → TaskStands task cause
 task_stands number task cause asked m =
     subst (λ (x : Task). TaskStands x cause) (parts_of number task asked)
     (sound_stands task.parts task.circuit cause asked.is_sound (net_stands number task.parts task.circuit cause asked.is_chip asked.is_circuit m))
 
-pub places_stand : (number : ℕ) (task : Task) (pads : PadsData) (cause : Cause) → IsAsked number task → pins_said task ≡ Ok pads → Stands number cause → PlacesStand task cause
+pub places_stand : (number : ℕ) (task : Task) (pads : PadsData) (cause : Cause) → IsAsked number task → pins_said task ≡ Ok pads → StandsForSample number cause → PlacesStand task cause
 places_stand number task pads cause asked said m = then_stands (pins_said task) BadPin (λ found. PlacesStand task) pads cause said (task_stands number task cause asked m)
 
 pub end_stands : (number : ℕ) (task : Task) (pads : PadsData) (first : List TileAt) (cause : Cause) → IsAsked number task → pins_said task ≡ Ok pads → places_said task ≡ Ok first
-    → Stands number cause → IsEnd task cause
+    → StandsForSample number cause → IsEnd task cause
 end_stands number task pads first cause asked pins places m =
     then_stands (places_said task) Overfull (λ found. IsEnd task) first cause places (places_stand number task pads cause asked pins m)
 
@@ -57,10 +57,10 @@ pub net_so : (number : ℕ) (parts : Parts) (circuit : NetlistData) (cause : Cau
     → TaskStands (task_of parts package_name [] circuit) cause → BlifStands number parts cause
 net_so number parts circuit cause e sound m = behind (netlist_of (net_text number)) BadBlif (NetStands parts) circuit cause e (inr (sound, m))
 
-pub chip_so : (number : ℕ) (parts : Parts) (cause : Cause) → chip_says chip_text ≡ Ok parts → BlifStands number parts cause → Stands number cause
+pub chip_so : (number : ℕ) (parts : Parts) (cause : Cause) → chip_says chip_text ≡ Ok parts → BlifStands number parts cause → StandsForSample number cause
 chip_so number parts cause e m = behind (chip_says chip_text) BadChip (BlifStands number) parts cause e m
 
-pub task_so : (number : ℕ) (task : Task) (cause : Cause) → IsAsked number task → TaskStands task cause → Stands number cause
+pub task_so : (number : ℕ) (task : Task) (cause : Cause) → IsAsked number task → TaskStands task cause → StandsForSample number cause
 task_so number task cause asked m =
     chip_so number task.parts cause asked.is_chip
     (net_so number task.parts task.circuit cause asked.is_circuit asked.is_sound (subst (λ (x : Task). TaskStands x cause) (sym (parts_of number task asked)) m))

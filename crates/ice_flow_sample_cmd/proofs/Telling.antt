@@ -2,6 +2,7 @@
 use Rattle.std.proofs.Common.{◌≡◌, ◌≢◌, ℕ, List, [], Result, Ok, Err, inl, inr, refl, sym, subst}
 use Rattle.std.specs.Global.{Vec}
 use Rattle.ice_flow_frame.proofs.Standings.{fault_alone, then_stands}
+use Rattle.ice_flow_frame.specs.Tells.{IsAbout}
 use Rattle.ice_flow_frame.specs.declared.cause.Cause.{Cause}
 use Rattle.ice_flow_frame.specs.declared.cause.Cause.TheVariants.{Good, Usage, BadBlif, BadPcf, BadChip, BadNet, BadPin, Overfull, Unreachable, GaveUp, ReadFault, WriteFault, NoMemory, BadAsc, BadBits, TooLong, BadLevels, BadDelays}
 use Rattle.ice_flow_frame.specs.declared.cause.FileRole.{FileRole}
@@ -11,7 +12,7 @@ use Rattle.ice_place.specs.declared.arrangement.Arrangement.{Arrangement}
 use Rattle.ice_base.specs.declared.number.WireNo.{WireNo}
 use Rattle.ice_blif.specs.Grammar.{netlist_of}
 use Rattle.ice_blif.specs.declared.fault.BlifFault.{BlifFault}
-use Rattle.ice_flow_build.specs.Answers.{pins_said, places_said}
+use Rattle.ice_flow_build.specs.Answers.{pins_said, places_said, HasPlaceFault}
 use Rattle.ice_flow_build.specs.Laid.{Task, task_of}
 use Rattle.ice_flow_build.specs.Placements.{IsStuckOn, IsGivenUpOn}
 use Rattle.ice_check.specs.Refusals.{IsFaultOf}
@@ -24,18 +25,19 @@ use Rattle.ice_net.specs.NetlistData.{NetlistData}
 use Rattle.ice_pads.specs.Assign.{PadsData}
 use Rattle.ice_pads.specs.declared.fault.PinFault.{PinFault}
 use Rattle.ice_place.specs.declared.fault.PlaceFault.{PlaceFault}
-use Rattle.ice_flow_sample_cmd.specs.SampleRows.{HasBlifFault, HasPlaceFault, SaysNetlist, IsTried, IsAbout, IsOfSample}
-use Rattle.ice_flow_sample_cmd.specs.Samples.{chip_text, net_text, package_name, most_rounds, IsAsked, Asks}
-use Rattle.ice_flow_sample_cmd.specs.Standing.{IsEnd, PlacesStand, TaskStands, NetStands, BlifStands, Stands}
+use Rattle.ice_flow_sample_cmd.specs.SampleRows.{HasBlifFault, SaysNetlist, IsTried, IsOfSample}
+use Rattle.ice_flow_sample_cmd.specs.Samples.{chip_text, net_text, package_name, sample_effort, IsAsked, Asks}
+use Rattle.ice_flow_sample_cmd.specs.Standing.{IsEnd, PlacesStand, TaskStands, NetStands, BlifStands, StandsForSample}
+use Rattle.ice_negotiate_defs.specs.declared.kept.Kept.{Kept}
 use Rattle.ice_words.specs.Grips.{Shut}
 
 -- ---- causes, by what is known of them
 -- what is true of each answer behind pins and places without a fault
-pub of_end : (P : Cause → Type 0) (task : Task) → ((arrangement : Arrangement) (tallies : Vec Shut) → P (Good arrangement tallies)) → ((role : FileRole) (put : ℕ) → P (WriteFault role put))
+pub of_end : (P : Cause → Type 0) (task : Task) → ((arrangement : Arrangement) (tallies : Vec Shut) (kept : Vec Kept) → P (Good arrangement tallies kept)) → ((role : FileRole) (put : ℕ) → P (WriteFault role put))
     → ((arrangement : Arrangement) (net : NetNo) (sink : WireNo) → IsStuckOn task arrangement net sink → P (Unreachable arrangement net sink))
-    → ((arrangement : Arrangement) (logs : Vec RoundLog) (tallies : Vec Shut) → IsGivenUpOn task most_rounds arrangement logs.items tallies.items → P (GaveUp arrangement logs tallies))
+    → ((arrangement : Arrangement) (logs : Vec RoundLog) (tallies : Vec Shut) (kept : Vec Kept) → IsGivenUpOn task sample_effort arrangement kept.items logs.items tallies.items → P (GaveUp arrangement logs tallies kept))
     → (cause : Cause) → IsEnd task cause → P cause
-of_end P task good cut stuck gave (Good arrangement tallies) is = good arrangement tallies
+of_end P task good cut stuck gave (Good arrangement tallies kept) is = good arrangement tallies kept
 of_end P task good cut stuck gave Usage is = absurd is
 of_end P task good cut stuck gave (BadBlif fault) is = absurd is
 of_end P task good cut stuck gave (BadPcf fault) is = absurd is
@@ -44,7 +46,7 @@ of_end P task good cut stuck gave (BadNet fault) is = absurd is
 of_end P task good cut stuck gave (BadPin fault) is = absurd is
 of_end P task good cut stuck gave (Overfull fault) is = absurd is
 of_end P task good cut stuck gave (Unreachable arrangement net sink) is = stuck arrangement net sink is
-of_end P task good cut stuck gave (GaveUp arrangement logs tallies) is = gave arrangement logs tallies is
+of_end P task good cut stuck gave (GaveUp arrangement logs tallies kept) is = gave arrangement logs tallies kept is
 of_end P task good cut stuck gave (ReadFault role) is = absurd is
 of_end P task good cut stuck gave (WriteFault role put) is = cut role put
 of_end P task good cut stuck gave NoMemory is = absurd is
@@ -55,10 +57,10 @@ of_end P task good cut stuck gave (BadLevels line) is = absurd is
 of_end P task good cut stuck gave (BadDelays line) is = absurd is
 
 -- what is true of each answer behind pins and places, too
-pub of_tried : (P : Cause → Type 0) → ((arrangement : Arrangement) (tallies : Vec Shut) → P (Good arrangement tallies)) → ((role : FileRole) (put : ℕ) → P (WriteFault role put))
-    → ((arrangement : Arrangement) (net : NetNo) (sink : WireNo) → P (Unreachable arrangement net sink)) → ((arrangement : Arrangement) (logs : Vec RoundLog) (tallies : Vec Shut) → P (GaveUp arrangement logs tallies))
+pub of_tried : (P : Cause → Type 0) → ((arrangement : Arrangement) (tallies : Vec Shut) (kept : Vec Kept) → P (Good arrangement tallies kept)) → ((role : FileRole) (put : ℕ) → P (WriteFault role put))
+    → ((arrangement : Arrangement) (net : NetNo) (sink : WireNo) → P (Unreachable arrangement net sink)) → ((arrangement : Arrangement) (logs : Vec RoundLog) (tallies : Vec Shut) (kept : Vec Kept) → P (GaveUp arrangement logs tallies kept))
     → (cause : Cause) → IsTried cause → P cause
-of_tried P good cut stuck gave (Good arrangement tallies) is = good arrangement tallies
+of_tried P good cut stuck gave (Good arrangement tallies kept) is = good arrangement tallies kept
 of_tried P good cut stuck gave Usage is = absurd is
 of_tried P good cut stuck gave (BadBlif fault) is = absurd is
 of_tried P good cut stuck gave (BadPcf fault) is = absurd is
@@ -67,7 +69,7 @@ of_tried P good cut stuck gave (BadNet fault) is = absurd is
 of_tried P good cut stuck gave (BadPin fault) is = absurd is
 of_tried P good cut stuck gave (Overfull fault) is = absurd is
 of_tried P good cut stuck gave (Unreachable arrangement net sink) is = stuck arrangement net sink
-of_tried P good cut stuck gave (GaveUp arrangement logs tallies) is = gave arrangement logs tallies
+of_tried P good cut stuck gave (GaveUp arrangement logs tallies kept) is = gave arrangement logs tallies kept
 of_tried P good cut stuck gave (ReadFault role) is = absurd is
 of_tried P good cut stuck gave (WriteFault role put) is = cut role put
 of_tried P good cut stuck gave NoMemory is = absurd is
@@ -78,9 +80,9 @@ of_tried P good cut stuck gave (BadLevels line) is = absurd is
 of_tried P good cut stuck gave (BadDelays line) is = absurd is
 
 -- what is true of each answer that tells an arrangement
-pub of_about : (P : Cause → Type 0) (arrangement : Arrangement) → ((tallies : Vec Shut) → P (Good arrangement tallies)) → ((net : NetNo) (sink : WireNo) → P (Unreachable arrangement net sink))
-    → ((logs : Vec RoundLog) (tallies : Vec Shut) → P (GaveUp arrangement logs tallies)) → (cause : Cause) → IsAbout arrangement cause → P cause
-of_about P arrangement good stuck gave (Good told tallies) is = subst (λ (x : Arrangement). P (Good x tallies)) (sym is) (good tallies)
+pub of_about : (P : Cause → Type 0) (arrangement : Arrangement) → ((tallies : Vec Shut) (kept : Vec Kept) → P (Good arrangement tallies kept)) → ((net : NetNo) (sink : WireNo) → P (Unreachable arrangement net sink))
+    → ((logs : Vec RoundLog) (tallies : Vec Shut) (kept : Vec Kept) → P (GaveUp arrangement logs tallies kept)) → (cause : Cause) → IsAbout arrangement cause → P cause
+of_about P arrangement good stuck gave (Good told tallies kept) is = subst (λ (x : Arrangement). P (Good x tallies kept)) (sym is) (good tallies kept)
 of_about P arrangement good stuck gave Usage is = absurd is
 of_about P arrangement good stuck gave (BadBlif fault) is = absurd is
 of_about P arrangement good stuck gave (BadPcf fault) is = absurd is
@@ -89,7 +91,7 @@ of_about P arrangement good stuck gave (BadNet fault) is = absurd is
 of_about P arrangement good stuck gave (BadPin fault) is = absurd is
 of_about P arrangement good stuck gave (Overfull fault) is = absurd is
 of_about P arrangement good stuck gave (Unreachable told net sink) is = subst (λ (x : Arrangement). P (Unreachable x net sink)) (sym is) (stuck net sink)
-of_about P arrangement good stuck gave (GaveUp told logs tallies) is = subst (λ (x : Arrangement). P (GaveUp x logs tallies)) (sym is) (gave logs tallies)
+of_about P arrangement good stuck gave (GaveUp told logs tallies kept) is = subst (λ (x : Arrangement). P (GaveUp x logs tallies kept)) (sym is) (gave logs tallies kept)
 of_about P arrangement good stuck gave (ReadFault role) is = absurd is
 of_about P arrangement good stuck gave (WriteFault role put) is = absurd is
 of_about P arrangement good stuck gave NoMemory is = absurd is
@@ -101,7 +103,7 @@ of_about P arrangement good stuck gave (BadDelays line) is = absurd is
 
 -- ---- what is told
 abbrev pub Told : ℕ → Cause → Type 0
-Told number (Good arrangement tallies) = Unit {0}
+Told number (Good arrangement tallies kept) = Unit {0}
 Told number (WriteFault role put) = Unit {0}
 Told number (BadChip fault) = chip_says chip_text ≡ Err fault
 Told number (BadBlif fault) = HasBlifFault number fault
@@ -109,13 +111,13 @@ Told number (BadNet fault) = SaysNetlist number (λ circuit. IsFaultOf circuit f
 Told number (BadPin fault) = Asks number (λ task. pins_said task ≡ Err fault)
 Told number (Overfull fault) = Asks number (HasPlaceFault fault)
 Told number (Unreachable arrangement net sink) = Asks number (λ task. IsStuckOn task arrangement net sink)
-Told number (GaveUp arrangement logs tallies) = Asks number (λ task. IsGivenUpOn task most_rounds arrangement logs.items tallies.items)
+Told number (GaveUp arrangement logs tallies kept) = Asks number (λ task. IsGivenUpOn task sample_effort arrangement kept.items logs.items tallies.items)
 Told number cause = ⊥
 
 told_end : (number : ℕ) (task : Task) (cause : Cause) → IsAsked number task → IsEnd task cause → Told number cause
 told_end number task cause asked m =
-    of_end (Told number) task (λ arrangement tallies. tt) (λ role put. tt) (λ arrangement net sink stuck. record { task = task; is_asked = asked; is_so = stuck })
-    (λ arrangement logs tallies given. record { task = task; is_asked = asked; is_so = given }) cause m
+    of_end (Told number) task (λ arrangement tallies kept. tt) (λ role put. tt) (λ arrangement net sink stuck. record { task = task; is_asked = asked; is_so = stuck })
+    (λ arrangement logs tallies kept given. record { task = task; is_asked = asked; is_so = given }) cause m
 
 told_places : (number : ℕ) (task : Task) (pads : PadsData) (said : Result (List TileAt) PlaceFault) (cause : Cause) → IsAsked number task → pins_said task ≡ Ok pads → places_said task ≡ said
     → PlacesStand task cause → Told number cause
@@ -142,16 +144,16 @@ told_blif : (number : ℕ) (parts : Parts) (said : Result NetlistData BlifFault)
 told_blif number parts (Err fault) cause chip is m = subst (Told number) (sym (fault_alone (netlist_of (net_text number)) BadBlif (NetStands parts) fault cause is m)) (parts, chip, is)
 told_blif number parts (Ok circuit) cause chip is m = told_net number parts circuit cause chip is (then_stands (netlist_of (net_text number)) BadBlif (NetStands parts) circuit cause is m)
 
-told_chip : (number : ℕ) (said : Result Parts ChipFault) (cause : Cause) → chip_says chip_text ≡ said → Stands number cause → Told number cause
+told_chip : (number : ℕ) (said : Result Parts ChipFault) (cause : Cause) → chip_says chip_text ≡ said → StandsForSample number cause → Told number cause
 told_chip number (Err fault) cause is m = subst (Told number) (sym (fault_alone (chip_says chip_text) BadChip (BlifStands number) fault cause is m)) is
 told_chip number (Ok parts) cause is m = told_blif number parts (netlist_of (net_text number)) cause is refl (then_stands (chip_says chip_text) BadChip (BlifStands number) parts cause is m)
 
-pub told : (number : ℕ) (cause : Cause) → Stands number cause → Told number cause
+pub told : (number : ℕ) (cause : Cause) → StandsForSample number cause → Told number cause
 told number cause m = told_chip number (chip_says chip_text) cause refl m
 
 -- no other answer tells anything
 pub told_sample : (number : ℕ) (cause : Cause) → Told number cause → IsOfSample cause
-told_sample number (Good arrangement tallies) is = tt
+told_sample number (Good arrangement tallies kept) is = tt
 told_sample number Usage is = absurd is
 told_sample number (BadBlif fault) is = tt
 told_sample number (BadPcf fault) is = absurd is
@@ -160,7 +162,7 @@ told_sample number (BadNet fault) is = tt
 told_sample number (BadPin fault) is = tt
 told_sample number (Overfull fault) is = tt
 told_sample number (Unreachable arrangement net sink) is = tt
-told_sample number (GaveUp arrangement logs tallies) is = tt
+told_sample number (GaveUp arrangement logs tallies kept) is = tt
 told_sample number (ReadFault role) is = absurd is
 told_sample number (WriteFault role put) is = tt
 told_sample number NoMemory is = absurd is

@@ -2,17 +2,17 @@
 -- is about the sample texts of the number.
 use Rattle.std.specs.Prelude.{◌≡◌, ◌⊎◌, ℕ, true, List, ◌++◌, Ok, Err}
 use Rattle.std.specs.Global.{Vec}
+use Rattle.ice_flow_frame.specs.Tells.{IsAbout, TellsNetFault, TellsGood, TellsUnreachable, TellsGivenUp}
 use Rattle.ice_flow_frame.specs.Rows.{GoodRow, WriteFaultRow}
 use Rattle.ice_flow_frame.specs.declared.cause.Cause.{Cause}
 use Rattle.ice_flow_frame.specs.declared.cause.Cause.TheVariants.{Good, BadBlif, BadChip, BadNet, BadPin, Overfull, Unreachable, GaveUp, WriteFault, NoMemory}
 use Rattle.ice_flow_frame.specs.declared.cause.Done.{Done}
 use Rattle.ice_base.specs.declared.number.NetNo.{NetNo}
-use Rattle.ice_base.specs.declared.number.TileAt.{TileAt}
 use Rattle.ice_place.specs.declared.arrangement.Arrangement.{Arrangement}
 use Rattle.ice_base.specs.declared.number.WireNo.{WireNo}
 use Rattle.ice_blif.specs.Grammar.{netlist_of}
 use Rattle.ice_blif.specs.declared.fault.BlifFault.{BlifFault}
-use Rattle.ice_flow_build.specs.Answers.{pins_said, places_said}
+use Rattle.ice_flow_build.specs.Answers.{pins_said, HasPlaceFault, IsPlaceable}
 use Rattle.ice_flow_build.specs.Laid.{Task}
 use Rattle.ice_flow_build.specs.Placements.{IsRoutedOn, IsStuckOn, IsGivenUpOn}
 use Rattle.ice_check.specs.Refusals.{IsFaultOf}
@@ -24,12 +24,13 @@ use Rattle.ice_chip_read.specs.Whole.{chip_says}
 use Rattle.ice_core.specs.declared.log.RoundLog.{RoundLog}
 use Rattle.ice_desk.specs.Desk.{Meaning}
 use Rattle.ice_net.specs.NetlistData.{NetlistData}
-use Rattle.ice_pads.specs.Assign.{PadsData}
 use Rattle.ice_pads.specs.declared.fault.PinFault.{PinFault}
 use Rattle.ice_place.specs.declared.fault.PlaceFault.{PlaceFault}
 use Rattle.ice_flow_sample_cmd.specs.Command.{sample}
-use Rattle.ice_flow_sample_cmd.specs.Made.{IsSampled, IsTalliedOn}
-use Rattle.ice_flow_sample_cmd.specs.Samples.{Sample, chip_text, net_text, most_rounds, Asks}
+use Rattle.ice_flow_sample_cmd.specs.Made.{IsSampled, IsToldOn}
+use Rattle.ice_flow_sample_cmd.specs.Samples.{Sample, chip_text, net_text, sample_effort, Asks}
+use Rattle.ice_flow_frame.specs.Told.{telling}
+use Rattle.ice_negotiate_defs.specs.declared.kept.Kept.{Kept}
 use Rattle.ice_words.specs.Grips.{Shut}
 
 -- Such an answer comes only where this is so; and where it is so it always comes, unless the memory fails.
@@ -58,12 +59,9 @@ pub record SaysNetlist (number : ℕ) (IsSo : NetlistData → Type 0) : Type 0 w
   pub is_circuit : netlist_of (net_text number) ≡ Ok circuit
   pub is_so : IsSo circuit
 
-abbrev pub IsNetFault : Cause → Type 0
-IsNetFault cause = (fault : NetFault) × (cause ≡ BadNet fault)
-
 -- status 6: exactly where the netlist isn't sound, with a fault that it has and that is looked for before the others
 pub record NetRow (number : ℕ) (cause : Cause) : Type 0 where
-  pub comes : Comes IsNetFault (SaysNetlist number (λ circuit. IsSound circuit → ⊥)) cause
+  pub comes : Comes TellsNetFault (SaysNetlist number (λ circuit. IsSound circuit → ⊥)) cause
   pub fault_is : (fault : NetFault) → cause ≡ BadNet fault → SaysNetlist number (λ circuit. IsFaultOf circuit fault)
 
 -- ---- pins and places
@@ -71,38 +69,23 @@ pub record NetRow (number : ℕ) (cause : Cause) : Type 0 where
 abbrev pub PinRow : ℕ → Cause → Type 0
 PinRow number cause = (fault : PinFault) → Comes (λ c. c ≡ BadPin fault) (Asks number (λ task. pins_said task ≡ Err fault)) cause
 
--- the pins have no fault, and the places have this one
-abbrev pub HasPlaceFault : PlaceFault → Task → Type 0
-HasPlaceFault fault task = (pads : PadsData) × (pins_said task ≡ Ok pads) × (places_said task ≡ Err fault)
-
 -- status 8: exactly where the pins have no fault and the places have one, with this one
 abbrev pub PlaceRow : ℕ → Cause → Type 0
 PlaceRow number cause = (fault : PlaceFault) → Comes (λ c. c ≡ Overfull fault) (Asks number (HasPlaceFault fault)) cause
 
 -- ---- what is routed
--- neither the pins nor the places have a fault
-abbrev pub IsPlaceable : Task → Type 0
-IsPlaceable task = (pads : PadsData) × (first : List TileAt) × (pins_said task ≡ Ok pads) × (places_said task ≡ Ok first)
-
 -- the work is done, or a fault of writing came in between; or a sink can't be reached, or the permitted rounds all end with an overused
 -- wire
 abbrev pub IsTried : Cause → Type 0
-IsTried (Good arrangement tallies) = Unit {0}
+IsTried (Good arrangement tallies kept) = Unit {0}
 IsTried (WriteFault role put) = Unit {0}
 IsTried (Unreachable arrangement net sink) = Unit {0}
-IsTried (GaveUp arrangement logs tallies) = Unit {0}
+IsTried (GaveUp arrangement logs tallies kept) = Unit {0}
 IsTried cause = ⊥
 
 -- one of the statuses 0, 9, 10 and 12: exactly where neither the pins nor the places have a fault
 abbrev pub TriedRow : ℕ → Cause → Type 0
 TriedRow number cause = Comes IsTried (Asks number IsPlaceable) cause
-
--- the answer tells this arrangement
-abbrev pub IsAbout : Arrangement → Cause → Type 0
-IsAbout arrangement (Good told tallies) = told ≡ arrangement
-IsAbout arrangement (Unreachable told net sink) = told ≡ arrangement
-IsAbout arrangement (GaveUp told logs tallies) = told ≡ arrangement
-IsAbout arrangement cause = ⊥
 
 -- Such an answer that tells an arrangement comes only where this is true of the arrangement; and where it is true of the arrangement that the
 -- answer tells, the answer is such a one.
@@ -110,30 +93,21 @@ pub record ComesOn (number : ℕ) (IsSuch : Cause → Type 0) (IsSo : Arrangemen
   pub only : (arrangement : Arrangement) → IsAbout arrangement cause → IsSuch cause → Asks number (IsSo arrangement)
   pub always : (arrangement : Arrangement) → IsAbout arrangement cause → Asks number (IsSo arrangement) → IsSuch cause
 
-abbrev pub IsGood : Cause → Type 0
-IsGood cause = (arrangement : Arrangement) × (tallies : Vec Shut) × (cause ≡ Good arrangement tallies)
-
 -- status 0: exactly where the nets are routed with the arrangement that is told; with the tallies of their rounds
 pub record RoutedRow (number : ℕ) (cause : Cause) : Type 0 where
-  pub comes : ComesOn number IsGood (λ arrangement task. IsRoutedOn task most_rounds arrangement) cause
-  pub tallies_are : (arrangement : Arrangement) (tallies : Vec Shut) → cause ≡ Good arrangement tallies → Asks number (λ task. IsTalliedOn task arrangement tallies.items)
-
-abbrev pub IsUnreachable : NetNo → WireNo → Cause → Type 0
-IsUnreachable net sink cause = (arrangement : Arrangement) × (cause ≡ Unreachable arrangement net sink)
+  pub comes : ComesOn number TellsGood (λ arrangement task. IsRoutedOn task sample_effort arrangement) cause
+  pub told_is : (arrangement : Arrangement) (tallies : Vec Shut) (kept : Vec Kept) → cause ≡ Good arrangement tallies kept → Asks number (λ task. IsToldOn task arrangement (telling tallies kept))
 
 -- status 9: exactly where a sink can't be reached with the arrangement that is told, with the first one
 abbrev pub UnreachableRow : ℕ → Cause → Type 0
-UnreachableRow number cause = (net : NetNo) (sink : WireNo) → ComesOn number (IsUnreachable net sink) (λ arrangement task. IsStuckOn task arrangement net sink) cause
-
-abbrev pub HasGivenUp : Cause → Type 0
-HasGivenUp cause = (arrangement : Arrangement) × (logs : Vec RoundLog) × (tallies : Vec Shut) × (cause ≡ GaveUp arrangement logs tallies)
+UnreachableRow number cause = (net : NetNo) (sink : WireNo) → ComesOn number (TellsUnreachable net sink) (λ arrangement task. IsStuckOn task arrangement net sink) cause
 
 -- status 10: exactly where with the arrangement that is told each permitted round ends with an overused wire; with the logs and
 -- the tallies of these rounds
 pub record GaveUpRow (number : ℕ) (cause : Cause) : Type 0 where
-  pub comes : ComesOn number HasGivenUp (λ arrangement task. (logs : List RoundLog) × (tallies : List Shut) × IsGivenUpOn task most_rounds arrangement logs tallies) cause
-  pub logs_are : (arrangement : Arrangement) (logs : Vec RoundLog) (tallies : Vec Shut) → cause ≡ GaveUp arrangement logs tallies
-      → Asks number (λ task. IsGivenUpOn task most_rounds arrangement logs.items tallies.items)
+  pub comes : ComesOn number TellsGivenUp (λ arrangement task. (kept : List Kept) × (logs : List RoundLog) × (tallies : List Shut) × IsGivenUpOn task sample_effort arrangement kept logs tallies) cause
+  pub logs_are : (arrangement : Arrangement) (logs : Vec RoundLog) (tallies : Vec Shut) (kept : Vec Kept) → cause ≡ GaveUp arrangement logs tallies kept
+      → Asks number (λ task. IsGivenUpOn task sample_effort arrangement kept.items logs.items tallies.items)
 
 -- there are no other answers
 abbrev pub IsOfSample : Cause → Type 0
@@ -150,7 +124,7 @@ IsOfSample cause = IsTried cause
 abbrev pub SummaryRow : ℕ → Meaning → Meaning → Cause → ℕ → Type 0
 SummaryRow number old new cause status =
     status ≡ 0 → old.tells ≡ true
-    → (arrangement : Arrangement) × (tallies : Vec Shut) × (text : List ℕ) × (cause ≡ Good arrangement tallies) × (new.said ≡ old.said ++ text) × IsSampled number text arrangement tallies.items
+    → (arrangement : Arrangement) × (tallies : Vec Shut) × (kept : Vec Kept) × (text : List ℕ) × (cause ≡ Good arrangement tallies kept) × (new.said ≡ old.said ++ text) × IsSampled number text arrangement (telling tallies kept)
 
 -- ---- all of them
 -- The end of `sample`, where the desk was seen as `old` before and is seen as `new` after.

@@ -1,16 +1,13 @@
 -- What `sample` is asked for, and the task that the sample texts say.
-use Rattle.std.specs.Prelude.{◌≡◌, ℕ, ◌≤◌, List, [], Ok, codes}
+use Rattle.std.specs.Prelude.{◌≡◌, ℕ, ◌≤◌, List, [], Ok, codes, false}
 use Rattle.ice_blif.specs.Grammar.{netlist_of}
+use Rattle.ice_flow_build.specs.declared.answer.Effort.{Effort}
 use Rattle.ice_flow_build.specs.Laid.{Task}
 use Rattle.ice_check.specs.Sound.{IsSound}
 use Rattle.ice_chip_read.specs.Whole.{chip_says}
 use Rattle.ice_sample.specs.Chip.{sample_chip_text}
 use Rattle.ice_sample.specs.Netlist.{sample_net_text}
-
--- the words of `sample NUMBER`, and how many workers route
-pub record Sample : Type 0 where
-  pub number : ℕ
-  pub workers : ℕ
+pub use Rattle.ice_flow_words.specs.Requests.{Sample}
 
 -- from 1 to 8 workers
 pub record IsManned (workers : ℕ) : Type 0 where
@@ -29,9 +26,9 @@ net_text number = sample_net_text number 96
 abbrev pub package_name : List ℕ
 package_name = codes "sample"
 
--- how many rounds of routing are permitted
-abbrev pub most_rounds : ℕ
-most_rounds = 64
+-- up to 64 rounds without an opening; what is so does not depend on how many workers there are
+abbrev pub sample_effort : Effort
+sample_effort = record { seed = 1; rounds = 64; workers = 1; opening = false }
 
 -- The sample texts of a number say this task: the one says the chip, and the other a sound netlist. Nothing constrains its ports.
 pub record IsAsked (number : ℕ) (task : Task) : Type 0 where

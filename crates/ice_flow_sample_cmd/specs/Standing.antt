@@ -12,15 +12,15 @@ use Rattle.ice_check.specs.Sound.{IsSound}
 use Rattle.ice_chip.specs.Database.{Parts}
 use Rattle.ice_chip_read.specs.Whole.{chip_says}
 use Rattle.ice_net.specs.NetlistData.{NetlistData}
-use Rattle.ice_flow_sample_cmd.specs.Samples.{chip_text, net_text, package_name, most_rounds}
+use Rattle.ice_flow_sample_cmd.specs.Samples.{chip_text, net_text, package_name, sample_effort}
 
 -- The pins and the places of the task have no fault: the work is done, or with the arrangement that is told a sink can't be reached, or each
 -- permitted round ends with an overused wire.
 abbrev pub IsEnd : Task → Cause → Type 0
-IsEnd task (Good arrangement tallies) = Unit {0}
+IsEnd task (Good arrangement tallies kept) = Unit {0}
 IsEnd task (WriteFault role put) = Unit {0}
 IsEnd task (Unreachable arrangement net sink) = IsStuckOn task arrangement net sink
-IsEnd task (GaveUp arrangement logs tallies) = IsGivenUpOn task most_rounds arrangement logs.items tallies.items
+IsEnd task (GaveUp arrangement logs tallies kept) = IsGivenUpOn task sample_effort arrangement kept.items logs.items tallies.items
 IsEnd task cause = ⊥
 
 -- the places, where the pins have no fault
@@ -40,5 +40,5 @@ abbrev pub BlifStands : ℕ → Parts → Cause → Type 0
 BlifStands number parts = stands_by (netlist_of (net_text number)) BadBlif (NetStands parts)
 
 -- First the chip's text is looked at, then the netlist's text, the netlist, the pins, the places, and then what is routed.
-abbrev pub Stands : ℕ → Cause → Type 0
-Stands number = stands_by (chip_says chip_text) BadChip (BlifStands number)
+abbrev pub StandsForSample : ℕ → Cause → Type 0
+StandsForSample number = stands_by (chip_says chip_text) BadChip (BlifStands number)

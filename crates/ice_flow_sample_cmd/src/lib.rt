@@ -1,11 +1,9 @@
 //! The command `sample`: the sample netlist of a number is placed and routed on the sample chip, and a summary is said.
 #![tactic(auto)]
 
-mod request;
 mod routing;
 mod sampling;
 mod summing;
 mod texts;
 
-pub use request::SampleRequest;
 pub use sampling::sample;

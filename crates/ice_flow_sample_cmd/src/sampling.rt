@@ -1,24 +1,25 @@
 //! Sampling: the sample texts are made and read, the netlist is placed and routed, and its summary is said.
 ghost use Rattle.std.specs.Prelude.{◌≡◌, true, None, Ok, IfOk, IfErr};
+ghost use Rattle.ice_flow_frame.specs.Told.{told_in};
 ghost use Rattle.ice_flow_frame.specs.Causes.{status_of};
 ghost use Rattle.ice_flow_frame.specs.Commands.{Aloud, IsRefusal, IsTrueOf};
 ghost use Rattle.ice_flow_frame.specs.Rows.{SaidBy, KeptRow};
 ghost use Rattle.ice_flow_frame.specs.Texts.{text_at};
 ghost use Rattle.ice_chip_read.specs.Whole.{chip_says};
-ghost use Rattle.ice_desk.specs.Desk.{SameButSaying};
+ghost use Rattle.ice_desk.specs.Desk.{SameButSaying, SameTest};
 ghost use Rattle.ice_flow_sample_cmd.specs.Command.{sample};
 ghost use Rattle.ice_flow_sample_cmd.specs.Made.{IsSampled};
-ghost use Rattle.ice_flow_sample_cmd.specs.Requests.{request_view};
+ghost use Rattle.ice_flow_words.specs.Views.{sample_view};
 ghost use Rattle.ice_flow_sample_cmd.specs.SampleRows.{IsSampleAnswer};
 ghost use Rattle.ice_flow_sample_cmd.specs.Samples.{chip_text, IsManned};
-ghost use Rattle.ice_flow_sample_cmd.specs.Standing.{BlifStands, Stands};
+ghost use Rattle.ice_flow_sample_cmd.specs.Standing.{BlifStands, StandsForSample};
 
-use crate::request::SampleRequest;
 use crate::routing::route_sound;
 use crate::texts::{read_sample_chip, read_sample_net};
 use ice_chip::Chip;
 use ice_desk::{Desk, Gate};
 use ice_flow_frame::{Cause, Done, Made, end_aloud};
+use ice_flow_words::SampleRequest;
 use std::alloc::Global;
 use std::thread::Threads;
 
@@ -32,7 +33,7 @@ fn make_on<G: Gate + Sync, R: Threads + Sync>(
 ) -> Result<Made, Cause>
     requires workers { IsManned request.now.workers }
     requires chip { chip_says chip_text ≡ Ok chip.now }
-    ensures made { IfOk result (λ made. IsSampled request.now.number (text_at made.texts 1) made.arrangement made.tallies.items) }
+    ensures made { IfOk result (λ made. IsSampled request.now.number (text_at made.texts 1) made.arrangement (told_in made)) }
     ensures refused { IfErr result (λ cause. IsRefusal (BlifStands request.now.number chip.now) cause) }
 {
     match read_sample_net(alloc, request.number) {
@@ -53,8 +54,8 @@ fn make<G: Gate + Sync, R: Threads + Sync>(
     request: &SampleRequest,
 ) -> Result<Made, Cause>
     requires { IsManned request.now.workers }
-    ensures made { IfOk result (λ made. IsSampled request.now.number (text_at made.texts 1) made.arrangement made.tallies.items) }
-    ensures refused { IfErr result (λ cause. IsRefusal (Stands request.now.number) cause) }
+    ensures made { IfOk result (λ made. IsSampled request.now.number (text_at made.texts 1) made.arrangement (told_in made)) }
+    ensures refused { IfErr result (λ cause. IsRefusal (StandsForSample request.now.number) cause) }
 {
     match read_sample_chip(alloc) {
         Ok(chip) => {
@@ -81,9 +82,12 @@ pub fn sample<D: Desk, G: Gate + Sync, R: Threads + Sync>(
 ) -> Done
     requires { IsManned request.now.workers }
     ensures same { SameButSaying (D.seen desk.old) (D.seen desk.new) }
+    ensures tells { (D.seen desk.new).tells ≡ (D.seen desk.old).tells }
+    ensures names_read { SameTest (D.may_read desk.old) (D.may_read desk.new) }
+    ensures names_written { SameTest (D.may_write desk.old) (D.may_write desk.new) }
     ensures status { result.status ≡ status_of result.cause }
-    ensures cause { IsTrueOf (sample (request_view request.now)) (D.seen desk.old) (D.seen desk.new) result.cause }
-    ensures rows { IsSampleAnswer (request_view request.now) (D.seen desk.old) (D.seen desk.new) result }
+    ensures cause { IsTrueOf (sample (sample_view request.now)) (D.seen desk.old) (D.seen desk.new) result.cause }
+    ensures rows { IsSampleAnswer (sample_view request.now) (D.seen desk.old) (D.seen desk.new) result }
     ensures said { (D.seen desk.old).tells ≡ true → SaidBy Aloud (D.seen desk.old) (D.seen desk.new) result.cause }
     ensures kept { (D.seen desk.old).tells ≡ true → KeptRow Aloud None (D.seen desk.old) (D.seen desk.new) result.cause }
     ensures made { (D.seen desk.new).makes ≡ (D.seen desk.old).makes }

@@ -6,7 +6,7 @@ ghost use Rattle.ice_check.specs.Sound.{IsSound};
 ghost use Rattle.ice_chip.specs.Database.{Parts};
 ghost use Rattle.ice_chip_read.specs.Whole.{chip_says};
 ghost use Rattle.ice_flow_sample_cmd.specs.Samples.{chip_text, net_text};
-ghost use Rattle.ice_flow_sample_cmd.specs.Standing.{BlifStands, Stands};
+ghost use Rattle.ice_flow_sample_cmd.specs.Standing.{BlifStands, StandsForSample};
 
 use ice_base::NoMemory;
 use ice_blif::read_blif;
@@ -42,7 +42,7 @@ fn net_text(alloc: Global, number: u64) -> Result<Vec<u8>, NoMemory>
 fn read_chip_text(alloc: Global, text: &[u8]) -> Result<Chip, Cause>
     requires { text.now ≡ chip_text }
     ensures chip { IfOk result (λ chip. chip_says chip_text ≡ Ok chip) }
-    ensures refused { IfErr result (λ cause. (number : ℕ) → IsRefusal (Stands number) cause) }
+    ensures refused { IfErr result (λ cause. (number : ℕ) → IsRefusal (StandsForSample number) cause) }
 {
     match read_chip(alloc, text) {
         Ok(chip) => Ok(chip),
@@ -56,7 +56,7 @@ fn read_chip_text(alloc: Global, text: &[u8]) -> Result<Chip, Cause>
 /// The fault of its text; want of memory.
 pub fn read_sample_chip(alloc: Global) -> Result<Chip, Cause>
     ensures chip { IfOk result (λ chip. chip_says chip_text ≡ Ok chip) }
-    ensures refused { IfErr result (λ cause. (number : ℕ) → IsRefusal (Stands number) cause) }
+    ensures refused { IfErr result (λ cause. (number : ℕ) → IsRefusal (StandsForSample number) cause) }
 {
     match chip_text(alloc) {
         Ok(text) => read_chip_text(alloc, &text),

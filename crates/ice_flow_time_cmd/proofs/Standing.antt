@@ -13,7 +13,7 @@ use Rattle.ice_flow_frame.specs.Texts.{text_at}
 use Rattle.ice_flow_frame.proofs.Standings.{at_fault}
 use Rattle.ice_flow_chip_frame.specs.Standing.{IsConfigured}
 use Rattle.ice_flow_chip_frame.proofs.Looks.{configured_so}
-use Rattle.ice_flow_time_cmd.specs.Timings.{delays_cause, DelaysStand, Stands, IsLongestText, IsTimed}
+use Rattle.ice_flow_time_cmd.specs.Timings.{delays_cause, DelaysStand, StandsForTime, IsLongestText, IsTimed}
 
 -- what was made of a circuit that has these bits
 pub timed_is : (name : List ℕ) (t : List (List ℕ)) (parts : Parts) (k configuration : Configuration) (bonded : PackageRows) (delays : Delays) (text : List ℕ) → IsConfigured name t parts k bonded
@@ -30,7 +30,7 @@ timed_is name t parts k configuration bonded delays text is said same longest = 
 
 -- a text of delays that is refused
 pub delays_refused : (name : List ℕ) (t : List (List ℕ)) (parts : Parts) (k : Configuration) (bonded : PackageRows) (fault : DelayFault) (cause : Cause) → IsConfigured name t parts k bonded
-    → delays_of (text_at t 3) ≡ Err fault → cause ≡ delays_cause fault → IsRefusal (Stands name t) cause
+    → delays_of (text_at t 3) ≡ Err fault → cause ≡ delays_cause fault → IsRefusal (StandsForTime name t) cause
 delays_refused name t parts k bonded (BadLine line) cause is said same =
-    subst (IsRefusal (Stands name t)) (sym same)
+    subst (IsRefusal (StandsForTime name t)) (sym same)
     (configured_so (DelaysStand (text_at t 3)) name t parts k bonded (BadDelays line) is (at_fault (delays_of (text_at t 3)) delays_cause (λ delays. IsDone) (BadLine line) said), tt)

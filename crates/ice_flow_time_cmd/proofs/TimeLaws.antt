@@ -1,5 +1,5 @@
 -- When each answer of `time` comes, from how its texts stand.
-use Rattle.std.proofs.Common.{◌≡◌, ◌⊎◌, ℕ, Bool, List, length, Result, Ok, Err, inl, inr, refl, sym, subst}
+use Rattle.std.proofs.Common.{◌≡◌, ℕ, List, Result, Ok, Err, inl, inr, refl, sym, subst}
 use Rattle.ice_desk.specs.Desk.{Meaning}
 use Rattle.ice_chip.specs.Database.{PackageRows}
 use Rattle.ice_timing_delays.specs.declared.delays.Delays.{Delays}
@@ -16,8 +16,8 @@ use Rattle.ice_flow_frame.proofs.TextFacts.{of_weaker}
 use Rattle.ice_flow_chip_frame.proofs.Looks.{then_so, configured_so}
 use Rattle.ice_flow_chip_frame.proofs.RowLaws as bits
 use Rattle.ice_flow_chip_frame.proofs.RowLaws.{IsLater, IsOnBits}
-use Rattle.ice_flow_chip_frame.proofs.Told.{Refuses, IsBehind, told}
-use Rattle.ice_flow_time_cmd.specs.Timings.{Time, files_of, delays_cause, DelaysStand, Stands, HasBadDelays, time}
+use Rattle.ice_flow_chip_frame.proofs.Told.{told}
+use Rattle.ice_flow_time_cmd.specs.Timings.{Time, files_of, delays_cause, DelaysStand, StandsForTime, HasBadDelays, time}
 use Rattle.ice_flow_time_cmd.specs.TimeRows.{ChipRow, AscRow, PackageRow, BitsRow, DelaysRow}
 
 abbrev Then : List (List ℕ) → PackageRows → Cause → Type 0
@@ -39,12 +39,12 @@ LineTold bonded text cause = IsDone cause
 
 line_told : (bonded : PackageRows) (text : List ℕ) (cause : Cause) → DelaysStand text bonded cause → LineTold bonded text cause
 line_told bonded text cause m =
-    of_delays (LineTold bonded text) bonded text cause (λ line is. is) (λ c done. of_done (LineTold bonded text) (λ arrangement tallies. tt) (λ role put. tt) c done) m
+    of_delays (LineTold bonded text) bonded text cause (λ line is. is) (λ c done. of_done (LineTold bonded text) (λ arrangement tallies kept. tt) (λ role put. tt) c done) m
 
-never : (name : List ℕ) (t : List (List ℕ)) → Stands name t Usage → ⊥
+never : (name : List ℕ) (t : List (List ℕ)) → StandsForTime name t Usage → ⊥
 never name t m = elim (told (Then t) name t Usage m) [ inl so ↦ so | inr later ↦ line_told later.bonded (text_at t 3) Usage later.stands ]
 
-bad_line : (name : List ℕ) (t : List (List ℕ)) (line : ℕ) → Stands name t (BadDelays line) → HasBadDelays name line t
+bad_line : (name : List ℕ) (t : List (List ℕ)) (line : ℕ) → StandsForTime name t (BadDelays line) → HasBadDelays name line t
 bad_line name t line m = elim (told (Then t) name t (BadDelays line) m) [
   | inl so ↦ absurd so
   | inr later ↦ record {
@@ -73,7 +73,7 @@ on_bits : (p : Time) → IsOnBits (time p) Then p.package_name
 on_bits p = record {
   lawful = lawful p;
   stands = λ t cause m. m;
-  later = λ t bonded cause m. of_delays IsLater bonded (text_at t 3) cause (λ line is. tt) (λ c done. of_done IsLater (λ arrangement tallies. tt) (λ role put. tt) c done) m;
+  later = λ t bonded cause m. of_delays IsLater bonded (text_at t 3) cause (λ line is. tt) (λ c done. of_done IsLater (λ arrangement tallies kept. tt) (λ role put. tt) c done) m;
 }
 
 -- ---- the rows
@@ -93,6 +93,6 @@ bits_row p old new cause is = bits.bits_row (time p) Then p.package_name (on_bit
 pub delays_row : (p : Time) (old new : Meaning) (cause : Cause) → IsTrueOf (time p) old new cause → DelaysRow p old cause
 delays_row p old new cause is line =
     comes (time p) old new cause (λ c. c ≡ BadDelays line) (HasBadDelays p.package_name line) (lawful p) is
-    (λ e. of_weaker (files_of p) old (λ t. Stands p.package_name t (BadDelays line)) (HasBadDelays p.package_name line) (λ t m. bad_line p.package_name t line m) (subst (λ (x : Cause). IsTrueOf (time p) old new x) e is).0)
+    (λ e. of_weaker (files_of p) old (λ t. StandsForTime p.package_name t (BadDelays line)) (HasBadDelays p.package_name line) (λ t m. bad_line p.package_name t line m) (subst (λ (x : Cause). IsTrueOf (time p) old new x) e is).0)
     (λ t h m. fault_alone (delays_of (text_at t 3)) delays_cause (λ delays. IsDone) (BadLine line) cause h.is_line
     (then_so (Then t) p.package_name t h.parts h.configuration h.bonded cause h.is_configured m))

@@ -1,3 +1,2 @@
 pub mod Timings
-pub mod Requests
 pub mod TimeRows

@@ -17,17 +17,11 @@ use Rattle.ice_flow_frame.specs.declared.cause.FileRole.TheVariants.{Chip, Asc, 
 use Rattle.ice_flow_frame.specs.Causes.{no_arrangement}
 use Rattle.ice_flow_frame.specs.Commands.{Command, command_of, Aloud, IsDone, stands_by}
 use Rattle.ice_flow_frame.specs.Reading.{Files}
+use Rattle.ice_flow_frame.specs.Told.{Told, nothing_told}
 use Rattle.ice_flow_frame.specs.Texts.{text_at}
 use Rattle.ice_flow_chip_frame.specs.Standing as bits
 use Rattle.ice_flow_chip_frame.specs.Standing.{IsConfigured}
-use Rattle.ice_words.specs.Grips.{Shut}
-
--- the words of `time CHIP PACKAGE ASC DELAYS`: names of files, and the name of a package
-pub record Time : Type 0 where
-  pub chip : List ℕ
-  pub package_name : List ℕ
-  pub asc : List ℕ
-  pub delays : List ℕ
+pub use Rattle.ice_flow_words.specs.Requests.{Time}
 
 -- its files, in the order of reading
 abbrev pub files_of : Time → Files
@@ -42,8 +36,8 @@ abbrev pub DelaysStand : List ℕ → PackageRows → Cause → Type 0
 DelaysStand delays_text bonded = stands_by (delays_of delays_text) delays_cause (λ delays. IsDone)
 
 -- first the chip text is looked at, then the text of bits, then the package, then the bits, and then the delays
-abbrev pub Stands : List ℕ → List (List ℕ) → Cause → Type 0
-Stands name texts = bits.Stands (DelaysStand (text_at texts 3)) name texts
+abbrev pub StandsForTime : List ℕ → List (List ℕ) → Cause → Type 0
+StandsForTime name texts = bits.Stands (DelaysStand (text_at texts 3)) name texts
 
 -- the bits have no fault, and this line of the text of delays is the first that is refused, or it is 0 and a delay is missing
 pub record HasBadDelays (name : List ℕ) (line : ℕ) (texts : List (List ℕ)) : Type 0 where
@@ -70,8 +64,8 @@ pub record IsTimed (name : List ℕ) (texts : List (List ℕ)) (text : List ℕ)
   pub is_longest : IsLongestText parts (bits_of configuration) configuration.extras delays text
 
 -- what is made of the texts; nothing is placed or routed
-abbrev pub IsMade : List ℕ → List (List ℕ) → List (List ℕ) → Arrangement → List Shut → Type 0
-IsMade name texts made arrangement tallies = IsTimed name texts (text_at made 1) × (arrangement ≡ no_arrangement) × (tallies ≡ [])
+abbrev pub IsMadeByTime : List ℕ → List (List ℕ) → List (List ℕ) → Arrangement → Told → Type 0
+IsMadeByTime name texts made arrangement told = IsTimed name texts (text_at made 1) × (arrangement ≡ no_arrangement) × (told ≡ nothing_told)
 
 abbrev pub time : Time → Command
-time t = command_of (files_of t) (Stands t.package_name) (IsMade t.package_name) Aloud
+time t = command_of (files_of t) (StandsForTime t.package_name) (IsMadeByTime t.package_name) Aloud

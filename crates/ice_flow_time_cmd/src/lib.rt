@@ -3,4 +3,4 @@
 
 mod timing;
 
-pub use timing::{TimeRequest, time};
+pub use timing::time;

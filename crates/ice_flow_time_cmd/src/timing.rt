@@ -1,5 +1,7 @@
 //! Timing bits: three texts are read, and the text of a longest path is said.
 ghost use Rattle.std.specs.Prelude.{◌≡◌, ◌∷◌, ℕ, List, true, None, Ok, IfOk, IfErr};
+ghost use Rattle.ice_flow_frame.specs.Told.{told_in};
+ghost use Rattle.ice_desk.specs.Desk.{SameTest};
 ghost use Rattle.ice_flow_frame.specs.Causes.{status_of};
 ghost use Rattle.ice_flow_frame.specs.Commands.{Aloud, IsRefusal, IsTrueOf};
 ghost use Rattle.ice_flow_frame.specs.Reading.{TellsLong};
@@ -8,8 +10,8 @@ ghost use Rattle.ice_bits.specs.Configuration.{bits_of};
 ghost use Rattle.ice_chip_read.specs.Whole.{chip_says};
 ghost use Rattle.ice_decode.specs.Refusals.{IsCircuitOf};
 ghost use Rattle.ice_flow_chip_frame.specs.Standing.{IsRead};
-ghost use Rattle.ice_flow_time_cmd.specs.Timings.{delays_cause, Stands, IsLongestText, IsMade, time};
-ghost use Rattle.ice_flow_time_cmd.specs.Requests.{request_view};
+ghost use Rattle.ice_flow_time_cmd.specs.Timings.{delays_cause, StandsForTime, IsLongestText, IsMadeByTime, time};
+ghost use Rattle.ice_flow_words.specs.Views.{time_view};
 
 use ice_asc::read_asc;
 use ice_base::NoMemory;
@@ -23,23 +25,11 @@ use ice_flow_frame::{
     Cause, CommandFile, Done, FileRole, Made, Texts, asc_refusal, bits_refusal, chip_refusal,
     made_text,
 };
+use ice_flow_words::TimeRequest;
 use ice_pads::PinFault;
 use ice_timing::{arrivals_of, longest, path_text};
 use ice_timing_delays::{DelayFault, Delays, read_delays};
 use std::alloc::Global;
-
-/// To time the bits of one file on the chip of another, with the delays of a third file.
-#[derive(Clone, Copy)]
-pub struct TimeRequest<'a> {
-    /// The name of the file of the chip database.
-    pub chip: &'a str,
-    /// The name of a package, which the chip has to have.
-    pub package_name: &'a str,
-    /// The name of the file of bits.
-    pub asc: &'a str,
-    /// The name of the file of delays.
-    pub delays: &'a str,
-}
 
 // The refusal of a text of delays.
 fn delays_refusal(fault: DelayFault) -> Cause
@@ -73,8 +63,8 @@ fn time_read(
     chip: &Chip,
     bits: &Bits,
 ) -> Result<Made, Cause>
-    ensures timed { (chip_text : List ℕ) → IsRead (chip_text ∷ texts.now) chip.now bits.now → IfOk result (λ made. IsMade package_name.now (chip_text ∷ texts.now) made.texts made.arrangement made.tallies.items) }
-    ensures refused { (chip_text : List ℕ) → IsRead (chip_text ∷ texts.now) chip.now bits.now → IfErr result (λ cause. IsRefusal (Stands package_name.now (chip_text ∷ texts.now)) cause) }
+    ensures timed { (chip_text : List ℕ) → IsRead (chip_text ∷ texts.now) chip.now bits.now → IfOk result (λ made. IsMadeByTime package_name.now (chip_text ∷ texts.now) made.texts made.arrangement (told_in made)) }
+    ensures refused { (chip_text : List ℕ) → IsRead (chip_text ∷ texts.now) chip.now bits.now → IfErr result (λ cause. IsRefusal (StandsForTime package_name.now (chip_text ∷ texts.now)) cause) }
 {
     let Some(_bonded) = chip.package(package_name.as_bytes()) else {
         return Err(Cause::BadPin(PinFault::NoPackage));
@@ -95,8 +85,8 @@ fn time_read(
 
 // The text of a longest path of the bits of the text behind the chip's.
 fn time_on(alloc: Global, package_name: &str, texts: &Texts, chip: &Chip) -> Result<Made, Cause>
-    ensures timed { (chip_text : List ℕ) → chip_says chip_text ≡ Ok chip.now → IfOk result (λ made. IsMade package_name.now (chip_text ∷ texts.now) made.texts made.arrangement made.tallies.items) }
-    ensures refused { (chip_text : List ℕ) → chip_says chip_text ≡ Ok chip.now → IfErr result (λ cause. IsRefusal (Stands package_name.now (chip_text ∷ texts.now)) cause) }
+    ensures timed { (chip_text : List ℕ) → chip_says chip_text ≡ Ok chip.now → IfOk result (λ made. IsMadeByTime package_name.now (chip_text ∷ texts.now) made.texts made.arrangement (told_in made)) }
+    ensures refused { (chip_text : List ℕ) → chip_says chip_text ≡ Ok chip.now → IfErr result (λ cause. IsRefusal (StandsForTime package_name.now (chip_text ∷ texts.now)) cause) }
 {
     match read_asc(alloc, texts.at(1), chip) {
         Ok(bits) => time_read(alloc, package_name, texts, chip, &bits),
@@ -104,10 +94,16 @@ fn time_on(alloc: Global, package_name: &str, texts: &Texts, chip: &Chip) -> Res
     }
 }
 
-impl<'a> ChipMaking for TimeRequest<'a> {
-    ghost stands = { λ request texts cause. Stands request.package_name.now texts cause };
+// What is timed of bits, on a chip that has a package of this name.
+#[derive(Clone, Copy)]
+struct InPackage<'a> {
+    package_name: &'a str,
+}
 
-    ghost gives = { λ request texts made arrangement tallies. IsMade request.package_name.now texts made arrangement tallies };
+impl<'a> ChipMaking for InPackage<'a> {
+    ghost stands = { λ in_package texts cause. StandsForTime in_package.package_name.now texts cause };
+
+    ghost gives = { λ in_package texts made arrangement told. IsMadeByTime in_package.package_name.now texts made arrangement told };
 
     fn make(&self, alloc: Global, reader: ChipReader, texts: &Texts) -> Result<Made, Cause> {
         match reader.finish() {
@@ -128,8 +124,11 @@ pub fn time<D: Desk>(alloc: Global, desk: &mut D, request: &TimeRequest<'_>) -> 
     requires chip { D.may_read desk.old request.now.chip.now }
     requires asc { D.may_read desk.old request.now.asc.now }
     requires delays { D.may_read desk.old request.now.delays.now }
+    ensures tells { (D.seen desk.new).tells ≡ (D.seen desk.old).tells }
+    ensures names_read { SameTest (D.may_read desk.old) (D.may_read desk.new) }
+    ensures names_written { SameTest (D.may_write desk.old) (D.may_write desk.new) }
     ensures status { result.status ≡ status_of result.cause }
-    ensures cause { IsTrueOf (time (request_view request.now)) (D.seen desk.old) (D.seen desk.new) result.cause }
+    ensures cause { IsTrueOf (time (time_view request.now)) (D.seen desk.old) (D.seen desk.new) result.cause }
     ensures said { (D.seen desk.old).tells ≡ true → SaidBy Aloud (D.seen desk.old) (D.seen desk.new) result.cause }
     ensures kept { (D.seen desk.old).tells ≡ true → KeptRow Aloud None (D.seen desk.old) (D.seen desk.new) result.cause }
     ensures made { (D.seen desk.new).makes ≡ (D.seen desk.old).makes }
@@ -145,5 +144,8 @@ pub fn time<D: Desk>(alloc: Global, desk: &mut D, request: &TimeRequest<'_>) -> 
             name: request.delays,
         },
     ];
-    say_made_on_chip(alloc, desk, request.chip, &files, request)
+    let in_package = InPackage {
+        package_name: request.package_name,
+    };
+    say_made_on_chip(alloc, desk, request.chip, &files, &in_package)
 }

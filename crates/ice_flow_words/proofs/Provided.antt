@@ -12,7 +12,7 @@ use Rattle.clap.specs.ValueTests.{is_unsigned_in}
 use Rattle.clap.specs.Kinds.{check_kinds, or_else}
 use Rattle.clap.specs.Takes.{is_given, value_passes}
 use Rattle.clap.specs.Walk as step
-use Rattle.clap.specs.Walk.{arg_by_index, Outcome, Step, Waiting, after_flag, after_step, idle, long_or_other, option, plain_word, positional, short_or_plain, subcommand_met, subcommand_or_other, to_positional, walk_from, walked_from, word_met, Held, Names, Walk, answers_to, arg_by_id, at_row, default_rows, finished, has_row, is_empty, more_values, nothing_held, reading_by, rows_after, settled, stop_after, walk, walked, with_default, with_values}
+use Rattle.clap.specs.Walk.{arg_by_index, Outcome, Step, Waiting, after_flag, after_step, idle, long_or_other, option, plain_word, positional, short_or_plain, subcommand_met, subcommand_or_other, to_positional, walk_from, walked_from, word_met, Held, Names, Walk, answers_to, arg_by_id, default_rows, has_row, is_empty, more_values, nothing_held, reading_by, rows_after, stop_after, walk, walked, with_default, with_values}
 use Rattle.clap.specs.Simple.{Shape, built_leaf, help_shape, entered, inherited, marked_built, with_leaf_noted, label_of, names_of, rows_at}
 use Rattle.clap.specs.declared.error.kind.ErrorKind.TheVariants.{DisplayHelp, InvalidSubcommand}
 use Rattle.clap.specs.Faults.{other_fault, step_fault, turn_fault, word_fault, built_fault, entered_fault, level_fault, walk_fault}
@@ -232,11 +232,12 @@ k first once = record { first = first; once = once }
 module _ (rows : List Row) where
   build_asked : IsSome (first_of (codes "CHIP") rows) → IsSome (first_of (codes "PACKAGE") rows) → IsSome (first_of (codes "PCF") rows) → IsSome (first_of (codes "BLIF") rows)
       → IsSome (first_of (codes "ASC") rows) → IsSome (number_of (codes "seed") 0 most_number rows) → IsSome (number_of (codes "rounds") 1 most_rounds rows) → IsSome (workers_of rows)
-      → IsSome (asked_of (codes "build") rows)
-  build_asked chip name pcf blif asc seed rounds workers = then_some (build_of rows) _ (then_some (first_of (codes "CHIP") rows) _ chip
+      → IsSome (number_of (codes "opening") 0 1 rows) → IsSome (asked_of (codes "build") rows)
+  build_asked chip name pcf blif asc seed rounds workers opening = then_some (build_of rows) _ (then_some (first_of (codes "CHIP") rows) _ chip
       (λ _. then_some (first_of (codes "PACKAGE") rows) _ name (λ _. then_some (first_of (codes "PCF") rows) _ pcf (λ _. then_some (first_of (codes "BLIF") rows) _ blif
       (λ _. then_some (first_of (codes "ASC") rows) _ asc (λ _. then_some (number_of (codes "seed") 0 most_number rows) _ seed
-      (λ _. then_some (number_of (codes "rounds") 1 most_rounds rows) _ rounds (λ _. then_some (workers_of rows) _ workers (λ _. refl))))))))) (λ _. refl)
+      (λ _. then_some (number_of (codes "rounds") 1 most_rounds rows) _ rounds (λ _. then_some (workers_of rows) _ workers
+      (λ _. then_some (number_of (codes "opening") 0 1 rows) _ opening (λ _. refl)))))))))) (λ _. refl)
 
   back_asked : IsSome (first_of (codes "CHIP") rows) → IsSome (first_of (codes "PACKAGE") rows) → IsSome (first_of (codes "ASC") rows) → IsSome (first_of (codes "BLIF") rows)
       → IsSome (asked_of (codes "back") rows)
@@ -261,12 +262,12 @@ module _ (rows : List Row) where
 
 build_provided : IsProvided (leaf build_command)
 build_provided name words other is e =
-    let known : Each (IsKnown (leaf build_command).rules) (leaf build_command).rules = (k refl refl, (k refl refl, (k refl refl, (k refl refl, (k refl refl, (k refl refl, (k refl refl, (k refl refl, (k refl refl, (k refl refl, (k refl refl, tt))))))))))) in
+    let known : Each (IsKnown (leaf build_command).rules) (leaf build_command).rules = (k refl refl, (k refl refl, (k refl refl, (k refl refl, (k refl refl, (k refl refl, (k refl refl, (k refl refl, (k refl refl, (k refl refl, (k refl refl, (k refl refl, tt)))))))))))) in
     let p = passes (leaf build_command) [] words false [] e in
     let word = word_at (leaf build_command) known refl words p in
     let number = number_at (leaf build_command) known refl words p in
     build_asked (rows_after (leaf build_command).rules [] words) (word (codes "CHIP") refl) (word (codes "PACKAGE") refl) (word (codes "PCF") refl) (word (codes "BLIF") refl)
-    (word (codes "ASC") refl) (number (codes "seed") 0 most_number refl (λ v h. h)) (number (codes "rounds") 1 most_rounds refl (λ v h. h)) (number (codes "workers") 1 most_workers refl (λ v h. h))
+    (word (codes "ASC") refl) (number (codes "seed") 0 most_number refl (λ v h. h)) (number (codes "rounds") 1 most_rounds refl (λ v h. h)) (number (codes "workers") 1 most_workers refl (λ v h. h)) (number (codes "opening") 0 1 refl (λ v h. h))
 
 back_provided : IsProvided (leaf back_command)
 back_provided name words other is e =

@@ -42,7 +42,7 @@ build_places = place (codes "CHIP") ∷ place (codes "PACKAGE") ∷ place (codes
 
 abbrev pub build_options : List Rule
 build_options = file_option (codes "pins") ∷ file_option (codes "report") ∷ number_option (codes "seed") 0 most_number (codes "1")
-    ∷ number_option (codes "rounds") 1 most_rounds (codes "64") ∷ workers_option ∷ []
+    ∷ number_option (codes "rounds") 1 most_rounds (codes "64") ∷ workers_option ∷ number_option (codes "opening") 0 1 (codes "0") ∷ []
 
 abbrev pub build_command : Shape
 build_command = subcommand (codes "build") (build_places ++ build_options)

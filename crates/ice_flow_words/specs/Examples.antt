@@ -1,5 +1,5 @@
 -- What some words ask for.
-use Rattle.std.specs.Prelude.{◌≡◌, ◌^◌, ◌-◌, ◌++◌, Some, None, List, [], ◌∷◌, codes}
+use Rattle.std.specs.Prelude.{◌≡◌, ◌^◌, ◌-◌, ◌++◌, true, false, Some, None, List, [], ◌∷◌, codes}
 use Rattle.clap.specs.Words.{Text}
 use Rattle.ice_flow_words.specs.Requests.{Build, ForBuild, ForBack, ForPlayNet, ForPlayBits, ForTime, ForSample, request_of}
 
@@ -16,6 +16,7 @@ plain_build = record {
   seed = 1;
   rounds = 64;
   workers = 2;
+  opening = false;
 }
 
 abbrev pub five : List Text
@@ -28,6 +29,9 @@ pub record HasWorkedExamples : Type 0 where
   pub too_great : request_of (codes "build" ∷ codes "--seed=18446744073709551616" ∷ five) ≡ None
   pub plus : request_of (codes "build" ∷ codes "--seed=+7" ∷ five) ≡ Some (ForBuild (record plain_build { seed = 7 }))
   pub behind : request_of (codes "build" ∷ five ++ codes "--workers" ∷ codes "8" ∷ []) ≡ Some (ForBuild (record plain_build { workers = 8 }))
+  pub opening : request_of (codes "build" ∷ codes "--opening" ∷ codes "1" ∷ five) ≡ Some (ForBuild (record plain_build { opening = true }))
+  pub no_opening : request_of (codes "build" ∷ codes "--opening=0" ∷ five) ≡ Some (ForBuild plain_build)
+  pub two_openings : request_of (codes "build" ∷ codes "--opening" ∷ codes "2" ∷ five) ≡ None
   pub files : request_of (codes "build" ∷ codes "--pins=p" ∷ codes "--report" ∷ codes "r" ∷ five) ≡ Some (ForBuild (record plain_build { pins = Some (codes "p"); report = Some (codes "r") }))
   pub hyphen : request_of (codes "play-net" ∷ codes "--" ∷ codes "-x" ∷ codes "y" ∷ []) ≡ Some (ForPlayNet (record { blif = codes "-x"; levels = codes "y" }))
   pub play_net : request_of (codes "play-net" ∷ codes "x" ∷ codes "y" ∷ []) ≡ Some (ForPlayNet (record { blif = codes "x"; levels = codes "y" }))

@@ -1,5 +1,5 @@
 -- What words ask for.
-use Rattle.std.specs.Prelude.{ℕ, Bool, Option, Some, None, List, if◌then◌else◌, codes}
+use Rattle.std.specs.Prelude.{ℕ, Bool, Option, Some, None, List, if◌then◌else◌, codes, nat_eq}
 use Rattle.std.specs.Str.{bytes_eq}
 use Rattle.std.specs.Str.Parse.{digits_value, without_leading_plus}
 use Rattle.clap.specs.Words.{Row, Text, fault_of, first_of, subcommand_of}
@@ -7,7 +7,8 @@ use Rattle.clap.specs.Walk.{is_empty}
 use Rattle.clap.specs.ValueTests.{is_unsigned_in}
 use Rattle.ice_flow_words.specs.Command.{command, most_number, most_rounds, most_workers}
 
--- to build the text of bits at `asc`
+-- `build`: the netlist at `blif` on the chip at `chip`, with the constraints at `pcf`; the text of its bits is written at `asc`, and reports on the
+-- pins and on the routes where their files are named
 pub record Build : Type 0 where
   pub chip : Text
   pub package_name : Text
@@ -19,34 +20,35 @@ pub record Build : Type 0 where
   pub seed : ℕ
   pub rounds : ℕ
   pub workers : ℕ
+  pub opening : Bool
 
--- to write the netlist of a text of bits at `blif`
+-- `back`: the netlist of the bits at `asc` is written at `blif`
 pub record Back : Type 0 where
   pub chip : Text
   pub package_name : Text
   pub asc : Text
   pub blif : Text
 
--- to play a netlist
+-- `play-net`
 pub record PlayNet : Type 0 where
   pub blif : Text
   pub levels : Text
 
--- to play a text of bits
+-- `play-bits`
 pub record PlayBits : Type 0 where
   pub chip : Text
   pub package_name : Text
   pub asc : Text
   pub levels : Text
 
--- to time a text of bits
+-- `time`
 pub record Time : Type 0 where
   pub chip : Text
   pub package_name : Text
   pub asc : Text
   pub delays : Text
 
--- to route a sample netlist
+-- `sample`
 pub record Sample : Type 0 where
   pub number : ℕ
   pub workers : ℕ
@@ -88,6 +90,7 @@ build_of rows =
     number_of (codes "seed") 0 most_number rows >>= (λ seed.
     number_of (codes "rounds") 1 most_rounds rows >>= (λ rounds.
     workers_of rows >>= (λ workers.
+    number_of (codes "opening") 0 1 rows >>= (λ opening.
     Some (record {
       chip = chip;
       package_name = name;
@@ -99,7 +102,8 @@ build_of rows =
       seed = seed;
       rounds = rounds;
       workers = workers;
-    })))))))))
+      opening = nat_eq opening 1;
+    }))))))))))
 
 abbrev pub back_of : List Row → Option Back
 back_of rows =

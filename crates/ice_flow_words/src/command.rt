@@ -23,7 +23,7 @@ enum Argument<'a> {
 }
 
 // What the help says of each argument, by its id.
-const HELP: [(&str, &str); 13] = [
+const HELP: [(&str, &str); 14] = [
     ("CHIP", "The chip database"),
     ("PACKAGE", "The name of one of its packages"),
     ("PCF", "The constraints of pins"),
@@ -37,6 +37,7 @@ const HELP: [(&str, &str); 13] = [
     ("seed", "From what the random choices of placing are made"),
     ("rounds", "The most rounds of routing, from 1 to 64"),
     ("workers", "The number of threads that route, from 1 to 8"),
+    ("opening", "Take whole nets before the rounds, 0 or 1"),
 ];
 
 // What the help says of the argument of an id.
@@ -139,6 +140,7 @@ fn build_command<'a>(alloc: Global) -> Result<Command<'a>, AllocError>
         Argument::Number("seed", 0, u64::MAX, "1"),
         Argument::Number("rounds", 1, 64, "64"),
         Argument::Number("workers", 1, 8, "2"),
+        Argument::Number("opening", 0, 1, "0"),
     ];
     let command = named(alloc, "build", "Build the text of the bits of a netlist");
     with_arguments(alloc, command, &arguments)

@@ -5,7 +5,9 @@ ghost use Rattle.ice_flow_words.specs.Requests.{number_in, number_of, workers_of
 ghost use Rattle.ice_flow_words.specs.Views.{build_view, back_view, net_view, bits_view, time_view, sample_view, request_view, IsInLimits};
 ghost use Rattle.ice_flow_words.specs.Command.{most_workers};
 
-use crate::request::{BackWords, BitsWords, BuildWords, NetWords, Request, TimeWords};
+use crate::request::{
+    BackRequest, BuildRequest, PlayBitsRequest, PlayNetRequest, Request, SampleRequest, TimeRequest,
+};
 use clap::ArgMatches;
 
 // The first value of an argument.
@@ -62,7 +64,7 @@ fn workers_of(found: &ArgMatches<'_>) -> Option<u32>
     count_of(found, "workers", 8)
 }
 
-fn build_of<'a>(found: &ArgMatches<'a>) -> Option<BuildWords<'a>>
+fn build_of<'a>(found: &ArgMatches<'a>) -> Option<BuildRequest<'a>>
     ensures value { option_map build_view result ≡ build_of (rows_of (found_of found.now)) }
     ensures range { IfSome result (λ w. IsInLimits (Request.Build w)) }
 {
@@ -74,7 +76,8 @@ fn build_of<'a>(found: &ArgMatches<'a>) -> Option<BuildWords<'a>>
     let seed = number_of(found, "seed", 0, u64::MAX)?;
     let rounds = count_of(found, "rounds", 64)?;
     let workers = workers_of(found)?;
-    Some(BuildWords {
+    let opening = number_of(found, "opening", 0, 1)?;
+    Some(BuildRequest {
         chip,
         package_name,
         pcf,
@@ -85,17 +88,18 @@ fn build_of<'a>(found: &ArgMatches<'a>) -> Option<BuildWords<'a>>
         seed,
         rounds,
         workers,
+        opening: opening == 1,
     })
 }
 
-fn back_of<'a>(found: &ArgMatches<'a>) -> Option<BackWords<'a>>
+fn back_of<'a>(found: &ArgMatches<'a>) -> Option<BackRequest<'a>>
     ensures { option_map back_view result ≡ back_of (rows_of (found_of found.now)) }
 {
     let chip = word_of(found, "CHIP")?;
     let package_name = word_of(found, "PACKAGE")?;
     let asc = word_of(found, "ASC")?;
     let blif = word_of(found, "BLIF")?;
-    Some(BackWords {
+    Some(BackRequest {
         chip,
         package_name,
         asc,
@@ -103,22 +107,22 @@ fn back_of<'a>(found: &ArgMatches<'a>) -> Option<BackWords<'a>>
     })
 }
 
-fn play_net_of<'a>(found: &ArgMatches<'a>) -> Option<NetWords<'a>>
+fn play_net_of<'a>(found: &ArgMatches<'a>) -> Option<PlayNetRequest<'a>>
     ensures { option_map net_view result ≡ play_net_of (rows_of (found_of found.now)) }
 {
     let blif = word_of(found, "BLIF")?;
     let levels = word_of(found, "LEVELS")?;
-    Some(NetWords { blif, levels })
+    Some(PlayNetRequest { blif, levels })
 }
 
-fn play_bits_of<'a>(found: &ArgMatches<'a>) -> Option<BitsWords<'a>>
+fn play_bits_of<'a>(found: &ArgMatches<'a>) -> Option<PlayBitsRequest<'a>>
     ensures { option_map bits_view result ≡ play_bits_of (rows_of (found_of found.now)) }
 {
     let chip = word_of(found, "CHIP")?;
     let package_name = word_of(found, "PACKAGE")?;
     let asc = word_of(found, "ASC")?;
     let levels = word_of(found, "LEVELS")?;
-    Some(BitsWords {
+    Some(PlayBitsRequest {
         chip,
         package_name,
         asc,
@@ -126,14 +130,14 @@ fn play_bits_of<'a>(found: &ArgMatches<'a>) -> Option<BitsWords<'a>>
     })
 }
 
-fn time_of<'a>(found: &ArgMatches<'a>) -> Option<TimeWords<'a>>
+fn time_of<'a>(found: &ArgMatches<'a>) -> Option<TimeRequest<'a>>
     ensures { option_map time_view result ≡ time_of (rows_of (found_of found.now)) }
 {
     let chip = word_of(found, "CHIP")?;
     let package_name = word_of(found, "PACKAGE")?;
     let asc = word_of(found, "ASC")?;
     let delays = word_of(found, "DELAYS")?;
-    Some(TimeWords {
+    Some(TimeRequest {
         chip,
         package_name,
         asc,
@@ -141,13 +145,13 @@ fn time_of<'a>(found: &ArgMatches<'a>) -> Option<TimeWords<'a>>
     })
 }
 
-fn sample_of(found: &ArgMatches<'_>) -> Option<(u64, u32)>
-    ensures value { option_map (λ s. sample_view s.0 s.1) result ≡ sample_of (rows_of (found_of found.now)) }
-    ensures range { IfSome result (λ s. IsInLimits (Request.Sample s.0 s.1)) }
+fn sample_of(found: &ArgMatches<'_>) -> Option<SampleRequest>
+    ensures value { option_map sample_view result ≡ sample_of (rows_of (found_of found.now)) }
+    ensures range { IfSome result (λ w. IsInLimits (Request.Sample w)) }
 {
     let number = number_of(found, "NUMBER", 0, u64::MAX)?;
     let workers = workers_of(found)?;
-    Some((number, workers))
+    Some(SampleRequest { number, workers })
 }
 
 // The request of a subcommand.
@@ -172,7 +176,7 @@ fn asked_of<'a>(name: &str, found: &ArgMatches<'a>) -> Option<Request<'a>>
     }
     if name == "sample" {
         return match sample_of(found) {
-            Some((number, workers)) => Some(Request::Sample { number, workers }),
+            Some(request) => Some(Request::Sample(request)),
             None => None,
         };
     }

@@ -11,4 +11,6 @@ mod request;
 pub use fault::WordsFault;
 pub use laws::{asks_where_taken, worked_examples};
 pub use matching::{read_request, usage_for};
-pub use request::{BackWords, BitsWords, BuildWords, NetWords, Request, TimeWords};
+pub use request::{
+    BackRequest, BuildRequest, PlayBitsRequest, PlayNetRequest, Request, SampleRequest, TimeRequest,
+};

@@ -2,7 +2,7 @@
 
 /// The words of `build CHIP PACKAGE PCF BLIF ASC` and of its options.
 #[derive(Clone, Copy)]
-pub struct BuildWords<'a> {
+pub struct BuildRequest<'a> {
     /// The name of the file of the chip database.
     pub chip: &'a str,
     /// The name of the package.
@@ -23,11 +23,13 @@ pub struct BuildWords<'a> {
     pub rounds: u32,
     /// The number of workers, from 1 to 8; 2 where none is given.
     pub workers: u32,
+    /// Whether workers first take whole nets; false where it is not asked for.
+    pub opening: bool,
 }
 
 /// The words of `back CHIP PACKAGE ASC BLIF`.
 #[derive(Clone, Copy)]
-pub struct BackWords<'a> {
+pub struct BackRequest<'a> {
     /// The name of the file of the chip database.
     pub chip: &'a str,
     /// The name of the package.
@@ -40,7 +42,7 @@ pub struct BackWords<'a> {
 
 /// The words of `play-net BLIF LEVELS`.
 #[derive(Clone, Copy)]
-pub struct NetWords<'a> {
+pub struct PlayNetRequest<'a> {
     /// The name of the netlist's file.
     pub blif: &'a str,
     /// The name of the file of levels.
@@ -49,7 +51,7 @@ pub struct NetWords<'a> {
 
 /// The words of `play-bits CHIP PACKAGE ASC LEVELS`.
 #[derive(Clone, Copy)]
-pub struct BitsWords<'a> {
+pub struct PlayBitsRequest<'a> {
     /// The name of the file of the chip database.
     pub chip: &'a str,
     /// The name of the package.
@@ -62,7 +64,7 @@ pub struct BitsWords<'a> {
 
 /// The words of `time CHIP PACKAGE ASC DELAYS`.
 #[derive(Clone, Copy)]
-pub struct TimeWords<'a> {
+pub struct TimeRequest<'a> {
     /// The name of the file of the chip database.
     pub chip: &'a str,
     /// The name of the package.
@@ -73,24 +75,28 @@ pub struct TimeWords<'a> {
     pub delays: &'a str,
 }
 
+/// The words of `sample NUMBER` and of its option.
+#[derive(Clone, Copy)]
+pub struct SampleRequest {
+    /// The number of the sample.
+    pub number: u64,
+    /// The number of workers, from 1 to 8; 2 where none is given. The answer does not depend on it.
+    pub workers: u32,
+}
+
 /// What words ask for.
 #[derive(Clone, Copy)]
 pub enum Request<'a> {
-    /// `build CHIP PACKAGE PCF BLIF ASC`, with `--pins FILE`, `--report FILE`, `--seed N`, `--rounds N` and `--workers N`.
-    Build(BuildWords<'a>),
+    /// `build CHIP PACKAGE PCF BLIF ASC`, with `--pins FILE`, `--report FILE`, `--seed N`, `--rounds N`, `--workers N` and `--opening N`.
+    Build(BuildRequest<'a>),
     /// `back CHIP PACKAGE ASC BLIF`.
-    Back(BackWords<'a>),
+    Back(BackRequest<'a>),
     /// `play-net BLIF LEVELS`.
-    PlayNet(NetWords<'a>),
+    PlayNet(PlayNetRequest<'a>),
     /// `play-bits CHIP PACKAGE ASC LEVELS`.
-    PlayBits(BitsWords<'a>),
+    PlayBits(PlayBitsRequest<'a>),
     /// `time CHIP PACKAGE ASC DELAYS`.
-    Time(TimeWords<'a>),
+    Time(TimeRequest<'a>),
     /// `sample NUMBER`, with `--workers N`.
-    Sample {
-        /// The number of the sample.
-        number: u64,
-        /// The number of workers, from 1 to 8; 2 where none is given.
-        workers: u32,
-    },
+    Sample(SampleRequest),
 }

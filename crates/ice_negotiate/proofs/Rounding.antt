@@ -1,5 +1,5 @@
 -- One round after another.
-use Rattle.std.proofs.Common.{◌≡◌, ℕ, zero, suc, ◌+◌, ◌-◌, ◌≤◌, ◌<◌, Bool, true, false, cond, List, [], ◌∷◌, ◌++◌, Some, length, replicate, slice_get, slice_index, refl, sym, ap, ◌∙◌, subst, arith, inl, inr}
+use Rattle.std.proofs.Common.{◌≡◌, ℕ, zero, suc, ◌+◌, ◌-◌, ◌≤◌, ◌<◌, Bool, true, false, cond, List, [], ◌∷◌, ◌++◌, None, Some, length, replicate, slice_get, slice_index, refl, sym, ap, ◌∙◌, subst, arith, inl, inr}
 use Rattle.std.proofs.lemmas.Option.{slice_get_within}
 use Rattle.std.proofs.lemmas.List.Sums.{sum_by-cons}
 use Rattle.ice_base.specs.declared.number.WireNo.{WireNo}
@@ -10,13 +10,14 @@ use Rattle.ice_core.specs.declared.net.Net.{Net}
 use Rattle.ice_core.specs.declared.log.RoundLog.{RoundLog}
 use Rattle.ice_core.specs.Congestion.{next_history}
 use Rattle.ice_core.specs.Moves.{IsOccupancy, holds, stands_in, occupancy, moves, movers_from, movers_of}
-use Rattle.ice_negotiate_defs.specs.Rounds.{Past, AreAll, AreBare, AreDifferent, AreMoversReached, AreOverused, AreReachedBefore, AreRounds, Follows, IsOverused}
-use Rattle.ice_negotiate_defs.specs.Logs.{AreLogs, IsLog}
+use Rattle.ice_negotiate_defs.specs.Rounds.{Past, AreAll, AreBare, AreDifferent, AreMoversReached, AreOverused, AreReachedBefore, AreRoundsFrom, BeginsWith, Follows, IsOverused}
+use Rattle.ice_negotiate_defs.specs.Logs.{AreLogs, AreLogsFrom, IsLog}
 use Rattle.ice_words.specs.Grips.{Shut}
-use Rattle.ice_negotiate_defs.specs.Tallies.{AreTallies, IsTally}
+use Rattle.ice_negotiate_defs.specs.Tallies.{AreTalliesFrom, IsTally}
 use Rattle.ice_words_hands.proofs.Lists.{zeros_index}
 use Rattle.ice_negotiate_defs.proofs.Listing.{pushed, length_push, last_get}
 use Rattle.ice_negotiate_defs.proofs.Rounding.{some_same}
+use Rattle.ice_negotiate.specs.Progress.{MoveAtFirst, Opening}
 
 pub length_next : (h c : List ℕ) → length (next_history h c) ≡ length h
 length_next [] c = refl
@@ -31,14 +32,14 @@ next_low (x ∷ h) (n ∷ c) zero = omega arith
 next_low (x ∷ h) (n ∷ c) (suc w) = next_low h c w
 
 -- net numbers between two bounds
-abbrev AreBetween : ℕ → ℕ → List NetNo → Type 0
+abbrev pub AreBetween : ℕ → ℕ → List NetNo → Type 0
 AreBetween low high nets = (k : ℕ) (net : NetNo) → slice_get nets k ≡ Some net → (low ≤ net.0) × (net.0 < high)
 
 -- each net stands at one place
-abbrev AreOnce : List NetNo → Type 0
+abbrev pub AreOnce : List NetNo → Type 0
 AreOnce nets = (j k : ℕ) (net : NetNo) → slice_get nets j ≡ Some net → slice_get nets k ≡ Some net → j ≡ k
 
-with_first : (b : Bool) (n high : ℕ) (rest : List NetNo) → n < high → AreBetween (n + 1) high rest → AreBetween n high (cond b (record { 0 = n } ∷ rest) rest)
+pub with_first : (b : Bool) (n high : ℕ) (rest : List NetNo) → n < high → AreBetween (n + 1) high rest → AreBetween n high (cond b (record { 0 = n } ∷ rest) rest)
 with_first true n high rest lt h zero net at = (let same : record { 0 = n } ≡ net = some_same (record { 0 = n }) net at in let e : n ≡ net.0 = ap (λ (x : NetNo). x.0) same in ((omega arith), (omega arith)))
 with_first true n high rest lt h (suc k) net at = (let g = h k net at in ((omega (arith, g.0)), g.1))
 with_first false n high rest lt h k net at = (let g = h k net at in ((omega (arith, g.0)), g.1))
@@ -46,7 +47,7 @@ with_first false n high rest lt h k net at = (let g = h k net at in ((omega (ari
 first_only : (n high : ℕ) (rest : List NetNo) (k : ℕ) (net : NetNo) → AreBetween (n + 1) high rest → slice_get rest k ≡ Some net → Some (record { 0 = n }) ≡ Some net → ⊥
 first_only n high rest k net h got is = (let same : record { 0 = n } ≡ net = some_same (record { 0 = n }) net is in let e : n ≡ net.0 = ap (λ (x : NetNo). x.0) same in let g = h k net got in omega (arith, g.0))
 
-once_first : (b : Bool) (n high : ℕ) (rest : List NetNo) → AreBetween (n + 1) high rest → AreOnce rest → AreOnce (cond b (record { 0 = n } ∷ rest) rest)
+pub once_first : (b : Bool) (n high : ℕ) (rest : List NetNo) → AreBetween (n + 1) high rest → AreOnce rest → AreOnce (cond b (record { 0 = n } ∷ rest) rest)
 once_first true n high rest h once zero zero net x y = refl
 once_first true n high rest h once zero (suc k) net x y = absurd (first_only n high rest k net h y x)
 once_first true n high rest h once (suc j) zero net x y = absurd (first_only n high rest j net h x y)
@@ -101,9 +102,9 @@ bare_occupied wires counts trees zeros bare = record {
     zero_at w = ap (λ xs. slice_index xs w) zeros ∙ zeros_index wires w
 
 -- rounds with one more that follows on the last
-pub rounds_more : (graph : Network) (nets : List Net) (earlier : List Past) (last new : Past) → AreRounds graph nets (earlier ++ last ∷ []) → Follows graph nets last new → length new.counts ≡ graph.wires → IsOccupancy new.counts new.trees
-    → AreRounds graph nets ((earlier ++ last ∷ []) ++ new ∷ [])
-rounds_more graph nets earlier last new h follows long occupied =
+pub rounds_more : (graph : Network) (nets : List Net) (opening : Opening) (earlier : List Past) (last new : Past) → AreRoundsFrom graph nets opening (earlier ++ last ∷ []) → Follows graph nets last new → length new.counts ≡ graph.wires → IsOccupancy new.counts new.trees
+    → AreRoundsFrom graph nets opening ((earlier ++ last ∷ []) ++ new ∷ [])
+rounds_more graph nets opening earlier last new h follows long occupied =
     let xs : List Past = earlier ++ last ∷ [] in
     let many : length xs ≡ suc (length earlier) = length_push earlier last in
     record {
@@ -154,27 +155,48 @@ logs_more earlier last logs log h is =
       ];
     }
 
--- where all nets moved, all were reached
-pub all_reached : (graph : Network) (nets : List Net) (moved : List NetNo) → AreAll (length nets) moved → AreMoversReached graph nets moved (length moved) → AreReachedBefore graph nets (length nets)
-all_reached graph nets moved all h = λ j net lt at. (let long = all.long in h j (record { 0 = j }) net (omega arith) (all.each j lt) at)
+-- the same with the log of an opening before them, if there is one
+pub logs_go_on : (opening : Opening) (earlier : List Past) (last : Past) (logs : List RoundLog) (log : RoundLog) → AreLogsFrom opening earlier logs → IsLog last log → AreLogsFrom opening (earlier ++ last ∷ []) (logs ++ log ∷ [])
+logs_go_on None earlier last logs log h is = logs_more earlier last logs log h is
+logs_go_on (Some kept) earlier last logs log h is = (h.0, h.1 ++ log ∷ [], ap (λ ls. ls ++ log ∷ []) h.2, h.3, logs_more earlier last h.1 log h.4 is)
+
+-- behind the first round all nets were reached
+pub first_reached : (graph : Network) (nets : List Net) (moved : List NetNo) → MoveAtFirst graph nets moved → AreMoversReached graph nets moved (length moved) → AreReachedBefore graph nets (length nets)
+first_reached graph nets moved first h = λ j net lt at. elim (first.others j net at) [
+  | inl moves ↦ h moves.0 (record { 0 = j }) net (slice_get_within moved moves.0 (record { 0 = j }) moves.1) moves.1 at
+  | inr reached ↦ reached
+]
+
+-- all nets in order
+pub all_first : (graph : Network) (nets : List Net) (moved : List NetNo) → AreAll (length nets) moved → MoveAtFirst graph nets moved
+all_first graph nets moved all = record {
+  rise = λ j k one other a b lt. omega (arith, is j one a, is k other b, lt);
+  others = λ n net at. inl (n, all.each n (slice_get_within nets n net at));
+}
+  where
+    is : (k : ℕ) (net : NetNo) → slice_get moved k ≡ Some net → k ≡ net.0
+    is k net at =
+        let long = all.long in
+        let lt = slice_get_within moved k net at in
+        ap (λ (x : NetNo). x.0) (some_same (record { 0 = k }) net (sym (all.each k (omega arith)) ∙ at))
 
 -- ---- tallies
-pub tallies_none : (wires : ℕ) → AreTallies wires [] []
-tallies_none wires = record {
+pub tallies_none : (wires : ℕ) (opening : Opening) → AreTalliesFrom wires opening [] []
+tallies_none wires opening = record {
   long = refl;
   first = λ one shut at shut_at. absurd (let none_there : slice_get [] 0 ≡ Some one = at in cc);
   next = λ k one after shut at after_at shut_at. absurd (let none_there : slice_get [] k ≡ Some one = at in cc);
 }
 
-pub tallies_first : (wires : ℕ) (one : Past) (before : List Tree) (shut : Shut) → AreBare before → IsTally wires one.moved before one.trees shut → AreTallies wires (one ∷ []) (shut ∷ [])
-tallies_first wires one before shut bare tally = record {
+pub tallies_first : (wires : ℕ) (opening : Opening) (one : Past) (before : List Tree) (shut : Shut) → BeginsWith opening before → IsTally wires one.moved before one.trees shut → AreTalliesFrom wires opening (one ∷ []) (shut ∷ [])
+tallies_first wires opening one before shut begins tally = record {
   long = refl;
-  first = λ past other at other_at. (before, bare, subst (λ (x : Past). IsTally wires x.moved before x.trees other) (some_same one past at) (subst (IsTally wires one.moved before one.trees) (some_same shut other other_at) tally));
+  first = λ past other at other_at. (before, begins, subst (λ (x : Past). IsTally wires x.moved before x.trees other) (some_same one past at) (subst (IsTally wires one.moved before one.trees) (some_same shut other other_at) tally));
   next = λ k past after other at after_at other_at. absurd (let lt = slice_get_within (one ∷ []) (k + 1) after after_at in omega arith);
 }
 
-pub tallies_more : (wires : ℕ) (earlier : List Past) (last new : Past) (tallies : List Shut) (shut : Shut) → AreTallies wires (earlier ++ last ∷ []) tallies → IsTally wires new.moved last.trees new.trees shut → AreTallies wires ((earlier ++ last ∷ []) ++ new ∷ []) (tallies ++ shut ∷ [])
-tallies_more wires earlier last new tallies shut h tally =
+pub tallies_more : (wires : ℕ) (opening : Opening) (earlier : List Past) (last new : Past) (tallies : List Shut) (shut : Shut) → AreTalliesFrom wires opening (earlier ++ last ∷ []) tallies → IsTally wires new.moved last.trees new.trees shut → AreTalliesFrom wires opening ((earlier ++ last ∷ []) ++ new ∷ []) (tallies ++ shut ∷ [])
+tallies_more wires opening earlier last new tallies shut h tally =
     let xs : List Past = earlier ++ last ∷ [] in
     let many : length xs ≡ suc (length earlier) = length_push earlier last in
     let long = h.long in

@@ -2,12 +2,15 @@
 ghost use Rattle.std.specs.Prelude.{◌≡◌, ◌<◌, ◌≤◌, ℕ, Some, length, slice_get, IfOk};
 ghost use Rattle.ice_base.specs.declared.number.NetNo.{NetNo as Number};
 ghost use Rattle.ice_negotiate_defs.specs.Trees.{route_of};
-ghost use Rattle.ice_negotiate_defs.specs.Rounds.{past_of};
-ghost use Rattle.ice_negotiate_defs.specs.Logs.{AreTreesOf, IsLog, beyond};
+ghost use Rattle.ice_negotiate_defs.specs.Rounds.{BeginsWith, past_of};
+ghost use Rattle.ice_negotiate_defs.specs.Logs.{AreTreesOf, IsLog, IsOpeningLog, beyond};
+ghost use Rattle.ice_negotiate_defs.specs.Fitting.{wholes};
 
+use crate::start::keeping_nets;
 use ice_base::{NetNo, NoMemory, WireNo};
 use ice_core::{RoundLog, RoundPrices};
 use ice_graph::Tree;
+use ice_negotiate_defs::Kept;
 use std::alloc::Global;
 
 // The wires that have a history, each with it.
@@ -41,7 +44,7 @@ fn overused(alloc: Global, counts: &[u32]) -> Result<Vec<(WireNo, u32)>, NoMemor
 }
 
 // A copy of the tree.
-fn copy_of(tree: &Tree) -> Result<Tree, NoMemory>
+pub fn copy_of(tree: &Tree) -> Result<Tree, NoMemory>
     ensures { IfOk result (λ copy. route_of copy ≡ route_of tree.now) }
 {
     Ok(Tree {
@@ -66,6 +69,22 @@ fn moved_trees(
         list.push((*net, copy))?;
     }
     Ok(list)
+}
+
+// The log of an opening in which these nets keep these trees.
+pub fn opening_log(alloc: Global, kept: &[Kept], trees: &[Tree]) -> Result<RoundLog, NoMemory>
+    requires few { length kept.now ≤ 65536 }
+    requires begun { BeginsWith (Some (wholes kept.now)) trees.now }
+    ensures { IfOk result (IsOpeningLog (wholes kept.now)) }
+{
+    let keeping = keeping_nets(alloc, kept)?;
+    let moved = moved_trees(alloc, &keeping, trees)?;
+    Ok(RoundLog {
+        round: 0,
+        history: Vec::new(alloc),
+        moved,
+        over: Vec::new(alloc),
+    })
 }
 
 // The log of a round that left these trees and counts.

@@ -1,17 +1,20 @@
 //! Rounds until no wire is overused, or until no more are permitted.
-ghost use Rattle.std.specs.Prelude.{◌≡◌, ◌+◌, ◌<◌, ◌≤◌, ◌++◌, [], ◌∷◌, ℕ, true, false, length, slice_index, All, IfOk, IfErr, OnOk, vec_len};
-ghost use Rattle.ice_negotiate_defs.specs.Rounds.{AreNets};
-ghost use Rattle.ice_negotiate_defs.specs.Logs.{AreRouted, IsFault};
+ghost use Rattle.std.specs.Prelude.{◌≡◌, ◌+◌, ◌<◌, ◌≤◌, ◌++◌, [], ◌∷◌, ℕ, true, false, None, Some, length, replicate, slice_index, All, IfOk, IfErr, OnOk, vec_len};
+ghost use Rattle.ice_core.specs.Moves.{AreWithin, IsOccupancy};
+ghost use Rattle.ice_core.specs.declared.log.RoundLog.{RoundLog as Log};
+ghost use Rattle.ice_negotiate_defs.specs.Rounds.{AreNets, BeginsWith};
+ghost use Rattle.ice_negotiate_defs.specs.Logs.{AreRouted, AreRoutedFrom, IsFault, IsFaultFrom, IsOpeningLog};
+ghost use Rattle.ice_negotiate_defs.specs.Fitting.{Fits, wholes};
 ghost use Rattle.ice_worker.specs.Kits.{IsKitOf};
-ghost use Rattle.ice_negotiate.specs.Progress.{IsAfter, IsBefore};
+ghost use Rattle.ice_negotiate.specs.Progress.{IsAfter, IsBefore, IsPlayed, IsReady, Opening};
 
-use crate::logs::log_of;
-use crate::start::{all_nets, bare_trees};
+use crate::logs::{log_of, opening_log};
+use crate::start::{all_nets, bare_trees, first_trees, left_nets};
 use ice_base::{NetNo, NoMemory};
-use ice_core::{Net, RoundLog, RoundPrices, movers};
+use ice_core::{Net, RoundLog, RoundPrices, holders, movers};
 use ice_desk::Gate;
 use ice_graph::{Graph, Tree};
-use ice_negotiate_defs::{RouteFault, Routed};
+use ice_negotiate_defs::{Kept, RouteFault, Routed};
 use ice_negotiate_round::{Round, play, raise};
 use ice_words::{Counts, Tally};
 use ice_worker::Kit;
@@ -27,7 +30,7 @@ pub struct State {
     pub moved: Vec<NetNo>,
     // The routes of the nets.
     pub trees: Vec<Tree>,
-    // The logs of the rounds.
+    // The log of the opening, if there is one, and those of the rounds.
     pub logs: Vec<RoundLog>,
     // The tallies of the rounds.
     pub tallies: Vec<Tally>,
@@ -41,11 +44,11 @@ fn is_free(counts: &Counts) -> bool
     counts.over() == 0
 }
 
-// The state before the first round.
-#[tactic(auto, using(crate::proofs::Stating::before_first))]
+// The state before the first round, in which all nets move.
 fn start(alloc: Global, graph: &Graph, nets: &[Net]) -> Result<State, NoMemory>
     requires nets { length nets.now ≤ 65536 }
-    ensures { IfOk result (IsBefore graph.now nets.now 0) }
+    ensures ready { IfOk result (IsReady graph.now nets.now 0) }
+    ensures before { IfOk result (IsBefore graph.now nets.now None 0) }
 {
     let wires = graph.wires() as usize;
     Ok(State {
@@ -57,6 +60,57 @@ fn start(alloc: Global, graph: &Graph, nets: &[Net]) -> Result<State, NoMemory>
         moved: all_nets(alloc, nets.len())?,
         trees: bare_trees(alloc, nets.len())?,
         logs: Vec::new(alloc),
+        tallies: Vec::new(alloc),
+    })
+}
+
+// What the prices of the first round are made of, where nets begin with these trees.
+fn first_prices(alloc: Global, graph: &Graph, trees: &[Tree]) -> Result<RoundPrices, NoMemory>
+    requires trees { length trees.now ≤ 65536 }
+    requires within { AreWithin graph.now.wires trees.now }
+    ensures fresh { IfOk result (λ prices. prices.history.items ≡ replicate graph.now.wires 0) }
+    ensures histories { IfOk result (λ prices. length prices.history.items ≡ graph.now.wires) }
+    ensures long { IfOk result (λ prices. length prices.counts.items ≡ graph.now.wires) }
+    ensures counts { IfOk result (λ prices. IsOccupancy prices.counts.items trees.now) }
+{
+    let wires = graph.wires() as usize;
+    let counts = holders(alloc, wires, trees)?;
+    Ok(RoundPrices {
+        round: 1,
+        history: vec![in alloc; 0u64; wires]?,
+        counts,
+    })
+}
+
+// A list of the log of an opening alone.
+fn first_logs(alloc: Global, kept: &[Kept], trees: &[Tree]) -> Result<Vec<RoundLog>, NoMemory>
+    requires few { length kept.now ≤ 65536 }
+    requires begun { BeginsWith (Some (wholes kept.now)) trees.now }
+    ensures { IfOk result (λ logs. (log : Log) × IsOpeningLog (wholes kept.now) log × (logs.items ≡ log ∷ [])) }
+{
+    let mut logs = Vec::new(alloc);
+    let log = opening_log(alloc, kept, trees)?;
+    logs.push(log)?;
+    Ok(logs)
+}
+
+// The state before the first round, in which the nets move that keep no tree.
+fn start_from(alloc: Global, graph: &Graph, nets: &[Net], kept: &[Kept]) -> Result<State, NoMemory>
+    requires nets { AreNets graph.now nets.now }
+    requires few { length nets.now ≤ 65536 }
+    requires kept { Fits graph.now nets.now kept.now }
+    ensures ready { IfOk result (IsReady graph.now nets.now 0) }
+    ensures before { IfOk result (IsBefore graph.now nets.now (Some (wholes kept.now)) 0) }
+{
+    let _edges = graph.edges();
+    let trees = first_trees(alloc, kept)?;
+    let prices = first_prices(alloc, graph, &trees)?;
+    let logs = first_logs(alloc, kept, &trees)?;
+    Ok(State {
+        prices,
+        moved: left_nets(alloc, kept)?,
+        trees,
+        logs,
         tallies: Vec::new(alloc),
     })
 }
@@ -88,13 +142,14 @@ fn play_next<G: Gate + Sync, R: Threads + Sync>(
     requires wires { graph.now.wires ≤ 1048576 }
     requires nets { AreNets graph.now nets.now }
     requires few { length nets.now ≤ 65536 }
-    requires before { IsBefore graph.now nets.now round state.old }
+    requires ready { IsReady graph.now nets.now round state.old }
     requires workers { (1 ≤ vec_len kits) × (vec_len kits ≤ 8) }
     requires kits { All (IsKitOf graph.now) kits.items }
-    ensures after { IfOk result (λ r. IsAfter graph.now nets.now round state.new r.counts) }
+    ensures played { IfOk result (λ r. IsPlayed graph.now nets.now round state.new r.counts) }
+    ensures after { IfOk result (λ r. (opening : Opening) → IsBefore graph.now nets.now opening round state.old → IsAfter graph.now nets.now opening round state.new r.counts) }
     ensures many { IfOk result (λ r. vec_len r.kits ≡ vec_len kits) }
     ensures kits { IfOk result (λ r. All (IsKitOf graph.now) r.kits.items) }
-    ensures stop { IfErr result (λ fault. (permitted : ℕ) → IsFault graph.now nets.now permitted fault) }
+    ensures stop { IfErr result (λ fault. (opening : Opening) (permitted : ℕ) → IsBefore graph.now nets.now opening round state.old → IsFaultFrom graph.now nets.now opening permitted fault) }
 {
     state.prices.round = round + 1;
     let played = match play(
@@ -136,10 +191,11 @@ fn prepare<R: Threads + Sync>(
     requires round { round < 64 }
     requires wires { graph.now.wires ≤ 1048576 }
     requires few { length nets.now ≤ 65536 }
-    requires after { IsAfter graph.now nets.now round state.old counts }
+    requires played { IsPlayed graph.now nets.now round state.old counts }
     requires overused { (w : ℕ) × (1 < slice_index counts.closed w) }
     requires workers { (1 ≤ workers) × (workers ≤ 8) }
-    ensures { OnOk result (IsBefore graph.now nets.now (round + 1) state.new) }
+    ensures ready { OnOk result (IsReady graph.now nets.now (round + 1) state.new) }
+    ensures before { OnOk result ((opening : Opening) → IsAfter graph.now nets.now opening round state.old counts → IsBefore graph.now nets.now opening (round + 1) state.new) }
 {
     let (_wires, _nets) = (graph.wires(), nets.len());
     raise(rt, alloc, &mut state.prices.history, &counts, workers)?;
@@ -167,6 +223,48 @@ fn routed(state: State, counts: Counts) -> Result<Routed, NoMemory>
         trees,
         logs,
         tallies,
+    })
+}
+
+// Plays rounds from the state before the first one.
+fn play_all<G: Gate + Sync, R: Threads + Sync>(
+    rt: &R,
+    alloc: Global,
+    graph: &Graph,
+    nets: &[Net],
+    mut state: State,
+    rounds: u32,
+    workers: u32,
+    gate: &G,
+) -> Result<Routed, RouteFault>
+    requires rounds { (1 ≤ rounds) × (rounds ≤ 64) }
+    requires workers { (1 ≤ workers) × (workers ≤ 8) }
+    requires wires { graph.now.wires ≤ 1048576 }
+    requires few { length nets.now ≤ 65536 }
+    requires nets { AreNets graph.now nets.now }
+    requires ready { IsReady graph.now nets.now 0 state }
+    ensures routed { IfOk result (λ routed. (opening : Opening) → IsBefore graph.now nets.now opening 0 state → AreRoutedFrom graph.now nets.now opening rounds routed) }
+    ensures fault { IfErr result (λ fault. (opening : Opening) → IsBefore graph.now nets.now opening 0 state → IsFaultFrom graph.now nets.now opening rounds fault) }
+{
+    let mut kits = kits_of(alloc, graph, workers)?;
+    for round in 0..rounds {
+        let played = match play_next(rt, alloc, graph, nets, round, &mut state, kits, gate) {
+            Ok(played) => played,
+            Err(fault) => return Err(fault),
+        };
+        let Round {
+            counts,
+            kits: again,
+        } = played;
+        kits = again;
+        if is_free(&counts) {
+            return Ok(routed(state, counts)?);
+        }
+        prepare(rt, alloc, graph, nets, round, &mut state, counts, workers)?;
+    }
+    Err(RouteFault::GaveUp {
+        logs: state.logs,
+        tallies: state.tallies,
     })
 }
 
@@ -202,25 +300,34 @@ pub fn negotiate<G: Gate + Sync, R: Threads + Sync>(
     ensures routed { IfOk result (AreRouted graph.now nets.now rounds) }
     ensures fault { IfErr result (IsFault graph.now nets.now rounds) }
 {
-    let mut kits = kits_of(alloc, graph, workers)?;
-    let mut state = start(alloc, graph, nets)?;
-    for round in 0..rounds {
-        let played = match play_next(rt, alloc, graph, nets, round, &mut state, kits, gate) {
-            Ok(played) => played,
-            Err(fault) => return Err(fault),
-        };
-        let Round {
-            counts,
-            kits: again,
-        } = played;
-        kits = again;
-        if is_free(&counts) {
-            return Ok(routed(state, counts)?);
-        }
-        prepare(rt, alloc, graph, nets, round, &mut state, counts, workers)?;
-    }
-    Err(RouteFault::GaveUp {
-        logs: state.logs,
-        tallies: state.tallies,
-    })
+    let state = start(alloc, graph, nets)?;
+    play_all(rt, alloc, graph, nets, state, rounds, workers, gate)
+}
+
+/// The same from an opening, with what is left of each net: in the first round the nets move that keep no tree, and the others begin with those that
+/// they keep. The logs begin with one of number 0, which has the nets that keep a tree; no tally is that of the opening.
+///
+/// What is asked of the rest is what [`negotiate`] asks. `kept` has one entry for each net. A kept tree leads from the root of its net to its sinks,
+/// and no wire is in two. Routes, logs, faults and the numbers and counts of the tallies depend on these entries too, and on no worker.
+pub fn negotiate_from<G: Gate + Sync, R: Threads + Sync>(
+    rt: &R,
+    alloc: Global,
+    graph: &Graph,
+    nets: &[Net],
+    kept: &[Kept],
+    rounds: u32,
+    workers: u32,
+    gate: &G,
+) -> Result<Routed, RouteFault>
+    requires rounds { (1 ≤ rounds) × (rounds ≤ 64) }
+    requires workers { (1 ≤ workers) × (workers ≤ 8) }
+    requires wires { graph.now.wires ≤ 1048576 }
+    requires few { length nets.now ≤ 65536 }
+    requires nets { AreNets graph.now nets.now }
+    requires kept { Fits graph.now nets.now kept.now }
+    ensures routed { IfOk result (AreRoutedFrom graph.now nets.now (Some (wholes kept.now)) rounds) }
+    ensures fault { IfErr result (IsFaultFrom graph.now nets.now (Some (wholes kept.now)) rounds) }
+{
+    let state = start_from(alloc, graph, nets, kept)?;
+    play_all(rt, alloc, graph, nets, state, rounds, workers, gate)
 }

@@ -14,6 +14,7 @@ use Rattle.ice_core.specs.declared.task.Task.{Task}
 use Rattle.ice_core.specs.Congestion.{price}
 use Rattle.ice_core.specs.Moves.{IsOccupancy}
 use Rattle.ice_core.specs.Routes.{numbers, times, tree_wires}
+use Rattle.ice_core.proofs.Counting.{some_same}
 use Rattle.ice_path.specs.Room.{AreWires}
 use Rattle.ice_negotiate_defs.specs.Trees.{AreOnce, AreReached, IsCause, IsTree, route_of}
 use Rattle.ice_negotiate_defs.specs.Rounds.{AreBounded, AreDifferent, AreMoversReached, HoldOnce, IsRound, Moves}
@@ -30,9 +31,6 @@ use Rattle.ice_negotiate_round.specs.Played.{IsPlayed, IsTaskStop}
 use Rattle.ice_negotiate_round.proofs.Finishing.{tree_at}
 use Rattle.ice_negotiate_round.proofs.Opening.{held_by, known, map_sum, occupied_sum, olds_sum, prices_of, route_sum, some_there}
 use Rattle.ice_negotiate_round.proofs.Replacing.{AreBelow, IsNone, placed_here, placed_long, placed_other, placed_sum}
-
-some_same : {A : Type 0} (xs : List A) (i : ℕ) (a b : A) → slice_get xs i ≡ Some a → slice_get xs i ≡ Some b → a ≡ b
-some_same xs i a b at there = sym (get_or_from_slice_get xs i a a at) ∙ get_or_from_slice_get xs i b a there
 
 -- the net n is one of these, or none of them
 one_or_none : (moved : List NetNo) (n : ℕ) → ((k : ℕ) × (net : NetNo) × (slice_get moved k ≡ Some net) × (net.0 ≡ n)) ⊎ IsNone moved n

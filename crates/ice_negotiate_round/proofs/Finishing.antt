@@ -15,6 +15,7 @@ use Rattle.ice_core.specs.declared.task.Task.{Task}
 use Rattle.ice_core.specs.Congestion.{price}
 use Rattle.ice_core.specs.Routes.{numbers, old_wires, sum_below, times, tree_wires, wires_of}
 use Rattle.ice_core.proofs.Sums.{is_at, at_other, below_lists, below_once, below_ones}
+use Rattle.ice_core.proofs.Counting.{some_same}
 use Rattle.ice_negotiate_defs.specs.Trees.{IsTree, Route, route_of}
 use Rattle.ice_negotiate_defs.proofs.Advancing.{beyond_end, within_or_not}
 use Rattle.ice_negotiate_defs.proofs.Joining.{joined_unique}
@@ -50,9 +51,6 @@ new_unique : (graph : Network) (r : RoundPrices) (task : Task) (one other : Tree
 new_unique graph r task one other (p, a, is) (q, b, also) =
     joined_unique graph.edges (price q) (record { wires = task.root ∷ []; rows = [] }) task.sinks.items (route_of one) (route_of other)
     (subst (λ f. IsTree graph.edges f task.root task.sinks.items (route_of one)) (fun_ext (same_price r task p q a b)) is) also
-
-some_same : {A : Type 0} (xs : List A) (i : ℕ) (a b : A) → slice_get xs i ≡ Some a → slice_get xs i ≡ Some b → a ≡ b
-some_same xs i a b at there = sym (get_or_from_slice_get xs i a a at) ∙ get_or_from_slice_get xs i b a there
 
 pub made_unique : (graph : Network) (r : RoundPrices) (tasks : List Task) (t : ℕ) (one other : Tree) → IsMade graph r tasks (t, one) → IsMade graph r tasks (t, other) → route_of one ≡ route_of other
 made_unique graph r tasks t one other a b =

@@ -1,16 +1,14 @@
 -- Tasks are listed one by one.
 use Rattle.std.proofs.Common.{◌≡◌, ℕ, ◌+◌, ◌<◌, List, [], ◌∷◌, ◌++◌, Some, length, take, get_or, slice_get, sym, ap, ◌∙◌, subst, arith, inl, inr}
 use Rattle.std.proofs.lemmas.List.{take_more}
-use Rattle.std.proofs.lemmas.Option.{slice_get_within, get_or_from_slice_get}
+use Rattle.std.proofs.lemmas.Option.{slice_get_within}
 use Rattle.ice_base.specs.declared.number.NetNo.{NetNo}
 use Rattle.ice_graph.specs.declared.tree.Tree.{Tree}
 use Rattle.ice_core.specs.declared.net.Net.{Net}
 use Rattle.ice_core.specs.declared.task.Task.{Task}
+use Rattle.ice_core.proofs.Counting.{some_same}
 use Rattle.ice_negotiate_defs.proofs.Listing.{length_push, pushed}
 use Rattle.ice_negotiate_round.specs.Moving.{AreTasksOf, IsTaskFor}
-
-some_same : {A : Type 0} (xs : List A) (i : ℕ) (a b : A) → slice_get xs i ≡ Some a → slice_get xs i ≡ Some b → a ≡ b
-some_same xs i a b at there = sym (get_or_from_slice_get xs i a a at) ∙ get_or_from_slice_get xs i b a there
 
 module _ (nets : List Net) (trees : List Tree) where
   one_more : (front : List NetNo) (tasks : List Task) (number : NetNo) (net : Net) (tree : Tree) (task : Task) → slice_get nets number.0 ≡ Some net → slice_get trees number.0 ≡ Some tree → IsTaskFor net tree number task

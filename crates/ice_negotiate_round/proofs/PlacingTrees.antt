@@ -1,20 +1,18 @@
 -- Trees are put at their tasks.
-use Rattle.std.proofs.Common.{◌≡◌, ◌≢◌, ℕ, zero, suc, ◌+◌, ◌≤◌, ◌<◌, List, [], ◌∷◌, ◌++◌, length, cond, eqb, set, slice_get, Some, inl, inr, refl, sym, ap, subst, arith, ◌∙◌}
+use Rattle.std.proofs.Common.{◌≡◌, ◌≢◌, ℕ, zero, suc, ◌+◌, ◌≤◌, ◌<◌, List, [], ◌∷◌, ◌++◌, length, cond, eqb, set, slice_get, Some, inl, inr, refl, sym, ap, subst, arith}
 use Rattle.std.proofs.lemmas.Bool.{cases_eq}
-use Rattle.std.proofs.lemmas.Option.{slice_get_within, get_or_from_slice_get}
+use Rattle.std.proofs.lemmas.Option.{slice_get_within}
 use Rattle.std.proofs.lemmas.List.Sums.{sum_by_push}
 use Rattle.ice_graph.specs.declared.tree.Tree.{Tree}
 use Rattle.ice_graph.specs.Network.{Network}
 use Rattle.ice_core.specs.declared.round_prices.RoundPrices.{RoundPrices}
 use Rattle.ice_core.specs.declared.task.Task.{Task}
 use Rattle.ice_core.proofs.Sums.{is_at, at_other}
+use Rattle.ice_core.proofs.Counting.{some_same}
 use Rattle.ice_worker.specs.Tasks.{IsMade}
 use Rattle.ice_worker.specs.Kits.{made_by}
 use Rattle.ice_negotiate_round.specs.declared.jobs.Done.{Done}
 use Rattle.ice_negotiate_round.specs.Played.{AreTrees, Covers, made_at, made_in}
-
-some_same : {A : Type 0} (xs : List A) (i : ℕ) (a b : A) → slice_get xs i ≡ Some a → slice_get xs i ≡ Some b → a ≡ b
-some_same xs i a b at there = sym (get_or_from_slice_get xs i a a at) ∙ get_or_from_slice_get xs i b a there
 
 get_set_same : {A : Type 0} (xs : List A) (i : ℕ) (a b : A) → slice_get (set xs i a) i ≡ Some b → b ≡ a
 get_set_same [] i a b at = absurd (let lt = slice_get_within [] i b at in omega arith)

@@ -5,3 +5,4 @@ pub mod Drivers
 pub mod Flops
 pub mod Drives
 pub mod Meaning
+pub mod Limits

@@ -10,3 +10,5 @@ pub mod Packs
 pub mod Ready
 pub mod PadRoots
 pub mod PadReaders
+pub mod PadsRead
+pub mod Settled

@@ -1,28 +1,23 @@
 -- What reads a cell of the netlist, so that no flip-flop has it for itself.
-use Rattle.std.proofs.Common.{◌≡◌, ℕ, zero, suc, ◌+◌, Option, None, Some, List, [], ◌∷◌, ◌++◌, length, map, refl, sym, ap, ◌∙◌, subst, arith}
+use Rattle.std.proofs.Common.{◌≡◌, ℕ, zero, suc, ◌+◌, Option, None, Some, List, [], ◌∷◌, map, refl, sym, ap, ◌∙◌, subst, arith}
 use Rattle.std.proofs.lemmas.Option.{same_Some}
 use Rattle.ice_base.specs.declared.number.SignalNo.{SignalNo}
 use Rattle.ice_base_values.specs.Order.{At, Has}
-use Rattle.ice_base_values.proofs.Members.{At_map, At_left, At_right}
+use Rattle.ice_base_values.proofs.Members.{At_map}
 use Rattle.ice_base_values.proofs.Places.{At_same}
+use Rattle.ice_base_values.proofs.ListPlaces.{Has_left, Has_right}
 use Rattle.ice_net.specs.declared.cell.Cell.{Cell}
 use Rattle.ice_net.specs.declared.kind.CellKind.{CellKind}
 use Rattle.ice_net.specs.declared.port.Port.{Port}
 use Rattle.ice_cells.specs.declared.origin.Origin.{Origin}
 use Rattle.ice_cells.specs.declared.origin.Origin.TheVariants.{Made}
 use Rattle.ice_cells.specs.declared.origin.Use.TheVariants.{Nobody, Taken, Other}
-use Rattle.ice_cells.specs.Homes.{Facts, facts_of}
+use Rattle.ice_cells.specs.Homes.{facts_of}
 use Rattle.ice_cells.specs.Homes as homes
 use Rattle.ice_cells.specs.Origins.{input_origin}
 use Rattle.ice_cells.specs.Uses.{Reading, taker, reading_ins, reads_from, cells_read, port_reading, readings}
 use Rattle.ice_pack_share.proofs.UseLaws.{read_otherwise, taken_once}
 use Rattle.ice_pack_share.proofs.HomeLaws.{taker_use, taker_reads}
-
-pub Has_left : {X : Type 0} (xs ys : List X) (x : X) → Has xs x → Has (xs ++ ys) x
-Has_left xs ys x has = (has.0, At_left xs ys has.0 x has.1)
-
-pub Has_right : {X : Type 0} (xs ys : List X) (x : X) → Has ys x → Has (xs ++ ys) x
-Has_right xs ys x has = (length xs + has.0, At_right xs ys has.0 x has.1)
 
 module _ (os : List Origin) where
   reads_there : (j : ℕ) (kind : CellKind) (place : ℕ) (ins : List (Option SignalNo)) (i q : ℕ) (input : Option SignalNo) → q ≡ place + i → At ins i input

@@ -12,6 +12,7 @@ use Rattle.ice_base_values.specs.Order.{At}
 use Rattle.ice_base_values.proofs.Machines.{shows_always_alike}
 use Rattle.ice_base_values.proofs.Members.{At_map, At_within}
 use Rattle.ice_base_values.proofs.Places.{At_same}
+use Rattle.ice_base_values.proofs.ListPlaces.{all_alike}
 use Rattle.ice_net.specs.declared.cell.Cell.{Cell}
 use Rattle.ice_net.specs.declared.kind.CellKind.{CellKind}
 use Rattle.ice_net.specs.declared.kind.CellKind.TheVariants.{Flop}
@@ -85,11 +86,6 @@ out_same a b o e f = inside (same_Some (CellOut a) (CellOut b) (sym e ∙ f))
   where
     inside : CellOut a ≡ CellOut b → a ≡ b
     inside g = cc g
-
-all_alike : {X Y : Type 0} (y : Y) (xs : List X) (i : ℕ) → slice_index_or (map (λ x. y) xs) i y ≡ y
-all_alike y [] i = refl
-all_alike y (x ∷ xs) zero = refl
-all_alike y (x ∷ xs) (suc i) = all_alike y xs i
 
 lists_alike : {X Y Z : Type 0} (f : X → Z) (g : Y → Z) (xs : List X) (ys : List Y) → length xs ≡ length ys → ((k : ℕ) (x : X) (y : Y) → At xs k x → At ys k y → f x ≡ g y) → map f xs ≡ map g ys
 lists_alike f g [] [] long same = refl

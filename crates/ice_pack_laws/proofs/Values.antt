@@ -17,13 +17,14 @@ use Rattle.ice_net.specs.declared.driver.Driver.TheVariants as driver
 use Rattle.ice_net.specs.declared.kind.CellKind.{CellKind}
 use Rattle.ice_net.specs.declared.kind.CellKind.TheVariants.{Lut, Cover, Carry, Flop, PadCell, Global}
 use Rattle.ice_net.specs.declared.kind.Reset.{Reset}
-use Rattle.ice_net.specs.Drivers.{numbers, pin_of, pin_by, place_of, is_signal, output_of, outputs, pads, driver_from, driver_of}
+use Rattle.ice_net.specs.Drivers.{numbers, pin_of, pin_by, place_of, is_signal, output_of, outputs, pads, driver_of}
 use Rattle.ice_net.specs.Formed.{IsFormed, IsFormedCell, IsFormedKind, IsBelow}
 use Rattle.ice_net.specs.Kinds.{ins_count}
 use Rattle.ice_net.specs.Meaning.{number_of, table_bit, majority, makes_by, reads, reads_by, cell_reads, signal_value, depends_on, pad_level}
 use Rattle.ice_net.specs.NetlistData.{NetlistData}
 use Rattle.ice_lut.specs.Tables.{overlaid}
 use Rattle.ice_lut.proofs.TableLaws.{folded_gives}
+use Rattle.ice_check.proofs.CellOrders.{output_from}
 use Rattle.ice_cells.specs.declared.cell.Control.{Control}
 use Rattle.ice_cells.specs.declared.cell.LogicCell.{LogicCell}
 use Rattle.ice_cells.specs.declared.design.Design.{Design}
@@ -64,11 +65,6 @@ level_known : (n : NetlistData) (levels kept : List Bool) (o : Origin) (b : Bool
 level_known n levels kept (Fixed c) b e = sym (same_Some c b e)
 level_known n levels kept (Pad k) b e = cc e
 level_known n levels kept (Made i) b e = cc e
-
-output_from : (pad cell : Option ℕ) (i : ℕ) → driver_from pad cell ≡ Output i → cell ≡ Some i
-output_from (Some k) cell i e = cc e
-output_from None (Some j) i e = cc e
-output_from None None i e = cc e
 
 there_is : (s : ℕ) (o : Option SignalNo) → is_signal s o ≡ true → is_none o ≡ false
 there_is s None e = cc e

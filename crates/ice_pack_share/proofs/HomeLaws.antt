@@ -39,7 +39,7 @@ map_at f [] k d = refl
 map_at f (x ∷ xs) zero d = refl
 map_at f (x ∷ xs) (suc k) d = map_at f xs k d
 
-within : {X : Type 0} (xs : List X) (k : ℕ) (d x : X) → get_or xs k d ≡ x → (d ≡ x → ⊥) → k < length xs
+pub within : {X : Type 0} (xs : List X) (k : ℕ) (d x : X) → get_or xs k d ≡ x → (d ≡ x → ⊥) → k < length xs
 within [] k d x e other = absurd (other e)
 within (y ∷ xs) zero d x e other = omega arith
 within (y ∷ xs) (suc k) d x e other = let lt = within xs k d x e other in omega arith
@@ -139,17 +139,17 @@ part_from os None r x e other same = absurd (other e)
 part_from os (Some cell) r x e other same = same cell.kind cell.ins cell.outs e
 
 -- ---- numbered lists
-numbered_at : {X : Type 0} (n : ℕ) (xs : List X) (i : ℕ) (p : ℕ × X) → At (enumerate_from n xs) i p → (p.0 ≡ n + i) × At xs i p.1
+pub numbered_at : {X : Type 0} (n : ℕ) (xs : List X) (i : ℕ) (p : ℕ × X) → At (enumerate_from n xs) i p → (p.0 ≡ n + i) × At xs i p.1
 numbered_at n [] i p at = cc at
 numbered_at n (x ∷ xs) zero p at = let e = same_Some (n, x) p at in (sym (ap (λ (q : ℕ × _). q.0) e) ∙ (let z : n ≡ n + 0 = omega arith in z), ap (λ (q : ℕ × _). Some q.1) e)
 numbered_at n (x ∷ xs) (suc i) p at = let rest = numbered_at (n + 1) xs i p at in (rest.0 ∙ (let z : n + 1 + i ≡ n + suc i = omega arith in z), rest.1)
 
-at_numbered : {X : Type 0} (n : ℕ) (xs : List X) (i : ℕ) (x : X) → At xs i x → Has (enumerate_from n xs) (n + i, x)
+pub at_numbered : {X : Type 0} (n : ℕ) (xs : List X) (i : ℕ) (x : X) → At xs i x → Has (enumerate_from n xs) (n + i, x)
 at_numbered n [] i x at = cc at
 at_numbered n (y ∷ xs) zero x at = (0, ap Some (λ j. ((let z : n ≡ n + 0 = omega arith in z) j, same_Some y x at j)))
 at_numbered n (y ∷ xs) (suc i) x at = let rest = at_numbered (n + 1) xs i x at in (suc rest.0, rest.1 ∙ ap (λ k. Some (k, x)) (let z : n + 1 + i ≡ n + suc i = omega arith in z))
 
-place_is : (a : ℕ) (o : Option ℕ) → is_place a o ≡ true → o ≡ Some a
+pub place_is : (a : ℕ) (o : Option ℕ) → is_place a o ≡ true → o ≡ Some a
 place_is a None e = cc e
 place_is a (Some k) e = ap Some (eqb-true k a e)
 

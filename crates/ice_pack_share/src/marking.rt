@@ -89,7 +89,8 @@ fn mark_cell(
     ins: &[Option<SignalNo>],
     outs: &[Option<SignalNo>],
 )
-    ensures { uses.new.items ≡ marked uses.old.items (reads_from origins.now j kind 0 (reading_ins kind ins.now outs.now)) }
+    ensures { uses.new.items
+        ≡ marked uses.old.items (reads_from origins.now j kind 0 (reading_ins kind ins.now outs.now)) }
 {
     match kind {
         CellKind::Cover { .. } => if !is_alias(kind) {

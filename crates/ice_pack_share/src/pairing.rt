@@ -73,7 +73,8 @@ fn count_of(counts: &IndexMap<Pair, usize>, pair: Pair) -> usize
 fn add_one(counts: &mut IndexMap<Pair, usize>, pair: Pair) -> Result<usize, NoMemory>
     requires { AreSmall counts.old.entries }
     ensures before { IfOk result (λ count. count ≡ count_in counts.old.entries pair) }
-    ensures after { OnOk result ((p : Pair) → count_in counts.new.entries p ≡ count_in counts.old.entries p + one_if (same_pair pair p)) }
+    ensures after { OnOk result ((p : Pair) → count_in counts.new.entries p
+        ≡ count_in counts.old.entries p + one_if (same_pair pair p)) }
 {
     let count = count_of(counts, pair);
     counts.insert(pair, count + 1)?;
@@ -82,7 +83,8 @@ fn add_one(counts: &mut IndexMap<Pair, usize>, pair: Pair) -> Result<usize, NoMe
 
 // Notes a look-up table by its turn.
 fn put_lut(luts: &mut IndexMap<Turn, usize>, turn: Turn, j: usize) -> Result<(), NoMemory>
-    ensures { OnOk result ((t : Turn) → lut_at luts.new.entries t ≡ (if same_turn turn t then Some j else lut_at luts.old.entries t)) }
+    ensures { OnOk result ((t : Turn) → lut_at luts.new.entries t
+        ≡ (if same_turn turn t then Some j else lut_at luts.old.entries t)) }
 {
     luts.insert(turn, j)?;
     Ok(())
@@ -103,8 +105,10 @@ fn note_lut(
     role: Role,
 ) -> Result<(), NoMemory>
     requires { AreSmall counts.old.entries }
-    ensures luts { OnOk result ((p : Pair) (k : ℕ) → lut_at luts.new.entries (turn_of p k) ≡ (if gives p role && (count_in counts.old.entries p == k) then Some j else lut_at luts.old.entries (turn_of p k))) }
-    ensures counts { OnOk result ((p : Pair) → count_in counts.new.entries p ≡ count_in counts.old.entries p + one_if (gives p role)) }
+    ensures luts { OnOk result ((p : Pair) (k : ℕ) → lut_at luts.new.entries (turn_of p k)
+        ≡ (if gives p role && (count_in counts.old.entries p == k) then Some j else lut_at luts.old.entries (turn_of p k))) }
+    ensures counts { OnOk result ((p : Pair) → count_in counts.new.entries p
+        ≡ count_in counts.old.entries p + one_if (gives p role)) }
 {
     if let Role::Gives(pair) = role {
         let turn = add_one(counts, pair)?;
@@ -133,7 +137,8 @@ fn take_lut(
 ) -> Result<Option<usize>, NoMemory>
     requires { AreSmall counts.old.entries }
     ensures lut { IfOk result (λ lut. lut ≡ lut_taken luts.now.entries counts.old.entries role) }
-    ensures counts { OnOk result ((p : Pair) → count_in counts.new.entries p ≡ count_in counts.old.entries p + one_if (takes p role)) }
+    ensures counts { OnOk result ((p : Pair) → count_in counts.new.entries p
+        ≡ count_in counts.old.entries p + one_if (takes p role)) }
 {
     let Role::Takes(pair) = role else {
         return Ok(None);

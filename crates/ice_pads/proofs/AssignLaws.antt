@@ -46,7 +46,7 @@ use Rattle.ice_pads.proofs.GlobalLaws.{Apart, left_fails, right_fails, both_hold
 use Rattle.ice_pads.proofs.DirectLaws.{IsChoice, is_named, AreFit, all_fit}
 
 -- ---- places of lists
-mapped_from : {A B : Type 0} (f : A → B) (xs : List A) (k : ℕ) (y : B) → slice_get (map f xs) k ≡ Some y → (x : A) × (slice_get xs k ≡ Some x) × (f x ≡ y)
+pub mapped_from : {A B : Type 0} (f : A → B) (xs : List A) (k : ℕ) (y : B) → slice_get (map f xs) k ≡ Some y → (x : A) × (slice_get xs k ≡ Some x) × (f x ≡ y)
 mapped_from f [] k y e = absurd (cc)
 mapped_from f (x ∷ xs) zero y e = (x, refl, cc)
 mapped_from f (x ∷ xs) (suc k) y e = mapped_from f xs k y e
@@ -297,7 +297,7 @@ pads_of_rows parts constraints n d rows pads chip different e =
     subst (ArePads parts rows d) same (pads_are parts rows d lines.0 first.0 last.0 chip ports.0 long (globals_are parts (buffers d (chosen_pads first.0)) last.0 last.1))
 
 -- a package that a look-up finds has the different pads of its pins
-found_package : (width height : ℕ) (p : PackageRows → Bool) (packages : List PackageRows) (rows : PackageRows) → All (IsPackage width height) packages → find p packages ≡ Some rows → IsPackage width height rows
+pub found_package : (width height : ℕ) (p : PackageRows → Bool) (packages : List PackageRows) (rows : PackageRows) → All (IsPackage width height) packages → find p packages ≡ Some rows → IsPackage width height rows
 found_package width height p [] rows all e = absurd (cc)
 found_package width height p (x ∷ packages) rows all e = by (p x) (found_package width height p packages rows (All-tail (IsPackage width height) x packages all)) e
   where

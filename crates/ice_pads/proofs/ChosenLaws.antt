@@ -8,6 +8,7 @@ use Rattle.ice_net.specs.NetlistData.{NetlistData}
 use Rattle.ice_chip.specs.Database.{Parts}
 use Rattle.ice_chip.specs.Places.{same_pad}
 use Rattle.ice_chip.specs.declared.rows.Pad.{Pad}
+use Rattle.ice_chip.proofs.Keys.{pad_self}
 use Rattle.ice_pads.specs.declared.want.Want.{Want}
 use Rattle.ice_pads.specs.declared.given.Given.{Given}
 use Rattle.ice_pads.specs.declared.given.Chosen.{Chosen}
@@ -16,7 +17,6 @@ use Rattle.ice_pads.specs.PadWires.{suits}
 use Rattle.ice_pads.specs.Constraints.{of_port, of_pad, want_of}
 use Rattle.ice_pads.specs.Ports.{is_free, is_fit, by_free, by_given, next_chosen, with_next, all_chosen}
 use Rattle.ice_pads.proofs.Inversions.{bind_ok, pushed_at}
-use Rattle.ice_pads.proofs.Noting.{pad_self}
 use Rattle.ice_pads.proofs.GivenLaws.{AreGiven}
 
 -- what the first ports got
@@ -117,7 +117,7 @@ within [] k x e = absurd (cc)
 within (y ∷ xs) zero x e = omega arith
 within (y ∷ xs) (suc k) x e = let lt : k < length xs = within xs k x e in omega arith
 
-abbrev chosen_for : Want → Given → Chosen
+abbrev pub chosen_for : Want → Given → Chosen
 chosen_for want g = record { pad = g.pad; pullup = unwrap_or g.pullup want.pullup }
 
 abbrev chosen_free : Want → Pad → Chosen
@@ -191,7 +191,7 @@ next_is parts pins pads n wants given chosen want new None gives are wanted all 
 abbrev pub AreWanted : List Want → ℕ → List Want → Type 0
 AreWanted wants count left = (i : ℕ) → want_of wants (count + i) ≡ want_of left i
 
-ok_same : (v w : List Chosen) (one two : Result (List Chosen) PinFault) → one ≡ Ok v → two ≡ Ok w → one ≡ two → v ≡ w
+pub ok_same : (v w : List Chosen) (one two : Result (List Chosen) PinFault) → one ≡ Ok v → two ≡ Ok w → one ≡ two → v ≡ w
 ok_same v w one two is be e = let same : Ok v ≡ Ok w = sym is ∙ e ∙ be in cc
 
 pub all_are : (parts : Parts) (pins : List (List ℕ × Pad)) (pads : List Pad) (n : NetlistData) (wants : List Want) (given : List Given) (chosen : List Chosen) (left : List Want) (out : List Chosen)

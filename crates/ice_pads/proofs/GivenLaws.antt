@@ -8,13 +8,14 @@ use Rattle.ice_pcf.specs.declared.constraint.Constraint.{Constraint}
 use Rattle.ice_chip.specs.Database.{Parts}
 use Rattle.ice_chip.specs.Places.{same_pad}
 use Rattle.ice_chip.specs.declared.rows.Pad.{Pad}
+use Rattle.ice_chip.proofs.Keys.{pad_self}
 use Rattle.ice_pads.specs.declared.want.Want.{Want}
 use Rattle.ice_pads.specs.declared.given.Given.{Given}
 use Rattle.ice_pads.specs.declared.fault.PinFault.TheVariants.{UnknownPort, PadLacks}
 use Rattle.ice_pads.specs.PadWires.{suits}
 use Rattle.ice_pads.specs.Constraints.{of_port, of_pad, want_of, unless_pad, unless_port, by_pin, free_pad, given_to, with_pad, by_port, with_line, given_by, port_named, port_name}
 use Rattle.ice_pads.proofs.Inversions.{bind_ok, if_ok, or_some, if_some}
-use Rattle.ice_pads.proofs.Noting.{pad_self, port_more, pad_more}
+use Rattle.ice_pads.proofs.Noting.{port_more, pad_more}
 
 pub record AreGiven (parts : Parts) (pins : List (List ℕ × Pad)) (wants : List Want) (given : List Given) : Type 0 where
   pub holder : (k : ℕ) (g : Given) → of_port given k ≡ Some g → (h : Given) × (of_pad given g.pad ≡ Some h) × (h.port ≡ k)
@@ -26,7 +27,7 @@ pub none_given : (parts : Parts) (pins : List (List ℕ × Pad)) (wants : List W
 none_given parts pins wants = record { holder = λ k g e. absurd (cc); suited = λ k g e. absurd (cc); bonded = λ k g e. absurd (cc) }
 
 -- ---- one line
-free_pad_ok : (c : Constraint) (given : List Given) (k : ℕ) (l : Option Pad) (pad : Pad) → by_pin given c k l ≡ Ok pad → (l ≡ Some pad) × (of_port given k ≡ None) × (of_pad given pad ≡ None)
+pub free_pad_ok : (c : Constraint) (given : List Given) (k : ℕ) (l : Option Pad) (pad : Pad) → by_pin given c k l ≡ Ok pad → (l ≡ Some pad) × (of_port given k ≡ None) × (of_pad given pad ≡ None)
 free_pad_ok c given k None pad e = absurd (cc)
 free_pad_ok c given k (Some p) pad e = by_first (of_port given k) refl e
   where

@@ -3,7 +3,7 @@ mod Turns
 mod FirstChoices
 mod GivenLines
 mod Lower
-mod Noting
+pub mod Noting
 mod PortPlaces
 mod Fits
 mod Inversions
@@ -12,5 +12,8 @@ mod ChosenLaws
 mod PackageLaws
 mod GlobalLaws
 mod DirectLaws
-mod AssignLaws
+pub mod AssignLaws
+pub mod HavingPads
 pub mod Fewer
+pub mod IoKinds
+pub mod SameWants

@@ -1,15 +1,11 @@
 -- What a port and a pad get with one line more, where what is noted first stays.
-use Rattle.std.proofs.Common.{◌≡◌, ℕ, ◌==◌, true, None, Some, List, [], ◌∷◌, ◌++◌, if◌then◌else◌, refl}
+use Rattle.std.proofs.Common.{◌≡◌, ℕ, ◌==◌, None, Some, List, [], ◌∷◌, ◌++◌, if◌then◌else◌}
 use Rattle.std.specs.Option.{option_or}
 use Rattle.std.proofs.lemmas.List.Folds.{find-append}
-use Rattle.ice_base.proofs.Keys.{nat_self, tile_self}
 use Rattle.ice_chip.specs.declared.rows.Pad.{Pad}
 use Rattle.ice_chip.specs.Places.{same_pad}
 use Rattle.ice_pads.specs.declared.given.Given.{Given}
 use Rattle.ice_pads.specs.Constraints.{of_port, of_pad}
-
-pub pad_self : (p : Pad) → same_pad p p ≡ true
-pad_self p = rw (tile_self p.tile, nat_self p.pio) refl
 
 pub port_more : (given : List Given) (g : Given) (k : ℕ) → of_port (given ++ g ∷ []) k ≡ option_or (of_port given k) (if g.port == k then Some g else None)
 port_more given g k = find-append (λ (h : Given). h.port == k) given (g ∷ [])

@@ -7,7 +7,7 @@ use Rattle.indexmap.specs.IndexSet.{insert_key, insert_all}
 use Rattle.ice_base.proofs.Booleans.{or_true}
 use Rattle.ice_chip.specs.Places.{same_pad}
 use Rattle.ice_chip.specs.declared.rows.Pad.{Pad}
-use Rattle.ice_pads.proofs.Noting.{pad_self}
+use Rattle.ice_chip.proofs.Keys.{pad_self}
 
 kept_one : (p : Pad → Bool) (ks : List Pad) (k : Pad) (b : Bool) → list_any p ks ≡ true → list_any p (if b then ks else ks ++ k ∷ []) ≡ true
 kept_one p ks k true any = any

@@ -8,3 +8,4 @@ pub mod Answers
 pub mod Tables
 pub mod Assign
 pub mod Facts
+pub mod HavePads

@@ -45,8 +45,11 @@ fn first_fit(
 ) -> Option<usize>
     requires kept { AreKept tables.now }
     requires done { AreDone chip.now pads.now tables.now.given.items progress.now }
-    ensures found { option_and_then (slice_get pads.now) result ≡ find (is_fit chip.now tables.now.given.items progress.now.chosen.items want) pads.now }
-    ensures passed { IfSome result (λ place. (place < length pads.now) × (list_any (is_fit chip.now tables.now.given.items progress.now.chosen.items want) (take place pads.now) ≡ false)) }
+    ensures found { option_and_then (slice_get pads.now) result
+        ≡ find (is_fit chip.now tables.now.given.items progress.now.chosen.items want) pads.now }
+    ensures passed { IfSome result (λ place. (place < length pads.now)
+        × (list_any (is_fit chip.now tables.now.given.items progress.now.chosen.items want) (take place pads.now)
+        ≡ false)) }
 {
     for place in progress.starts[kind_of(want)]..pads.len() {
         if is_fit(chip, tables, progress, want, pads[place]) {

@@ -22,7 +22,8 @@ fn reach(places: &mut Vec<Option<usize>>, signal: SignalNo) -> Result<(), NoMemo
 
 // Notes the place of a signal's port, unless one is noted before.
 fn note(places: &mut Vec<Option<usize>>, signal: SignalNo, place: usize) -> Result<(), NoMemory>
-    ensures { OnOk result ((s : ℕ) → slice_index_or places.new.items s None ≡ option_or (slice_index_or places.old.items s None) (if signal.0 == s then Some place else None)) }
+    ensures { OnOk result ((s : ℕ) → slice_index_or places.new.items s None
+        ≡ option_or (slice_index_or places.old.items s None) (if signal.0 == s then Some place else None)) }
 {
     reach(places, signal)?;
     let index = signal.0 as usize;

@@ -41,7 +41,8 @@ fn reach(ports: &mut Vec<Option<Given>>, index: usize) -> Result<(), NoMemory>
 
 // Notes what a port gets, unless it has something.
 fn note_port(ports: &mut Vec<Option<Given>>, given: Given) -> Result<(), NoMemory>
-    ensures { OnOk result ((s : ℕ) → slice_index_or ports.new.items s None ≡ option_or (slice_index_or ports.old.items s None) (if given.port == s then Some given else None)) }
+    ensures { OnOk result ((s : ℕ) → slice_index_or ports.new.items s None
+        ≡ option_or (slice_index_or ports.old.items s None) (if given.port == s then Some given else None)) }
 {
     reach(ports, given.port)?;
     if ports[given.port].is_none() {
@@ -52,7 +53,8 @@ fn note_port(ports: &mut Vec<Option<Given>>, given: Given) -> Result<(), NoMemor
 
 // Notes who gets a pad, unless someone has it.
 fn note_pad(pads: &mut HashMap<Pad, Given>, given: Given) -> Result<(), NoMemory>
-    ensures { OnOk result ((p : Pad) → get_by (same_pad p) pads.new ≡ option_or (get_by (same_pad p) pads.old) (if same_pad p given.pad then Some given else None)) }
+    ensures { OnOk result ((p : Pad) → get_by (same_pad p) pads.new
+        ≡ option_or (get_by (same_pad p) pads.old) (if same_pad p given.pad then Some given else None)) }
 {
     if pads.get(&given.pad).is_none() {
         pads.insert(given.pad, given)?;

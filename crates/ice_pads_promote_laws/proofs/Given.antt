@@ -9,6 +9,7 @@ use Rattle.ice_net.specs.declared.kind.CellKind.{CellKind}
 use Rattle.ice_net.specs.declared.kind.CellKind.TheVariants.{Lut, Cover, Carry, Flop, PadCell, Global}
 use Rattle.ice_net.specs.Formed.{IsFormed}
 use Rattle.ice_net.specs.NetlistData.{NetlistData}
+use Rattle.ice_net.specs.Limits.{most_signals}
 use Rattle.ice_chip.specs.Database.{Parts}
 use Rattle.ice_chip.specs.Lookups.{package_of}
 use Rattle.ice_pcf.specs.declared.constraint.Constraint.{Constraint}
@@ -19,7 +20,7 @@ use Rattle.ice_pads.specs.Globals.{globals}
 use Rattle.ice_pads.specs.Wants.{wants, buffers}
 use Rattle.ice_pads.specs.Assign.{IsGivenAlike, PadsData, assigned, assign_of}
 use Rattle.ice_check_promote.specs.Free.{is_buffer, free_beside}
-use Rattle.ice_check_promote.specs.Promoted.{is_promotable, most_signals, promoted_clocks, promoted}
+use Rattle.ice_check_promote.specs.Promoted.{is_promotable, promoted_clocks, promoted}
 use Rattle.ice_check_promote.proofs.Unpromoted.{without_clocks}
 use Rattle.ice_pads.proofs.Fewer.{fewer, buffers_long, globals_count}
 use Rattle.ice_pads_promote_laws.proofs.Wanted.{wants_same}

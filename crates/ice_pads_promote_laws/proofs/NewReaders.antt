@@ -22,9 +22,10 @@ use Rattle.ice_cells.proofs.TableLaws.{length-table}
 use Rattle.ice_check_promote.specs.Promoted.{buffered, buffered_ins, buffered_cell, buffer, with_buffers}
 use Rattle.ice_check_promote.proofs.Buffers.{at_buffer}
 use Rattle.ice_check_promote.proofs.NewDrivers.{length_names, old_cells, added, long_cells, cell_kept, cell_added, buffer_same}
-use Rattle.ice_pads_promote_laws.proofs.NewOrigins.{origin_old, origin_new, listed}
+use Rattle.ice_pads_promote_laws.proofs.NewOrigins.{origin_old, origin_new}
 use Rattle.ice_pack_laws.proofs.PadRoots.{IsBufferOf, IsOfPad}
 use Rattle.ice_pack_laws.proofs.PadReaders.{read_ins, kind_ins, pad_ins, IsAtPad, ReadsPad, by_cell, by_port}
+use Rattle.ice_pack_laws.proofs.Settled.{listed}
 
 -- a flip-flop has the signal as its clock
 pub record HasClock (n : NetlistData) (clock : ℕ) : Type 0 where

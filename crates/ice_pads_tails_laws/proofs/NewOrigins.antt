@@ -1,97 +1,23 @@
 -- The origins of signals where carries are added: each old signal keeps its own.
-use Rattle.std.proofs.Common.{◌≡◌, ◌⊎◌, ℕ, ◌+◌, ◌<◌, ◌≤◌, Bool, true, false, cond, Option, None, Some, List, [], length, inl, refl, ap, sym, ◌∙◌, subst, arith, length-append}
-use Rattle.std.specs.Prelude.{slice_get, slice_index_or, unwrap_or}
-use Rattle.std.specs.List.{range_with_len}
+use Rattle.std.proofs.Common.{◌≡◌, ℕ, ◌+◌, ◌<◌, false, Option, List, [], length, refl, ap, sym, ◌∙◌, arith, length-append}
+use Rattle.std.specs.Prelude.{unwrap_or}
 use Rattle.std.specs.Option.{option_map_or}
 use Rattle.std.proofs.lemmas.List.{map-id}
-use Rattle.std.proofs.lemmas.List.FromFn.{length-range_with_len, get_or-range_with_len}
-use Rattle.std.proofs.lemmas.Option.{none-some, slice_get-get_or}
-use Rattle.ice_base.specs.declared.number.SignalNo.{SignalNo}
-use Rattle.ice_base_values.specs.Order.{Has}
 use Rattle.ice_base_values.specs.Inputs.{filled, present}
-use Rattle.ice_base_values.specs.System.{System, value}
-use Rattle.ice_base_values.proofs.Enough.{value_enough}
-use Rattle.ice_base_values.proofs.Values.{value_at_more, value_along}
-use Rattle.ice_net.specs.declared.cell.Cell.{Cell}
-use Rattle.ice_net.specs.declared.kind.CellKind.{CellKind}
-use Rattle.ice_net.specs.declared.kind.CellKind.TheVariants.{Lut, Cover, Carry, Flop, PadCell, Global}
+use Rattle.ice_base_values.specs.System.{value}
+use Rattle.ice_base_values.proofs.Values.{value_along}
 use Rattle.ice_net.specs.declared.driver.Driver.{Driver}
 use Rattle.ice_net.specs.declared.driver.Driver.TheVariants.{Nothing, Pad, Output}
 use Rattle.ice_net.specs.NetlistData.{NetlistData}
 use Rattle.ice_net.specs.Formed.{IsFormed}
-use Rattle.ice_net.specs.Drivers.{numbers, driver_of}
-use Rattle.ice_net.specs.Meaning.{cell_reads, reads, reads_by}
-use Rattle.ice_check.proofs.Graphs.{reads_below}
+use Rattle.ice_net.specs.Drivers.{driver_of}
 use Rattle.ice_cells.specs.declared.origin.Origin.{Origin}
 use Rattle.ice_cells.specs.declared.origin.Origin.TheVariants.{Fixed}
-use Rattle.ice_cells.specs.Origins.{is_alias, cell_aliases, aliases, cell_origin, origin_made, origin_system, origin, origins}
-use Rattle.ice_cells.proofs.TableLaws.{get_or-table}
+use Rattle.ice_cells.specs.Origins.{cell_aliases, aliases, cell_origin, origin_made, origin_system, origin, origins}
+use Rattle.ice_pack_laws.proofs.Settled.{alias_below, origin_settled}
 use Rattle.ice_carry_tails.proofs.Added.{Ins}
-use Rattle.ice_carry_tails.proofs.NewDrivers.{grown, driver_old, driver_there, IsThere, cell_kept}
-
--- ---- enough steps
-nothing_before : (s : ℕ) → 0 + s ≡ s
-nothing_before s = omega arith
-
-has_number : (count s : ℕ) → s < count → Has (range_with_len 0 count) s
-has_number count s lt =
-    (s, slice_get-get_or (range_with_len 0 count) s 0 (let long = length-range_with_len 0 count in omega (arith, lt, long)) ∙ ap Some (get_or-range_with_len 0 count s 0 lt ∙ nothing_before s))
-
--- an origin in the list of all origins
-pub listed : (m : NetlistData) (s : ℕ) → s < length m.names → slice_index_or (origins m) s (Fixed false) ≡ origin m s
-listed m s lt = get_or-table (origin m) (length m.names) s (Fixed false) lt
-
--- what an alias is made of, a cell reads
-alias_reads : (kind : CellKind) (ins : List (Option SignalNo)) (q : ℕ) (cell : Cell) → cell.kind ≡ kind → cell.ins ≡ ins → Has (present (cell_aliases cell)) q → Has (present (cell_reads cell)) q
-alias_reads kind ins q cell is same has = by kind (subst (λ (x : CellKind). Has (present (cond (is_alias x) (numbers cell.ins) [])) q) is has) is
-  where
-    none : Has (present []) q → ⊥
-    none has = cc has.1
-
-    by : (kind : CellKind) → Has (present (cond (is_alias kind) (numbers cell.ins) [])) q → cell.kind ≡ kind → Has (present (cell_reads cell)) q
-    by (Lut t) has is = absurd (none has)
-    by (Cover t width) has is = cover (is_alias (Cover t width)) has
-      where
-        cover : (b : Bool) → Has (present (cond b (numbers cell.ins) [])) q → Has (present (cell_reads cell)) q
-        cover true has = subst (λ (x : CellKind). Has (present (numbers (reads_by x cell.ins))) q) (sym is) has
-        cover false has = absurd (none has)
-    by Carry has is = absurd (none has)
-    by (Flop falling enable reset) has is = absurd (none has)
-    by (PadCell pin_type pullup) has is = absurd (none has)
-    by Global has is = absurd (none has)
-
-module _ (n : NetlistData) (formed : IsFormed n) where
-  abbrev before : System ℕ Origin
-  before = origin_system n
-
-  read_too : (q : ℕ) (d : Driver) → Has (present (aliases n d)) q → Has (present (reads n d)) q
-  read_too q Nothing has = has
-  read_too q (Pad k) has = has
-  read_too q (Output i) has = by (slice_get n.cells i) has
-    where
-      by : (o : Option Cell) → Has (present (option_map_or cell_aliases o [])) q → Has (present (option_map_or (λ (cell : Cell). cell_reads cell) o [])) q
-      by None has = has
-      by (Some cell) has = alias_reads cell.kind cell.ins q cell refl refl has
-
-  pub alias_below : (s q : ℕ) → Has (before.depends s) q → q < length n.names
-  alias_below s q has = let read = read_too q (driver_of n s) has in reads_below n formed (driver_of n s) read.0 q read.1
-
-  closed : (s q : ℕ) → Has (range_with_len 0 (length n.names)) s → Has (before.depends s) q → Has (range_with_len 0 (length n.names)) q ⊎ (before.depends q ≡ [])
-  closed s q has reads = inl (has_number (length n.names) q (alias_below s q reads))
-
-  -- with more steps than there are signals nothing changes
-  pub origin_settled : (more s : ℕ) → length n.names + 1 ≤ more → s < length n.names → value before more s ≡ value before (length n.names + 1) s
-  origin_settled more s le lt = by (value before more s) refl (value before (length n.names + 1) s) refl
-    where
-      known : (x : Origin) → value before more s ≡ Some x → value before (length n.names + 1) s ≡ Some x
-      known x e =
-          subst (λ k. value before (k + 1) s ≡ Some x) (length-range_with_len 0 (length n.names))
-          (value_enough before (range_with_len 0 (length n.names)) closed more s x (has_number (length n.names) s lt) e)
-
-      by : (o : Option Origin) → value before more s ≡ o → (r : Option Origin) → value before (length n.names + 1) s ≡ r → value before more s ≡ value before (length n.names + 1) s
-      by (Some x) e r f = e ∙ sym (known x e)
-      by None e None f = e ∙ sym f
-      by None e (Some x) f = absurd (none-some x (sym e ∙ value_at_more before (length n.names + 1) more s x le f))
+use Rattle.ice_check.proofs.OldSignals.{IsThere, driver_there}
+use Rattle.ice_carry_tails.proofs.NewDrivers.{grown, driver_old, cell_kept}
 
 module _ (n : NetlistData) (names : List (List ℕ)) (lists : List Ins) (formed : IsFormed n) where
   abbrev count : ℕ
@@ -100,26 +26,26 @@ module _ (n : NetlistData) (names : List (List ℕ)) (lists : List Ins) (formed 
   abbrev new : NetlistData
   new = grown n names lists
 
-  same_aliases : (d : Driver) → IsThere n names lists d → aliases new d ≡ aliases n d
+  same_aliases : (d : Driver) → IsThere n d → aliases new d ≡ aliases n d
   same_aliases Nothing there = refl
   same_aliases (Pad k) there = refl
   same_aliases (Output i) (cell, at) =
       ap (λ o. option_map_or cell_aliases o []) (cell_kept n names lists i cell at) ∙ sym (ap (λ o. option_map_or cell_aliases o []) at)
 
-  same_made : (d : Driver) → IsThere n names lists d → (found : List Origin) → origin_made new d found ≡ origin_made n d found
+  same_made : (d : Driver) → IsThere n d → (found : List Origin) → origin_made new d found ≡ origin_made n d found
   same_made Nothing there found = refl
   same_made (Pad k) there found = refl
   same_made (Output i) (cell, at) found =
       ap (λ o. option_map_or (cell_origin i found) o (Fixed false)) (cell_kept n names lists i cell at) ∙ sym (ap (λ o. option_map_or (cell_origin i found) o (Fixed false)) at)
 
   same_depends : (s : ℕ) → s < count → (origin_system new).depends s ≡ (origin_system n).depends s
-  same_depends s lt = ap (λ d. present (aliases new d)) (driver_old n names lists s lt) ∙ ap present (same_aliases (driver_of n s) (driver_there n names lists s))
+  same_depends s lt = ap (λ d. present (aliases new d)) (driver_old n names lists s lt) ∙ ap present (same_aliases (driver_of n s) (driver_there n s))
 
   same_local : (s : ℕ) (xs : List Origin) → s < count → (origin_system new).local s xs ≡ (origin_system n).local s xs
   same_local s xs lt =
       ap (λ d. origin_made new d (filled (Fixed false) (aliases new d) xs)) (driver_old n names lists s lt)
-      ∙ ap (λ (rs : List (Option ℕ)). origin_made new (driver_of n s) (filled (Fixed false) rs xs)) (same_aliases (driver_of n s) (driver_there n names lists s))
-      ∙ same_made (driver_of n s) (driver_there n names lists s) (filled (Fixed false) (aliases n (driver_of n s)) xs)
+      ∙ ap (λ (rs : List (Option ℕ)). origin_made new (driver_of n s) (filled (Fixed false) rs xs)) (same_aliases (driver_of n s) (driver_there n s))
+      ∙ same_made (driver_of n s) (driver_there n s) (filled (Fixed false) (aliases n (driver_of n s)) xs)
 
   same_steps : (f s : ℕ) → s < count → value (origin_system new) f s ≡ value (origin_system n) f s
   same_steps f s lt =

@@ -24,12 +24,13 @@ use Rattle.ice_cells.specs.Uses.{dropped}
 use Rattle.ice_check.proofs.ListsBelow.{at_below}
 use Rattle.ice_pack_laws.proofs.PadRoots.{IsOfPad}
 use Rattle.ice_pack_laws.proofs.PadReaders.{read_ins, bare_ins, kind_ins, cell_ins, pad_ins, IsAtPad, ReadsPad, by_cell, by_port}
+use Rattle.ice_pack_laws.proofs.Settled.{listed}
 use Rattle.ice_carry_tails.specs.Tails.{tail, tails, tail_names, behind, read_behind}
 use Rattle.ice_carry_tails.specs.TailLaws.{is_lut, CanTakeTails}
 use Rattle.ice_carry_tails.proofs.Added.{Ins, at_tail}
 use Rattle.ice_carry_tails.proofs.NewDrivers.{grown, cell_kept, buffer_same}
 use Rattle.ice_carry_tails.proofs.Taken.{behind_has, read_by}
-use Rattle.ice_pads_tails_laws.proofs.NewOrigins.{origin_old, listed}
+use Rattle.ice_pads_tails_laws.proofs.NewOrigins.{origin_old}
 
 module _ (n : NetlistData) (names : List (List ℕ)) (lists : List Ins) (formed : IsFormed n) (k : ℕ) where
   abbrev pub count : ℕ

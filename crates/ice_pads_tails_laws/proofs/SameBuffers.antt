@@ -6,6 +6,7 @@ use Rattle.std.specs.Option.{option_map_or}
 use Rattle.std.proofs.Math.Path.{fun_ext}
 use Rattle.std.proofs.lemmas.List.{length-map, map-append}
 use Rattle.ice_base.specs.declared.number.SignalNo.{SignalNo}
+use Rattle.ice_base.proofs.Booleans.{both_true}
 use Rattle.ice_base_values.specs.Order.{At}
 use Rattle.ice_net.specs.declared.cell.Cell.{Cell}
 use Rattle.ice_net.specs.declared.kind.CellKind.{CellKind}
@@ -36,7 +37,6 @@ use Rattle.ice_carry_tails.proofs.Added.{Ins}
 use Rattle.ice_carry_tails.proofs.NewDrivers.{cell_kept}
 use Rattle.ice_pads_tails_laws.proofs.FlopReaders.{IsReading, IsPassed, of_design, in_design}
 use Rattle.ice_pads_tails_laws.proofs.NewReaders.{at_new, at_old, cell_back, formed_at, same_input}
-use Rattle.ice_pads_tails_laws.proofs.Wanted.{both_true}
 
 -- ---- which global buffer a cell is
 abbrev number_if : Bool → ℕ → Option ℕ

@@ -1,3 +1,4 @@
 pub mod Plan
 pub mod Loads
 pub mod Length
+pub mod RootNumbers

@@ -1,6 +1,6 @@
--- The report on routing: the sizes of a design, each round with its histories, its new trees and what stays overused, and how it
--- ended.
-use Rattle.std.specs.Prelude.{ℕ, Bool, if◌then◌else◌, List, [], ◌∷◌, ◌++◌, map, codes, decimal}
+-- The report on routing: the sizes of a design, the opening, if there was one, with the trees that nets keep, each round with its histories,
+-- its new trees and what stays overused, and how it ended.
+use Rattle.std.specs.Prelude.{◌==◌, ℕ, Bool, if◌then◌else◌, List, [], ◌∷◌, ◌++◌, map, codes, decimal}
 use Rattle.std.specs.List.{flat_map}
 use Rattle.ice_base.specs.Text.{text_of_lines}
 use Rattle.ice_base.specs.declared.number.WireNo.{WireNo}
@@ -25,10 +25,14 @@ rows_line net rows = line_of (codes "net" ∷ decimal net.0 ∷ codes "rows" ∷
 abbrev pub net_line : NetNo × Tree → List ℕ
 net_line moved = rows_line moved.0 moved.1.rows.items
 
+-- the first line of a round, or that of the opening, which has the number 0
+abbrev pub title_line : ℕ → List ℕ
+title_line round = if round == 0 then line_of (codes "opening" ∷ []) else line_of (codes "round" ∷ decimal round ∷ [])
+
 -- a round: what each wire was overused by before, the nets that moved, and the wires that are overused after it
 abbrev pub round_lines : RoundLog → List (List ℕ)
 round_lines log =
-    line_of (codes "round" ∷ decimal log.round ∷ [])
+    title_line log.round
     ∷ (map (wire_line (codes "history")) log.history.items ++ map net_line log.moved.items ++ map (wire_line (codes "over")) log.over.items)
 
 abbrev pub end_line : Bool → List ℕ

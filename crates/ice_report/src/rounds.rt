@@ -3,7 +3,7 @@ ghost use Rattle.std.specs.Prelude.{◌≡◌, ◌++◌, ◌∷◌, [], OnOk, On
 ghost use Rattle.std.specs.List.{flat_map};
 ghost use Rattle.ice_base.specs.Text.{text_of_lines};
 ghost use Rattle.ice_report.specs.Lines.{line_of};
-ghost use Rattle.ice_report.specs.RouteReport.{sizes_line, wire_line, rows_line, net_line, round_lines, end_line, route_text};
+ghost use Rattle.ice_report.specs.RouteReport.{sizes_line, title_line, wire_line, rows_line, net_line, round_lines, end_line, route_text};
 
 use crate::text::{put_line, put_number, put_word};
 use ice_base::{NetNo, NoMemory, RowNo, WireNo};
@@ -30,10 +30,13 @@ fn put_sizes(text: &mut Vec<u8>, cells: u32, tiles: u32, nets: u32) -> Result<()
     Ok(())
 }
 
-// Writes the line of the number of a round.
-fn put_round_number(text: &mut Vec<u8>, round: u32) -> Result<(), NoMemory>
-    ensures { OnOk result (text.new.items ≡ text.old.items ++ text_of_lines (line_of (codes "round" ∷ decimal round ∷ []) ∷ [])) }
+// Writes the first line of a round, or that of the opening, which has the number 0.
+fn put_title(text: &mut Vec<u8>, round: u32) -> Result<(), NoMemory>
+    ensures { OnOk result (text.new.items ≡ text.old.items ++ text_of_lines (title_line round ∷ [])) }
 {
+    if round == 0 {
+        return put_line(text, b"opening");
+    }
     text.extend_from_slice(b"round")?;
     put_number(text, u64::from(round))?;
     text.push(b'\n')?;
@@ -128,7 +131,7 @@ fn put_nets(text: &mut Vec<u8>, moved: &[(NetNo, Tree)]) -> Result<(), NoMemory>
 fn put_round(text: &mut Vec<u8>, log: &RoundLog) -> Result<(), NoMemory>
     ensures { OnOk result (text.new.items ≡ text.old.items ++ text_of_lines (round_lines log.now)) }
 {
-    put_round_number(text, log.round)?;
+    put_title(text, log.round)?;
     put_histories(text, &log.history)?;
     put_nets(text, &log.moved)?;
     put_overused(text, &log.over)?;

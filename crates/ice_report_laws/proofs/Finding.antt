@@ -1,14 +1,12 @@
 -- The pin of a pad of a package.
 use Rattle.std.proofs.Common.{◌≡◌, ℕ, Bool, true, false, ◌||◌, IsSome, Some, List, [], ◌∷◌, ◌++◌, map, bytes_eq, if◌then◌else◌, refl, sym, ap, ◌∙◌, subst, true≢false}
-use Rattle.std.specs.List.{All, find, list_any}
+use Rattle.std.specs.List.{find, list_any}
 use Rattle.std.proofs.lemmas.List.Folds.{list_any-append}
-use Rattle.std.proofs.lemmas.List.Elements.{All-head, All-tail}
 use Rattle.indexmap.specs.IndexSet.{insert_key, insert_all}
-use Rattle.ice_chip.specs.Database.{PackageRows}
 use Rattle.ice_chip.specs.Places.{same_pad}
-use Rattle.ice_chip.specs.Within.{IsPackage}
 use Rattle.ice_chip.specs.declared.rows.Pad.{Pad}
 use Rattle.ice_pads.specs.Facts.{AssignedPadsFit}
+use Rattle.ice_pads.proofs.AssignLaws.{found_package}
 use Rattle.ice_report_laws.specs.Pins.{PinsAreFound}
 
 wider : (a c r : Bool) → (a || r) ≡ true → (a || (c || r)) ≡ true
@@ -43,14 +41,6 @@ found_pin pad (x ∷ pins) e = by (same_pad pad x.1) (found_pin pad pins) e
         → (b || list_any (same_pad pad) (map (λ (pin : List ℕ × Pad). pin.1) pins)) ≡ true
         → IsSome (if b then Some x else find (λ (pin : List ℕ × Pad). same_pad pad pin.1) pins)
     by true later e = refl
-    by false later e = later e
-
-found_package : (width height : ℕ) (p : PackageRows → Bool) (packages : List PackageRows) (rows : PackageRows) → All (IsPackage width height) packages → find p packages ≡ Some rows → IsPackage width height rows
-found_package width height p [] rows all e = absurd (cc)
-found_package width height p (x ∷ packages) rows all e = by (p x) (found_package width height p packages rows (All-tail (IsPackage width height) x packages all)) e
-  where
-    by : (b : Bool) → (find p packages ≡ Some rows → IsPackage width height rows) → (if b then Some x else find p packages) ≡ Some rows → IsPackage width height rows
-    by true later e = let same : x ≡ rows = cc in subst (IsPackage width height) same (All-head (IsPackage width height) x packages all)
     by false later e = later e
 
 pub pins_found : AssignedPadsFit → PinsAreFound

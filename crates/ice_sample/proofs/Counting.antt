@@ -9,15 +9,12 @@ use Rattle.std.proofs.lemmas.List.FromFn.{map-range_with_len_more, length-map-ra
 use Rattle.std.proofs.lemmas.Nat.{mul-add-lt}
 use Rattle.std.proofs.Math.Nat.{mul-le-mul}
 use Rattle.ice_base.specs.declared.number.TileAt.{TileAt}
+use Rattle.ice_base.proofs.Ranges.{range_suc}
 use Rattle.ice_sample.specs.declared.grid.Tile.{Tile}
 use Rattle.ice_sample.specs.declared.grid.TileKind.{TileKind}
 use Rattle.ice_sample.specs.declared.grid.TileKind.TheVariants.{Io, Logic}
 use Rattle.ice_sample.specs.Kinds.{kind_at, wires_of}
 use Rattle.ice_sample.specs.Tiles.{place, tile_list, tiles_before, tiles_of, wires_before, IsWithin}
-
-range_suc : (n a : ℕ) → range_with_len a (suc n) ≡ range_with_len a n ++ (a + n) ∷ []
-range_suc zero a = let e : a ≡ a + 0 = omega arith in ap (λ x. x ∷ []) e
-range_suc (suc n) a = let e : a + 1 + n ≡ a + suc n = omega arith in ap (λ l. a ∷ l) (range_suc n (a + 1) ∙ ap (λ x. range_with_len (a + 1) n ++ x ∷ []) e)
 
 -- a range and the number behind it
 pub range_more : (a n j : ℕ) → a + n ≡ j → range_with_len a (n + 1) ≡ range_with_len a n ++ j ∷ []

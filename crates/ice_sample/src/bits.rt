@@ -44,7 +44,8 @@ pub fn put_bits(text: &mut Vec<u8>, kind: TileKind, first: u16, count: u16) -> R
 // Writes the row of a function of one bit.
 fn put_function(text: &mut Vec<u8>, kind: TileKind, title: &[u8], bit: u16) -> Result<(), NoMemory>
     requires { bit ≤ 500 }
-    ensures { OnOk result (text.new.items ≡ text.old.items ++ text_of_lines (function_rows (columns_of kind) bit (lone_function title.now))) }
+    ensures { OnOk result (text.new.items
+        ≡ text.old.items ++ text_of_lines (function_rows (columns_of kind) bit (lone_function title.now))) }
 {
     text.extend_from_slice(title)?;
     put_bits(text, kind, bit, 1)?;
@@ -61,7 +62,8 @@ fn put_numbered_function(
     size: u16,
 ) -> Result<(), NoMemory>
     requires { first + size ≤ 1000 }
-    ensures { OnOk result (text.new.items ≡ text.old.items ++ text_of_lines (function_row (columns_of kind) first (record { title = title.now ++ decimal number; size = size }))) }
+    ensures { OnOk result (text.new.items
+        ≡ text.old.items ++ text_of_lines (function_row (columns_of kind) first (record { title = title.now ++ decimal number; size = size }))) }
 {
     put_worded(text, title, u64::from(number))?;
     put_bits(text, kind, first, size)?;
@@ -80,7 +82,8 @@ fn put_functions(
     requires few { count ≤ 8 }
     requires small { size ≤ 20 }
     requires first { first ≤ 500 }
-    ensures { OnOk result (text.new.items ≡ text.old.items ++ text_of_lines (function_rows (columns_of kind) first (function_series title.now count size))) }
+    ensures { OnOk result (text.new.items
+        ≡ text.old.items ++ text_of_lines (function_rows (columns_of kind) first (function_series title.now count size))) }
 {
     let mut bit = first;
     for number in 0..count {

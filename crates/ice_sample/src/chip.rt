@@ -25,7 +25,8 @@ fn put_sections(
     pads: &[Pad],
     logic: &[TileAt],
 ) -> Result<(), NoMemory>
-    ensures { OnOk result (text.new.items ≡ text.old.items ++ text_of_lines (sections_of grid.now.width grid.now.height io.now pads.now logic.now grid.now.tiles.items)) }
+    ensures { OnOk result (text.new.items
+        ≡ text.old.items ++ text_of_lines (sections_of grid.now.width grid.now.height io.now pads.now logic.now grid.now.tiles.items)) }
 {
     put_device(text, grid)?;
     put_pins(text, pads)?;
@@ -38,7 +39,8 @@ fn put_sections(
 
 // Finds what the chip has, and writes the sections that say it.
 fn put_layout(alloc: Global, text: &mut Vec<u8>, grid: &Grid) -> Result<(), NoMemory>
-    ensures { OnOk result (text.new.items ≡ text.old.items ++ text_of_lines (layout_lines grid.now.width grid.now.height grid.now.tiles.items)) }
+    ensures { OnOk result (text.new.items
+        ≡ text.old.items ++ text_of_lines (layout_lines grid.now.width grid.now.height grid.now.tiles.items)) }
 {
     let io = io_places(alloc, &grid.tiles)?;
     let pads = pads_at(alloc, &io)?;
@@ -57,7 +59,8 @@ fn put_io_groups(
     requires column { at.x < grid.now.width }
     requires row { at.y < grid.now.height }
     requires first { first ≤ 500000 }
-    ensures { OnOk result (text.new.items ≡ text.old.items ++ text_of_lines (own_group_lines grid.now.width grid.now.height TileKind.Io at first)) }
+    ensures { OnOk result (text.new.items
+        ≡ text.old.items ++ text_of_lines (own_group_lines grid.now.width grid.now.height TileKind.Io at first)) }
 {
     let tile = Tile {
         at,
@@ -78,7 +81,8 @@ fn put_logic_groups(
     requires column { at.x < grid.now.width }
     requires row { at.y < grid.now.height }
     requires first { first ≤ 500000 }
-    ensures { OnOk result (text.new.items ≡ text.old.items ++ text_of_lines (own_group_lines grid.now.width grid.now.height TileKind.Logic at first)) }
+    ensures { OnOk result (text.new.items
+        ≡ text.old.items ++ text_of_lines (own_group_lines grid.now.width grid.now.height TileKind.Logic at first)) }
 {
     let tile = Tile {
         at,
@@ -99,7 +103,8 @@ fn put_tile_groups(
     tile: Tile,
 ) -> Result<(), NoMemory>
     requires { IsWithin grid.now.width grid.now.height tile }
-    ensures { OnOk result (text.new.items ≡ text.old.items ++ text_of_lines (tile_group_lines grid.now.width grid.now.height tile)) }
+    ensures { OnOk result (text.new.items
+        ≡ text.old.items ++ text_of_lines (tile_group_lines grid.now.width grid.now.height tile)) }
 {
     let first = grid.first_wire(tile.at);
     match tile.kind {
@@ -110,7 +115,8 @@ fn put_tile_groups(
 
 // Writes the sections of the groups.
 fn put_groups(alloc: Global, text: &mut Vec<u8>, grid: &Grid) -> Result<(), NoMemory>
-    ensures { OnOk result (text.new.items ≡ text.old.items ++ text_of_lines (all_group_lines grid.now.width grid.now.height grid.now.tiles.items)) }
+    ensures { OnOk result (text.new.items
+        ≡ text.old.items ++ text_of_lines (all_group_lines grid.now.width grid.now.height grid.now.tiles.items)) }
 {
     let mut sources = Vec::new(alloc);
     for tile in &grid.tiles {

@@ -103,7 +103,8 @@ fn put_inputs(text: &mut Vec<u8>, rng: &mut Lcg64Xsh32, cell: u32) -> Result<(),
 
 // Writes the line of a cell's table.
 fn put_gate(text: &mut Vec<u8>, rng: &mut Lcg64Xsh32, cell: u32) -> Result<(), NoMemory>
-    ensures written { OnOk result (text.new.items ≡ text.old.items ++ text_of_lines (gate_line cell (drawn_inputs cell rng.old) ∷ [])) }
+    ensures written { OnOk result (text.new.items
+        ≡ text.old.items ++ text_of_lines (gate_line cell (drawn_inputs cell rng.old) ∷ [])) }
     ensures drawn { OnOk result (rng.new ≡ after 4 rng.old) }
 {
     text.extend_from_slice(b".gate SB_LUT4")?;
@@ -156,7 +157,8 @@ fn put_cell(text: &mut Vec<u8>, rng: &mut Lcg64Xsh32, cell: u32) -> Result<(), N
 
 // Writes the lines of all cells.
 fn put_cells(text: &mut Vec<u8>, number: u64, cells: u32) -> Result<(), NoMemory>
-    ensures { OnOk result (text.new.items ≡ text.old.items ++ text_of_lines (all_cell_lines (started_at number) cells)) }
+    ensures { OnOk result (text.new.items
+        ≡ text.old.items ++ text_of_lines (all_cell_lines (started_at number) cells)) }
 {
     let mut rng = started_at(number);
     for cell in 0..cells {

@@ -22,7 +22,8 @@ fn put_input(
     requires bit { bit ≤ 900 }
     requires cell { cell < 8 }
     requires input { input < 4 }
-    ensures { OnOk result (text.new.items ≡ text.old.items ++ text_of_lines (group_lines tile.kind tile.at bit (input_group first cell input))) }
+    ensures { OnOk result (text.new.items
+        ≡ text.old.items ++ text_of_lines (group_lines tile.kind tile.at bit (input_group first cell input))) }
 {
     sources.clear();
     add_pin_tracks(sources, first + 52, 4 * cell + input)?;
@@ -42,7 +43,8 @@ fn put_cell(
     requires first { first ≤ 500000 }
     requires bit { bit ≤ 800 }
     requires cell { cell < 8 }
-    ensures { OnOk result (text.new.items ≡ text.old.items ++ text_of_lines (groups_from tile.kind tile.at bit (cell_groups first cell))) }
+    ensures { OnOk result (text.new.items
+        ≡ text.old.items ++ text_of_lines (groups_from tile.kind tile.at bit (cell_groups first cell))) }
 {
     for input in 0..4 {
         put_input(
@@ -68,7 +70,8 @@ pub fn put_inputs(
 ) -> Result<(), NoMemory>
     requires first { first ≤ 500000 }
     requires bit { bit ≤ 600 }
-    ensures { OnOk result (text.new.items ≡ text.old.items ++ text_of_lines (groups_from tile.kind tile.at bit (input_groups first))) }
+    ensures { OnOk result (text.new.items
+        ≡ text.old.items ++ text_of_lines (groups_from tile.kind tile.at bit (input_groups first))) }
 {
     for cell in 0..8 {
         put_cell(text, sources, tile, first, bit + 16 * cell as u16, cell)?;
@@ -89,7 +92,8 @@ fn put_control(
     requires first { first ≤ 500000 }
     requires bit { bit ≤ 900 }
     requires control { control < 3 }
-    ensures { OnOk result (text.new.items ≡ text.old.items ++ text_of_lines (group_lines tile.kind tile.at bit (control_group first control globals.now))) }
+    ensures { OnOk result (text.new.items
+        ≡ text.old.items ++ text_of_lines (group_lines tile.kind tile.at bit (control_group first control globals.now))) }
 {
     sources.clear();
     sources.extend_from_slice(globals)?;
@@ -108,7 +112,8 @@ pub fn put_controls(
 ) -> Result<(), NoMemory>
     requires first { first ≤ 500000 }
     requires bit { bit ≤ 800 }
-    ensures { OnOk result (text.new.items ≡ text.old.items ++ text_of_lines (groups_from tile.kind tile.at bit (control_groups first))) }
+    ensures { OnOk result (text.new.items
+        ≡ text.old.items ++ text_of_lines (groups_from tile.kind tile.at bit (control_groups first))) }
 {
     put_control(
         text,
@@ -134,7 +139,8 @@ pub fn put_carry(
 ) -> Result<(), NoMemory>
     requires first { first ≤ 500000 }
     requires bit { bit ≤ 900 }
-    ensures { OnOk result (text.new.items ≡ text.old.items ++ text_of_lines (groups_from tile.kind tile.at bit (carry_groups first (carry_in grid.now.width grid.now.height tile.at)))) }
+    ensures { OnOk result (text.new.items
+        ≡ text.old.items ++ text_of_lines (groups_from tile.kind tile.at bit (carry_groups first (carry_in grid.now.width grid.now.height tile.at)))) }
 {
     sources.clear();
     add_carry_in(sources, grid, tile.at)?;
@@ -151,7 +157,8 @@ fn put_carry_of(
 ) -> Result<(), NoMemory>
     requires first { first ≤ 500000 }
     requires bit { bit ≤ 900 }
-    ensures { OnOk result (text.new.items ≡ text.old.items ++ text_of_lines (groups_from tile.kind tile.at bit (carry_groups first carries.now))) }
+    ensures { OnOk result (text.new.items
+        ≡ text.old.items ++ text_of_lines (groups_from tile.kind tile.at bit (carry_groups first carries.now))) }
 {
     if carries.is_empty() {
         return Ok(());
@@ -173,7 +180,8 @@ fn put_io_pin(
     requires bit { bit ≤ 900 }
     requires place { place < 64 }
     requires pin { pin < 64 }
-    ensures { OnOk result (text.new.items ≡ text.old.items ++ text_of_lines (group_lines tile.kind tile.at bit (io_pin_group first place pin))) }
+    ensures { OnOk result (text.new.items
+        ≡ text.old.items ++ text_of_lines (group_lines tile.kind tile.at bit (io_pin_group first place pin))) }
 {
     sources.clear();
     add_pin_tracks(sources, first + 7, pin)?;
@@ -190,7 +198,8 @@ pub fn put_io_pins(
 ) -> Result<(), NoMemory>
     requires first { first ≤ 500000 }
     requires bit { bit ≤ 800 }
-    ensures { OnOk result (text.new.items ≡ text.old.items ++ text_of_lines (groups_from tile.kind tile.at bit (io_pin_groups first))) }
+    ensures { OnOk result (text.new.items
+        ≡ text.old.items ++ text_of_lines (groups_from tile.kind tile.at bit (io_pin_groups first))) }
 {
     put_io_pin(text, sources, tile, first, bit, 1, 0)?;
     put_io_pin(text, sources, tile, first, bit + 4, 2, 1)?;

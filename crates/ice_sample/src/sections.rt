@@ -11,7 +11,8 @@ use ice_base::{NoMemory, TileAt};
 
 // Writes the line of a device of a size and so many wires.
 fn put_size(text: &mut Vec<u8>, width: u16, height: u16, wires: u32) -> Result<(), NoMemory>
-    ensures { OnOk result (text.new.items ≡ text.old.items ++ text_of_lines ((codes ".device 1k " ++ number_words width height ++ codes " " ++ decimal wires) ∷ [])) }
+    ensures { OnOk result (text.new.items
+        ≡ text.old.items ++ text_of_lines ((codes ".device 1k " ++ number_words width height ++ codes " " ++ decimal wires) ∷ [])) }
 {
     text.extend_from_slice(b".device 1k ")?;
     put_numbers(text, u64::from(width), u64::from(height))?;
@@ -21,7 +22,8 @@ fn put_size(text: &mut Vec<u8>, width: u16, height: u16, wires: u32) -> Result<(
 
 /// Writes the section of the device.
 pub fn put_device(text: &mut Vec<u8>, grid: &Grid) -> Result<(), NoMemory>
-    ensures { OnOk result (text.new.items ≡ text.old.items ++ text_of_lines (device_lines grid.now.width grid.now.height)) }
+    ensures { OnOk result (text.new.items
+        ≡ text.old.items ++ text_of_lines (device_lines grid.now.width grid.now.height)) }
 {
     put_size(text, grid.width, grid.height, grid.wires)
 }
@@ -35,7 +37,8 @@ fn put_pad(text: &mut Vec<u8>, pad: Pad) -> Result<(), NoMemory>
 
 // Writes the row of a pin.
 fn put_pin(text: &mut Vec<u8>, pin: u64, pad: Pad) -> Result<(), NoMemory>
-    ensures { OnOk result (text.new.items ≡ text.old.items ++ text_of_lines ((decimal pin ++ codes " " ++ pad_words pad) ∷ [])) }
+    ensures { OnOk result (text.new.items
+        ≡ text.old.items ++ text_of_lines ((decimal pin ++ codes " " ++ pad_words pad) ∷ [])) }
 {
     put_number(text, pin)?;
     text.push(b' ')?;
@@ -90,7 +93,8 @@ pub fn put_globals(text: &mut Vec<u8>, places: &[TileAt]) -> Result<(), NoMemory
 
 // Writes the row of the input enable of a pad.
 fn put_input_enable(text: &mut Vec<u8>, pad: Pad) -> Result<(), NoMemory>
-    ensures { OnOk result (text.new.items ≡ text.old.items ++ text_of_lines ((pad_words pad ++ codes " " ++ pad_words pad) ∷ [])) }
+    ensures { OnOk result (text.new.items
+        ≡ text.old.items ++ text_of_lines ((pad_words pad ++ codes " " ++ pad_words pad) ∷ [])) }
 {
     put_pad(text, pad)?;
     text.push(b' ')?;
@@ -111,7 +115,8 @@ pub fn put_input_enables(text: &mut Vec<u8>, pads: &[Pad]) -> Result<(), NoMemor
 
 // Writes the row of the column buffers of the tile at a place.
 fn put_column_buffer(text: &mut Vec<u8>, at: TileAt) -> Result<(), NoMemory>
-    ensures { OnOk result (text.new.items ≡ text.old.items ++ text_of_lines ((place_words at ++ codes " " ++ place_words at) ∷ [])) }
+    ensures { OnOk result (text.new.items
+        ≡ text.old.items ++ text_of_lines ((place_words at ++ codes " " ++ place_words at) ∷ [])) }
 {
     put_place(text, at)?;
     text.push(b' ')?;
@@ -142,7 +147,8 @@ fn tile_heading(kind: TileKind) -> &'static [u8]
 
 // Writes the section of a tile.
 fn put_tile(text: &mut Vec<u8>, tile: Tile) -> Result<(), NoMemory>
-    ensures { OnOk result (text.new.items ≡ text.old.items ++ text_of_lines ((tile_heading tile.kind ++ place_words tile.at) ∷ [])) }
+    ensures { OnOk result (text.new.items
+        ≡ text.old.items ++ text_of_lines ((tile_heading tile.kind ++ place_words tile.at) ∷ [])) }
 {
     text.extend_from_slice(tile_heading(tile.kind))?;
     put_place(text, tile.at)?;

@@ -74,7 +74,8 @@ fn add_west_track(
     at: TileAt,
 ) -> Result<(), NoMemory>
     requires { track ≤ 64 }
-    ensures { OnOk result (sources.new.items ≡ sources.old.items ++ flat_map (track_at grid.now.width grid.now.height track) (west at)) }
+    ensures { OnOk result (sources.new.items
+        ≡ sources.old.items ++ flat_map (track_at grid.now.width grid.now.height track) (west at)) }
 {
     if at.x == 0 {
         return Ok(());
@@ -94,7 +95,8 @@ fn add_south_track(
     at: TileAt,
 ) -> Result<(), NoMemory>
     requires { track ≤ 64 }
-    ensures { OnOk result (sources.new.items ≡ sources.old.items ++ flat_map (track_at grid.now.width grid.now.height track) (south at)) }
+    ensures { OnOk result (sources.new.items
+        ≡ sources.old.items ++ flat_map (track_at grid.now.width grid.now.height track) (south at)) }
 {
     if at.y == 0 {
         return Ok(());
@@ -116,7 +118,8 @@ pub fn add_tracks_beside(
     requires track { track ≤ 64 }
     requires column { at.x < 64 }
     requires row { at.y < 64 }
-    ensures { OnOk result (sources.new.items ≡ sources.old.items ++ tracks_beside grid.now.width grid.now.height track at) }
+    ensures { OnOk result (sources.new.items
+        ≡ sources.old.items ++ tracks_beside grid.now.width grid.now.height track at) }
 {
     let east = TileAt {
         x: at.x + 1,
@@ -176,7 +179,8 @@ pub fn add_carry_for(
 
 // Puts the carry out of the tile at a place behind the sources, if that is a logic tile.
 fn add_carry_out(sources: &mut Vec<u32>, grid: &Grid, at: TileAt) -> Result<(), NoMemory>
-    ensures { OnOk result (sources.new.items ≡ sources.old.items ++ carry_out (kind_at grid.now.width grid.now.height at) (first_wire grid.now.width grid.now.height at)) }
+    ensures { OnOk result (sources.new.items
+        ≡ sources.old.items ++ carry_out (kind_at grid.now.width grid.now.height at) (first_wire grid.now.width grid.now.height at)) }
 {
     match kind_at(grid.width, grid.height, at) {
         None => Ok(()),

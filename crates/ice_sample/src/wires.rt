@@ -56,7 +56,8 @@ fn put_numbered_name(
     name: &[u8],
     number: u32,
 ) -> Result<(), NoMemory>
-    ensures { OnOk result (text.new.items ≡ text.old.items ++ text_of_lines (name_line at (name.now ++ decimal number) ∷ [])) }
+    ensures { OnOk result (text.new.items
+        ≡ text.old.items ++ text_of_lines (name_line at (name.now ++ decimal number) ∷ [])) }
 {
     put_place(text, at)?;
     text.push(b' ')?;
@@ -66,7 +67,8 @@ fn put_numbered_name(
 
 // Writes the row of a name of a logic cell.
 fn put_cell_name(text: &mut Vec<u8>, at: TileAt, cell: u32, pin: &[u8]) -> Result<(), NoMemory>
-    ensures { OnOk result (text.new.items ≡ text.old.items ++ text_of_lines (name_line at (cell_name cell pin.now) ∷ [])) }
+    ensures { OnOk result (text.new.items
+        ≡ text.old.items ++ text_of_lines (name_line at (cell_name cell pin.now) ∷ [])) }
 {
     put_place(text, at)?;
     put_worded(text, b" lutff_", u64::from(cell))?;
@@ -89,7 +91,8 @@ fn put_cell_wire(
     cell: u32,
     pin: &[u8],
 ) -> Result<(), NoMemory>
-    ensures { OnOk result (text.new.items ≡ text.old.items ++ text_of_lines (wire_lines at wire (cell_name cell pin.now))) }
+    ensures { OnOk result (text.new.items
+        ≡ text.old.items ++ text_of_lines (wire_lines at wire (cell_name cell pin.now))) }
 {
     put_wire_heading(text, wire)?;
     put_cell_name(text, at, cell, pin)
@@ -97,7 +100,8 @@ fn put_cell_wire(
 
 // Writes a track.
 fn put_track_wire(text: &mut Vec<u8>, at: TileAt, wire: u32, track: u32) -> Result<(), NoMemory>
-    ensures { OnOk result (text.new.items ≡ text.old.items ++ text_of_lines (wire_lines at wire (codes "trk_" ++ decimal track))) }
+    ensures { OnOk result (text.new.items
+        ≡ text.old.items ++ text_of_lines (wire_lines at wire (codes "trk_" ++ decimal track))) }
 {
     put_wire_heading(text, wire)?;
     put_numbered_name(text, at, b"trk_", track)
@@ -133,7 +137,8 @@ fn put_named_wires(
 ) -> Result<(), NoMemory>
     requires few { length names.now ≤ 64 }
     requires first { first ≤ 501000 }
-    ensures { OnOk result (text.new.items ≡ text.old.items ++ text_of_lines (named_wires at first (map (λ name. name.now) names.now))) }
+    ensures { OnOk result (text.new.items
+        ≡ text.old.items ++ text_of_lines (named_wires at first (map (λ name. name.now) names.now))) }
 {
     let mut wire = first;
     for name in names {
@@ -153,7 +158,8 @@ fn put_cell_wires(
 ) -> Result<(), NoMemory>
     requires few { length pins.now ≤ 64 }
     requires first { first ≤ 501000 }
-    ensures { OnOk result (text.new.items ≡ text.old.items ++ text_of_lines (named_wires at first (map (λ pin. cell_name cell pin.now) pins.now))) }
+    ensures { OnOk result (text.new.items
+        ≡ text.old.items ++ text_of_lines (named_wires at first (map (λ pin. cell_name cell pin.now) pins.now))) }
 {
     let mut wire = first;
     for pin in pins {
@@ -199,7 +205,8 @@ fn put_carry_in(text: &mut Vec<u8>, kind: Option<TileKind>, at: TileAt) -> Resul
 // Writes the wires of an IO tile, from its first.
 fn put_io_wires(text: &mut Vec<u8>, at: TileAt, first: u32) -> Result<(), NoMemory>
     requires { first ≤ 500000 }
-    ensures { OnOk result (text.new.items ≡ text.old.items ++ text_of_lines (named_wires at first io_names ++ named_wires at (first + 7) track_names)) }
+    ensures { OnOk result (text.new.items
+        ≡ text.old.items ++ text_of_lines (named_wires at first io_names ++ named_wires at (first + 7) track_names)) }
 {
     put_named_wires(text, at, first, &IO_NAMES)?;
     put_track_wires(text, at, first + 7)
@@ -209,7 +216,8 @@ fn put_io_wires(text: &mut Vec<u8>, at: TileAt, first: u32) -> Result<(), NoMemo
 fn put_logic_wires(text: &mut Vec<u8>, grid: &Grid, at: TileAt, first: u32) -> Result<(), NoMemory>
     requires row { at.y < 64 }
     requires first { first ≤ 500000 }
-    ensures { OnOk result (text.new.items ≡ text.old.items ++ text_of_lines (own_wire_lines grid.now.width grid.now.height TileKind.Logic at first)) }
+    ensures { OnOk result (text.new.items
+        ≡ text.old.items ++ text_of_lines (own_wire_lines grid.now.width grid.now.height TileKind.Logic at first)) }
 {
     let north = TileAt {
         x: at.x,
@@ -224,7 +232,8 @@ fn put_logic_wires(text: &mut Vec<u8>, grid: &Grid, at: TileAt, first: u32) -> R
 // Writes the wires of a tile.
 fn put_tile_wires(text: &mut Vec<u8>, grid: &Grid, tile: Tile) -> Result<(), NoMemory>
     requires { IsWithin grid.now.width grid.now.height tile }
-    ensures { OnOk result (text.new.items ≡ text.old.items ++ text_of_lines (tile_wire_lines grid.now.width grid.now.height tile)) }
+    ensures { OnOk result (text.new.items
+        ≡ text.old.items ++ text_of_lines (tile_wire_lines grid.now.width grid.now.height tile)) }
 {
     let first = grid.first_wire(tile.at);
     match tile.kind {
@@ -235,7 +244,8 @@ fn put_tile_wires(text: &mut Vec<u8>, grid: &Grid, tile: Tile) -> Result<(), NoM
 
 /// Writes the sections of the wires.
 pub fn put_wires(text: &mut Vec<u8>, grid: &Grid) -> Result<(), NoMemory>
-    ensures { OnOk result (text.new.items ≡ text.old.items ++ text_of_lines (all_wire_lines grid.now.width grid.now.height grid.now.tiles.items)) }
+    ensures { OnOk result (text.new.items
+        ≡ text.old.items ++ text_of_lines (all_wire_lines grid.now.width grid.now.height grid.now.tiles.items)) }
 {
     put_global_wires(text, &grid.tiles)?;
     for tile in &grid.tiles {

@@ -1,7 +1,7 @@
 -- The cells that wires are outputs of have numbers below eight.
-use Rattle.std.proofs.Common.{◌≡◌, ◌⊎◌, ℕ, ◌-◌, ◌<◌, ◌≤◌, Bool, true, false, cond, List, [], ◌∷◌, Some, None, Option, inl, inr, refl, sym, subst, eqb, leb, arith}
-use Rattle.std.specs.Prelude.{◌&&◌, codes, bytes_eq}
-use Rattle.std.proofs.lemmas.Bool.{leb-true, cond_both}
+use Rattle.std.proofs.Common.{◌≡◌, ◌⊎◌, ℕ, ◌-◌, ◌<◌, List, [], ◌∷◌, Some, None, Option, inl, inr, sym, subst}
+use Rattle.std.specs.Prelude.{codes, bytes_eq}
+use Rattle.std.proofs.lemmas.Bool.{cond_both}
 use Rattle.ice_base.specs.declared.number.TileAt.{TileAt}
 use Rattle.ice_chip.specs.Database.{Parts}
 use Rattle.ice_chip.specs.Lookups.{kind_at, names_of}
@@ -13,6 +13,7 @@ use Rattle.ice_chip.specs.declared.placed.PlacedName.{PlacedName}
 use Rattle.ice_decode.specs.declared.role.Role.{Role}
 use Rattle.ice_decode.specs.declared.role.Role.TheVariants.{Plain, Output, LookUp, CarryOut, PadInput, Global, CarryIn, ClockEnable}
 use Rattle.ice_decode.specs.Roles.{number_at, global_role, output_role, or_global, logic_role, io_role, role_in, role_or, first_role, role_of}
+use Rattle.ice_decode.proofs.CellDigits.{digit_small}
 
 abbrev pub IsSmall : Role → Type 0
 IsSmall Plain = Unit {0}
@@ -27,24 +28,6 @@ IsSmall ClockEnable = Unit {0}
 abbrev IsSmallIf : Option Role → Type 0
 IsSmallIf None = Unit {0}
 IsSmallIf (Some role) = IsSmall role
-
--- a name of a cell's pin has a digit below eight
-digit_small : (name : List ℕ) → (number_at name 6 < 8) ⊎ (cell_pin name ≡ [])
-digit_small [] = inr refl
-digit_small (a ∷ []) = inr refl
-digit_small (a ∷ b ∷ []) = inr refl
-digit_small (a ∷ b ∷ c ∷ []) = inr refl
-digit_small (a ∷ b ∷ c ∷ d ∷ []) = inr refl
-digit_small (a ∷ b ∷ c ∷ d ∷ e ∷ []) = inr refl
-digit_small (a ∷ b ∷ c ∷ d ∷ e ∷ f ∷ []) = inr refl
-digit_small (a ∷ b ∷ c ∷ d ∷ e ∷ f ∷ i ∷ []) = inr refl
-digit_small (a ∷ b ∷ c ∷ d ∷ e ∷ f ∷ i ∷ g ∷ pin) =
-    by (eqb a 108 && eqb b 117 && eqb c 116 && eqb d 102 && eqb e 102 && eqb f 95 && leb 48 i) (leb i 55) (eqb g 47) refl
-  where
-    by : (x y z : Bool) → leb i 55 ≡ y → (i - 48 < 8) ⊎ (cond ((x && y) && z) pin [] ≡ [])
-    by x true z e = let le : i ≤ 55 = leb-true i 55 e in inl (omega arith)
-    by true false z e = inr refl
-    by false false z e = inr refl
 
 global_small : (name : List ℕ) → IsSmallIf (global_role name)
 global_small name = cond_both (is_global_name name) (Some (Global (number_at name 10))) None IsSmallIf (λ e. tt) (λ e. tt)

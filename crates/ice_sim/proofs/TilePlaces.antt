@@ -1,42 +1,24 @@
 -- What a configured chip finds while it is compiled.
-use Rattle.std.proofs.Common.{◌≡◌, ℕ, suc, ◌+◌, ◌<◌, Bool, true, false, cond, List, [], ◌∷◌, ◌++◌, length, map, get_or, Option, Some, None, refl, ap, sym, ◌∙◌, arith, eq-eqb, eqb-true}
-use Rattle.std.specs.Prelude.{◌==◌, option_map, position}
-use Rattle.std.specs.List.{range_with_len}
+use Rattle.std.proofs.Common.{◌≡◌, ℕ, suc, ◌+◌, Bool, true, false, cond, List, [], ◌∷◌, ◌++◌, Option, Some, None, refl, ap, sym, ◌∙◌, arith}
+use Rattle.std.specs.Prelude.{option_map, position}
 use Rattle.std.specs.Map.{lookup}
-use Rattle.std.proofs.lemmas.List.FromFn.{length-map-range_with_len, get_or-map-range_with_len}
 use Rattle.ice_base.specs.declared.number.TileAt.{TileAt}
 use Rattle.ice_chip.specs.Database.{Parts}
 use Rattle.ice_chip.specs.IsRead.{IsChip}
 use Rattle.ice_chip.specs.Places.{same_tile, same_pad}
 use Rattle.ice_chip.specs.declared.rows.Pad.{Pad}
+use Rattle.ice_chip.proofs.Keys.{tile_turned, pad_turned}
 use Rattle.ice_bits.specs.Configuration.{Bits}
 use Rattle.ice_decode.specs.declared.driver.Driver.{Driver}
 use Rattle.ice_decode.specs.declared.driver.Driver.TheVariants.{Nothing, By, Several}
 use Rattle.ice_decode.specs.Drivers.{driver}
 use Rattle.ice_decode.specs.Cells.{tile_place}
 use Rattle.ice_decode.specs.Faults.{or_else}
-use Rattle.ice_decode.specs.Refusals.{AreDrivers}
 use Rattle.ice_base.proofs.Keys.{tile_same}
 use Rattle.ice_decode.proofs.Switches.{driver_between}
 use Rattle.ice_sim.specs.ChipSlots.{pad_place}
 use Rattle.ice_sim.specs.ConfiguredChips.{ComesFrom, put_place, with_place, with_places}
 use Rattle.ice_sim_sweep.proofs.Feeding.{position_cons}
-
--- ---- tests are the same both ways
-number_turned : (a b : ℕ) → (a == b) ≡ (b == a)
-number_turned a b = of (a == b) (b == a) refl refl
-  where
-    of : (x y : Bool) → (a == b) ≡ x → (b == a) ≡ y → x ≡ y
-    of true true e f = refl
-    of false false e f = refl
-    of true false e f = let same : a ≡ b = eqb-true a b e in let hit : (b == a) ≡ true = eq-eqb b a (sym same) in cc (hit, f)
-    of false true e f = let same : b ≡ a = eqb-true b a f in let hit : (a == b) ≡ true = eq-eqb a b (sym same) in cc (hit, e)
-
-tile_turned : (a b : TileAt) → same_tile a b ≡ same_tile b a
-tile_turned a b = rw (number_turned a.x b.x, number_turned a.y b.y) refl
-
-pad_turned : (a b : Pad) → same_pad a b ≡ same_pad b a
-pad_turned a b = rw (tile_turned a.tile b.tile, number_turned a.pio b.pio) refl
 
 -- ---- tiles
 lookup_push : (t u : TileAt) (k : ℕ) (entries : List (TileAt × ℕ))
@@ -105,16 +87,6 @@ pad_found (p ∷ bonded) pad =
     ∙ ap (λ b. cond b (Some 0) (option_map suc (pad_place bonded pad))) (pad_turned pad p)
 
 -- ---- drivers
-pub driver_within : (parts : Parts) (bits : Bits) (drivers : List Driver) (w : ℕ) → AreDrivers parts bits drivers → w < parts.wires → w < length drivers
-driver_within parts bits drivers w are lt =
-    let long : length (map (driver parts bits) (range_with_len 0 parts.wires)) ≡ parts.wires = length-map-range_with_len (driver parts bits) 0 parts.wires in
-    let same : length drivers ≡ length (map (driver parts bits) (range_with_len 0 parts.wires)) = ap length are in
-    omega arith
-
-pub driver_found : (parts : Parts) (bits : Bits) (drivers : List Driver) (w : ℕ) (d : Driver) → AreDrivers parts bits drivers → w < parts.wires → get_or drivers w d ≡ driver parts bits w
-driver_found parts bits drivers w d are lt =
-    ap (λ (list : List Driver). get_or list w d) are ∙ get_or-map-range_with_len (driver parts bits) 0 parts.wires w w d lt (omega arith)
-
 pub comes_from : (parts : Parts) (bits : Bits) (w : ℕ) (d : Driver) → IsChip parts → d ≡ driver parts bits w → ComesFrom parts.wires d
 comes_from parts bits w Nothing chip e = tt
 comes_from parts bits w (By s) chip e = let between = driver_between parts bits w s chip.read (sym e) in between.source

@@ -44,7 +44,8 @@ fn keeper(
     tile: TileAt,
     cell: u8,
 ) -> Keeper
-    ensures { result ≡ keeper_of configured.now.parts (bits_of configured.now.configuration) slots.now place datum (tile, cell) }
+    ensures { result
+        ≡ keeper_of configured.now.parts (bits_of configured.now.configuration) slots.now place datum (tile, cell) }
 {
     Keeper {
         cell: place,
@@ -66,8 +67,10 @@ fn add_flop(
     feeds: &mut Vec<Feed>,
     keepers: &mut Vec<Keeper>,
 ) -> Result<(), NoMemory>
-    ensures feeds { OnOk result (feeds.new.items ≡ feeds.old.items ++ store_feeds configured.now.parts (bits_of configured.now.configuration) configured.now.bonded slots.now (length feeds.old.items) (cell_store cell)) }
-    ensures keepers { OnOk result (keepers.new.items ≡ keepers.old.items ++ store_keepers configured.now.parts (bits_of configured.now.configuration) slots.now place (length feeds.old.items) (cell_store cell)) }
+    ensures feeds { OnOk result (feeds.new.items
+        ≡ feeds.old.items ++ store_feeds configured.now.parts (bits_of configured.now.configuration) configured.now.bonded slots.now (length feeds.old.items) (cell_store cell)) }
+    ensures keepers { OnOk result (keepers.new.items
+        ≡ keepers.old.items ++ store_keepers configured.now.parts (bits_of configured.now.configuration) slots.now place (length feeds.old.items) (cell_store cell)) }
 {
     let (tile, number) = cell;
     if !has_flop(configured.chip(), configured.bits(), tile, number) {
@@ -91,8 +94,10 @@ pub(crate) fn add_flops(
     keepers: &mut Vec<Keeper>,
 ) -> Result<(), NoMemory>
     requires { keepers.old.items ≡ [] }
-    ensures feeds { OnOk result (feeds.new.items ≡ feeds.old.items ++ feeds_from configured.now.parts (bits_of configured.now.configuration) configured.now.bonded slots.now (length feeds.old.items) (flat_map cell_stores cells.now)) }
-    ensures keepers { OnOk result (keepers.new.items ≡ keepers_from configured.now.parts (bits_of configured.now.configuration) configured.now.bonded slots.now 0 (length feeds.old.items) (flat_map cell_stores cells.now)) }
+    ensures feeds { OnOk result (feeds.new.items
+        ≡ feeds.old.items ++ feeds_from configured.now.parts (bits_of configured.now.configuration) configured.now.bonded slots.now (length feeds.old.items) (flat_map cell_stores cells.now)) }
+    ensures keepers { OnOk result (keepers.new.items
+        ≡ keepers_from configured.now.parts (bits_of configured.now.configuration) configured.now.bonded slots.now 0 (length feeds.old.items) (flat_map cell_stores cells.now)) }
 {
     for (place, cell) in cells.iter().enumerate() {
         add_flop(configured, slots, place, *cell, feeds, keepers)?;

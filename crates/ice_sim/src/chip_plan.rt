@@ -48,7 +48,8 @@ fn lay_out(
     requires stores { AreStoresOf configured.now.parts stores.now }
     requires order { IsOrderOf configured.now.parts (bits_of configured.now.configuration) configured.now.configuration.extras order.now }
     ensures chip { OnOk result (IsChip configured.now.parts) }
-    ensures layout { IfOk result (λ out. layout_of out.0.items out.1.items ≡ laid configured.now.parts (bits_of configured.now.configuration) configured.now.configuration.extras configured.now.bonded order.now (bare_layout configured.now.parts)) }
+    ensures layout { IfOk result (λ out. layout_of out.0.items out.1.items
+        ≡ laid configured.now.parts (bits_of configured.now.configuration) configured.now.configuration.extras configured.now.bonded order.now (bare_layout configured.now.parts)) }
 {
     let points = configured.chip().wires() as usize + stores.cells.len();
     let mut slots = zeros(alloc, points)?;
@@ -66,8 +67,10 @@ fn keepers(
     feeds: &mut Vec<Feed>,
 ) -> Result<Vec<Keeper>, NoMemory>
     requires { AreStoresOf configured.now.parts all.now }
-    ensures feeds { OnOk result (feeds.new.items ≡ feeds.old.items ++ feeds_from configured.now.parts (bits_of configured.now.configuration) configured.now.bonded slots.now (length feeds.old.items) (stores configured.now.parts)) }
-    ensures keepers { IfOk result (λ keepers. keepers.items ≡ keepers_from configured.now.parts (bits_of configured.now.configuration) configured.now.bonded slots.now 0 (length feeds.old.items) (stores configured.now.parts)) }
+    ensures feeds { OnOk result (feeds.new.items
+        ≡ feeds.old.items ++ feeds_from configured.now.parts (bits_of configured.now.configuration) configured.now.bonded slots.now (length feeds.old.items) (stores configured.now.parts)) }
+    ensures keepers { IfOk result (λ keepers. keepers.items
+        ≡ keepers_from configured.now.parts (bits_of configured.now.configuration) configured.now.bonded slots.now 0 (length feeds.old.items) (stores configured.now.parts)) }
 {
     let mut keepers = Vec::new(alloc);
     add_flops(configured, slots, &all.cells, feeds, &mut keepers)?;
@@ -84,10 +87,12 @@ fn plan_of(
     keepers: Vec<Keeper>,
     feeds: &mut Vec<Feed>,
 ) -> Result<Plan, NoMemory>
-    ensures feeds { OnOk result (feeds.new.items ≡ feeds.old.items ++ map (output_feed configured.now.parts (bits_of configured.now.configuration)) configured.now.bonded) }
+    ensures feeds { OnOk result (feeds.new.items
+        ≡ feeds.old.items ++ map (output_feed configured.now.parts (bits_of configured.now.configuration)) configured.now.bonded) }
     ensures wired { IfOk result (IsWired feeds.new.items) }
     ensures keepers { IfOk result (λ plan. plan.keepers.items ≡ keepers.items) }
-    ensures taps { IfOk result (λ plan. plan.taps.items ≡ taps_from configured.now.parts (bits_of configured.now.configuration) slots.now (length feeds.old.items) configured.now.bonded) }
+    ensures taps { IfOk result (λ plan. plan.taps.items
+        ≡ taps_from configured.now.parts (bits_of configured.now.configuration) slots.now (length feeds.old.items) configured.now.bonded) }
 {
     let mut taps = Vec::new(alloc);
     add_taps(configured, slots, feeds, &mut taps)?;

@@ -52,7 +52,8 @@ impl<'a> ChipRun<'a> {
         package: &'a Package,
     ) -> Result<ChipRun<'a>, NoMemory>
         requires { IsCircuitOf chip.now circuit.now.configuration circuit.now }
-        ensures { IfOk result (λ run. run ≡ record { parts = chip.now; configuration = circuit.now.configuration; bonded = «package».now.pads.keys; state = start chip.now }) }
+        ensures { IfOk result (λ run. run
+            ≡ record { parts = chip.now; configuration = circuit.now.configuration; bonded = «package».now.pads.keys; state = start chip.now }) }
     {
         let stores = chip_stores(alloc, chip)?;
         let (plan, values) = compile_chip(alloc, chip, circuit, package, &stores)?;
@@ -72,8 +73,10 @@ impl<'a> ChipRun<'a> {
     pub fn step(&mut self, levels: &[bool], out: &mut [Drive])
         requires levels { length levels.now ≡ length self.old.bonded }
         requires out { length out.old ≡ length self.old.bonded }
-        ensures run { self.new ≡ with_state self.old (step self.old.parts (bits_of self.old.configuration) self.old.configuration.extras self.old.bonded self.old.bonded self.old.state levels.now).0 }
-        ensures out { out.new ≡ (step self.old.parts (bits_of self.old.configuration) self.old.configuration.extras self.old.bonded self.old.bonded self.old.state levels.now).1 }
+        ensures run { self.new
+            ≡ with_state self.old (step self.old.parts (bits_of self.old.configuration) self.old.configuration.extras self.old.bonded self.old.bonded self.old.state levels.now).0 }
+        ensures out { out.new
+            ≡ (step self.old.parts (bits_of self.old.configuration) self.old.configuration.extras self.old.bonded self.old.bonded self.old.state levels.now).1 }
     {
         sweep(
             &self.plan,

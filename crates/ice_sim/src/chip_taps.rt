@@ -62,8 +62,10 @@ pub(crate) fn add_taps(
     taps: &mut Vec<Tap>,
 ) -> Result<(), NoMemory>
     requires { taps.old.items ≡ [] }
-    ensures feeds { OnOk result (feeds.new.items ≡ feeds.old.items ++ map (output_feed configured.now.parts (bits_of configured.now.configuration)) configured.now.bonded) }
-    ensures taps { OnOk result (taps.new.items ≡ taps_from configured.now.parts (bits_of configured.now.configuration) slots.now (length feeds.old.items) configured.now.bonded) }
+    ensures feeds { OnOk result (feeds.new.items
+        ≡ feeds.old.items ++ map (output_feed configured.now.parts (bits_of configured.now.configuration)) configured.now.bonded) }
+    ensures taps { OnOk result (taps.new.items
+        ≡ taps_from configured.now.parts (bits_of configured.now.configuration) slots.now (length feeds.old.items) configured.now.bonded) }
 {
     for pad in configured.pads().iter() {
         let own = small(feeds.len())?;

@@ -99,7 +99,8 @@ impl<'a> ConfiguredChip<'a> {
     ) -> Result<ConfiguredChip<'a>, NoMemory>
         requires circuit { IsCircuitOf chip.now circuit.now.configuration circuit.now }
         requires stores { AreStoresOf chip.now stores.now }
-        ensures { IfOk result (λ configured. configured ≡ record { parts = chip.now; configuration = circuit.now.configuration; bonded = «package».now.pads.keys }) }
+        ensures { IfOk result (λ configured. configured
+            ≡ record { parts = chip.now; configuration = circuit.now.configuration; bonded = «package».now.pads.keys }) }
     {
         let cells = small(stores.cells.len())?;
         let stores = stores.count()?;
@@ -139,7 +140,7 @@ impl<'a> ConfiguredChip<'a> {
     }
 
     /// What drives a wire of the chip.
-    #[tactic(auto, using(crate::proofs::TilePlaces::driver_within, crate::proofs::TilePlaces::driver_found, crate::proofs::TilePlaces::comes_from))]
+    #[tactic(auto, using(ice_decode::proofs::DriverTables::driver_within, ice_decode::proofs::DriverTables::driver_found, crate::proofs::TilePlaces::comes_from))]
     pub(crate) fn driver(&self, wire: WireNo) -> Driver
         requires { wire.0 < self.now.parts.wires }
         ensures driver { result ≡ driver self.now.parts (bits_of self.now.configuration) wire.0 }

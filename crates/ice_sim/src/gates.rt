@@ -19,7 +19,8 @@ const MAJORITY: u16 = 0xe8;
 
 // A bit of a cell, as a number.
 fn digit(configured: &ConfiguredChip<'_>, tile: TileAt, cell: u8, place: usize) -> u16
-    ensures { result ≡ (if cell_bit configured.now.parts (bits_of configured.now.configuration) tile cell place then 1 else 0) }
+    ensures { result
+        ≡ (if cell_bit configured.now.parts (bits_of configured.now.configuration) tile cell place then 1 else 0) }
 {
     u16::from(cell_bit(configured.chip(), configured.bits(), tile, cell, place))
 }
@@ -34,7 +35,8 @@ fn digits(
     third: usize,
     fourth: usize,
 ) -> u16
-    ensures value { result ≡ number_of (map (cell_bit configured.now.parts (bits_of configured.now.configuration) tile cell) (first ∷ second ∷ third ∷ fourth ∷ [])) }
+    ensures value { result
+        ≡ number_of (map (cell_bit configured.now.parts (bits_of configured.now.configuration) tile cell) (first ∷ second ∷ third ∷ fourth ∷ [])) }
     ensures small { result < 16 }
 {
     let lower = digit(configured, tile, cell, first) + 2 * digit(configured, tile, cell, second);

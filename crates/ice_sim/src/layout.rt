@@ -44,7 +44,8 @@ fn place(
 ) -> Result<(), NoMemory>
     requires number { number < length slots.old }
     requires next { next ≡ length feeds.old.items }
-    ensures { OnOk result (layout_of slots.new feeds.new.items ≡ placed slot number (layout_of slots.old feeds.old.items)) }
+    ensures { OnOk result (layout_of slots.new feeds.new.items
+        ≡ placed slot number (layout_of slots.old feeds.old.items)) }
 {
     match slot {
         PointSlot::Shared(shared) => slots[number] = shared,
@@ -64,7 +65,8 @@ fn lay_point(
     feeds: &mut Vec<Feed>,
 ) -> Result<(), NoMemory>
     requires { IsPointBelow configured.now.parts (length slots.old) point }
-    ensures { OnOk result (layout_of slots.new feeds.new.items ≡ placed (point_slot configured.now.parts (bits_of configured.now.configuration) configured.now.configuration.extras configured.now.bonded slots.old (length feeds.old.items) point) (number configured.now.parts point) (layout_of slots.old feeds.old.items)) }
+    ensures { OnOk result (layout_of slots.new feeds.new.items
+        ≡ placed (point_slot configured.now.parts (bits_of configured.now.configuration) configured.now.configuration.extras configured.now.bonded slots.old (length feeds.old.items) point) (number configured.now.parts point) (layout_of slots.old feeds.old.items)) }
 {
     let next = small(feeds.len())?;
     let slot = point_slot(configured, slots, next, point);
@@ -79,7 +81,8 @@ pub(crate) fn lay(
     feeds: &mut Vec<Feed>,
 ) -> Result<(), NoMemory>
     requires { All (IsPointBelow configured.now.parts (length slots.old)) order.now }
-    ensures { OnOk result (layout_of slots.new feeds.new.items ≡ laid configured.now.parts (bits_of configured.now.configuration) configured.now.configuration.extras configured.now.bonded order.now (layout_of slots.old feeds.old.items)) }
+    ensures { OnOk result (layout_of slots.new feeds.new.items
+        ≡ laid configured.now.parts (bits_of configured.now.configuration) configured.now.configuration.extras configured.now.bonded order.now (layout_of slots.old feeds.old.items)) }
 {
     for point in order {
         lay_point(configured, *point, slots, feeds)?;

@@ -78,7 +78,8 @@ fn output_slot(
     tile: TileAt,
     cell: u8,
 ) -> PointSlot
-    ensures { result ≡ role_slot configured.now.parts (bits_of configured.now.configuration) configured.now.configuration.extras configured.now.bonded slots.now next (Output tile cell) }
+    ensures { result
+        ≡ role_slot configured.now.parts (bits_of configured.now.configuration) configured.now.configuration.extras configured.now.bonded slots.now next (Output tile cell) }
 {
     if has_flop(configured.chip(), configured.bits(), tile, cell) {
         return kept_slot(configured.cell_place(tile, cell));
@@ -88,7 +89,8 @@ fn output_slot(
 
 // The slot of the level of the wire of a pad, which is what the pad gives, or what a register kept of it.
 fn input_slot(configured: &ConfiguredChip<'_>, pad: Pad) -> PointSlot
-    ensures { result ≡ role_slot configured.now.parts (bits_of configured.now.configuration) [] configured.now.bonded [] 0 (PadInput pad) }
+    ensures { result
+        ≡ role_slot configured.now.parts (bits_of configured.now.configuration) [] configured.now.bonded [] 0 (PadInput pad) }
 {
     if has_input_register(configured.chip(), configured.bits(), pad) {
         return PointSlot::Own(configured.register_feed(pad, 0));
@@ -118,7 +120,8 @@ fn fabout_slot(configured: &ConfiguredChip<'_>, slots: &[u32], global: u8) -> u3
 
 // The slot of a global.
 fn global_slot(configured: &ConfiguredChip<'_>, slots: &[u32], global: u8) -> PointSlot
-    ensures { result ≡ role_slot configured.now.parts (bits_of configured.now.configuration) configured.now.configuration.extras configured.now.bonded slots.now 0 (Global global) }
+    ensures { result
+        ≡ role_slot configured.now.parts (bits_of configured.now.configuration) configured.now.configuration.extras configured.now.bonded slots.now 0 (Global global) }
 {
     if configured.takes_pad(global) {
         return fed_slot(configured, configured.chip().gbufpin_of(global));
@@ -128,14 +131,16 @@ fn global_slot(configured: &ConfiguredChip<'_>, slots: &[u32], global: u8) -> Po
 
 // The slot of the carry into a tile where no row that is on leads there.
 fn carry_in_slot(configured: &ConfiguredChip<'_>, tile: TileAt) -> u32
-    ensures { result ≡ (if set_at configured.now.parts (bits_of configured.now.configuration) tile (codes "CarryInSet") 0 then 1 else 0) }
+    ensures { result
+        ≡ (if set_at configured.now.parts (bits_of configured.now.configuration) tile (codes "CarryInSet") 0 then 1 else 0) }
 {
     u32::from(setting(configured.chip(), configured.bits(), tile, b"CarryInSet", 0))
 }
 
 // The slot of a wire without a row that is on.
 fn role_slot(configured: &ConfiguredChip<'_>, slots: &[u32], next: u32, role: Role) -> PointSlot
-    ensures { result ≡ role_slot configured.now.parts (bits_of configured.now.configuration) configured.now.configuration.extras configured.now.bonded slots.now next role }
+    ensures { result
+        ≡ role_slot configured.now.parts (bits_of configured.now.configuration) configured.now.configuration.extras configured.now.bonded slots.now next role }
 {
     match role {
         Role::Plain => PointSlot::Shared(0),
@@ -154,7 +159,8 @@ fn role_slot(configured: &ConfiguredChip<'_>, slots: &[u32], next: u32, role: Ro
 // The slot of what a row of switches that is on gives.
 fn switch_slot(configured: &ConfiguredChip<'_>, slots: &[u32], switch: Switch) -> u32
     requires { switch.source.0 < configured.now.parts.wires }
-    ensures { result ≡ (if passes configured.now.parts (bits_of configured.now.configuration) switch then slot_in configured.now.parts slots.now (Wire switch.source) else 0) }
+    ensures { result
+        ≡ (if passes configured.now.parts (bits_of configured.now.configuration) switch then slot_in configured.now.parts slots.now (Wire switch.source) else 0) }
 {
     if passes(configured.chip(), configured.bits(), &switch) {
         configured.slot_in(slots, Point::Wire(switch.source))
@@ -166,7 +172,8 @@ fn switch_slot(configured: &ConfiguredChip<'_>, slots: &[u32], switch: Switch) -
 // The slot of a wire of the chip.
 fn wire_slot(configured: &ConfiguredChip<'_>, slots: &[u32], next: u32, wire: WireNo) -> PointSlot
     requires { wire.0 < configured.now.parts.wires }
-    ensures { result ≡ driven_slot configured.now.parts (bits_of configured.now.configuration) configured.now.configuration.extras configured.now.bonded slots.now next (role_of configured.now.parts wire.0) (driver configured.now.parts (bits_of configured.now.configuration) wire.0) }
+    ensures { result
+        ≡ driven_slot configured.now.parts (bits_of configured.now.configuration) configured.now.configuration.extras configured.now.bonded slots.now next (role_of configured.now.parts wire.0) (driver configured.now.parts (bits_of configured.now.configuration) wire.0) }
 {
     match configured.driver(wire) {
         Driver::Nothing => role_slot(configured, slots, next, role_of(configured.chip(), wire)),
@@ -183,7 +190,8 @@ pub(crate) fn point_slot(
     point: Point,
 ) -> PointSlot
     requires { HasWire configured.now.parts point }
-    ensures { result ≡ point_slot configured.now.parts (bits_of configured.now.configuration) configured.now.configuration.extras configured.now.bonded slots.now next point }
+    ensures { result
+        ≡ point_slot configured.now.parts (bits_of configured.now.configuration) configured.now.configuration.extras configured.now.bonded slots.now next point }
 {
     match point {
         Point::Wire(wire) => wire_slot(configured, slots, next, wire),

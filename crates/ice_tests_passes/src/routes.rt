@@ -112,8 +112,10 @@ fn show_routes<R: Threads + Sync>(
         seed: 1,
         rounds: 64,
         workers: 2,
+        opening: false,
     };
-    match route(rt, alloc, chip, layout, nets, effort, &OpenGate) {
+    let mut kept = Vec::new(alloc);
+    match route(rt, alloc, chip, layout, nets, effort, &mut kept, &OpenGate) {
         Ok(routed) => {
             let shown = show_routed(text, alloc, chip, layout, nets.len(), &routed);
             drop(routed);

@@ -1,1 +1,2 @@
+mod OneBlock
 mod TwoNets

@@ -1,1 +1,2 @@
+pub mod OneBlock
 pub mod TwoNets

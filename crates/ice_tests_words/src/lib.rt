@@ -1,6 +1,8 @@
-//! Tests of what workers share: the words of a round, and the table of an opening.
+//! Tests of what workers share: the words of a round, those of histories, and the table of an opening.
 #![tactic(auto)]
 
+#[cfg(test)]
+mod blocks;
 #[cfg(test)]
 mod claims;
 #[cfg(test)]

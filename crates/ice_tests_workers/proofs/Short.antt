@@ -120,7 +120,7 @@ first_ready graph r t u wires round history counts t_of u_of t_old u_old =
     }
 
 -- the wire of this number
-abbrev wire : ℕ → WireNo
+abbrev pub wire : ℕ → WireNo
 wire n = record { 0 = n }
 
 pub second_ready : (graph : Network) (third : ℕ) (r : RoundPrices) (t : Task) → third ≤ 2 → graph.wires ≡ 7 → r.round ≡ 2 → r.history.items ≡ 0 ∷ 0 ∷ 1 ∷ 0 ∷ 0 ∷ 0 ∷ 0 ∷ [] → r.counts.items ≡ 1 ∷ 1 ∷ 2 ∷ third ∷ 0 ∷ 1 ∷ 1 ∷ []

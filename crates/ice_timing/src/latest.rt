@@ -52,7 +52,7 @@ fn numbers_read(
     requires point { Has numbering.now point }
     ensures { IfOk result (λ row. map (slice_get numbering.now) row.items ≡ map (λ p. Some p) (depends_on chip.now (bits_of circuit.now.configuration) circuit.now.configuration.extras point)) }
 {
-    let _wires = chip.wires();
+    chip.is_chip();
     let mut reads = Vec::new(alloc);
     let mut row = Vec::new(alloc);
     add_reads(

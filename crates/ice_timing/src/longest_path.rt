@@ -78,7 +78,7 @@ pub fn longest(
     requires arrivals { AreArrivalsOf chip.now (bits_of circuit.now.configuration) circuit.now.configuration.extras delays.now arrivals.now }
     ensures { IfOk result (IsFound chip.now (bits_of circuit.now.configuration) circuit.now.configuration.extras delays.now) }
 {
-    let _wires = chip.wires();
+    chip.is_chip();
     let entries = entries(alloc, chip, circuit.bits())?;
     let Some(latest) = latest_entry(arrivals, delays, &entries) else {
         return Ok(None);

@@ -11,4 +11,4 @@ pub loop-tile-preserved : goal.loop-tile-preserved
 loop-tile-preserved c =
     c.in_ok-insert.ensures.keys
     ∙ tile_next c.args.tiles.now c.loop-tile.set.keys c.loop-tile.tile-index _
-    (subst (λ (tiles : List TileAt). IsDistinct same_tile tiles) (sym c.requires) (IsDistinct-keys_filter same_tile is_logic_tile c.args.chip.now.tiles c.wires-wires.ensures.chip.read.tiles_once)) (omega arith) c.loop-tile.invariant
+    (subst (λ (tiles : List TileAt). IsDistinct same_tile tiles) (sym c.requires) (IsDistinct-keys_filter same_tile is_logic_tile c.args.chip.now.tiles c.is_chip.ensures.read.tiles_once)) (omega arith) c.loop-tile.invariant

@@ -2,7 +2,8 @@ use Rattle.std.proofs.Common.{◌<◌, ◌∙◌, List, length, get_or, ap, sym,
 use Rattle.ice_bits.specs.Configuration.{bits_of}
 use Rattle.ice_decode.specs.declared.driver.Driver.{Driver}
 use Rattle.ice_decode.specs.declared.driver.Driver.TheVariants.{Nothing}
-use Rattle.ice_back_points.proofs.ConfiguredFacts.{driver_within, driver_found, comes_from}
+use Rattle.ice_decode.proofs.DriverTables.{driver_within, driver_found}
+use Rattle.ice_back_points.proofs.ConfiguredFacts.{comes_from}
 use Rattle.ice_back_points.proofs.filling.driver.Goals as goal
 
 pub bounds-drivers-wire : goal.bounds-drivers-wire
@@ -17,6 +18,6 @@ returns-clause-driver c =
 
 pub returns-clause-source : goal.returns-clause-source
 returns-clause-source c =
-    comes_from c.args.chip.now (bits_of c.args.circuit.now.configuration) c.args.wire.0 (get_or c.drivers.result.now c.args.wire.0 Nothing) c.wires-wires.ensures.chip.read
+    comes_from c.args.chip.now (bits_of c.args.circuit.now.configuration) c.args.wire.0 (get_or c.drivers.result.now c.args.wire.0 Nothing) c.is_chip.ensures.read
     (ap (λ (l : List Driver). get_or l c.args.wire.0 Nothing) c.drivers.ensures
     ∙ driver_found c.args.chip.now (bits_of c.args.circuit.now.configuration) c.args.circuit.now.drivers c.args.wire.0 Nothing c.requires.drivers c.requires.wire)

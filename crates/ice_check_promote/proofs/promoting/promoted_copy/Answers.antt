@@ -1,6 +1,5 @@
-use Rattle.std.proofs.Common.{rules, ◌≡◌, ◌∙◌, length, ap, subst}
+use Rattle.std.proofs.Common.{rules, ◌≡◌, ◌∙◌, length, ap}
 use Rattle.std.proofs.lemmas.List.{nil_from_length}
-use Rattle.ice_net.specs.Formed.{IsFormed, IsSingle}
 use Rattle.ice_check_promote.specs.Promoted.{promoted_clocks}
 use Rattle.ice_check_promote.proofs.NewNames.{can_take}
 use Rattle.ice_check_promote.proofs.Unpromoted.{unpromoted}
@@ -17,12 +16,8 @@ pub with_buffers-requires : goal.with_buffers-requires
 with_buffers-requires c =
     let n = c.args.sound.now in
     let same = c.netlist-netlist.ensures.netlist in
-    let formed : IsFormed n = subst IsFormed same c.cells-cells.ensures.formed in
-    let single : IsSingle n = subst IsSingle same c.ports-ports.ensures.single in
     let clocks = c.in_ok-clocks.ensures ∙ ap (λ m. promoted_clocks m c.args.free) same in
-    rw (same, clocks) (can_take n c.args.free formed single c.requires)
+    rw (same, clocks) (can_take n c.args.free c.is_sound.ensures.formed c.is_sound.ensures.single c.requires)
 
 pub returns-clause-shows : goal.returns-clause-shows
-returns-clause-shows c levels =
-    let n = c.args.sound.now in
-    c.promoted_show_the_same.ensures n c.args.free (subst IsFormed c.netlist-netlist.ensures.netlist c.cells-cells.ensures.formed) levels
+returns-clause-shows c levels = c.promoted_show_the_same.ensures c.args.sound.now c.args.free c.is_sound.ensures.formed levels

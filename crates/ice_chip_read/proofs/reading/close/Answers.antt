@@ -6,13 +6,13 @@ use Rattle.ice_chip_read.proofs.reading.close.Goals as goal
 pub returns-in_default : goal.returns-in_default
 returns-in_default c =
     let r = c.args.reading.now in
-    ap Ok (closing r r.parts c.replace-section.new.dest c.replace-group.new.dest c.replace-package.new.dest
+    ap Ok (closing r r.parts c.replace-section.new.dest c.replace-group.new.dest c.clear_package-in_default.new.pins
     (closed_other r.section (group_view r.group) (package_view r.pins) (parts_view r.parts)
     (λ e. c.in_default.not-Pins (c.replace-section.ensures.value ∙ e))
     (λ e. c.in_default.not-Switches (c.replace-section.ensures.value ∙ e)))
     c.replace-section.ensures.after
     (ap group_view c.replace-group.ensures.after ∙ c.no_group.ensures)
-    (ap package_view c.replace-package.ensures.after ∙ c.no_package.ensures))
+    c.clear_package-in_default.ensures)
 
 pub returns-in_ok-push-in-Pins : goal.returns-in_ok-push-in-Pins
 returns-in_ok-push-in-Pins c =
@@ -27,9 +27,9 @@ returns-in_ok-push-in-Pins c =
 pub returns-in_ok-push-in-Switches : goal.returns-in_ok-push-in-Switches
 returns-in_ok-push-in-Switches c =
     let r = c.args.reading.now in
-    ap Ok (closing r (record r.parts { groups = c.push-in-Switches.new.self }) c.replace-section.new.dest c.replace-group.new.dest c.replace-package.new.dest
+    ap Ok (closing r (record r.parts { groups = c.push-in-Switches.new.self }) c.replace-section.new.dest c.replace-group.new.dest c.clear_package.new.pins
     (closed_group r c.push-in-Switches.new.self (sym c.replace-section.ensures.value ∙ c.in-Switches.is)
     (c.in_ok-push-in-Switches.ensures.items ∙ ap (λ g. r.parts.groups.items ++ g ∷ []) c.replace-group.ensures.value))
     c.replace-section.ensures.after
     (ap group_view c.replace-group.ensures.after ∙ c.no_group.ensures)
-    (ap package_view c.replace-package.ensures.after ∙ c.no_package.ensures))
+    c.clear_package.ensures)

@@ -10,7 +10,7 @@ overflow_cast-result c =
     let found : contended_among c.args.drivers.now ≡ Some (c.in-Some.wire, c.in-Some.first.0, c.in-Some.second.0) = sym c.in-Some.ensures in
     let below : c.in-Some.wire < length c.args.drivers.now = contended_below c.args.drivers.now (c.in-Some.wire, c.in-Some.first.0, c.in-Some.second.0) found in
     let long : length c.args.drivers.now ≡ c.args.chip.now.wires = table_long (driver c.args.chip.now (bits_of c.args.bits.now)) c.args.chip.now.wires c.args.drivers.now c.requires in
-    let few : c.args.chip.now.wires ≤ 1048576 = c.wires-wires.ensures.chip.read.few_wires in
+    let few : c.args.chip.now.wires ≤ 1048576 = c.is_chip.ensures.read.few_wires in
     omega arith
 
 pub returns-in-Some-clause-fault : goal.returns-in-Some-clause-fault

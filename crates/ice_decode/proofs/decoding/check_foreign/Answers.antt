@@ -4,4 +4,4 @@ use Rattle.ice_decode.proofs.decoding.check_foreign.Goals as goal
 
 pub foreign_source-requires : goal.foreign_source-requires
 foreign_source-requires c =
-    all_between c.args.chip.now (bits_of c.args.bits.now) c.args.chip.now.wires c.args.switches.now c.wires-wires.ensures.chip.read (λ i. c.args.chip.now.wires) c.requires.rows
+    all_between c.args.chip.now (bits_of c.args.bits.now) c.args.chip.now.wires c.args.switches.now c.is_chip.ensures.read (λ i. c.args.chip.now.wires) c.requires.rows

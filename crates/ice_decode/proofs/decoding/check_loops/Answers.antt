@@ -6,5 +6,5 @@ use Rattle.ice_decode.proofs.decoding.check_loops.Goals as goal
 
 pub returns-in-Order-clause-loopless : goal.returns-in-Order-clause-loopless
 returns-in-Order-clause-loopless c =
-    loopless c.args.chip.now (bits_of c.args.bits.now) c.args.bits.now.extras c.wires-wires.ensures.chip.read c.in-Order.order.items
+    loopless c.args.chip.now (bits_of c.args.bits.now) c.args.bits.now.extras c.is_chip.ensures.read c.in-Order.order.items
     (subst (IsSearched c.args.chip.now (bits_of c.args.bits.now) c.args.bits.now.extras) c.in-Order.is c.in_ok-order.ensures)

@@ -21,7 +21,7 @@ number_all-requires c =
     let point : Point = get_or c.points-point-items.result.now c.loop-point.point-index (Wire (record { 0 = 0 })) in
     All-same (IsNumbered c.args.numbering.now) c.deref.result.now (reads c.args.chip.now (bits_of c.args.bits.now) c.args.bits.now.extras point)
     (c.deref.ensures.value ∙ c.in_ok-add_reads.ensures ∙ ap (λ inputs. inputs ++ reads c.args.chip.now (bits_of c.args.bits.now) c.args.bits.now.extras point) c.clear.ensures.items)
-    (reads_numbered c.args.chip.now (bits_of c.args.bits.now) c.args.bits.now.extras c.wires-wires.ensures.chip.read c.args.numbering.now c.points-point-items.result.now c.requires.points c.points-point-items.ensures
+    (reads_numbered c.args.chip.now (bits_of c.args.bits.now) c.args.bits.now.extras c.is_chip.ensures.read c.args.numbering.now c.points-point-items.result.now c.requires.points c.points-point-items.ensures
     c.loop-point.point-index (Wire (record { 0 = 0 })) c.loop-point-test.true)
 
 pub loop-point-preserved : goal.loop-point-preserved

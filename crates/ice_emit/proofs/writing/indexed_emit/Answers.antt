@@ -1,7 +1,7 @@
 use Rattle.std.proofs.Common.{map}
 use Rattle.ice_emit_nets.specs.Plans.{plan_in, plan_of}
 use Rattle.ice_graph.specs.Leading.{route_of}
-use Rattle.ice_emit.proofs.Meant.{are_wired, are_meant, have_no_loop}
+use Rattle.ice_emit.proofs.Meant.{are_wired, are_meant, have_no_loop, have_ring}
 use Rattle.ice_emit.proofs.Ready.{written_for}
 use Rattle.ice_emit.proofs.writing.indexed_emit.Goals as goal
 
@@ -18,6 +18,8 @@ returns c =
           c.wanted_rows_drive.ensures c.requires.placed.1 c.requires.trees written;
       loopless = have_no_loop parts c.requires.placed.0 plan c.args.pads.now.pullups (map route_of c.args.trees.now) c.in_ok-bits.bits c.roots_are_led_to_pins.ensures c.designs_are_set.ensures.apart c.designs_are_set.ensures.set
           c.wanted_rows_drive.ensures c.requires.placed.1 c.requires.trees written c.bits_have_no_loop.ensures;
+      ring = have_ring parts c.requires.placed.0 plan c.args.pads.now.pullups (map route_of c.args.trees.now) c.in_ok-bits.bits c.roots_are_led_to_pins.ensures c.designs_are_set.ensures.apart c.designs_are_set.ensures.set
+          c.wanted_rows_drive.ensures c.requires.placed.1 c.requires.trees written c.faulty_bits_have_a_ring.ensures;
       realised = are_meant parts c.requires.placed.0 plan c.args.pads.now.pullups (map route_of c.args.trees.now) c.in_ok-bits.bits c.roots_are_led_to_pins.ensures c.designs_are_set.ensures.apart c.designs_are_set.ensures.set
           c.wanted_rows_drive.ensures c.requires.placed.1 c.requires.trees written c.bits_realise_their_design.ensures;
     }

@@ -3,7 +3,7 @@ use Rattle.ice_emit_led_laws.proofs.laws.roots_are_led_to_pins.Goals as goal
 pub returns : goal.returns
 returns c rows plan pullups routes placed trees =
     let of_rows = c.rows_lead_on_from_roots.ensures rows plan pullups routes placed trees in
-    let of_pins = c.pins_are_led.ensures c.args.chip.now rows plan pullups routes c.wires.ensures.chip placed trees in
+    let of_pins = c.pins_are_led.ensures c.args.chip.now rows plan pullups routes c.is_chip.ensures placed trees in
     record {
       rows = of_rows.rows;
       roots = of_rows.roots;

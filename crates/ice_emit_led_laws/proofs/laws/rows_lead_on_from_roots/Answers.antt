@@ -6,7 +6,7 @@ pub returns : goal.returns
 returns c rows plan pullups routes placed trees =
     rows_led c.args.chip.now rows plan pullups (record {
       placed = placed;
-      read = c.wires.ensures.chip.read;
+      read = c.is_chip.ensures.read;
       lawful = c.chip_is_lawful.ensures;
       names = c.wire_names_are_read.ensures;
       slots = c.cells_stand_in_one_slot.ensures plan.design (listed plan) placed.formed placed.clusters;

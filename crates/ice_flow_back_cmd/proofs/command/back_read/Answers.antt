@@ -4,7 +4,7 @@ use Rattle.ice_chip.specs.Lookups.{package_of}
 use Rattle.ice_flow_frame.specs.Commands.{IsDone}
 use Rattle.ice_flow_chip_frame.proofs.Looks.{bits_refused}
 use Rattle.ice_flow_chip_frame.proofs.OneText.{one_is, none_refused}
-use Rattle.ice_flow_back_cmd.specs.Command.{Stands}
+use Rattle.ice_flow_back_cmd.specs.Command.{StandsForBack}
 use Rattle.ice_flow_back_cmd.specs.Made.{IsNetlistOfBits}
 use Rattle.ice_flow_back_cmd.proofs.Making.{is_listed, netlist_is}
 use Rattle.ice_flow_back_cmd.proofs.command.back_read.Goals as goal
@@ -37,7 +37,7 @@ returns-in-Ok-back_text-clause-made c = λ chip_text read.
     (netlist_is name texts c.args.chip.now c.args.bits.now c.in-Ok.circuit.configuration bonded text
     (record { is_packed = record { is_read = read; is_package = there }; faultless = c.in-Ok.ensures.circuit.faultless })
     c.in-Ok.ensures.circuit.same c.in-Ok-back_text.ensures.text c.in-Ok-back_text.ensures.says)
-    c.made_text.ensures.text c.made_text.ensures.arrangement c.made_text.ensures.tallies
+    c.made_text.ensures.text c.made_text.ensures.arrangement c.made_text.ensures.told
 
 pub returns-in-Ok-back_text-clause-refused : goal.returns-in-Ok-back_text-clause-refused
-returns-in-Ok-back_text-clause-refused c = λ chip_text read. none_refused (Stands c.args.package_name.now (chip_text ∷ c.args.texts.now)) c.made_text.result c.made_text.ensures.stop
+returns-in-Ok-back_text-clause-refused c = λ chip_text read. none_refused (StandsForBack c.args.package_name.now (chip_text ∷ c.args.texts.now)) c.made_text.result c.made_text.ensures.stop

@@ -11,7 +11,7 @@ returns-clause-says c =
     let parts = c.args.chip.now in
     let k = c.args.circuit.now.configuration in
     let rows = package_view c.args.bonded.now in
-    let read = c.wires-wires.ensures.chip.read in
+    let read = c.is_chip.ensures.read in
     let writable = can_be_written parts k rows read c.requires.listed c.requires.words n made.netlist made.sound in
     says_bits parts k rows read c.requires.listed c.requires.words n c.in_ok-text.text.items made.netlist made.shows
     (subst (λ (text : List ℕ). SaysTheSame text n) (sym c.in_ok-text.ensures.text) (c.in_ok-text.ensures.says made.sound writable))

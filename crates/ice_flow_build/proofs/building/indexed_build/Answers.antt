@@ -13,48 +13,48 @@ finish-requires-clause-placed g c κs within = let s = c.layouts_stand_on_their_
 pub returns-in_err-layout-clause-fault : goal.returns-in_err-layout-clause-fault
 returns-in_err-layout-clause-fault g c =
     let p = err_from_is_err_and c.from_residual.result c.from_residual.ensures.1 in
-    rw (p.1, p.2) (lay_fault (task_of c.args.chip.now c.args.name.now c.args.pcf.now c.args.sound.now) c.args.effort.rounds c.in_err-layout.field-0.0 c.in_err-layout.ensures.fault)
+    rw (p.1, p.2) (lay_fault (task_of c.args.chip.now c.args.name.now c.args.pcf.now c.args.sound.now) c.args.effort c.in_err-layout.field-0.0 c.in_err-layout.ensures.fault)
 
 pub returns-in_err-layout-clause-complete : goal.returns-in_err-layout-clause-complete
 returns-in_err-layout-clause-complete g c =
     let p = err_from_is_err_and c.from_residual.result c.from_residual.ensures.1 in
     let task = task_of c.args.chip.now c.args.name.now c.args.pcf.now c.args.sound.now in
-    rw (p.1, p.2) (complete task c.args.effort.rounds (Err c.in_err-layout.field-0.0) (lay_fault task c.args.effort.rounds c.in_err-layout.field-0.0 c.in_err-layout.ensures.fault))
+    rw (p.1, p.2) (complete task c.args.effort (Err c.in_err-layout.field-0.0) (lay_fault task c.args.effort c.in_err-layout.field-0.0 c.in_err-layout.ensures.fault))
 
 -- ---- the design is not routed
 pub returns-in_err-built-clause-fault : goal.returns-in_err-built-clause-fault
 returns-in_err-built-clause-fault g c =
     let p = err_from_is_err_and c.from_residual-in_err-built.result c.from_residual-in_err-built.ensures.1 in
     rw (p.1, p.2)
-    (end_fault (task_of c.args.chip.now c.args.name.now c.args.pcf.now c.args.sound.now) c.args.effort.rounds c.in_ok-layout.layout c.in_err-built.field-0.0 c.in_ok-layout.ensures.laid c.in_err-built.ensures.fault)
+    (end_fault (task_of c.args.chip.now c.args.name.now c.args.pcf.now c.args.sound.now) c.args.effort c.in_ok-layout.layout c.in_err-built.field-0.0 c.in_ok-layout.ensures.laid c.in_err-built.ensures.fault)
 
 pub returns-in_err-built-clause-complete : goal.returns-in_err-built-clause-complete
 returns-in_err-built-clause-complete g c =
     let p = err_from_is_err_and c.from_residual-in_err-built.result c.from_residual-in_err-built.ensures.1 in
     let task = task_of c.args.chip.now c.args.name.now c.args.pcf.now c.args.sound.now in
     rw (p.1, p.2)
-    (complete task c.args.effort.rounds (Err c.in_err-built.field-0.0)
-    (end_fault task c.args.effort.rounds c.in_ok-layout.layout c.in_err-built.field-0.0 c.in_ok-layout.ensures.laid c.in_err-built.ensures.fault))
+    (complete task c.args.effort (Err c.in_err-built.field-0.0)
+    (end_fault task c.args.effort c.in_ok-layout.layout c.in_err-built.field-0.0 c.in_ok-layout.ensures.laid c.in_err-built.ensures.fault))
 
 -- ---- the bits have no circuit
 pub returns-in-Err-clause-fault : goal.returns-in-Err-clause-fault
 returns-in-Err-clause-fault g c =
     let task = task_of c.args.chip.now c.args.name.now c.args.pcf.now c.args.sound.now in
-    let made = built task c.args.effort.rounds c.in_ok-layout.layout c.in_ok-built.built c.in_ok-layout.ensures.laid
+    let made = built task c.args.effort c.in_ok-layout.layout c.in_ok-built.built c.in_ok-layout.ensures.laid
     (c.layouts_stand_on_their_chip.ensures c.args.name.now c.args.pcf.now c.in_ok-layout.layout c.in_ok-layout.ensures.laid) c.in_ok-built.ensures.finished in
-    bits_stop task c.args.effort.rounds c.in_ok-built.built c.in-Err.fault made c.in-Err.ensures.fault
+    bits_stop task c.args.effort c.in_ok-built.built c.in-Err.fault c.in_ok-built.ensures.ring made c.in-Err.ensures.fault
 
 pub returns-in-Err-clause-complete : goal.returns-in-Err-clause-complete
 returns-in-Err-clause-complete g c =
     let task = task_of c.args.chip.now c.args.name.now c.args.pcf.now c.args.sound.now in
-    let made = built task c.args.effort.rounds c.in_ok-layout.layout c.in_ok-built.built c.in_ok-layout.ensures.laid
+    let made = built task c.args.effort c.in_ok-layout.layout c.in_ok-built.built c.in_ok-layout.ensures.laid
     (c.layouts_stand_on_their_chip.ensures c.args.name.now c.args.pcf.now c.in_ok-layout.layout c.in_ok-layout.ensures.laid) c.in_ok-built.ensures.finished in
-    complete task c.args.effort.rounds (Err c.in-Err.fault) (bits_stop task c.args.effort.rounds c.in_ok-built.built c.in-Err.fault made c.in-Err.ensures.fault)
+    complete task c.args.effort (Err c.in-Err.fault) (bits_stop task c.args.effort c.in_ok-built.built c.in-Err.fault c.in_ok-built.ensures.ring made c.in-Err.ensures.fault)
 
 -- ---- the bits are built
 pub returns-in-Ok-clause-built : goal.returns-in-Ok-clause-built
 returns-in-Ok-clause-built g c =
-    built (task_of c.args.chip.now c.args.name.now c.args.pcf.now c.args.sound.now) c.args.effort.rounds c.in_ok-layout.layout c.in_ok-built.built c.in_ok-layout.ensures.laid
+    built (task_of c.args.chip.now c.args.name.now c.args.pcf.now c.args.sound.now) c.args.effort c.in_ok-layout.layout c.in_ok-built.built c.in_ok-layout.ensures.laid
     (c.layouts_stand_on_their_chip.ensures c.args.name.now c.args.pcf.now c.in_ok-layout.layout c.in_ok-layout.ensures.laid) c.in_ok-built.ensures.finished
 
 pub returns-in-Ok-clause-circuit : goal.returns-in-Ok-clause-circuit
@@ -69,6 +69,6 @@ returns-in-Ok-clause-circuit g c =
 pub returns-in-Ok-clause-complete : goal.returns-in-Ok-clause-complete
 returns-in-Ok-clause-complete g c =
     let task = task_of c.args.chip.now c.args.name.now c.args.pcf.now c.args.sound.now in
-    complete task c.args.effort.rounds (Ok c.in_ok-built.built)
-    (built task c.args.effort.rounds c.in_ok-layout.layout c.in_ok-built.built c.in_ok-layout.ensures.laid
+    complete task c.args.effort (Ok c.in_ok-built.built)
+    (built task c.args.effort c.in_ok-layout.layout c.in_ok-built.built c.in_ok-layout.ensures.laid
     (c.layouts_stand_on_their_chip.ensures c.args.name.now c.args.pcf.now c.in_ok-layout.layout c.in_ok-layout.ensures.laid) c.in_ok-built.ensures.finished)

@@ -46,3 +46,14 @@ returns-clause-made g c =
     (end_is_in_files k outputs (D.seen c.args.desk.now) (D.seen made.new.desk) (D.seen end.new.desk) c.without_report.result end.result.cause made.ensures.same
     (subst (λ (r : Result Made Cause). IsMadeOf k (D.seen c.args.desk.now) (D.seen made.new.desk) r) (sym c.without_report.ensures.same) (made.ensures.made (InFiles outputs)))
     (none_reported k (D.seen c.args.desk.now) c.without_report.result refl c.without_report.ensures.none) end.ensures.end).made
+
+pub returns-clause-tells : goal.returns-clause-tells
+returns-clause-tells g c =
+    let D = g.D.Desk in
+    let made = c.make_of-made in
+    let end = c.end_in_files in
+    let outputs = files_view c.args.outputs.now in
+    let k = command_of (with_chip c.args.chip.now (files_view c.args.files.now)) (g.M.ChipMaking.stands c.args.making.now) (g.M.ChipMaking.gives c.args.making.now) (InFiles outputs) in
+    (end_is_in_files k outputs (D.seen c.args.desk.now) (D.seen made.new.desk) (D.seen end.new.desk) c.without_report.result end.result.cause made.ensures.same
+    (subst (λ (r : Result Made Cause). IsMadeOf k (D.seen c.args.desk.now) (D.seen made.new.desk) r) (sym c.without_report.ensures.same) (made.ensures.made (InFiles outputs)))
+    (none_reported k (D.seen c.args.desk.now) c.without_report.result refl c.without_report.ensures.none) end.ensures.end).tells

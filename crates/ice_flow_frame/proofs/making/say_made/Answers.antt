@@ -16,3 +16,10 @@ returns-clause-said g c =
     let made = c.make_of-made in
     let k = command_of (files_view c.args.files.now) (g.M.Making.stands c.args.making.now) (g.M.Making.gives c.args.making.now) Aloud in
     (end_is_aloud k (D.seen c.args.desk.now) (D.seen made.new.desk) (D.seen c.end_aloud.new.desk) made.result c.end_aloud.result.cause made.ensures.same (made.ensures.made Aloud) c.end_aloud.ensures.end).said
+
+pub returns-clause-tells : goal.returns-clause-tells
+returns-clause-tells g c =
+    let D = g.D.Desk in
+    let made = c.make_of-made in
+    let k = command_of (files_view c.args.files.now) (g.M.Making.stands c.args.making.now) (g.M.Making.gives c.args.making.now) Aloud in
+    (end_is_aloud k (D.seen c.args.desk.now) (D.seen made.new.desk) (D.seen c.end_aloud.new.desk) made.result c.end_aloud.result.cause made.ensures.same (made.ensures.made Aloud) c.end_aloud.ensures.end).tells

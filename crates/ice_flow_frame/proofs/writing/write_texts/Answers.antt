@@ -10,7 +10,8 @@ loop-written-init g c =
     let D = g.D.Desk in
     record {
       same = files_refl (D.seen c.args.desk.now);
-      names = λ name. ((λ x. x), λ x. x);
+      names_read = λ name. ((λ x. x), λ x. x);
+      names_written = λ name. ((λ x. x), λ x. x);
       within = omega arith;
       made = refl;
       held = λ t name. none_written (files_view c.args.files.now) c.args.texts.now (D.seen c.args.desk.now).files name;
@@ -19,7 +20,7 @@ loop-written-init g c =
 pub write_text-requires : goal.write_text-requires
 write_text-requires g c =
     let D = g.D.Desk in
-    may_use_next (D.may_write c.args.desk.now) (D.may_write c.loop-written.desk) c.args.files.now c.loop-written.written _ c.loop-written.invariant.names c.loop-written-test.true c.requires
+    may_use_next (D.may_write c.args.desk.now) (D.may_write c.loop-written.desk) c.args.files.now c.loop-written.written _ c.loop-written.invariant.names_written c.loop-written-test.true c.requires
 
 pub loop-written-preserved : goal.loop-written-preserved
 loop-written-preserved g c =
@@ -32,7 +33,8 @@ loop-written-preserved g c =
     let written = c.loop-written.written in
     record {
       same = files_then _ old mid new i.same c.write_text.ensures.same;
-      names = same_test_trans (D.may_write c.args.desk.now) (D.may_write c.loop-written.desk) (D.may_write c.write_text.new.desk) i.names c.write_text.ensures.names;
+      names_read = same_test_trans (D.may_read c.args.desk.now) (D.may_read c.loop-written.desk) (D.may_read c.write_text.new.desk) i.names_read c.write_text.ensures.names_read;
+      names_written = same_test_trans (D.may_write c.args.desk.now) (D.may_write c.loop-written.desk) (D.may_write c.write_text.new.desk) i.names_written c.write_text.ensures.names_written;
       within = omega (arith, c.loop-written-test.true);
       made = next_made written old mid new i.made c.write_text.ensures.made;
       held = λ t. next_written c.args.files.now c.args.texts.now old.files mid.files new.files written _ c.at.result.now c.loop-written-test.true c.at.ensures (i.held t) (e.written (i.same.tells ∙ t))
@@ -51,3 +53,13 @@ returns-clause-written g c =
     let D = g.D.Desk in
     let i = c.loop-written.invariant in
     all_written c.args.files.now c.args.texts.now (D.seen c.args.desk.now) (D.seen c.loop-written.desk) c.loop-written.written (omega (arith, i.within, c.loop-written-test.false)) i.made i.held
+
+pub returns-in-Err-clause-names_read : goal.returns-in-Err-clause-names_read
+returns-in-Err-clause-names_read g c =
+    let D = g.D.Desk in
+    same_test_trans (D.may_read c.args.desk.now) (D.may_read c.loop-written.desk) (D.may_read c.write_text.new.desk) c.loop-written.invariant.names_read c.write_text.ensures.names_read
+
+pub returns-in-Err-clause-names_written : goal.returns-in-Err-clause-names_written
+returns-in-Err-clause-names_written g c =
+    let D = g.D.Desk in
+    same_test_trans (D.may_write c.args.desk.now) (D.may_write c.loop-written.desk) (D.may_write c.write_text.new.desk) c.loop-written.invariant.names_written c.write_text.ensures.names_written

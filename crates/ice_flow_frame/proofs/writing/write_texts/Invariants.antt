@@ -10,7 +10,8 @@ invariant-loop-written g l =
     let D = g.D.Desk in
     record {
       same : SameButFiles (D.seen l.fn.desk) (D.seen l.desk);
-      names : SameTest (D.may_write l.fn.desk) (D.may_write l.desk);
+      names_read : SameTest (D.may_read l.fn.desk) (D.may_read l.desk);
+      names_written : SameTest (D.may_write l.fn.desk) (D.may_write l.desk);
       within : l.written ≤ length l.files;
       made : MadeMore l.written (D.seen l.fn.desk) (D.seen l.desk);
       held : (D.seen l.fn.desk).tells ≡ true → (name : List ℕ) → (D.seen l.desk).files name ≡ after_writing l.written (files_view l.files) l.texts (D.seen l.fn.desk).files name;

@@ -4,7 +4,7 @@ use Rattle.ice_chip.specs.Lookups.{package_of}
 use Rattle.ice_flow_frame.specs.Texts.{text_at}
 use Rattle.ice_flow_chip_frame.proofs.Looks.{bits_refused}
 use Rattle.ice_flow_chip_frame.proofs.OneText.{one_is, none_refused}
-use Rattle.ice_flow_play_bits_cmd.specs.Played.{LevelsStand, IsPlayed, Stands}
+use Rattle.ice_flow_play_bits_cmd.specs.Played.{LevelsStand, IsPlayed, StandsForPlayBits}
 use Rattle.ice_flow_play_bits_cmd.proofs.Standing.{played_is}
 use Rattle.ice_flow_play_bits_cmd.proofs.play.play_read.Goals as goal
 
@@ -25,7 +25,7 @@ returns-in-Ok-play_chip-clause-played c = λ chip_text read.
     (played_is name texts c.args.chip.now c.args.bits.now c.in-Ok.circuit.configuration (package_view c.in-Some.bonded.now) c.in-Ok-read_levels.levels c.in-Ok-play_chip.text.items
     (record { is_packed = record { is_read = read; is_package = there }; faultless = c.in-Ok.ensures.circuit.faultless })
     (rw (c.at.ensures, c.len.ensures.len) at c.in-Ok-read_levels.ensures.gives) c.in-Ok.ensures.circuit.same c.in-Ok-play_chip.ensures)
-    c.made_text.ensures.text c.made_text.ensures.arrangement c.made_text.ensures.tallies
+    c.made_text.ensures.text c.made_text.ensures.arrangement c.made_text.ensures.told
 
 pub returns-in-Ok-play_chip-clause-refused : goal.returns-in-Ok-play_chip-clause-refused
-returns-in-Ok-play_chip-clause-refused c = λ chip_text read. none_refused (Stands c.args.package_name.now (chip_text ∷ c.args.texts.now)) c.made_text.result c.made_text.ensures.stop
+returns-in-Ok-play_chip-clause-refused c = λ chip_text read. none_refused (StandsForPlayBits c.args.package_name.now (chip_text ∷ c.args.texts.now)) c.made_text.result c.made_text.ensures.stop

@@ -4,7 +4,7 @@ use Rattle.ice_chip.specs.Lookups.{package_of}
 use Rattle.ice_flow_frame.specs.Texts.{text_at}
 use Rattle.ice_flow_chip_frame.proofs.Looks.{bits_refused}
 use Rattle.ice_flow_chip_frame.proofs.OneText.{one_is, none_refused}
-use Rattle.ice_flow_time_cmd.specs.Timings.{DelaysStand, IsTimed, Stands}
+use Rattle.ice_flow_time_cmd.specs.Timings.{DelaysStand, IsTimed, StandsForTime}
 use Rattle.ice_flow_time_cmd.proofs.Standing.{timed_is, delays_refused}
 use Rattle.ice_flow_time_cmd.proofs.timing.time_read.Goals as goal
 
@@ -25,10 +25,10 @@ returns-in-Ok-longest_text-clause-timed c = λ chip_text read.
     (timed_is name texts c.args.chip.now c.args.bits.now c.in-Ok.circuit.configuration (package_view c.in-Some._bonded.now) c.in-Ok-read_delays.delays c.in-Ok-longest_text.text.items
     (record { is_packed = record { is_read = read; is_package = there }; faultless = c.in-Ok.ensures.circuit.faultless })
     (sym (rw c.at.ensures at c.in-Ok-read_delays.ensures)) c.in-Ok.ensures.circuit.same c.in-Ok-longest_text.ensures)
-    c.made_text.ensures.text c.made_text.ensures.arrangement c.made_text.ensures.tallies
+    c.made_text.ensures.text c.made_text.ensures.arrangement c.made_text.ensures.told
 
 pub returns-in-Ok-longest_text-clause-refused : goal.returns-in-Ok-longest_text-clause-refused
-returns-in-Ok-longest_text-clause-refused c = λ chip_text read. none_refused (Stands c.args.package_name.now (chip_text ∷ c.args.texts.now)) c.made_text.result c.made_text.ensures.stop
+returns-in-Ok-longest_text-clause-refused c = λ chip_text read. none_refused (StandsForTime c.args.package_name.now (chip_text ∷ c.args.texts.now)) c.made_text.result c.made_text.ensures.stop
 
 pub returns-in-Err-read_delays-clause-refused : goal.returns-in-Err-read_delays-clause-refused
 returns-in-Err-read_delays-clause-refused c = λ chip_text read.

@@ -21,7 +21,7 @@ pub number_all-requires : goal.number_all-requires
 number_all-requires c =
     let said : c.deref.result.now ≡ reads c.args.chip.now (bits_of c.args.circuit.now.configuration) c.args.circuit.now.configuration.extras c.args.point = search rules in
     All-same (IsNumbered c.args.numbering.now) c.deref.result.now (reads c.args.chip.now (bits_of c.args.circuit.now.configuration) c.args.circuit.now.configuration.extras c.args.point) said
-    (reads_there c.args.chip.now (bits_of c.args.circuit.now.configuration) c.args.circuit.now.configuration.extras c.wires-wires.ensures.chip.read c.args.numbering.now c.requires.points c.args.point c.requires.point)
+    (reads_there c.args.chip.now (bits_of c.args.circuit.now.configuration) c.args.circuit.now.configuration.extras c.is_chip.ensures.read c.args.numbering.now c.requires.points c.args.point c.requires.point)
 
 pub returns : goal.returns
 returns c =

@@ -3,8 +3,8 @@ use Rattle.ice_back_points.proofs.configured.ConfiguredChip.new.Goals as goal
 pub invariant_of-result : goal.invariant_of-result
 invariant_of-result c = record {
   configured = record {
-    chip = c.wires-wires.ensures.chip;
-    names = (c.lookups_are_lawful.ensures c.args.chip.now c.wires-wires.ensures.chip).names;
+    chip = c.is_chip.ensures;
+    names = (c.lookups_are_lawful.ensures c.args.chip.now c.is_chip.ensures).names;
     faultless = c.requires.circuit.faultless;
     listed = c.requires.listed;
   };

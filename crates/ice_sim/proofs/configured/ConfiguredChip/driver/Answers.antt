@@ -3,7 +3,8 @@ use Rattle.ice_bits.specs.Configuration.{bits_of}
 use Rattle.ice_decode.specs.declared.driver.Driver.{Driver}
 use Rattle.ice_decode.specs.declared.driver.Driver.TheVariants.{Nothing}
 use Rattle.ice_sim.specs.ConfiguredChips.{ConfiguredData, ComesFrom}
-use Rattle.ice_sim.proofs.TilePlaces.{driver_within, driver_found, comes_from}
+use Rattle.ice_decode.proofs.DriverTables.{driver_within, driver_found}
+use Rattle.ice_sim.proofs.TilePlaces.{comes_from}
 use Rattle.ice_sim.proofs.configured.ConfiguredChip.driver.Goals as goal
 use Rattle.ice_sim.proofs.configured.ConfiguredChip.driver.Goals.{After-drivers}
 
