@@ -19,7 +19,7 @@ use ice_cells::{Clusters, Design};
 use ice_chip::Chip;
 use ice_pads::Pads;
 use ice_place::Placement;
-use ice_place_length::Placed;
+use ice_place_defs::Placed;
 use ice_sites::Sites;
 use std::alloc::Global;
 
@@ -34,6 +34,7 @@ pub fn nets_in(
     ensures nets { IfOk result (λ nets. All (IsNet (length clusters.now.list)) nets.items) }
     ensures lengths { IfOk result (λ nets. (at : List TileAt) → length at ≡ length clusters.now.list → wire_length nets.items at ≡ length_of chip.now (plan_of clusters.now design.now at pads.now)) }
 {
+    // No tile is named: the nets are those of any placement.
     let placed = Placed {
         chip,
         design,

@@ -12,7 +12,7 @@ use Rattle.ice_cells.specs.Same.{same_root}
 use Rattle.ice_place_defs.specs.Plan.{Plan, slot_in}
 use Rattle.ice_place_defs.specs.Loads.{fed_roots}
 use Rattle.ice_place_defs.specs.Length.{pad_root, cell_root}
-use Rattle.ice_place_length.specs.declared.placed.Placed.{Placed}
+use Rattle.ice_place_defs.specs.declared.placed.Placed.{Placed}
 use Rattle.ice_anneal_board.specs.declared.net.Node.{Node}
 use Rattle.ice_anneal_board.specs.declared.net.Node.TheVariants.{Cluster as of_cluster, Fixed as of_tile}
 use Rattle.ice_anneal_board.specs.declared.net.NetNodes.{NetNodes}

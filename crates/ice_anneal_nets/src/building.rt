@@ -1,7 +1,7 @@
 //! Nets by nodes.
 ghost use Rattle.std.specs.Prelude.{◌≡◌, ◌++◌, IfOk, OnOk, length, option_map, slice_get};
 ghost use Rattle.ice_cells.specs.Tables.{table};
-ghost use Rattle.ice_place_length.specs.Grown.{plan_in};
+ghost use Rattle.ice_place_defs.specs.Plan.{plan_in};
 ghost use Rattle.ice_anneal_nets.specs.Nodes.{reads_of, pad_node, holder, behind, all_nodes, nodes_in};
 ghost use Rattle.ice_anneal_nets.specs.Sorted.{net_by, nets_by};
 
@@ -11,7 +11,7 @@ use ice_anneal_board::{NetNodes, Node};
 use ice_base::NoMemory;
 use ice_cells::Items;
 use ice_chip::Pad;
-use ice_place_length::Placed;
+use ice_place_defs::Placed;
 use std::alloc::Global;
 
 // The node of a pad.

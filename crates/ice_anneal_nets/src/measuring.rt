@@ -9,7 +9,7 @@ ghost use Rattle.ice_anneal_nets.specs.Nodes.{plan_at};
 use crate::building::nets_of;
 use ice_anneal_board::NetNodes;
 use ice_base::NoMemory;
-use ice_place_length::Placed;
+use ice_place_defs::Placed;
 use std::alloc::Global;
 
 /// Nets by nodes, by which placements of a design's clusters are as long as the placed design; the tiles of `placed` don't

@@ -1,6 +1,6 @@
 //! What reads roots in a design.
 ghost use Rattle.std.specs.Prelude.{◌≡◌, ◌++◌, IfOk, OnOk, Some};
-ghost use Rattle.ice_place_length.specs.Grown.{plan_in};
+ghost use Rattle.ice_place_defs.specs.Plan.{plan_in};
 ghost use Rattle.ice_place_defs.specs.Loads.{fed_roots};
 ghost use Rattle.ice_anneal_nets.specs.Reads.{read_at, pad_reads, pads_reads, global_reads, globals_reads, cell_reads, control_reads, slot_reads, slots_reads, cluster_reads, clusters_reads};
 ghost use Rattle.ice_anneal_nets.specs.Nodes.{reads_of};
@@ -10,8 +10,7 @@ use ice_anneal_board::Node;
 use ice_base::NoMemory;
 use ice_cells::{Cluster, Control, DesignPad, LogicCell, Root};
 use ice_chip::{Chip, Pad};
-use ice_place_defs::fed_root;
-use ice_place_length::Placed;
+use ice_place_defs::{Placed, fed_root};
 use std::alloc::Global;
 
 // Adds what a node reads.

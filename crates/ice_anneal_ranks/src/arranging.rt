@@ -1,15 +1,15 @@
 //! The arrangement that is found.
 
 use crate::classes::{Movers, movers_of};
-use crate::floor::Floor;
+use crate::middles::Middles;
 use crate::nets::nets_of;
-use crate::places::Grid;
 use crate::search::Search;
-use crate::seats::Seats;
 use crate::signals::Signals;
 use crate::state::State;
 use crate::tally::Tally;
 use crate::units::Units;
+use ice_anneal_seats::{Floor, Grid, Seats};
+use ice_anneal_ways::{Pulls, Ways};
 use ice_base::{NoMemory, TileAt};
 use ice_cells::{Clusters, Design, Items};
 use ice_chip::Chip;
@@ -62,6 +62,9 @@ fn find(
     let signals = Signals::new(alloc, pads.ports().len(), cells.len())?;
     let tally = Tally::new(alloc, nets.count())?;
     let units = Units::new(alloc, clusters.list())?;
+    let pulls = Pulls::new(alloc, cells.len())?;
+    let ways = Ways::new(alloc, grid, design, pads)?;
+    let middles = Middles::new(alloc, cells.len(), seats.clusters())?;
     let state = State {
         cells,
         floor,
@@ -70,8 +73,15 @@ fn find(
         nets,
         signals,
         tally,
+        pulls,
+        pulled: 0,
     };
-    let mut search = Search { movers, state };
+    let mut search = Search {
+        movers,
+        state,
+        ways,
+        middles,
+    };
     search.anneal(&mut Pcg32::seed_from_u64(seed));
     Ok(Arranged {
         ranks: search.state.seats.ranks(alloc)?,

@@ -1,6 +1,6 @@
 //! Which cells may stand in each other's slots: plain cells, and flip-flops that are driven alike. Cells of runs stay.
 
-use crate::seats::Seats;
+use ice_anneal_seats::Seats;
 use ice_base::NoMemory;
 use ice_cells::{Cluster, Control, Design, Run};
 use std::alloc::Global;

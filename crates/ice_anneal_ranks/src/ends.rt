@@ -1,36 +1,68 @@
-//! Where nets end, and the place amid them.
+//! Where nets end, and the places amid them.
 
-use crate::places::Place;
-use crate::words::below;
+use ice_anneal_seats::{Place, below};
 use rand_pcg::Pcg32;
 
-// The ends of nets along an axis, the least first, up to sixteen of them.
+// How many nets end at each place along an axis, and how many ends there are.
 #[derive(Clone, Copy)]
 struct Along {
-    ends: [u8; 16],
+    ends: [u8; 64],
     count: usize,
 }
 
 impl Along {
-    // Adds an end. Of more than sixteen the greatest is left out.
+    // Adds an end.
     fn add(&mut self, end: u8) {
-        let mut carried = end;
-        for k in 0..=self.count.min(15) {
-            if let Some(own) = self.ends.get_mut(k) {
-                if carried < *own {
-                    let held = *own;
-                    *own = carried;
-                    carried = held;
-                }
-            }
+        if let Some(own) = self.ends.get_mut(usize::from(end)) {
+            *own = own.saturating_add(1);
+            self.count = self.count.saturating_add(1);
         }
-        self.count = self.count.saturating_add(1);
     }
 
-    // One of the two in the middle, where there is any.
-    fn middle(&self, words: &mut Pcg32) -> Option<u8> {
-        let middle = self.count.checked_sub(below(words, 2))? / 2;
-        self.ends.get(middle).copied()
+    // The place of an end, with so many ends before it.
+    fn place_of(&self, before: usize) -> Option<u8> {
+        let mut seen = 0usize;
+        for place in 0..64u8 {
+            let ends = self.ends.get(usize::from(place)).copied()?;
+            seen = seen.saturating_add(usize::from(ends));
+            if seen > before {
+                return Some(place);
+            }
+        }
+        None
+    }
+
+    // The two in the middle, where there are any.
+    fn middle(&self) -> Option<(u8, u8)> {
+        let half = self.count / 2;
+        let low = self.place_of(half.checked_sub(1)?)?;
+        let high = self.place_of(half)?;
+        Some((low, high))
+    }
+}
+
+/// Two corners of a box of places, the lower one first.
+#[derive(Clone, Copy)]
+pub struct Middle {
+    /// The first column and row.
+    pub low: Place,
+    /// The last column and row.
+    pub high: Place,
+}
+
+// A number that is drawn from those from one to another.
+fn between(low: u8, high: u8, words: &mut Pcg32) -> u8 {
+    let count = usize::from(high.saturating_sub(low)) + 1;
+    let number = usize::from(low).saturating_add(below(words, count));
+    number.min(63) as u8
+}
+
+impl Middle {
+    /// A place in the box.
+    pub fn draw(&self, words: &mut Pcg32) -> Place {
+        let column = between(self.low.column, self.high.column, words);
+        let row = between(self.low.row, self.high.row, words);
+        Place { column, row }
     }
 }
 
@@ -45,7 +77,7 @@ impl Ends {
     /// No ends.
     pub fn none() -> Ends {
         let along = Along {
-            ends: [u8::MAX; 16],
+            ends: [0; 64],
             count: 0,
         };
         Ends {
@@ -62,14 +94,19 @@ impl Ends {
         self.rows.add(high.row);
     }
 
-    /// A place from which the nets are as near as from any, of several as it is drawn; where there are no nets, none.
-    pub fn middle(&self, words: &mut Pcg32) -> Option<Place> {
-        let column = self.columns.middle(words)?;
-        let row = self.rows.middle(words)?;
-        if column < 64 && row < 64 {
-            Some(Place { column, row })
-        } else {
-            None
-        }
+    /// The places from which the nets are as near as from any; where there are no nets, none.
+    pub fn middle(&self) -> Option<Middle> {
+        let (left, right) = self.columns.middle()?;
+        let (low, high) = self.rows.middle()?;
+        Some(Middle {
+            low: Place {
+                column: left,
+                row: low,
+            },
+            high: Place {
+                column: right,
+                row: high,
+            },
+        })
     }
 }

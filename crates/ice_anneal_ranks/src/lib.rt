@@ -6,16 +6,14 @@
 mod arranging;
 mod classes;
 mod ends;
-mod floor;
+mod middles;
 mod nets;
-mod places;
+mod reach;
 mod search;
-mod seats;
 mod signals;
 mod spread;
 mod state;
 mod tally;
 mod units;
-mod words;
 
 pub use arranging::{Arranged, arrange, arrange_clusters};

@@ -1,16 +1,16 @@
 //! The nets of a design by cells.
 
 use crate::ends::Ends;
-use crate::places::{Grid, NetPlaces, Place};
-use crate::seats::Seats;
+use crate::reach::NetPlaces;
 use crate::spread::Traffic;
 use ice_anneal_board::{NetNodes, Node, Touched, Wiring, wiring_of};
 use ice_anneal_nets::measuring_nets;
+use ice_anneal_seats::{Grid, Place, Seats};
 use ice_base::{NoMemory, to_u32};
 use ice_cells::{Cluster, Design, Items, LogicCell, control_at};
 use ice_chip::Chip;
 use ice_pads::Pads;
-use ice_place_length::Placed;
+use ice_place_defs::Placed;
 use std::alloc::Global;
 
 /// How many cells a net has at most that is looked at where two cells change places. A larger one hardly tells one from the other.
@@ -21,9 +21,9 @@ const MOST_CELLS: u32 = 32;
 pub struct CellNets {
     nets: Vec<NetNodes>,
     places: Vec<NetPlaces>,
-    // How many cells each has.
-    sizes: Vec<u32>,
     touching: Vec<Touched>,
+    // Of the nets of each cell those that tell it from other cells.
+    telling: Vec<Touched>,
     /// By how much all nets have grown.
     pub growth: i64,
 }
@@ -88,6 +88,30 @@ fn sizes_of(alloc: Global, wiring: &Wiring) -> Result<Vec<u32>, NoMemory> {
     Ok(sizes)
 }
 
+// Whether a net tells one cell from another: it has several nodes, and few cells.
+fn is_telling(nets: &[NetNodes], sizes: &[u32], net: usize) -> bool {
+    match (nets.get(net), sizes.get(net)) {
+        (Some(own), Some(size)) => own.nodes.len() > 1 && *size <= MOST_CELLS,
+        _ => false,
+    }
+}
+
+// Of the nets of each cell those that tell it from other cells.
+fn telling_nets(alloc: Global, wiring: &Wiring) -> Result<Vec<Touched>, NoMemory> {
+    let sizes = sizes_of(alloc, wiring)?;
+    let mut telling = Vec::with_capacity(alloc, wiring.touching.len())?;
+    for touched in &wiring.touching {
+        let mut nets = Vec::new(alloc);
+        for net in &touched.nets {
+            if is_telling(&wiring.nets, &sizes, *net) {
+                nets.push(*net)?;
+            }
+        }
+        telling.push(Touched { nets })?;
+    }
+    Ok(telling)
+}
+
 // Notes where the pads and global buffers of a net stand.
 fn add_tiles(own: &mut NetPlaces, nodes: &[Node], grid: Grid) {
     for node in nodes {
@@ -135,15 +159,15 @@ pub fn nets_of(
     seats: &Seats,
 ) -> Result<CellNets, NoMemory> {
     let wiring = wiring_by_cells(alloc, chip, design, pads)?;
-    let sizes = sizes_of(alloc, &wiring)?;
+    let telling = telling_nets(alloc, &wiring)?;
     let mut places = fixed_places(alloc, &wiring, grid)?;
     add_cells(&mut places, &wiring.touching, seats);
     let Wiring { nets, touching } = wiring;
     Ok(CellNets {
         nets,
         places,
-        sizes,
         touching,
+        telling,
         growth: 0,
     })
 }
@@ -162,11 +186,11 @@ impl CellNets {
         }
     }
 
-    /// Whether a net is looked at where two cells change places.
-    pub fn is_small(&self, net: usize) -> bool {
-        match self.sizes.get(net) {
-            Some(size) => *size <= MOST_CELLS,
-            None => false,
+    /// Of the nets of a cell those that are looked at where it changes places with another.
+    pub fn telling(&self, cell: usize) -> &[usize] {
+        match self.telling.get(cell) {
+            Some(touched) => &touched.nets,
+            None => &[],
         }
     }
 

@@ -1,15 +1,23 @@
 //! Tries at random, of which fewer and fewer that make the wires longer are kept.
 
 use crate::classes::{Mover, Movers};
-use crate::places::Place;
+use crate::ends::Middle;
+use crate::middles::Middles;
 use crate::state::State;
 use crate::units::MoveUnit;
-use crate::words::{below, spare};
 use ice_anneal_board::Node;
+use ice_anneal_seats::{Place, below, spare};
+use ice_anneal_ways::Ways;
 use rand_pcg::Pcg32;
 
 /// How often the heat falls.
 const STEPS: u64 = 64;
+
+/// How many steps are left when long ways begin to pull.
+const PULLED_STEPS: u64 = 25;
+
+/// How often the places amid nets are noted at each step.
+const TURNS: u64 = 4;
 
 /// How many tries there are for each cell at each step.
 const CELL_TRIES: u64 = 48;
@@ -18,7 +26,7 @@ const CELL_TRIES: u64 = 48;
 const MORE_CELL_TRIES: u64 = 3000;
 
 /// How many tries there are for each unit at each step.
-const UNIT_TRIES: u64 = 16;
+const UNIT_TRIES: u64 = 32;
 
 /// How many more tries with units there are at each step.
 const MORE_UNIT_TRIES: u64 = 2000;
@@ -39,6 +47,10 @@ pub struct Search<'a> {
     pub movers: Movers,
     /// Where all stands.
     pub state: State<'a>,
+    /// What is known of the ways through the design.
+    pub ways: Ways,
+    /// The places amid nets.
+    pub middles: Middles,
 }
 
 impl<'a> Search<'a> {
@@ -64,12 +76,10 @@ impl<'a> Search<'a> {
         self.state.floor.site_beside(place, 1, words)
     }
 
-    // A site beside the place amid the nets of a cell, where one is found.
-    fn site_amid(&self, cell: usize, words: &mut Pcg32) -> Option<usize> {
-        let seats = &self.state.seats;
-        let place = seats.place_of(seats.cluster_of(cell));
-        let middle = self.state.nets.ends_without(cell, place).middle(words)?;
-        self.state.floor.site_beside(middle, 1, words)
+    // A site beside a place amid nets, where one is found.
+    fn site_amid(&self, middle: Option<Middle>, words: &mut Pcg32) -> Option<usize> {
+        let place = middle?.draw(words);
+        self.state.floor.site_beside(place, 1, words)
     }
 
     // A site at most so many columns and rows away from a cluster, where one is found.
@@ -97,7 +107,7 @@ impl<'a> Search<'a> {
             return Some(self.movers.list.get(number)?.cell);
         }
         let site = if kind < 5 {
-            self.site_amid(mover.cell, words)?
+            self.site_amid(self.middles.of_cell(mover.cell), words)?
         } else if kind < 7 {
             self.site_near(mover.cell, words)?
         } else {
@@ -116,15 +126,21 @@ impl<'a> Search<'a> {
         }
     }
 
-    // A site for a unit: with one of its clusters beside a net of that, or around it.
+    // A site for a unit: with one of its clusters amid its nets or beside one of them, or around it.
     fn target_of(&self, unit: MoveUnit, reach: u8, words: &mut Pcg32) -> Option<usize> {
-        if below(words, 2) == 0 {
+        let kind = below(words, 10);
+        if kind < 3 {
             return self.site_around(unit.first, reach, words);
         }
         let number = below(words, unit.count);
         let cluster = unit.first.saturating_add(number);
-        let cell = self.state.seats.cell_at(cluster, below(words, 8))?;
-        self.site_near(cell, words)?.checked_sub(number)
+        let site = if kind < 7 {
+            self.site_amid(self.middles.of_cluster(cluster), words)?
+        } else {
+            let cell = self.state.seats.cell_at(cluster, below(words, 8))?;
+            self.site_near(cell, words)?
+        };
+        site.checked_sub(number)
     }
 
     // A try with a unit.
@@ -151,6 +167,15 @@ impl<'a> Search<'a> {
         }
     }
 
+    // Measures the ways, once few enough steps are left, and finds the connections that want to be short.
+    fn find_pulls(&mut self, left: u64) {
+        if left <= PULLED_STEPS {
+            let state = &mut self.state;
+            self.ways
+                .find_pulls(&state.seats, state.cells, &mut state.pulls);
+        }
+    }
+
     // The tries of a step, cells and units by turns; so many steps are left.
     fn step(&mut self, left: u64, words: &mut Pcg32) {
         let cells = (self.movers.list.len() as u64).saturating_mul(CELL_TRIES);
@@ -162,15 +187,17 @@ impl<'a> Search<'a> {
             .saturating_mul(UNIT_HEAT)
             .saturating_mul(left.saturating_mul(left))
             / (STEPS * STEPS);
-        for turn in 0..4u64 {
+        self.find_pulls(left);
+        for turn in 0..TURNS {
+            self.middles.note(&self.state);
             self.shake_cells(
-                cells.saturating_add(MORE_CELL_TRIES) / 4,
+                cells.saturating_add(MORE_CELL_TRIES) / TURNS,
                 cell_heat,
                 reach,
                 words,
             );
             self.shake_units(
-                units.saturating_add(MORE_UNIT_TRIES) / 4,
+                units.saturating_add(MORE_UNIT_TRIES) / TURNS,
                 unit_heat,
                 reach.max(2),
                 words,

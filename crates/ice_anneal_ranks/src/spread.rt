@@ -1,8 +1,5 @@
 //! Where the nodes of a net stand along one axis.
 
-/// How many places are told apart along an axis, one for each bit of a word.
-pub const PLACES: u16 = 64;
-
 /// How many nodes of a net stand at each place, up to 255, and at which places any does, one bit for each.
 #[derive(Clone, Copy)]
 pub struct Spread {
@@ -59,20 +56,39 @@ impl Spread {
         self.counts.get(usize::from(place)).copied().unwrap_or(0)
     }
 
-    // The places at which something stands, once nodes went from one place to another and back.
+    // The places at which something stands, once nodes went from one place to another one and back.
     fn taken_after(&self, from: u8, to: u8, nodes: Traffic) -> u64 {
-        if from == to {
-            return self.taken;
-        }
         let stays = self.count_at(from).saturating_add(nodes.coming) > nodes.going;
         let comes = self.count_at(to).saturating_add(nodes.going) > nodes.coming;
         with_place(with_place(self.taken, from, stays), to, comes)
     }
 
+    // By how much the reach grows where these places are taken.
+    fn growth_to(&self, taken: u64) -> i64 {
+        i64::from(reach(taken)).wrapping_sub(i64::from(reach(self.taken)))
+    }
+
+    // How far a place lies outside of those from the first to the last at which something stands.
+    fn beyond(&self, place: u8) -> u32 {
+        let place = u32::from(place);
+        let last = 63u32.saturating_sub(self.taken.leading_zeros());
+        let first = self.taken.trailing_zeros();
+        first
+            .saturating_sub(place)
+            .saturating_add(place.saturating_sub(last))
+    }
+
     /// By how much the reach grows where nodes go from one place to another and back.
     pub fn growth(&self, from: u8, to: u8, nodes: Traffic) -> i64 {
-        let after = i64::from(reach(self.taken_after(from, to, nodes)));
-        after.wrapping_sub(i64::from(reach(self.taken)))
+        if from == to {
+            return 0;
+        }
+        let stays = self.count_at(from).saturating_add(nodes.coming) > nodes.going;
+        let comes = self.count_at(to).saturating_add(nodes.going) > nodes.coming;
+        if stays && comes {
+            return i64::from(self.beyond(from).saturating_add(self.beyond(to)));
+        }
+        self.growth_to(with_place(with_place(self.taken, from, stays), to, comes))
     }
 
     /// The first and the last place at which a node stands, but for one that stands at this place; where there is no other, none.
@@ -93,13 +109,18 @@ impl Spread {
         self.taken |= bit_of(place);
     }
 
-    /// A node goes from one place to another.
-    pub fn shift(&mut self, from: u8, to: u8) {
+    /// A node goes from one place to another. By how much the reach grew.
+    pub fn shift(&mut self, from: u8, to: u8) -> i64 {
+        if from == to {
+            return 0;
+        }
         let taken = self.taken_after(from, to, ONE);
+        let growth = self.growth_to(taken);
         if let Some(count) = self.counts.get_mut(usize::from(from)) {
             *count = count.saturating_sub(1);
         }
         self.add(to);
         self.taken = taken;
+        growth
     }
 }

@@ -1,17 +1,16 @@
 //! What moves, and what it does to the wires.
 
-use crate::floor::Floor;
 use crate::nets::CellNets;
-use crate::places::Place;
-use crate::seats::Seats;
 use crate::signals::Signals;
 use crate::spread::ONE;
 use crate::tally::Tally;
 use crate::units::{MoveUnit, Units};
+use ice_anneal_seats::{Floor, Place, Seats};
+use ice_anneal_ways::{End, Pulls};
 use ice_cells::LogicCell;
 
 /// How many signals come into a tile without trouble: it has 32 wires for them, which are not free to choose.
-const MOST_SIGNALS: u32 = 24;
+const MOST_SIGNALS: u32 = 28;
 
 /// Cells in clusters on sites.
 #[derive(Drop)]
@@ -30,19 +29,56 @@ pub struct State<'a> {
     pub signals: Signals,
     /// What is counted of the nets of two sites.
     pub tally: Tally,
+    /// The connections that want to be short.
+    pub pulls: Pulls,
+    /// By how much the cost of these has grown, in parts of 256 of a tile.
+    pub pulled: i64,
+}
+
+// Tiles in parts of 256.
+fn in_parts(tiles: i64) -> i64 {
+    tiles.wrapping_mul(256)
 }
 
 impl<'a> State<'a> {
-    // By how much the small nets of one cell grow that are not of the other, where it goes from one place to another.
-    fn growth(&self, cell: usize, other: usize, from: Place, to: Place) -> i64 {
-        let others = self.nets.of(other);
+    // By how much the nets of one cell that are looked at grow where it goes from one place to another, but for those of the other cell too,
+    // in tiles.
+    fn net_growth(&self, cell: usize, other: usize, from: Place, to: Place) -> i64 {
+        let others = self.nets.telling(other);
         let mut sum = 0i64;
-        for net in self.nets.of(cell) {
-            if self.nets.is_small(*net) && !others.contains(net) {
+        for net in self.nets.telling(cell) {
+            if !others.contains(net) {
                 sum = sum.wrapping_add(self.nets.growth_of(*net, from, to, ONE));
             }
         }
         sum
+    }
+
+    // The place of the other end of a connection, where that is none of two cells.
+    fn place_of_end(&self, end: End, cell: usize, other: usize) -> Option<Place> {
+        match end {
+            End::Pad(place) => Some(place),
+            End::Cell(peer) if peer == cell || peer == other => None,
+            End::Cell(peer) => Some(self.seats.place_of(self.seats.cluster_of(peer))),
+        }
+    }
+
+    // By how much the cost grows of one cell's connections but for those to the other, where it goes from one place to another.
+    fn pull_growth(&self, cell: usize, other: usize, from: Place, to: Place) -> i64 {
+        let mut sum = 0i64;
+        for pull in self.pulls.of(cell) {
+            if let Some(end) = self.place_of_end(pull.end, cell, other) {
+                sum = sum.wrapping_add(pull.growth(end, from, to));
+            }
+        }
+        sum
+    }
+
+    // What it costs where one cell goes from one place to another, and the other cell back.
+    fn growth(&self, cell: usize, other: usize, from: Place, to: Place) -> i64 {
+        in_parts(self.net_growth(cell, other, from, to)).wrapping_add(self.pull_growth(
+            cell, other, from, to,
+        ))
     }
 
     // Whether a cluster reads few signals, or no more than it did, once a cell of another stands in the place of one of its.
@@ -52,7 +88,7 @@ impl<'a> State<'a> {
         count <= MOST_SIGNALS || count <= self.signals.count(self.cells, slots, leaving, leaving)
     }
 
-    /// Two cells of different clusters change places where that makes the wires longer by no more than so many tiles.
+    /// Two cells of different clusters change places where that costs no more than this, in parts of 256 of a tile.
     pub fn try_cells(&mut self, one: usize, other: usize, spare: i64) {
         let (cluster, target) = (self.seats.cluster_of(one), self.seats.cluster_of(other));
         if cluster == target {
@@ -81,8 +117,61 @@ impl<'a> State<'a> {
         }
     }
 
+    // The place of the other end of a connection, where that is in none of two clusters.
+    fn place_outside(&self, end: End, cluster: usize, other: Option<usize>) -> Option<Place> {
+        match end {
+            End::Pad(place) => Some(place),
+            End::Cell(peer) => {
+                let own = self.seats.cluster_of(peer);
+                if own == cluster || other == Some(own) {
+                    None
+                } else {
+                    Some(self.seats.place_of(own))
+                }
+            }
+        }
+    }
+
+    // By how much the cost of what may be a cluster's connections grows, but for those within it and to another cluster.
+    fn pull_growth_of_cluster(
+        &self,
+        cluster: Option<usize>,
+        other: Option<usize>,
+        from: Place,
+        to: Place,
+    ) -> i64 {
+        let Some(cluster) = cluster else {
+            return 0;
+        };
+        let mut sum = 0i64;
+        for slot in self.seats.cells_of(cluster) {
+            if let Some(cell) = *slot {
+                for pull in self.pulls.of(cell) {
+                    if let Some(end) = self.place_outside(pull.end, cluster, other) {
+                        sum = sum.wrapping_add(pull.growth(end, from, to));
+                    }
+                }
+            }
+        }
+        sum
+    }
+
+    // By how much the cost of connections grows where what stands on two sites changes places.
+    fn pull_growth_of_sites(&self, one: usize, other: usize) -> i64 {
+        if self.pulls.is_empty() {
+            return 0;
+        }
+        let (from, to) = (self.floor.place_at(one), self.floor.place_at(other));
+        let (here, there) = (self.seats.cluster_on(one), self.seats.cluster_on(other));
+        self.pull_growth_of_cluster(here, there, from, to)
+            .wrapping_add(self.pull_growth_of_cluster(there, here, to, from))
+    }
+
     // What stands on two sites changes places.
     fn exchange_sites(&mut self, one: usize, other: usize) {
+        self.pulled = self
+            .pulled
+            .wrapping_add(self.pull_growth_of_sites(one, other));
         let (from, to) = (self.floor.place_at(one), self.floor.place_at(other));
         let (here, there) = (self.seats.cluster_on(one), self.seats.cluster_on(other));
         self.shift_cluster(here, from, to);
@@ -109,7 +198,7 @@ impl<'a> State<'a> {
         }
     }
 
-    // By how much the wires grow where what stands on two sites changes places.
+    // What it costs where what stands on two sites changes places.
     fn growth_of_sites(&mut self, one: usize, other: usize) -> i64 {
         self.count_sites(one, other);
         let (from, to) = (self.floor.place_at(one), self.floor.place_at(other));
@@ -118,7 +207,7 @@ impl<'a> State<'a> {
             let nodes = self.tally.nodes_of(*net);
             sum = sum.wrapping_add(self.nets.growth_of(*net, from, to, nodes));
         }
-        sum
+        in_parts(sum).wrapping_add(self.pull_growth_of_sites(one, other))
     }
 
     // Whether what stands on a site may go to one of the sites that a unit leaves: a cluster of no run may, and a run as a whole, where
@@ -159,7 +248,12 @@ impl<'a> State<'a> {
         }
     }
 
-    /// A unit goes to the sites from one on, where it fits there and that makes the wires longer by no more than so many tiles.
+    // What it has cost so far that units went from sites to others.
+    fn cost(&self) -> i64 {
+        in_parts(self.nets.growth).wrapping_add(self.pulled)
+    }
+
+    /// A unit goes to the sites from one on, where it fits there and that costs no more than this, in parts of 256 of a tile.
     pub fn try_unit(&mut self, unit: MoveUnit, target: usize, spare: i64) {
         let from = self.seats.site_of(unit.first);
         if !self.fits(unit, from, target) {
@@ -171,9 +265,9 @@ impl<'a> State<'a> {
             }
             return;
         }
-        let limit = self.nets.growth.wrapping_add(spare);
+        let limit = self.cost().wrapping_add(spare);
         self.relocate(unit, from, target);
-        if self.nets.growth > limit {
+        if self.cost() > limit {
             self.relocate(unit, target, from);
         }
     }

@@ -8,9 +8,8 @@ use Rattle.ice_base.specs.declared.number.BitAt.{BitAt}
 use Rattle.ice_base.specs.Text.{text_of_lines}
 use Rattle.ice_base.proofs.Pieces.{text_join, further}
 use Rattle.ice_chip.specs.declared.tile.Tile.{Tile}
-use Rattle.ice_chip.specs.Database.{Parts}
+use Rattle.ice_chip.specs.Database.{Parts, columns}
 use Rattle.ice_chip.specs.Lookups.{tile_of}
-use Rattle.ice_chip.specs.Places.{columns}
 use Rattle.ice_bits.specs.Configuration.{Configuration, bit_at, rows_at}
 use Rattle.ice_asc.specs.Text.{digit_of_bit, bit_at_place, row_line, spaced, tile_heading, tile_lines, extra_line, asc_text}
 

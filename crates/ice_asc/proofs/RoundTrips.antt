@@ -8,18 +8,17 @@ use Rattle.ice_base.specs.declared.number.TileAt.{TileAt}
 use Rattle.ice_base.specs.declared.number.BitAt.{BitAt}
 use Rattle.ice_base.specs.Text.{numbered, IsLine}
 use Rattle.ice_base.proofs.TextLines.{all_append, word_line, lines_read}
-use Rattle.ice_chip.specs.Database.{Parts}
+use Rattle.ice_chip.specs.Database.{Parts, same_tile, columns, tile_known}
 use Rattle.ice_chip.specs.Lookups.{tile_of}
-use Rattle.ice_chip.specs.Places.{same_tile, columns, tile_known}
 use Rattle.ice_chip.specs.Within.{IsPlace}
-use Rattle.ice_chip.specs.declared.parts.TileLine.{TileLine}
+use Rattle.ice_chip.specs.declared.rows.TileLine.{TileLine}
 use Rattle.ice_chip.specs.declared.rows.TileKind.{TileKind}
 use Rattle.ice_chip.specs.declared.tile.Tile.{Tile}
 use Rattle.ice_bits.specs.Configuration.{Configuration, bit_at, bits_of, rows_at, IsGrid, AreGrids, IsOf, blank_rows, blank_tile, blank}
 use Rattle.ice_bits.specs.Rewriting.{with_rows}
 use Rattle.ice_asc.specs.Faults.{◌>>=◌}
 use Rattle.ice_asc.specs.Grammar.{Reading, start, lines_say, end_says, asc_in}
-use Rattle.ice_asc.specs.Headings.{heading_of_kind}
+use Rattle.ice_asc.specs.Words.{heading_of_kind}
 use Rattle.ice_asc.specs.RoundTrip.{IsSmall, WrittenIsRead}
 use Rattle.ice_asc.specs.Text.{digit_of_bit, bit_at_place, spaced, row_line, tile_heading, tile_lines, extra_line, asc_lines, asc_text}
 use Rattle.ice_asc.proofs.TextLines.{plain_line, decimal_line, kind_word}

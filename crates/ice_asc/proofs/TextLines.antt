@@ -8,7 +8,7 @@ use Rattle.ice_base.proofs.TextLaws.{decimal_is_word}
 use Rattle.ice_base.proofs.TextLines.{word_line}
 use Rattle.ice_chip.specs.declared.rows.TileKind.{TileKind}
 use Rattle.ice_chip.specs.declared.rows.TileKind.TheVariants.{Io, Logic, RamBottom, RamTop}
-use Rattle.ice_asc.specs.Headings.{heading_of_kind}
+use Rattle.ice_asc.specs.Words.{heading_of_kind}
 use Rattle.ice_asc.specs.Text.{digit_of_bit}
 
 -- ---- pieces of text

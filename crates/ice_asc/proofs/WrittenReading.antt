@@ -6,26 +6,22 @@ use Rattle.std.specs.Option.{option_and_then}
 use Rattle.std.proofs.lemmas.List.{length-map}
 use Rattle.std.proofs.lemmas.Bool.{eq-eqb}
 use Rattle.ice_base.specs.declared.number.TileAt.{TileAt}
-use Rattle.ice_base.specs.Comments.{begins_with}
-use Rattle.ice_base.specs.Numbers.{number_in}
-use Rattle.ice_base.specs.Text.{numbered, next_number, words, pieces, IsWord}
+use Rattle.ice_base.specs.Text.{number_in, numbered, next_number, words, pieces, IsWord, begins_with}
 use Rattle.ice_base.proofs.TextLaws.{first_word, last_word, number_in_decimal, decimal_is_word}
-use Rattle.ice_chip.specs.Database.{Parts}
+use Rattle.ice_chip.specs.Database.{Parts, same_tile, columns, tile_known}
 use Rattle.ice_chip.specs.Functions.{same_kind}
 use Rattle.ice_chip.specs.Lookups.{kind_at}
-use Rattle.ice_chip.specs.Places.{same_tile, columns, tile_known}
 use Rattle.ice_chip.specs.declared.rows.TileKind.{TileKind}
 use Rattle.ice_chip.specs.declared.rows.TileKind.TheVariants.{Io, Logic, RamBottom, RamTop}
-use Rattle.ice_chip.specs.declared.parts.TileLine.{TileLine}
+use Rattle.ice_chip.specs.declared.rows.TileLine.{TileLine}
 use Rattle.ice_chip.specs.declared.tile.Tile.{Tile}
 use Rattle.ice_bits.specs.Configuration.{Configuration, is_of_kind, blank}
 use Rattle.ice_bits.specs.Rewriting.{with_rows}
 use Rattle.ice_asc.specs.Faults.{◌>>=◌}
-use Rattle.ice_asc.specs.Headings.{heading_of_kind, heading_of}
+use Rattle.ice_asc.specs.Words.{heading_of_kind, heading_of, row_of_words, tile_below, tile_of_words, extra_bit, extra_of_words}
 use Rattle.ice_base.specs.Lists.{all_known}
-use Rattle.ice_base.specs.BitNames.{digit_value}
+use Rattle.ice_base.specs.Places.{digit_value}
 use Rattle.ice_chip.proofs.SameKinds.{kind_self}
-use Rattle.ice_asc.specs.Words.{row_of_words, place_of, tile_of_words, extra_bit, extra_of_words}
 use Rattle.ice_asc.specs.Grammar.{Reading, start, with_row, known_row, opened, tile_says, extra_says, heading_says, line_says, at_line, lines_say, end_says}
 use Rattle.ice_asc.specs.RoundTrip.{IsSmall}
 use Rattle.ice_asc.specs.Text.{digit_of_bit, spaced, tile_heading, extra_line}
@@ -136,9 +132,9 @@ place_read at near =
     let y : at.y < 2 ^ 16 = near.y in
     let lt_x : nat_lt at.x 65536 ≡ true = search (rules, tests) in
     let lt_y : nat_lt at.y 65536 ≡ true = search (rules, tests) in
-    let place : place_of at.x at.y ≡ Some at = rw (lt_x, lt_y) refl in
-    ap (λ (o : Option ℕ). option_and_then (λ a. option_and_then (place_of a) (number_in (decimal at.y))) o) (number_in_decimal at.x (omega arith))
-    ∙ ap (λ (o : Option ℕ). option_and_then (place_of at.x) o) (number_in_decimal at.y (omega arith)) ∙ place
+    let place : tile_below at.x at.y ≡ Some at = rw (lt_x, lt_y) refl in
+    ap (λ (o : Option ℕ). option_and_then (λ a. option_and_then (tile_below a) (number_in (decimal at.y))) o) (number_in_decimal at.x (omega arith))
+    ∙ ap (λ (o : Option ℕ). option_and_then (tile_below at.x) o) (number_in_decimal at.y (omega arith)) ∙ place
 
 heading_named : (kind : TileKind) → heading_of (heading_of_kind kind) ≡ TileHeading kind
 heading_named Io = refl

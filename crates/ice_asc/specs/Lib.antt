@@ -1,6 +1,5 @@
 pub mod Faults
 pub mod Words
-pub mod Headings
 pub mod Grammar
 pub mod Text
 pub mod RoundTrip

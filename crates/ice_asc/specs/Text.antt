@@ -1,14 +1,14 @@
 -- The text that is written for the bits of a chip.
-use Rattle.std.specs.Prelude.{ℕ, Bool, List, [], ◌∷◌, ◌++◌, map, codes, decimal, if◌then◌else◌}
+use Rattle.std.specs.Prelude.{ℕ, Bool, List, ◌∷◌, ◌++◌, map, codes, decimal, if◌then◌else◌}
 use Rattle.std.specs.List.{flat_map, range_with_len}
 use Rattle.ice_base.specs.declared.number.BitAt.{BitAt}
 use Rattle.ice_base.specs.Text.{text_of_lines}
 use Rattle.ice_chip.specs.Database.{Parts}
 use Rattle.ice_chip.specs.Lookups.{tile_of}
-use Rattle.ice_chip.specs.Places.{columns}
+use Rattle.ice_chip.specs.Database.{columns}
 use Rattle.ice_chip.specs.declared.tile.Tile.{Tile}
 use Rattle.ice_bits.specs.Configuration.{Configuration, bits_of}
-use Rattle.ice_asc.specs.Headings.{heading_of_kind}
+use Rattle.ice_asc.specs.Words.{heading_of_kind}
 
 -- 48 is `0`, 49 is `1`
 abbrev pub digit_of_bit : Bool → ℕ

@@ -1,9 +1,13 @@
--- What the words of a line write: digits of bits, places of tiles, extra bits.
-use Rattle.std.specs.Prelude.{ℕ, ◌==◌, ◌&&◌, Bool, Option, None, Some, List, [], ◌∷◌, length, nat_lt, option_map, if◌then◌else◌}
+-- What the words of a line write: headings, digits of bits, places of tiles, extra bits.
+use Rattle.std.specs.Prelude.{ℕ, ◌==◌, ◌&&◌, Bool, Option, None, Some, List, [], ◌∷◌, length, nat_lt, option_map, if◌then◌else◌, codes, bytes_eq}
 use Rattle.std.specs.Option.{option_and_then}
-use Rattle.ice_base.specs.BitNames.{values_in}
-use Rattle.ice_base.specs.Numbers.{number_in}
+use Rattle.ice_base.specs.Places.{values_in}
+use Rattle.ice_base.specs.Text.{number_in}
 use Rattle.ice_base.specs.declared.number.TileAt.{TileAt}
+use Rattle.ice_chip.specs.declared.rows.TileKind.{TileKind}
+use Rattle.ice_chip.specs.declared.rows.TileKind.TheVariants.{Io, Logic, RamBottom, RamTop}
+use Rattle.ice_asc.specs.declared.section.Heading.{Heading}
+use Rattle.ice_asc.specs.declared.section.Heading.TheVariants.{Device, Tile, ExtraBit, Symbol, Other}
 
 -- the bits of as many digits as there are columns
 abbrev pub bits_of_digits : ℕ → List ℕ → Option (List Bool)
@@ -15,24 +19,38 @@ row_of_words columns w [] = bits_of_digits columns w
 row_of_words columns w (v ∷ ws) = None
 
 -- the place of a tile: both numbers are below 65,536
-abbrev pub place_of : ℕ → ℕ → Option TileAt
-place_of x y = if nat_lt x 65536 && nat_lt y 65536 then Some (record { x = x; y = y }) else None
+abbrev pub tile_below : ℕ → ℕ → Option TileAt
+tile_below x y = if nat_lt x 65536 && nat_lt y 65536 then Some (record { x = x; y = y }) else None
 
 -- the place that two words write
 abbrev pub tile_of_words : List (List ℕ) → Option TileAt
-tile_of_words [] = None
-tile_of_words (x ∷ []) = None
-tile_of_words (x ∷ y ∷ []) = option_and_then (λ a. option_and_then (place_of a) (number_in y)) (number_in x)
-tile_of_words (x ∷ y ∷ z ∷ ws) = None
+tile_of_words (x ∷ y ∷ []) = option_and_then (λ a. option_and_then (tile_below a) (number_in y)) (number_in x)
+tile_of_words ws = None
 
 abbrev pub extra_bit : ℕ → ℕ → ℕ → ℕ × ℕ × ℕ
 extra_bit bank column row = (bank, column, row)
 
 -- the extra bit that three words write: its bank, column and row
 abbrev pub extra_of_words : List (List ℕ) → Option (ℕ × ℕ × ℕ)
-extra_of_words [] = None
-extra_of_words (b ∷ []) = None
-extra_of_words (b ∷ x ∷ []) = None
 extra_of_words (b ∷ x ∷ y ∷ []) =
     option_and_then (λ bank. option_and_then (λ column. option_map (extra_bit bank column) (number_in y)) (number_in x)) (number_in b)
-extra_of_words (b ∷ x ∷ y ∷ z ∷ ws) = None
+extra_of_words ws = None
+
+-- the heading of the tiles of a kind
+abbrev pub heading_of_kind : TileKind → List ℕ
+heading_of_kind Io = codes ".io_tile"
+heading_of_kind Logic = codes ".logic_tile"
+heading_of_kind RamBottom = codes ".ramb_tile"
+heading_of_kind RamTop = codes ".ramt_tile"
+
+-- every heading; the sections of other headings are read over
+abbrev pub heading_of : List ℕ → Heading
+heading_of word =
+    if bytes_eq word (codes ".device") then Device
+    else (if bytes_eq word (codes ".io_tile") then Tile Io
+    else (if bytes_eq word (codes ".logic_tile") then Tile Logic
+    else (if bytes_eq word (codes ".ramb_tile") then Tile RamBottom
+    else (if bytes_eq word (codes ".ramt_tile") then Tile RamTop
+    else (if bytes_eq word (codes ".extra_bit") then ExtraBit
+    else (if bytes_eq word (codes ".sym") then Symbol
+    else Other))))))

@@ -5,7 +5,7 @@ ghost use Rattle.ice_base.specs.Text.{text_of_lines};
 ghost use Rattle.ice_bits.specs.Configuration.{bit_at, bits_of, IsOf};
 ghost use Rattle.ice_chip.specs.Lookups.{tile_of};
 ghost use Rattle.ice_asc.specs.Grammar.{asc_in};
-ghost use Rattle.ice_asc.specs.Headings.{heading_of_kind};
+ghost use Rattle.ice_asc.specs.Words.{heading_of_kind};
 ghost use Rattle.ice_asc.specs.RoundTrip.{IsSmall};
 ghost use Rattle.ice_asc.specs.Text.{digit_of_bit, row_line, tile_heading, tile_lines, extra_line, asc_text};
 

@@ -1,12 +1,11 @@
 -- What the first word of a line tells of the line.
 use Rattle.std.proofs.Common.{◌≡◌, ℕ, Bool, true, false, None, Some, List, [], ◌∷◌, length, nat_eq, refl, sym, ap, ◌∙◌, subst, true≢false, codes, bytes_eq, if◌then◌else◌}
-use Rattle.ice_base.specs.BitNames.{values_in}
-use Rattle.ice_base.specs.Comments.{begins_with}
+use Rattle.ice_base.specs.Places.{values_in}
+use Rattle.ice_base.specs.Text.{begins_with}
 use Rattle.ice_base.proofs.Keys.{bytes_same, nat_same}
 use Rattle.ice_chip.specs.declared.rows.TileKind.{TileKind}
 use Rattle.ice_chip.specs.declared.rows.TileKind.TheVariants.{Io, Logic, RamBottom, RamTop}
-use Rattle.ice_asc.specs.Headings.{heading_of_kind, heading_of}
-use Rattle.ice_asc.specs.Words.{bits_of_digits}
+use Rattle.ice_asc.specs.Words.{heading_of_kind, heading_of, bits_of_digits}
 use Rattle.ice_asc.specs.declared.section.Heading.{Heading}
 use Rattle.ice_asc.specs.declared.section.Heading.TheVariants.{Device, Tile, ExtraBit, Symbol, Other}
 use Rattle.ice_asc_laws.specs.NamedTiles.{Begins, begins_extra}

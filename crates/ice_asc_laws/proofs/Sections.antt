@@ -7,14 +7,12 @@ use Rattle.std.proofs.lemmas.List.{map-append}
 use Rattle.std.proofs.lemmas.List.Folds.{list_any-append}
 use Rattle.ice_base.specs.declared.number.TileAt.{TileAt}
 use Rattle.ice_base.proofs.Keys.{tile_same, tile_self}
-use Rattle.ice_chip.specs.Database.{Parts}
+use Rattle.ice_chip.specs.Database.{Parts, same_tile, columns}
 use Rattle.ice_chip.specs.Lookups.{kind_at}
-use Rattle.ice_chip.specs.Places.{same_tile, columns}
 use Rattle.ice_chip.specs.declared.rows.TileKind.{TileKind}
 use Rattle.ice_bits.specs.Configuration.{Configuration, rows_at}
 use Rattle.ice_bits.specs.Rewriting.{with_rows}
-use Rattle.ice_asc.specs.Headings.{heading_of_kind, heading_of}
-use Rattle.ice_asc.specs.Words.{bits_of_digits, tile_of_words}
+use Rattle.ice_asc.specs.Words.{heading_of_kind, heading_of, bits_of_digits, tile_of_words}
 use Rattle.ice_asc.specs.declared.section.Section.{Section}
 use Rattle.ice_asc.specs.declared.section.Section.TheVariants.{Nowhere, ReadOver, Rows}
 use Rattle.ice_asc.specs.declared.section.Heading.TheVariants.{Tile}

@@ -5,13 +5,11 @@ use Rattle.std.specs.Option.{option_and_then}
 use Rattle.ice_base.specs.Text.{lines, words}
 use Rattle.ice_base.specs.declared.number.TileAt.{TileAt}
 use Rattle.ice_base.specs.declared.number.BitAt.{BitAt}
-use Rattle.ice_chip.specs.Database.{Parts}
+use Rattle.ice_chip.specs.Database.{Parts, columns}
 use Rattle.ice_chip.specs.Lookups.{kind_at}
-use Rattle.ice_chip.specs.Places.{columns}
 use Rattle.ice_chip.specs.declared.rows.TileKind.{TileKind}
 use Rattle.ice_bits.specs.Configuration.{Configuration, rows_at, bits_of}
-use Rattle.ice_asc.specs.Headings.{heading_of_kind}
-use Rattle.ice_asc.specs.Words.{row_of_words, tile_of_words, extra_of_words}
+use Rattle.ice_asc.specs.Words.{heading_of_kind, row_of_words, tile_of_words, extra_of_words}
 
 -- a line as its words
 abbrev pub Line : Type 0

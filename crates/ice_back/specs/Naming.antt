@@ -2,7 +2,7 @@
 use Rattle.std.specs.Prelude.{ℕ, List, [], ◌∷◌, ◌++◌, if◌then◌else◌}
 use Rattle.std.specs.List.{list_any}
 use Rattle.indexmap.specs.IndexSet.{insert_key}
-use Rattle.ice_chip.specs.Places.{same_pad}
+use Rattle.ice_chip.specs.Database.{same_pad}
 use Rattle.ice_chip.specs.declared.rows.Pad.{Pad}
 use Rattle.ice_back_laws.specs.Numbers.{pin_names}
 

@@ -2,9 +2,9 @@
 ghost use Rattle.std.specs.Prelude.{◌≡◌, ◌∷◌, [], true, false, codes, if◌then◌else◌, IfOk};
 ghost use Rattle.ice_bits.specs.Configuration.{bits_of};
 ghost use Rattle.ice_bits.specs.Settings.{set_at};
-ghost use Rattle.ice_chip.specs.WireNames.{input_name};
+ghost use Rattle.ice_chip.specs.Names.{input_name};
 ghost use Rattle.ice_net.specs.declared.kind.CellKind.TheVariants.{Cover, Flop};
-ghost use Rattle.ice_decode.specs.Cells.{reset_by, reset_of};
+ghost use Rattle.ice_decode.specs.Cells.{reset_of};
 ghost use Rattle.ice_decode.specs.Reads.{carry_into};
 ghost use Rattle.ice_back_laws.specs.Back.{reader, pin_reader, cell, signal_at, table_cell, carry_cell, flop_cell};
 ghost use Rattle.ice_back_laws.specs.Numbers.{reader_of};
@@ -13,8 +13,8 @@ ghost use Rattle.ice_back_laws.specs.Roots.{StandsAt, cell_table, table_root};
 use ice_back_points::{ConfiguredChip, table_root};
 use ice_base::{NoMemory, SignalNo, TileAt};
 use ice_chip::input_name;
-use ice_decode::{cell_bit, setting};
-use ice_net::{Cell, CellKind, Reset, Signals};
+use ice_decode::{cell_bit, reset_by, setting};
+use ice_net::{Cell, CellKind, Signals};
 use std::alloc::Global;
 
 // These signals.
@@ -114,18 +114,6 @@ pub(crate) fn carry_cell(
     ];
     let out = Some(SignalNo(configured.cell_number(tile, cell) + 2));
     made(alloc, CellKind::Carry, &ins, &[out])
-}
-
-// Which way a flip-flop is set or reset.
-fn reset_by(set: bool, at_once: bool) -> Reset
-    ensures { result ≡ reset_by set at_once }
-{
-    match (set, at_once) {
-        (false, false) => Reset::SyncReset,
-        (false, true) => Reset::AsyncReset,
-        (true, false) => Reset::SyncSet,
-        (true, true) => Reset::AsyncSet,
-    }
 }
 
 // The flip-flop of a cell as a kind.

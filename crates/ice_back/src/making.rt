@@ -7,7 +7,7 @@ ghost use Rattle.ice_net.specs.Meaning as nets;
 ghost use Rattle.ice_net.specs.NetlistData.{empty_netlist};
 ghost use Rattle.ice_check.specs.Sound.{IsSound};
 ghost use Rattle.ice_decode.specs.Cells.{cells};
-ghost use Rattle.ice_decode.specs.Meaning as chips;
+ghost use Rattle.ice_decode.specs.Meaning.{bits_show};
 ghost use Rattle.ice_decode.specs.Refusals.{IsCircuitOf};
 ghost use Rattle.ice_back_laws.specs.Back.{back_netlist};
 
@@ -104,7 +104,7 @@ pub fn back(
     requires listed { Has chip.now.packages (package_view «package».now) }
     ensures netlist { IfOk result (λ netlist. netlist ≡ back_netlist chip.now (bits_of circuit.now.configuration) circuit.now.configuration.extras (package_view «package».now)) }
     ensures sound { IfOk result (λ netlist. IsSound netlist) }
-    ensures shows { IfOk result (λ netlist. (levels : List (List Bool)) → nets.shows netlist levels ≡ chips.shows chip.now (bits_of circuit.now.configuration) circuit.now.configuration.extras «package».now.pads.keys «package».now.pads.keys levels) }
+    ensures shows { IfOk result (λ netlist. (levels : List (List Bool)) → nets.shows netlist levels ≡ bits_show chip.now (bits_of circuit.now.configuration) circuit.now.configuration.extras «package».now.pads.keys «package».now.pads.keys levels) }
 {
     netlist_is_sound();
     netlist_shows_what_bits_show();

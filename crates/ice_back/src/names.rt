@@ -2,7 +2,7 @@
 ghost use Rattle.std.specs.Prelude.{◌≡◌, ◌++◌, ◌∷◌, [], codes, decimal, IfOk, OnOk};
 ghost use Rattle.std.specs.List.{flat_map};
 ghost use Rattle.indexmap.specs.IndexSet.{insert_key};
-ghost use Rattle.ice_chip.specs.Places.{same_pad};
+ghost use Rattle.ice_chip.specs.Database.{same_pad};
 ghost use Rattle.ice_chip.specs.Views.{package_view};
 ghost use Rattle.ice_chip.specs.Within.{different_pads};
 ghost use Rattle.ice_back_laws.specs.Numbers.{pin_names, pad_names, cell_name, cell_names};

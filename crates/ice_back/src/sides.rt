@@ -1,6 +1,6 @@
 //! The cells of pads: SB_IO, registers and SB_GB.
 ghost use Rattle.std.specs.Prelude.{◌≡◌, ◌<◌, ◌^◌, false, if◌then◌else◌, IfOk};
-ghost use Rattle.ice_chip.specs.WireNames.{pad_output_name};
+ghost use Rattle.ice_chip.specs.Names.{pad_output_name};
 ghost use Rattle.ice_bits.specs.Configuration.{bits_of};
 ghost use Rattle.ice_back_laws.specs.Back.{pin_reader, buffer_part, buffer_type, driven_reader, pad_cell, register_cell, input_cell, output_cell, level_cell};
 ghost use Rattle.ice_back_laws.specs.Numbers.{signal, input_number, given_number};

@@ -13,11 +13,10 @@ use Rattle.ice_base.specs.declared.number.TileAt.{TileAt}
 use Rattle.ice_base.proofs.Keys.{tiles_equal}
 use Rattle.ice_base_values.specs.Order.{At, Has}
 use Rattle.ice_base_values.proofs.Members.{Has_all, Has_any, Has_map, any_Has, map_Has, filter_Has}
-use Rattle.ice_chip.specs.Database.{Parts, PackageRows}
+use Rattle.ice_chip.specs.Database.{Parts, PackageRows, same_tile, same_pad}
 use Rattle.ice_chip.specs.IsRead.{IsRead}
-use Rattle.ice_chip.specs.Places.{same_tile, same_pad}
 use Rattle.ice_chip.specs.Within.{IsPlace, IsPad, IsPackage}
-use Rattle.ice_chip.specs.declared.parts.TileLine.{TileLine}
+use Rattle.ice_chip.specs.declared.rows.TileLine.{TileLine}
 use Rattle.ice_chip.specs.declared.rows.Pad.{Pad}
 use Rattle.ice_decode.specs.Cells.{is_logic_tile, logic_tiles}
 use Rattle.ice_decode.specs.Pads.{pads_in}

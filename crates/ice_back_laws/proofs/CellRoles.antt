@@ -5,8 +5,7 @@ use Rattle.std.proofs.lemmas.Bool.{cond_both}
 use Rattle.ice_base.specs.declared.number.TileAt.{TileAt}
 use Rattle.ice_chip.specs.Database.{Parts}
 use Rattle.ice_chip.specs.Lookups.{kind_at, names_of}
-use Rattle.ice_chip.specs.PinNames.{cell_pin, is_global_name}
-use Rattle.ice_chip.specs.WireNames.{global_name, in_out_enable_name}
+use Rattle.ice_chip.specs.Names.{cell_pin, is_global_name, global_name, in_out_enable_name}
 use Rattle.ice_chip.specs.declared.rows.Pad.{Pad}
 use Rattle.ice_chip.proofs.Prefixes.{set_number}
 use Rattle.ice_chip.specs.declared.rows.TileKind.{TileKind}
@@ -14,7 +13,7 @@ use Rattle.ice_chip.specs.declared.rows.TileKind.TheVariants.{Io, Logic, RamBott
 use Rattle.ice_chip.specs.declared.placed.PlacedName.{PlacedName}
 use Rattle.ice_decode.specs.declared.role.Role.{Role}
 use Rattle.ice_decode.specs.declared.role.Role.TheVariants.{Plain, Output, LookUp, CarryOut, PadInput, Global, CarryIn, ClockEnable}
-use Rattle.ice_decode.specs.Roles.{number_at, global_role, output_role, or_global, logic_role, io_role, role_in, role_or, first_role, role_of}
+use Rattle.ice_decode.specs.Drivers.{number_at, global_role, output_role, or_global, logic_role, io_role, role_in, role_or, first_role, role_of}
 use Rattle.ice_decode.proofs.RolePlaces.{IsCell}
 use Rattle.ice_decode.proofs.CellDigits.{digit_small}
 

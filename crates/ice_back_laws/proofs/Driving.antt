@@ -11,7 +11,7 @@ use Rattle.ice_base_values.proofs.Members.{At_map, Has_all}
 use Rattle.ice_chip.specs.Database.{Parts, PackageRows}
 use Rattle.ice_chip.specs.IsRead.{IsRead}
 use Rattle.ice_chip.specs.Lookups.{placed_at}
-use Rattle.ice_chip.specs.WireNames.{pad_output_name, output_enable_name, input_clock_name, output_clock_name, in_out_enable_name}
+use Rattle.ice_chip.specs.Names.{pad_output_name, output_enable_name, input_clock_name, output_clock_name, in_out_enable_name}
 use Rattle.ice_chip.specs.Within.{IsPackage}
 use Rattle.ice_chip.specs.declared.rows.Pad.{Pad}
 use Rattle.ice_chip_laws.specs.Laws.{LookupsAreLawful}
@@ -25,7 +25,7 @@ use Rattle.ice_net.specs.NetlistData.{NetlistData, port_at, way_at}
 use Rattle.ice_decode.specs.declared.point.Point.{Point}
 use Rattle.ice_decode.specs.Reads.{at_pin, cell_inputs, carry_inputs}
 use Rattle.ice_decode.specs.Refusals.{IsFaultless}
-use Rattle.ice_decode.specs.Registers.{has_output_register}
+use Rattle.ice_decode.specs.Pads.{has_output_register}
 use Rattle.ice_decode.proofs.Members.{At_map_cases, At_range}
 use Rattle.ice_check.specs.Faults.{first_number, uses_of, is_used, shown_of, is_shown, is_nothing, is_undriven, undriven, port_is, is_bare, inout_bare, cell_is, is_portless, is_no_way, pin_not_port}
 use Rattle.ice_back_laws.specs.Law.{IsConnected, NetlistIsConnected}

@@ -10,8 +10,7 @@ use Rattle.ice_base_values.specs.Order.{At, Has}
 use Rattle.ice_base_values.proofs.Members.{Has_any, At_map}
 use Rattle.ice_chip.specs.Database.{Parts}
 use Rattle.ice_chip.specs.Lookups.{kind_at, names_of, wire_named, placed_at}
-use Rattle.ice_chip.specs.PinNames.{cell_pin, is_global_name}
-use Rattle.ice_chip.specs.WireNames.{pad_input_name, in_out_enable_name}
+use Rattle.ice_chip.specs.Names.{cell_pin, is_global_name, pad_input_name, in_out_enable_name}
 use Rattle.ice_chip.specs.declared.rows.Pad.{Pad}
 use Rattle.ice_chip.specs.declared.rows.TileKind.{TileKind}
 use Rattle.ice_chip.specs.declared.rows.TileKind.TheVariants.{Io, Logic, RamBottom, RamTop}
@@ -25,9 +24,8 @@ use Rattle.ice_decode.specs.declared.point.Point.{Point}
 use Rattle.ice_decode.specs.declared.point.Point.TheVariants.{Wire, Carry}
 use Rattle.ice_decode.specs.declared.role.Role.{Role}
 use Rattle.ice_decode.specs.declared.role.Role.TheVariants.{Plain, Output, LookUp, CarryOut, PadInput, Global, CarryIn, ClockEnable}
-use Rattle.ice_decode.specs.Drivers.{driver}
+use Rattle.ice_decode.specs.Drivers.{driver, number_at, global_role, output_role, or_global, logic_role, io_role, role_in, role_or, first_role, role_of}
 use Rattle.ice_decode.specs.Reads.{wire_point, at_pin}
-use Rattle.ice_decode.specs.Roles.{number_at, global_role, output_role, or_global, logic_role, io_role, role_in, role_or, first_role, role_of}
 use Rattle.ice_decode.proofs.Members.{At_range}
 use Rattle.ice_back_laws.specs.Roots.{leads_from, is_reading_name, is_heard_at, is_heard}
 

@@ -3,21 +3,21 @@ use Rattle.std.proofs.Common.{ℕ, ◌≡◌, zero, suc, ◌+◌, ◌*◌, ◌<�
 use Rattle.std.specs.Prelude.{codes}
 use Rattle.std.proofs.lemmas.Option.{same_Some, none-some}
 use Rattle.ice_base.specs.declared.number.TileAt.{TileAt}
-use Rattle.ice_base_values.specs.Inputs.{present}
+use Rattle.ice_base_values.specs.System.{present}
 use Rattle.ice_base_values.specs.Order.{At, Has}
 use Rattle.ice_base_values.proofs.Gaps.{present_at}
 use Rattle.ice_base_values.proofs.Enough.{first}
 use Rattle.ice_chip.specs.Database.{Parts}
 use Rattle.ice_chip.specs.IsRead.{IsRead}
 use Rattle.ice_chip.specs.Lookups.{placed_at}
-use Rattle.ice_chip.specs.WireNames.{input_name, pad_output_name, output_enable_name}
+use Rattle.ice_chip.specs.Names.{input_name, pad_output_name, output_enable_name}
 use Rattle.ice_chip.specs.declared.rows.Pad.{Pad}
 use Rattle.ice_chip_laws.specs.Names.{HasNames}
 use Rattle.ice_bits.specs.Configuration.{Bits}
 use Rattle.ice_decode.specs.declared.point.Point.{Point}
 use Rattle.ice_decode.specs.declared.point.Point.TheVariants.{Carry}
 use Rattle.ice_decode.specs.Cells.{logic_tiles}
-use Rattle.ice_decode.specs.Meaning as chip
+use Rattle.ice_decode.specs.Meaning.{chip_system}
 use Rattle.ice_decode.specs.Reads.{points, count_points, at_pin, cell_inputs, carry_into, carry_inputs}
 use Rattle.ice_decode.specs.Refusals.{IsFaultless}
 use Rattle.ice_decode.proofs.KeptLevels.{tile_at}
@@ -106,7 +106,7 @@ module _ (parts : Parts) (read : IsRead parts) (bits : Bits) (names : HasNames p
 
   module _ (extras : List (ℕ × ℕ × ℕ)) (faultless : IsFaultless parts bits extras) (pads : List Pad) where
     abbrev rank : Point → ℕ
-    rank p = first (chip.system_of parts bits extras [] [] []) (count_points parts + 1) p
+    rank p = first (chip_system parts bits extras [] [] []) (count_points parts + 1) p
 
     abbrev IsRanked : ℕ → Point → Type 0
     IsRanked = Ranks parts bits extras read names faultless

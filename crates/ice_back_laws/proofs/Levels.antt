@@ -7,8 +7,7 @@ use Rattle.std.proofs.lemmas.Bool.{cases_lt}
 use Rattle.std.proofs.lemmas.List.FromFn.{length-range_with_len}
 use Rattle.ice_base.specs.declared.number.TileAt.{TileAt}
 use Rattle.ice_base.specs.declared.number.SignalNo.{SignalNo}
-use Rattle.ice_base_values.specs.System.{value}
-use Rattle.ice_base_values.specs.Inputs.{present, reading}
+use Rattle.ice_base_values.specs.System.{value, present, reading}
 use Rattle.ice_base_values.specs.Order.{At, Has}
 use Rattle.ice_base_values.specs.Arriving.{Arrive, IsMade}
 use Rattle.ice_base_values.proofs.Arriving.{value_arrives}
@@ -20,15 +19,14 @@ use Rattle.ice_chip_laws.specs.Names.{HasNames}
 use Rattle.ice_bits.specs.Configuration.{Bits}
 use Rattle.ice_lut.proofs.TableLaws.{bit_of_number, number_bound}
 use Rattle.ice_net.specs.declared.cell.Cell.{Cell}
-use Rattle.ice_net.specs.Drivers.{number, numbers, pin_of, driver_of}
+use Rattle.ice_net.specs.Drivers.{signal_number, numbers, pin_of, driver_of}
 use Rattle.ice_net.specs.Meaning as net
 use Rattle.ice_net.specs.Meaning.{number_of, table_bit, level_by, pad_level, cell_reads, makes_by, signal_value}
 use Rattle.ice_net.specs.NetlistData.{NetlistData}
 use Rattle.ice_decode.specs.declared.point.Point.{Point}
 use Rattle.ice_decode.specs.declared.point.Point.TheVariants.{Carry}
 use Rattle.ice_decode.specs.Cells.{table_entry, looked_up, has_carry, logic_tiles}
-use Rattle.ice_decode.specs.Meaning as chip
-use Rattle.ice_decode.specs.Meaning.{point_level}
+use Rattle.ice_decode.specs.Meaning.{point_level, chip_system, makes_at}
 use Rattle.ice_decode.specs.Reads.{points, count_points, cell_inputs, carry_inputs}
 use Rattle.ice_decode.specs.Refusals.{IsFaultless}
 use Rattle.ice_decode.proofs.KeptLevels.{tile_at}
@@ -85,7 +83,7 @@ module _ (parts : Parts) (bits : Bits) (extras : List (ℕ × ℕ × ℕ)) (read
   abbrev IsRanked : ℕ → Point → Type 0
   IsRanked = Ranks parts bits extras read names faultless
 
-  own_there : (i : ℕ) (p : Point) → IsRanked i p → value (chip.system_of parts bits extras pads levels kept) (count_points parts + 1) p ≡ Some (own p)
+  own_there : (i : ℕ) (p : Point) → IsRanked i p → value (chip_system parts bits extras pads levels kept) (count_points parts + 1) p ≡ Some (own p)
   own_there i p r = faultless_valued parts bits extras read faultless pads levels kept p r.0
 
   rooted : (i : ℕ) (p : Point) → IsRanked i p → own p ≡ level (root p)
@@ -102,7 +100,7 @@ module _ (parts : Parts) (bits : Bits) (extras : List (ℕ × ℕ × ℕ)) (read
       ⊎ ((k : ℕ) × (k < length pads) × (s ≡ port_number k) × (x ≡ slice_index_or levels k false))
 
   reader_arrives : (m k : ℕ) (r : LevelRoot) (x : Bool) (qs : List (Option ℕ)) (xs : List Bool) → suc k < m → IsGood parts bits extras read names faultless pads k r → x ≡ level r → Arrive Holds false m qs xs
-      → Arrive Holds false m (number (reader_of parts pads false r) ∷ qs) (x ∷ xs)
+      → Arrive Holds false m (signal_number (reader_of parts pads false r) ∷ qs) (x ∷ xs)
   reader_arrives m k (Fixed true) x qs xs lt is e rest = ((suc k, lt, inl (Fixed true, k, omega arith, is, refl, e)), rest)
   reader_arrives m k (Fixed false) x qs xs lt is e rest = (e, rest)
   reader_arrives m k (Input j) x qs xs lt is e rest = ((suc k, lt, inl (Input j, k, omega arith, is, refl, e)), rest)
@@ -149,7 +147,7 @@ module _ (parts : Parts) (bits : Bits) (extras : List (ℕ × ℕ × ℕ)) (read
   carry_made t i place e =
       let r = ranked parts bits extras read names faultless (Carry t i) (carry_ranked t i place) in
       sym (own_made parts bits extras IsRanked (ranks_fall parts bits extras read names faultless) pads (root_there parts bits extras read names faultless pads) levels kept quiet own_there _ (Carry t i) r
-      ∙ ap (λ b. chip.makes parts bits extras pads levels kept (Carry t i) (map (reading false own) (if b then carry_inputs parts t i else []))) e)
+      ∙ ap (λ b. makes_at parts bits extras pads levels kept (Carry t i) (map (reading false own) (if b then carry_inputs parts t i else []))) e)
 
   -- an SB_GB reads a port
   port_arrives : (m i k : ℕ) → i < m → k < length pads → Arrive Holds false m (numbers (signal_at (port_number k) ∷ [])) (slice_index_or levels k false ∷ [])

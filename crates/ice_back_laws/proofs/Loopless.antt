@@ -4,7 +4,7 @@ use Rattle.std.specs.Prelude.{slice_index_or, option_map}
 use Rattle.std.specs.Option.{option_map_or}
 use Rattle.std.proofs.lemmas.Option.{same_Some, none-some, slice_get-get_or}
 use Rattle.ice_base.specs.declared.number.SignalNo.{SignalNo}
-use Rattle.ice_base_values.specs.Inputs.{present}
+use Rattle.ice_base_values.specs.System.{present}
 use Rattle.ice_base_values.specs.Order.{At, Has, IsCycleBelow}
 use Rattle.ice_base_values.proofs.Cycles.{cycle_goes_on, value_no_cycle}
 use Rattle.ice_chip.specs.Database.{Parts, PackageRows}
@@ -13,14 +13,14 @@ use Rattle.ice_chip_laws.specs.Laws.{LookupsAreLawful}
 use Rattle.ice_chip_laws.specs.Names.{HasNames}
 use Rattle.ice_bits.specs.Configuration.{Bits}
 use Rattle.ice_net.specs.declared.cell.Cell.{Cell}
-use Rattle.ice_net.specs.declared.driver.Driver as drivers
-use Rattle.ice_net.specs.Drivers.{is_signal, place_of, pads, output_of, outputs, driver_from, driver_of}
+use Rattle.ice_net.specs.declared.driver.SignalDriver as drivers
+use Rattle.ice_net.specs.Drivers.{is_signal, place_of, pad_signals, output_of, outputs, driver_from, driver_of}
 use Rattle.ice_net.specs.Meaning as net
 use Rattle.ice_net.specs.NetlistData.{NetlistData}
 use Rattle.ice_check.specs.Loops.{HasNoLoop}
 use Rattle.ice_decode.specs.Cells.{logic_tiles, tile_place}
 use Rattle.ice_decode.specs.Refusals.{IsFaultless}
-use Rattle.ice_decode.specs.Registers.{register_place}
+use Rattle.ice_decode.specs.Pads.{register_place}
 use Rattle.ice_decode.proofs.Members.{At_map_cases}
 use Rattle.ice_back_laws.specs.Law.{AreQuiet, NetlistHasNoLoop}
 use Rattle.ice_back_laws.specs.Numbers.{root_number, signal}
@@ -83,9 +83,9 @@ module _ (parts : Parts) (bits : Bits) (extras : List (ℕ × ℕ × ℕ)) (read
   by_root s i (Sum t c) there e drives at = inl (Sum t c, tt, there, e)
 
   root_or_source : (s : ℕ) → IsOfRoot s ⊎ (net.depends_on n s ≡ [])
-  root_or_source s = by (place_of s (outputs n)) refl (place_of s (pads n)) refl
+  root_or_source s = by (place_of s (outputs n)) refl (place_of s (pad_signals n)) refl
     where
-      by : (o : Option ℕ) → place_of s (outputs n) ≡ o → (p : Option ℕ) → place_of s (pads n) ≡ p → IsOfRoot s ⊎ (net.depends_on n s ≡ [])
+      by : (o : Option ℕ) → place_of s (outputs n) ≡ o → (p : Option ℕ) → place_of s (pad_signals n) ≡ p → IsOfRoot s ⊎ (net.depends_on n s ≡ [])
       by None e None f = inr (λ j. present (net.reads n (driver_from (f j) (e j))))
       by o e (Some k) f = inr (ap (λ (p : Option ℕ). present (net.reads n (driver_from p (place_of s (outputs n))))) f)
       by (Some i) e None f =

@@ -1,7 +1,7 @@
 -- The names of the signals of a circuit differ, and where those of the pins are words all are words that begin no comment.
 use Rattle.std.proofs.Common.{◌≡◌, ◌⊎◌, ℕ, zero, suc, ◌+◌, ◌*◌, ◌^◌, ◌<◌, ◌==◌, true, false, Option, List, [], ◌∷◌, ◌++◌, length, drop, length-append, inl, inr, refl, sym, ap, ◌∙◌, subst, true≢false, append_assoc, if◌then◌else◌, arith, rules}
 use Rattle.std.specs.Char.{is_ascii_digit}
-use Rattle.std.specs.List.{AllByRecursion, IsDistinct, flat_map}
+use Rattle.std.specs.List.{IsDistinct, flat_map}
 use Rattle.std.specs.Map.{keys_of}
 use Rattle.std.specs.Prelude.{All, bytes_eq, codes, decimal, option_map, slice_index_or, unwrap_or}
 use Rattle.std.specs.Str.{all_ascii_digits}
@@ -9,19 +9,17 @@ use Rattle.std.proofs.lemmas.Bool.{and_parts}
 use Rattle.std.proofs.lemmas.Fmt.{digits_decimal, decimal_injective}
 use Rattle.std.proofs.lemmas.Option.{none-some, same_Some}
 use Rattle.std.proofs.lemmas.Str.Parse.{IsNumeralModel, numerals_by_fold, tells_all_ascii_digits}
-use Rattle.ice_base.specs.Comments.{begins_with}
-use Rattle.ice_base.specs.Numbers.{with_digits}
-use Rattle.ice_base.specs.Text.{IsWord, ends_word}
+use Rattle.ice_base.specs.Text.{with_digits, IsWord, begins_with}
 use Rattle.ice_base.specs.declared.number.TileAt.{TileAt}
 use Rattle.ice_base.proofs.Keys.{bytes_same, bytes_self}
-use Rattle.ice_base.proofs.TextLaws.{decimal_is_word}
+use Rattle.ice_base.proofs.TextLaws.{decimal_is_word, GoesOn}
 use Rattle.ice_base_values.specs.Order.{At, Has, StandOnce}
 use Rattle.ice_base_values.proofs.Members.{Has_all, Has_find, find_Has, At_map}
 use Rattle.ice_base_values.proofs.Places.{At_same}
-use Rattle.ice_chip.specs.Database.{Parts, PackageRows}
+use Rattle.ice_base_values.proofs.Once.{once_append, distinct_from_once}
+use Rattle.ice_chip.specs.Database.{Parts, PackageRows, same_pad}
 use Rattle.ice_chip.specs.IsRead.{IsRead}
 use Rattle.ice_chip.specs.Lookups.{first_pin}
-use Rattle.ice_chip.specs.Places.{same_pad}
 use Rattle.ice_chip.specs.Within.{IsPackage}
 use Rattle.ice_chip.specs.declared.rows.Pad.{Pad}
 use Rattle.ice_decode.specs.Cells.{cells, logic_tiles}
@@ -29,7 +27,7 @@ use Rattle.ice_decode.proofs.Members.{Has_append_cases}
 use Rattle.ice_decode.proofs.PointPlaces.{cell_cases}
 use Rattle.ice_back_laws.specs.Numbers.{pin_names, pad_names, cell_name, cell_names, back_names}
 use Rattle.ice_back_laws.proofs.Bounds.{pads_once, logic_within}
-use Rattle.ice_back_laws.proofs.Once.{once_append, once_flat, distinct_from_once}
+use Rattle.ice_back_laws.proofs.Once.{once_flat}
 use Rattle.ice_back_laws.proofs.PadNumbers.{pad_same, pad_self}
 use Rattle.ice_back_laws.proofs.PinTypes.{pinned}
 use Rattle.ice_back_laws.proofs.Standing.{flat_back}
@@ -254,10 +252,6 @@ three_once c small i j z a b = by i j a b
     by (suc (suc zero)) (suc (suc (suc k))) a b = absurd (none-some z b)
 
 -- ---- words
--- no byte ends a word
-abbrev GoesOn : List ℕ → Type 0
-GoesOn bytes = AllByRecursion (λ b. ends_word b ≡ false) bytes
-
 go_on : (xs ys : List ℕ) → GoesOn xs → GoesOn ys → GoesOn (xs ++ ys)
 go_on [] ys p q = q
 go_on (x ∷ xs) ys p q = (p.0, go_on xs ys p.1 q)

@@ -3,7 +3,7 @@ use Rattle.std.proofs.Common.{◌≡◌, ℕ, suc, ◌<◌, ◌==◌, Bool, true
 use Rattle.std.proofs.lemmas.Bool.{and_parts}
 use Rattle.std.proofs.lemmas.Option.{same_Some, none-some}
 use Rattle.ice_base.proofs.Keys.{nat_same, nat_self, tile_same, tile_self}
-use Rattle.ice_chip.specs.Places.{same_tile, same_pad}
+use Rattle.ice_chip.specs.Database.{same_tile, same_pad}
 use Rattle.ice_chip.specs.declared.rows.Pad.{Pad}
 use Rattle.ice_decode.specs.Pads.{level_of}
 use Rattle.ice_back_laws.specs.Roots.{pad_number, pad_at}

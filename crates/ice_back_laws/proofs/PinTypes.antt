@@ -10,12 +10,11 @@ use Rattle.ice_base.specs.declared.number.TileAt.{TileAt}
 use Rattle.ice_base.proofs.Keys.{tile_same}
 use Rattle.ice_base_values.specs.Order.{Has}
 use Rattle.ice_base_values.proofs.Members.{Has_all, Has_cases, Has_filter, Has_find, lookup_Has, map_Has}
-use Rattle.ice_chip.specs.Database.{Parts, PackageRows}
+use Rattle.ice_chip.specs.Database.{Parts, PackageRows, same_tile, same_pad, tile_known}
 use Rattle.ice_chip.specs.IsRead.{IsRead}
 use Rattle.ice_chip.specs.Lookups.{kind_at, is_io_kind}
-use Rattle.ice_chip.specs.Places.{same_tile, same_pad, tile_known}
 use Rattle.ice_chip.specs.Within.{IsPad, IsPackage}
-use Rattle.ice_chip.specs.declared.parts.TileLine.{TileLine}
+use Rattle.ice_chip.specs.declared.rows.TileLine.{TileLine}
 use Rattle.ice_chip.specs.declared.rows.Pad.{Pad}
 use Rattle.ice_chip.specs.declared.rows.TileKind.{TileKind}
 use Rattle.ice_chip.specs.declared.rows.TileKind.TheVariants.{Io, Logic, RamBottom, RamTop}
@@ -23,10 +22,9 @@ use Rattle.ice_bits.specs.Configuration.{Bits}
 use Rattle.ice_net.specs.Drives.{is_type}
 use Rattle.ice_decode.specs.Faults.{is_output_part, has_wrong_type}
 use Rattle.ice_decode.specs.Cells.{tile_place}
-use Rattle.ice_decode.specs.Pads.{pads_in, is_io_tile, io_tiles, pads, pin_type}
+use Rattle.ice_decode.specs.Pads.{pads_in, is_io_tile, io_tiles, pads, pin_type, has_output_register}
 use Rattle.ice_decode.specs.Refusals.{IsFaultless}
 use Rattle.ice_decode.proofs.Members.{Has_append_cases}
-use Rattle.ice_decode.specs.Registers.{has_output_register}
 use Rattle.ice_decode.proofs.OtherTypes.{each_two, other_untyped}
 use Rattle.ice_back_laws.specs.Back.{buffer_part, buffer_type}
 use Rattle.ice_back_laws.proofs.Ranks.{io_placed}

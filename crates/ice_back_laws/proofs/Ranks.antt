@@ -6,16 +6,14 @@ use Rattle.std.proofs.lemmas.Bool.{and_from}
 use Rattle.std.proofs.lemmas.Option.{same_Some, none-some}
 use Rattle.ice_base.specs.declared.number.TileAt.{TileAt}
 use Rattle.ice_base.proofs.Keys.{tile_same, tile_self}
-use Rattle.ice_base_values.specs.System.{value}
-use Rattle.ice_base_values.specs.Inputs.{present, reading}
+use Rattle.ice_base_values.specs.System.{value, present, reading}
 use Rattle.ice_base_values.specs.Order.{At, Has, Descends}
 use Rattle.ice_base_values.proofs.Enough.{first, first_falls}
 use Rattle.ice_base_values.proofs.Members.{Has_any, Has_filter, Has_map, lookup_Has}
-use Rattle.ice_chip.specs.Database.{Parts}
+use Rattle.ice_chip.specs.Database.{Parts, same_tile, tile_known}
 use Rattle.ice_chip.specs.IsRead.{IsRead}
 use Rattle.ice_chip.specs.Lookups.{kind_at, is_io_kind, wire_named, global_of, gbufpin_of}
-use Rattle.ice_chip.specs.Places.{same_tile, tile_known}
-use Rattle.ice_chip.specs.declared.parts.TileLine.{TileLine}
+use Rattle.ice_chip.specs.declared.rows.TileLine.{TileLine}
 use Rattle.ice_chip.specs.declared.rows.Pad.{Pad}
 use Rattle.ice_chip.specs.declared.rows.TileKind.TheVariants.{Io}
 use Rattle.ice_chip_laws.specs.Names.{HasNames}
@@ -28,13 +26,11 @@ use Rattle.ice_decode.specs.declared.role.Role.{Role}
 use Rattle.ice_decode.specs.declared.role.Role.TheVariants.{Plain, Output, LookUp, CarryOut, PadInput, Global, CarryIn, ClockEnable}
 use Rattle.ice_decode.specs.Cells.{has_carry, has_flop, logic_tiles, tile_place}
 use Rattle.ice_decode.specs.Direct.{globals, takes_pad}
-use Rattle.ice_decode.specs.Drivers.{driver}
-use Rattle.ice_decode.specs.Meaning.{passes, system_of, point_level}
-use Rattle.ice_decode.specs.Pads.{is_enabled, is_io_tile, io_tiles}
+use Rattle.ice_decode.specs.Drivers.{driver, role_of}
+use Rattle.ice_decode.specs.Meaning.{passes, chip_system, point_level}
+use Rattle.ice_decode.specs.Pads.{is_enabled, is_io_tile, io_tiles, has_input_register}
 use Rattle.ice_decode.specs.Reads.{wire_point, points, count_points, at_pin, at_pin_of, cell_inputs, carry_inputs, driven_reads, depends_on, global_feed}
 use Rattle.ice_decode.specs.Refusals.{IsFaultless}
-use Rattle.ice_decode.specs.Registers.{has_input_register}
-use Rattle.ice_decode.specs.Roles.{role_of}
 use Rattle.ice_decode.proofs.PointPlaces.{StandsAs, wire_at, point_cases, points_long}
 use Rattle.ice_decode.proofs.ReadPoints.{read_there}
 pub use Rattle.ice_decode.proofs.ReadPoints.{named_below}
@@ -106,14 +102,14 @@ feeds parts bits extras n pad lt takes named enabled =
 module _ (parts : Parts) (bits : Bits) (extras : List (ℕ × ℕ × ℕ)) (read : IsRead parts) (names : HasNames parts) (faultless : IsFaultless parts bits extras) where
   -- the rank of a point: the number of steps with which it has a value
   abbrev pub Ranks : ℕ → Point → Type 0
-  Ranks i p = Has (points parts) p × (i ≡ first (system_of parts bits extras [] [] []) (count_points parts + 1) p)
+  Ranks i p = Has (points parts) p × (i ≡ first (chip_system parts bits extras [] [] []) (count_points parts + 1) p)
 
-  pub ranked : (p : Point) → Has (points parts) p → Ranks (first (system_of parts bits extras [] [] []) (count_points parts + 1) p) p
+  pub ranked : (p : Point) → Has (points parts) p → Ranks (first (chip_system parts bits extras [] [] []) (count_points parts + 1) p) p
   ranked p has = (has, refl)
 
   pub ranks_fall : Descends (depends_on parts bits extras) Ranks
   ranks_fall i p q r dep =
-      let s = system_of parts bits extras [] [] [] in
+      let s = chip_system parts bits extras [] [] [] in
       let lt : first s (count_points parts + 1) q < first s (count_points parts + 1) p =
       first_falls s (count_points parts + 1) p q (point_level parts bits extras [] [] [] p) (faultless_valued parts bits extras read faultless [] [] [] p r.0) dep in
       (first s (count_points parts + 1) q, (let e = r.1 in omega (arith, e, lt)), (read_there parts bits extras read p q r.0 dep, refl))

@@ -2,8 +2,7 @@
 use Rattle.std.proofs.Common.{◌≡◌, ℕ, ◌+◌, ◌*◌, ◌<◌, ◌==◌, ◌&&◌, zero, suc, Bool, true, false, Option, None, Some, List, [], ◌∷◌, map, get_or, slice_index_or, unwrap_or, is_some, if◌then◌else◌, refl, sym, ap, ◌∙◌, arith, rules, tests}
 use Rattle.std.proofs.lemmas.Option.{same_Some}
 use Rattle.ice_base.specs.declared.number.TileAt.{TileAt}
-use Rattle.ice_base_values.specs.System.{System, value, MeetsEquation}
-use Rattle.ice_base_values.specs.Inputs.{present, reading}
+use Rattle.ice_base_values.specs.System.{System, value, MeetsEquation, present, reading}
 use Rattle.ice_base_values.specs.Order.{At, Has, Descends}
 use Rattle.ice_base_values.proofs.Values.{value_suc, value_step, value_there}
 use Rattle.ice_base_values.proofs.Gaps.{local_gapped}
@@ -19,14 +18,12 @@ use Rattle.ice_decode.specs.declared.driver.Driver.TheVariants.{Nothing, By, Sev
 use Rattle.ice_decode.specs.declared.role.Role.{Role}
 use Rattle.ice_decode.specs.declared.role.Role.TheVariants.{Plain, Output, LookUp, CarryOut, PadInput, Global, CarryIn, ClockEnable}
 use Rattle.ice_decode.specs.Cells.{has_carry, has_flop, table_entry, looked_up}
-use Rattle.ice_decode.specs.Drivers.{driver}
+use Rattle.ice_decode.specs.Drivers.{driver, role_of}
 use Rattle.ice_decode.specs.Faults.{IsOrderOf}
 use Rattle.ice_decode.specs.Direct.{takes_pad}
-use Rattle.ice_decode.specs.Meaning.{passes, global_gives, driven_makes, makes, system_of, point_level, table_level}
-use Rattle.ice_decode.specs.Pads.{level_of, is_enabled, pad_gives}
-use Rattle.ice_decode.specs.Registers.{kept_at, input_kept, has_input_register}
-use Rattle.ice_decode.specs.Reads.{count_points, driven_reads, reads, depends_on, cell_inputs, carry_inputs, global_feed}
-use Rattle.ice_decode.specs.Roles.{role_of}
+use Rattle.ice_decode.specs.Meaning.{passes, global_gives, driven_makes, makes_at, chip_system, point_level, table_level}
+use Rattle.ice_decode.specs.Pads.{level_of, is_enabled, pad_gives, kept_at, input_kept, has_input_register}
+use Rattle.ice_decode.specs.Reads.{count_points, driven_reads, reads_at, depends_on, cell_inputs, carry_inputs, global_feed}
 use Rattle.ice_decode.proofs.Valued.{valued, place_below}
 use Rattle.ice_back_laws.specs.Law.{root_level, AreQuiet, PointsHaveTheirRootsLevels}
 use Rattle.ice_back_laws.specs.Roots.{LevelRoot, Fixed, Input, Taken, Level, Table, Register, Sum, cell_table, table_root, carry_root, pad_number, bonded_root, enabled_root, fed_root, driven_passes, point_passes, driven_root, point_root, roots_of, root_of}
@@ -120,22 +117,22 @@ module _ (parts : Parts) (bits : Bits) (extras : List (ℕ × ℕ × ℕ)) (R : 
       ∙ local_gapped (point_passes parts bits extras) (Fixed false) (point_root parts bits extras bonded) root p
 
   module _ (levels kept : List Bool) (quiet : AreQuiet parts bits bonded kept)
-      (own_there : (i : ℕ) (p : Point) → R i p → value (system_of parts bits extras bonded levels kept) (count_points parts + 1) p ≡ Some (point_level parts bits extras bonded levels kept p)) where
+      (own_there : (i : ℕ) (p : Point) → R i p → value (chip_system parts bits extras bonded levels kept) (count_points parts + 1) p ≡ Some (point_level parts bits extras bonded levels kept p)) where
     abbrev own : Point → Bool
     own = point_level parts bits extras bonded levels kept
 
     abbrev HasRootLevel : Point → Type 0
     HasRootLevel p = own p ≡ root_level parts bits bonded own levels kept (root p)
 
-    pub own_made : (i : ℕ) (p : Point) → R i p → own p ≡ makes parts bits extras bonded levels kept p (map (reading false own) (reads parts bits extras p))
+    pub own_made : (i : ℕ) (p : Point) → R i p → own p ≡ makes_at parts bits extras bonded levels kept p (map (reading false own) (reads_at parts bits extras p))
     own_made i p r =
-        meets (system_of parts bits extras bonded levels kept) own (count_points parts + 1) p (own_there i p r) (λ q has. let below = falls i p q r has in own_there below.0 q below.2)
-        ∙ local_gapped (reads parts bits extras) false (makes parts bits extras bonded levels kept) own p
+        meets (chip_system parts bits extras bonded levels kept) own (count_points parts + 1) p (own_there i p r) (λ q has. let below = falls i p q r has in own_there below.0 q below.2)
+        ∙ local_gapped (reads_at parts bits extras) false (makes_at parts bits extras bonded levels kept) own p
 
     pub carry_level : (i : ℕ) (t : TileAt) (k : ℕ) → R i (Carry t k) → own (Carry t k) ≡ root_level parts bits bonded own levels kept (carry_root parts bits t k)
     carry_level i t k at = by (has_carry parts bits t k) (own_made i (Carry t k) at)
       where
-        by : (b : Bool) → own (Carry t k) ≡ makes parts bits extras bonded levels kept (Carry t k) (map (reading false own) (if b then carry_inputs parts t k else []))
+        by : (b : Bool) → own (Carry t k) ≡ makes_at parts bits extras bonded levels kept (Carry t k) (map (reading false own) (if b then carry_inputs parts t k else []))
             → own (Carry t k) ≡ root_level parts bits bonded own levels kept (if b then Sum t k else Fixed false)
         by true made = refl
         by false made = made

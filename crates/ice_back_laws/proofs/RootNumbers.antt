@@ -1,7 +1,7 @@
 -- The roots of all points of a chip have their signals among those of its netlist, heard or not.
 use Rattle.std.proofs.Common.{◌≡◌, ◌⊎◌, ℕ, ◌<◌, Bool, true, false, Option, None, Some, List, [], ◌∷◌, length, map, inl, inr, refl, sym, subst, if◌then◌else◌}
 use Rattle.std.specs.Prelude.{slice_index_or}
-use Rattle.ice_base_values.specs.Inputs.{reading}
+use Rattle.ice_base_values.specs.System.{reading}
 use Rattle.ice_base_values.specs.Order.{Has}
 use Rattle.ice_chip.specs.Database.{Parts}
 use Rattle.ice_chip.specs.IsRead.{IsRead}
@@ -15,13 +15,11 @@ use Rattle.ice_decode.specs.declared.point.Point.TheVariants.{Wire, Carry}
 use Rattle.ice_decode.specs.declared.role.Role.{Role}
 use Rattle.ice_decode.specs.declared.role.Role.TheVariants.{Plain, Output, LookUp, CarryOut, PadInput, Global, CarryIn, ClockEnable}
 use Rattle.ice_decode.specs.Cells.{logic_tiles}
-use Rattle.ice_decode.specs.Drivers.{driver}
+use Rattle.ice_decode.specs.Drivers.{driver, role_of}
 use Rattle.ice_decode.specs.Meaning.{passes}
-use Rattle.ice_decode.specs.Pads.{is_enabled}
+use Rattle.ice_decode.specs.Pads.{is_enabled, has_input_register}
 use Rattle.ice_decode.specs.Reads.{points}
 use Rattle.ice_decode.specs.Refusals.{IsFaultless}
-use Rattle.ice_decode.specs.Registers.{has_input_register}
-use Rattle.ice_decode.specs.Roles.{role_of}
 use Rattle.ice_decode.proofs.PointPlaces.{StandsAs, wire_at, point_cases}
 use Rattle.ice_decode.proofs.Switches.{driver_between}
 use Rattle.ice_back_laws.specs.Roots.{LevelRoot, Fixed, Input, Taken, Given, Kept, Level, Table, Register, Sum, pad_number, bonded_root, enabled_root, pad_root, driven_passes, driven_root, root_of, IsThere, IsNumbered}

@@ -14,7 +14,7 @@ use Rattle.ice_base_values.proofs.Members.{Has_all}
 use Rattle.ice_chip.specs.Database.{Parts, PackageRows}
 use Rattle.ice_chip.specs.IsRead.{IsRead}
 use Rattle.ice_chip.specs.Lookups.{placed_at}
-use Rattle.ice_chip.specs.WireNames.{pad_output_name, output_enable_name, input_clock_name, output_clock_name, in_out_enable_name}
+use Rattle.ice_chip.specs.Names.{pad_output_name, output_enable_name, input_clock_name, output_clock_name, in_out_enable_name}
 use Rattle.ice_chip.specs.Within.{IsPackage}
 use Rattle.ice_chip.specs.declared.rows.Pad.{Pad}
 use Rattle.ice_chip_laws.specs.Laws.{LookupsAreLawful}
@@ -31,7 +31,7 @@ use Rattle.ice_decode.specs.declared.point.Point.{Point}
 use Rattle.ice_decode.specs.Cells.{cells, logic_tiles, has_carry, has_flop, cell_bit, reset_by}
 use Rattle.ice_decode.specs.Reads.{at_pin, cell_inputs, carry_inputs}
 use Rattle.ice_decode.specs.Refusals.{IsFaultless}
-use Rattle.ice_decode.specs.Registers.{has_output_register}
+use Rattle.ice_decode.specs.Pads.{has_output_register}
 use Rattle.ice_decode.proofs.Members.{At_map_cases}
 use Rattle.ice_decode.proofs.PointPlaces.{cells_long}
 use Rattle.ice_back_laws.specs.Back.{signal_at, reader, pin_reader, buffer_type, buffer_cell, pad_cell, register_cell, input_cell, input_cells, output_cell, output_cells, level_cell, level_cells, side_cells, table_cells, carry_cells, flop_cells, logic_cells, fixed_cells, numbered_pads}

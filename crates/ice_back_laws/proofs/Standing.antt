@@ -14,13 +14,13 @@ use Rattle.ice_bits.specs.Configuration.{Bits}
 use Rattle.ice_net.specs.declared.cell.Cell.{Cell}
 use Rattle.ice_net.specs.declared.kind.CellKind as kinds
 use Rattle.ice_net.specs.declared.kind.CellKind.TheVariants.{Lut, Cover}
-use Rattle.ice_net.specs.declared.driver.Driver as drivers
+use Rattle.ice_net.specs.declared.driver.SignalDriver as drivers
 use Rattle.ice_net.specs.declared.port.Port.{Port}
-use Rattle.ice_net.specs.Drivers.{is_signal, place_of, pin_of, buffer_at, pad_of, pads, output_of, outputs, driver_from, driver_of}
+use Rattle.ice_net.specs.Drivers.{is_signal, place_of, pin_of, buffer_at, pad_of, pad_signals, output_of, outputs, driver_from, driver_of}
 use Rattle.ice_net.specs.NetlistData.{NetlistData, port_at, is_at}
 use Rattle.ice_decode.specs.Cells.{cells, logic_tiles, tile_place, has_carry, has_flop}
 use Rattle.ice_decode.specs.Reads.{cell_inputs, carry_inputs}
-use Rattle.ice_decode.specs.Registers.{has_output_register}
+use Rattle.ice_decode.specs.Pads.{has_output_register}
 use Rattle.ice_decode.proofs.KeptLevels.{tile_at}
 use Rattle.ice_decode.proofs.Members.{At_map_cases, At_range, At_range_cases, Has_left, Has_right, Has_append_cases, Has_map}
 use Rattle.ice_decode.proofs.PointPlaces.{cell_at, cell_cases, cells_long}
@@ -392,7 +392,7 @@ module _ (parts : Parts) (bits : Bits) (extras : List (ℕ × ℕ × ℕ)) (pack
   not_port (Register t i) there k lt e = let above = cell_above t i there.0 in omega (arith, e, lt, above)
   not_port (Sum t i) there k lt e = let above = cell_above t i there.0 in omega (arith, e, lt, above)
 
-  unported : (s : ℕ) → ((k : ℕ) → k < length bonded → port_number k ≡ s → ⊥) → place_of s (pads netlist) ≡ None
+  unported : (s : ℕ) → ((k : ℕ) → k < length bonded → port_number k ≡ s → ⊥) → place_of s (pad_signals netlist) ≡ None
   unported s never =
       place_none (pad_of netlist.cells) s netlist.ports
       (λ p has e. let is = port_made p has in never is.0 is.1 (same_number (port_number is.0) s (ap (pad_of netlist.cells) (sym is.2) ∙ e)))
@@ -436,7 +436,7 @@ module _ (parts : Parts) (bits : Bits) (extras : List (ℕ × ℕ × ℕ)) (pack
   -- nothing drives a signal that has no name
   pub undriven : (s : ℕ) → length netlist.names ≤ s → driver_of netlist s ≡ drivers.TheVariants.Nothing
   undriven s le =
-      let ports : place_of s (pads netlist) ≡ None = unported s (λ k lt e. omega (arith, names_long, lt, e, le)) in
+      let ports : place_of s (pad_signals netlist) ≡ None = unported s (λ k lt e. omega (arith, names_long, lt, e, le)) in
       let outs : place_of s (outputs netlist) ≡ None = place_none output_of s netlist.cells
       (λ c has e. let made = cell_made c has in
       let same : root_number parts bonded made.0 ≡ s = same_number (root_number parts bonded made.0) s (sym (output_is made.0) ∙ ap output_of (sym made.2) ∙ e) in

@@ -7,8 +7,7 @@ use Rattle.std.proofs.lemmas.Bool.{and_parts}
 use Rattle.std.proofs.lemmas.Option.{get_or_from_slice_get}
 use Rattle.ice_base.specs.declared.number.TileAt.{TileAt}
 use Rattle.ice_base.specs.declared.number.SignalNo.{SignalNo}
-use Rattle.ice_base_values.specs.Inputs.{reading}
-use Rattle.ice_base_values.specs.Machine.{Simulates}
+use Rattle.ice_base_values.specs.System.{reading, Simulates}
 use Rattle.ice_base_values.specs.Order.{At, Has}
 use Rattle.ice_base_values.proofs.Machines.{shows_always_alike}
 use Rattle.ice_base_values.proofs.Members.{At_map, At_within, Has_all}
@@ -16,7 +15,7 @@ use Rattle.ice_base_values.proofs.ListPlaces.{zip_at}
 use Rattle.ice_chip.specs.Database.{Parts, PackageRows}
 use Rattle.ice_chip.specs.IsRead.{IsRead}
 use Rattle.ice_chip.specs.Lookups.{placed_at}
-use Rattle.ice_chip.specs.WireNames.{pad_output_name, output_enable_name, input_clock_name, output_clock_name, in_out_enable_name}
+use Rattle.ice_chip.specs.Names.{pad_output_name, output_enable_name, input_clock_name, output_clock_name, in_out_enable_name}
 use Rattle.ice_chip.specs.Within.{IsPackage}
 use Rattle.ice_chip.specs.declared.rows.Pad.{Pad}
 use Rattle.ice_chip_laws.specs.Laws.{LookupsAreLawful}
@@ -24,10 +23,10 @@ use Rattle.ice_chip_laws.specs.Names.{HasNames}
 use Rattle.ice_bits.specs.Configuration.{Bits}
 use Rattle.ice_bits.specs.Settings.{set_at}
 use Rattle.ice_net.specs.declared.cell.Cell.{Cell}
-use Rattle.ice_net.specs.declared.drive.Drive.TheVariants.{Off}
+use Rattle.ice_net.specs.declared.driver.Drive.TheVariants.{Off}
 use Rattle.ice_net.specs.declared.kind.Reset.TheVariants as reset
 use Rattle.ice_net.specs.Drives.{level_drive, pad_drive, buffer_drive, drive_by, port_drive}
-use Rattle.ice_net.specs.Flops.{is_edge, fired}
+use Rattle.ice_net.specs.Kinds.{is_edge, fired}
 use Rattle.ice_net.specs.Meaning as net
 use Rattle.ice_net.specs.Meaning.{State, signal_value, kept_by, clock_by}
 use Rattle.ice_net.specs.NetlistData.{NetlistData}
@@ -35,10 +34,9 @@ use Rattle.ice_decode.specs.declared.point.Point.{Point}
 use Rattle.ice_decode.specs.Cells.{tile_place, cells, reset_of}
 use Rattle.ice_decode.specs.Meaning as chip
 use Rattle.ice_decode.specs.Meaning.{point_level, table_level, clock_level, flop_after, register_after, store_after, clock_after, drive_at}
-use Rattle.ice_decode.specs.Pads.{io_tiles, is_enabled, level_of, pad_gives, pin_type, pin_level, part_drive}
+use Rattle.ice_decode.specs.Pads.{io_tiles, is_enabled, level_of, pad_gives, pin_type, pin_level, part_drive, Store, CellStore, InputStore, OutputStore, stores, input_kept, output_kept, has_input_register, has_output_register}
 use Rattle.ice_decode.specs.Reads.{at_pin, cell_inputs}
 use Rattle.ice_decode.specs.Refusals.{IsFaultless}
-use Rattle.ice_decode.specs.Registers.{Store, CellStore, InputStore, OutputStore, stores, input_kept, output_kept, has_input_register, has_output_register}
 use Rattle.ice_decode.proofs.KeptLevels.{kept_stepped, clock_stepped, cell_stands, cell_kept, input_stands, output_stands, register_kept}
 use Rattle.ice_back_laws.specs.Back.{signal_at, pin_reader, buffer_part, buffer_type, driven_reader, pad_port}
 use Rattle.ice_back_laws.specs.Law.{root_level, has_level, AreQuiet, NetlistShowsWhatBitsShow}
@@ -340,7 +338,7 @@ module _ (parts : Parts) (bits : Bits) (extras : List (ℕ × ℕ × ℕ)) (read
         (λ k pad at. let e : k ≡ 0 + k = omega arith in subst (λ m. port_drive n.cells now (pad_port m) ≡ drive_at parts bits t.kept own pad) e (drive_now k pad at))
 
   -- ---- all steps
-  alike_start : Alike (net.start n) (chip.start parts)
+  alike_start : Alike (net.start n) (chip.chip_start parts)
   alike_start = record {
     kept = λ j r is at. (false, At_map (λ (c : Cell). false) n.cells j _ at, At_map (λ (x : Store). false) (stores parts) (stored r is).place _ (stored r is).stands);
     clocks = λ j r is at. (None, At_map (λ (c : Cell). None) n.cells j _ at, At_map (λ (x : Store). None) (stores parts) (stored r is).place _ (stored r is).stands);
@@ -350,11 +348,11 @@ module _ (parts : Parts) (bits : Bits) (extras : List (ℕ × ℕ × ℕ)) (read
     );
   }
 
-  simulates : Simulates (net.step n) (chip.step parts bits extras pads pads) Alike (λ levels. Unit {0})
+  simulates : Simulates (net.step n) (chip.chip_step parts bits extras pads pads) Alike (λ levels. Unit {0})
   simulates s t levels allowed alike = (record { kept = kept_then levels s t alike; clocks = clocks_then levels s t alike; quiet = quiet_then levels s t alike }, drives_now levels s t alike)
 
-  pub shows_same : (steps : List (List Bool)) → net.shows n steps ≡ chip.shows parts bits extras pads pads steps
-  shows_same steps = shows_always_alike (net.step n) (chip.step parts bits extras pads pads) Alike simulates (net.start n) (chip.start parts) alike_start steps
+  pub shows_same : (steps : List (List Bool)) → net.shows n steps ≡ chip.bits_show parts bits extras pads pads steps
+  shows_same steps = shows_always_alike (net.step n) (chip.chip_step parts bits extras pads pads) Alike simulates (net.start n) (chip.chip_start parts) alike_start steps
 
 pub netlist_shows : LookupsAreLawful → NetlistShowsWhatBitsShow
 netlist_shows lawful parts bits extras package_rows chip faultless has levels = shows_same parts bits extras chip.read (lawful parts chip).names faultless package_rows has levels

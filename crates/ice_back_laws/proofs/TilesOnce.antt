@@ -9,9 +9,8 @@ use Rattle.std.specs.Prelude.{Some}
 use Rattle.ice_base.specs.declared.number.TileAt.{TileAt}
 use Rattle.ice_base.proofs.Keys.{tile_self}
 use Rattle.ice_base_values.specs.Order.{At, StandOnce}
-use Rattle.ice_chip.specs.Database.{Parts}
+use Rattle.ice_chip.specs.Database.{Parts, same_tile}
 use Rattle.ice_chip.specs.IsRead.{IsRead}
-use Rattle.ice_chip.specs.Places.{same_tile}
 use Rattle.ice_decode.specs.Cells.{is_logic_tile, logic_tiles}
 use Rattle.ice_decode.specs.Meaning.{tile_place}
 use Rattle.ice_decode.proofs.KeptLevels.{tile_at}

@@ -20,7 +20,7 @@ use Rattle.ice_net.specs.NetlistData.{NetlistData}
 use Rattle.ice_check.specs.Faults.{is_driven_twice, driven_twice, port_is, is_shared, pad_shared}
 use Rattle.ice_check.specs.Tables.{times}
 use Rattle.ice_decode.specs.Cells.{cells, logic_tiles, has_carry, has_flop}
-use Rattle.ice_decode.specs.Registers.{has_output_register}
+use Rattle.ice_decode.specs.Pads.{has_output_register}
 use Rattle.ice_decode.proofs.Members.{At_map_cases, At_range_cases}
 use Rattle.ice_decode.proofs.PointPlaces.{cell_cases}
 use Rattle.ice_back_laws.specs.Back.{pad_cell, input_cells, output_cells, level_cells, side_cells, table_cells, carry_cells, flop_cells, logic_cells, fixed_cells, numbered_pads, pad_port}
@@ -155,9 +155,9 @@ module _ (parts : Parts) (bits : Bits) (extras : List (ℕ × ℕ × ℕ)) (pack
   near (inl buffer) = buffer_near buffer
   near (inr (k, lt, side)) = (k, lt, side_near k side)
 
-  ports_once : IsRare (times s (net.pads n)) IsPort
+  ports_once : IsRare (times s (net.pad_signals n)) IsPort
   ports_once =
-      rare_weaker (times s (net.pads n)) ((k : ℕ) × (k < length n.ports) × (port_number k ≡ s)) IsPort (λ p. (p.0, (let long = ports_long in let lt = p.1 in omega (arith, long, lt)), p.2))
+      rare_weaker (times s (net.pad_signals n)) ((k : ℕ) × (k < length n.ports) × (port_number k ≡ s)) IsPort (λ p. (p.0, (let long = ports_long in let lt = p.1 in omega (arith, long, lt)), p.2))
       (map_rare (pad_of n.cells) s (λ k. port_number k ≡ s) (λ j k a b. omega (arith, a, b)) n.ports
       (λ k p at. let found = At_map_cases pad_port (range_with_len 0 (length bonded)) k p at in
       let inside = At_range_cases 0 (length bonded) k found.0 found.1 in
@@ -378,9 +378,9 @@ module _ (parts : Parts) (bits : Bits) (extras : List (ℕ × ℕ × ℕ)) (pack
 
     driven_once : is_driven_twice n s ≡ false
     driven_once =
-        not_many (times s (net.pads n) + times s (outputs n))
-        (rare_few (times s (net.pads n) + times s (outputs n)) (IsPort ⊎ (IsFixed ⊎ (IsBuffer ⊎ (IsSide ⊎ IsLogic))))
-        (rare_join (times s (net.pads n)) (times s (outputs n)) IsPort (IsFixed ⊎ (IsBuffer ⊎ (IsSide ⊎ IsLogic))) ports_once outputs_once port_or_output))
+        not_many (times s (net.pad_signals n) + times s (outputs n))
+        (rare_few (times s (net.pad_signals n) + times s (outputs n)) (IsPort ⊎ (IsFixed ⊎ (IsBuffer ⊎ (IsSide ⊎ IsLogic))))
+        (rare_join (times s (net.pad_signals n)) (times s (outputs n)) IsPort (IsFixed ⊎ (IsBuffer ⊎ (IsSide ⊎ IsLogic))) ports_once outputs_once port_or_output))
       where
         port_or_near : IsPort → IsNear → ⊥
         port_or_near (k, lt, e) (j, less, (d, few, f)) = omega (arith, few, e, f)

@@ -4,7 +4,7 @@ use Rattle.std.specs.List.{flat_map, zip, range_with_len}
 use Rattle.ice_base.specs.declared.number.TileAt.{TileAt}
 use Rattle.ice_base.specs.declared.number.SignalNo.{SignalNo}
 use Rattle.ice_chip.specs.Database.{Parts, PackageRows}
-use Rattle.ice_chip.specs.WireNames.{pad_output_name, output_enable_name, input_clock_name, output_clock_name, in_out_enable_name}
+use Rattle.ice_chip.specs.Names.{pad_output_name, output_enable_name, input_clock_name, output_clock_name, in_out_enable_name}
 use Rattle.ice_chip.specs.declared.rows.Pad.{Pad}
 use Rattle.ice_bits.specs.Configuration.{Bits}
 use Rattle.ice_bits.specs.Settings.{set_at}
@@ -19,9 +19,8 @@ use Rattle.ice_net.specs.Drives.{input_type}
 use Rattle.ice_net.specs.NetlistData.{NetlistData}
 use Rattle.ice_decode.specs.declared.point.Point.{Point}
 use Rattle.ice_decode.specs.Cells.{cells, has_carry, has_flop, reset_of}
-use Rattle.ice_decode.specs.Pads.{pin_type}
+use Rattle.ice_decode.specs.Pads.{pin_type, has_output_register}
 use Rattle.ice_decode.specs.Reads.{at_pin, cell_inputs, carry_inputs}
-use Rattle.ice_decode.specs.Registers.{has_output_register}
 use Rattle.ice_back_laws.specs.Numbers.{port_number, input_number, given_number, kept_number, level_number, cell_number, reader_of, signal, back_names}
 use Rattle.ice_back_laws.specs.Roots.{is_registered, feeds_global, cell_table, table_root, root_of}
 

@@ -11,9 +11,8 @@ use Rattle.ice_chip.specs.declared.rows.Pad.{Pad}
 use Rattle.ice_decode.specs.declared.point.Point.{Point}
 use Rattle.ice_decode.specs.declared.point.Point.TheVariants.{Carry}
 use Rattle.ice_decode.specs.Faults.{IsOrderOf}
-use Rattle.ice_decode.specs.Pads.{is_enabled}
+use Rattle.ice_decode.specs.Pads.{is_enabled, kept_at, input_kept, output_kept}
 use Rattle.ice_decode.specs.Reads.{points}
-use Rattle.ice_decode.specs.Registers.{kept_at, input_kept, output_kept}
 use Rattle.ice_net.specs.NetlistData.{NetlistData}
 use Rattle.ice_check.specs.Faults.{undriven, pin_not_port, inout_bare}
 use Rattle.ice_check.specs.Loops.{HasNoLoop}
@@ -25,7 +24,7 @@ use Rattle.ice_back_laws.specs.Roots.{LevelRoot, Fixed, Input, Taken, Given, Kep
 -- the bits have no fault and the package is one of the chip's.
 abbrev pub NetlistShowsWhatBitsShow : Type 0
 NetlistShowsWhatBitsShow = (parts : Parts) (bits : Bits) (extras : List (ℕ × ℕ × ℕ)) (package_rows : PackageRows) → IsChip parts → IsFaultless parts bits extras → Has parts.packages package_rows
-    → (levels : List (List Bool)) → net.shows (back_netlist parts bits extras package_rows) levels ≡ chip.shows parts bits extras package_rows.pads package_rows.pads levels
+    → (levels : List (List Bool)) → net.shows (back_netlist parts bits extras package_rows) levels ≡ chip.bits_show parts bits extras package_rows.pads package_rows.pads levels
 
 -- No signals of the netlist depend on one another in a circle, so each has a value and no default stands in for one.
 abbrev pub NetlistHasNoLoop : Type 0

@@ -3,13 +3,11 @@ use Rattle.std.specs.Prelude.{◌≡◌, ℕ, ◌+◌, ◌<◌, ◌==◌, ◌&&�
 use Rattle.std.specs.List.{list_any, range_with_len}
 use Rattle.std.proofs.Common.{suc}
 use Rattle.ice_base.specs.declared.number.TileAt.{TileAt}
-use Rattle.ice_base_values.specs.System.{System, value}
-use Rattle.ice_base_values.specs.Inputs.{gapped}
-use Rattle.ice_chip.specs.Database.{Parts}
+use Rattle.ice_base_values.specs.System.{System, value, gapped}
+use Rattle.ice_chip.specs.Database.{Parts, same_pad}
 use Rattle.ice_chip.specs.Lookups.{gbufpin_of, names_of, wire_named}
-use Rattle.ice_chip.specs.Places.{same_pad}
 use Rattle.ice_chip.specs.PinNames.{is_input_name}
-use Rattle.ice_chip.specs.WireNames.{pad_input_name}
+use Rattle.ice_chip.specs.Names.{pad_input_name}
 use Rattle.ice_chip.specs.declared.placed.PlacedName.{PlacedName}
 use Rattle.ice_chip.specs.declared.rows.TileKind.TheVariants.{Io, Logic}
 use Rattle.ice_chip.specs.declared.rows.Pad.{Pad}
@@ -24,12 +22,10 @@ use Rattle.ice_decode.specs.declared.role.Role.{Role}
 use Rattle.ice_decode.specs.declared.role.Role.TheVariants.{Plain, Output, LookUp, CarryOut, PadInput, Global, CarryIn, ClockEnable}
 use Rattle.ice_decode.specs.Cells.{logic_tiles, tile_place, has_carry, has_flop, table_entry}
 use Rattle.ice_decode.specs.Direct.{globals, takes_pad}
-use Rattle.ice_decode.specs.Drivers.{driver}
+use Rattle.ice_decode.specs.Drivers.{driver, role_of}
 use Rattle.ice_decode.specs.Meaning.{passes}
-use Rattle.ice_decode.specs.Pads.{is_enabled}
+use Rattle.ice_decode.specs.Pads.{is_enabled, has_input_register, has_output_register}
 use Rattle.ice_decode.specs.Reads.{global_feed, count_points}
-use Rattle.ice_decode.specs.Registers.{has_input_register, has_output_register}
-use Rattle.ice_decode.specs.Roles.{role_of}
 pub use Rattle.ice_back_laws.specs.declared.root.LevelRoot.{LevelRoot}
 pub use Rattle.ice_back_laws.specs.declared.root.LevelRoot.TheVariants.{Fixed, Input, Taken, Given, Kept, Level, Table, Register, Sum}
 

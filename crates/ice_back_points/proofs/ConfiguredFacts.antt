@@ -1,48 +1,37 @@
 -- What is known of a configured chip in a package.
-use Rattle.std.proofs.Common.{◌≡◌, ℕ, ◌+◌, ◌*◌, ◌<◌, ◌≤◌, false, cond, Option, None, Some, List, [], ◌∷◌, ◌++◌, length, take, drop, get_or, sym, ap, ◌∙◌, subst, arith, append-nil, drop_of_length-le}
+use Rattle.std.proofs.Common.{◌≡◌, ℕ, ◌+◌, ◌*◌, ◌<◌, ◌≤◌, false, cond, Option, None, Some, List, [], ◌∷◌, ◌++◌, length, take, drop, get_or, sym, ap, ◌∙◌, subst, arith}
 use Rattle.std.specs.Prelude.{All, IfSome, option_map}
 use Rattle.std.specs.List.{IsDistinct, list_any}
-use Rattle.std.proofs.lemmas.List.{take_more, take-append-drop, take_all}
+use Rattle.std.proofs.lemmas.List.{take_more, take-append-drop}
 use Rattle.std.proofs.lemmas.Option.{slice_get-get_or, slice_get_within}
 use Rattle.indexmap.specs.IndexSet.{insert_key}
 use Rattle.ice_base.specs.declared.number.TileAt.{TileAt}
 use Rattle.ice_base.specs.declared.number.WireNo.{WireNo}
 use Rattle.ice_base.proofs.Keys.{tiles_equal}
 use Rattle.ice_base_values.specs.Order.{Has}
-use Rattle.ice_chip.specs.Database.{Parts}
+use Rattle.ice_chip.specs.Database.{Parts, same_tile}
 use Rattle.ice_chip.specs.IsRead.{IsRead}
 use Rattle.ice_chip.specs.Lookups.{wire_named}
-use Rattle.ice_chip.specs.Places.{same_tile}
 use Rattle.ice_bits.specs.Configuration.{Bits, bits_of}
-use Rattle.ice_decode.specs.declared.driver.Driver.{Driver}
-use Rattle.ice_decode.specs.declared.driver.Driver.TheVariants.{Nothing, By, Several}
 use Rattle.ice_decode.specs.declared.point.Point.{Point}
 use Rattle.ice_decode.specs.declared.point.Point.TheVariants.{Carry}
 use Rattle.ice_decode.specs.Cells.{logic_tiles}
-use Rattle.ice_decode.specs.Drivers.{driver}
 use Rattle.ice_decode.specs.Faults.{IsOrderOf}
 use Rattle.ice_decode.specs.Meaning.{tile_place}
 use Rattle.ice_decode.specs.Points.{HasWire}
 use Rattle.ice_decode.specs.Reads.{wire_point, points}
 use Rattle.ice_decode.proofs.KeptLevels.{tile_at}
 use Rattle.ice_decode.proofs.PointPlaces.{wire_at, carry_at}
-use Rattle.ice_decode.proofs.Switches.{driver_between}
 use Rattle.ice_back_laws.specs.Roots.{StandsAt, IsNumbered, carry_root, root_of}
 use Rattle.ice_back_laws.proofs.Bounds.{few_tiles, few_pads}
 use Rattle.ice_back_laws.proofs.Ranks.{Ranks, ranked, ranks_fall, root_there, named_below}
 use Rattle.ice_back_laws.proofs.RootLevels.{root_made}
 use Rattle.ice_back_laws.proofs.RootNumbers.{numbered}
 use Rattle.ice_back_points.specs.ConfiguredChips.{ConfiguredData, IsConfigured}
-use Rattle.ice_back_points.specs.Filling.{ComesFrom}
 use Rattle.ice_back_points.proofs.Distinct.{distinct_left, last_new}
 use Rattle.ice_back_points.proofs.Filled.{has_wire}
 
--- ---- drivers
-pub comes_from : (parts : Parts) (bits : Bits) (w : ℕ) (d : Driver) → IsRead parts → d ≡ driver parts bits w → ComesFrom parts.wires d
-comes_from parts bits w Nothing read e = tt
-comes_from parts bits w (By s) read e = let between = driver_between parts bits w s read (sym e) in between.source
-comes_from parts bits w (Several first second) read e = tt
-
+-- ---- points in order
 pub order_wires : (parts : Parts) (bits : Bits) (extras : List (ℕ × ℕ × ℕ)) (order : List Point) → IsOrderOf parts bits extras order → All (HasWire parts) order
 order_wires parts bits extras order o k d lt = has_wire parts bits extras order o k (get_or order k d) (slice_get-get_or order k d lt)
 
@@ -63,12 +52,6 @@ tile_next tiles keys i d once lt e =
 
     new : list_any (same_tile (get_or tiles i d)) (take i tiles) ≡ false
     new = last_new same_tile tiles_equal (take i tiles) (get_or tiles i d) (subst (IsDistinct same_tile) (take_more tiles i d lt) front)
-
--- a slice that a Vec lent, after a write
-pub written : {X : Type 0} (len : ℕ) (xs next : List X) → length next ≡ length xs → len ≡ length xs → take len (next ++ drop (length next) xs) ≡ next
-written len xs next same long =
-    let none : drop (length next) xs ≡ [] = drop_of_length-le xs (omega arith) in
-    rw (none, append-nil next) (take_all len next (omega arith))
 
 -- ---- a configured chip
 pub pads_few : (d : ConfiguredData) → IsConfigured d → length d.bonded.pads ≤ 131072

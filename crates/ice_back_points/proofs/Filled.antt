@@ -4,7 +4,7 @@ use Rattle.std.specs.Prelude.{if◌then◌else◌, slice_index_or}
 use Rattle.std.proofs.lemmas.Bool.{cases_eq}
 use Rattle.std.proofs.lemmas.List.{length-set}
 use Rattle.ice_base.specs.declared.number.WireNo.{WireNo}
-use Rattle.ice_base_values.specs.Inputs.{present, reading}
+use Rattle.ice_base_values.specs.System.{present, reading}
 use Rattle.ice_base_values.specs.Order.{At, Has}
 use Rattle.ice_base_values.proofs.Members.{At_right, At_within}
 use Rattle.ice_base_values.proofs.Places.{At_same}
@@ -20,11 +20,10 @@ use Rattle.ice_decode.specs.declared.role.Role.{Role}
 use Rattle.ice_decode.specs.declared.role.Role.TheVariants.{Plain, Output, LookUp, CarryOut, PadInput, Global, CarryIn, ClockEnable}
 use Rattle.ice_decode.specs.Cells.{logic_tiles}
 use Rattle.ice_decode.specs.Direct.{takes_pad}
-use Rattle.ice_decode.specs.Drivers.{driver}
+use Rattle.ice_decode.specs.Drivers.{driver, role_of}
 use Rattle.ice_decode.specs.Faults.{IsOrderOf}
 use Rattle.ice_decode.specs.Points.{HasWire}
 use Rattle.ice_decode.specs.Reads.{wire_point, global_feed}
-use Rattle.ice_decode.specs.Roles.{role_of}
 use Rattle.ice_decode.proofs.PointPlaces.{StandsAs, wire_at, point_cases}
 use Rattle.ice_back_laws.specs.declared.root.LevelRoot.{LevelRoot}
 use Rattle.ice_back_laws.specs.declared.root.LevelRoot.TheVariants.{Fixed}

@@ -1,6 +1,6 @@
 -- The roots of wires, found one after another.
 use Rattle.std.specs.Prelude.{◌≡◌, ℕ, ◌<◌, Bool, true, false, Some, List, [], ◌∷◌, map, slice_set, slice_index_or, if◌then◌else◌, codes}
-use Rattle.ice_base_values.specs.Inputs.{reading}
+use Rattle.ice_base_values.specs.System.{reading}
 use Rattle.ice_chip.specs.Database.{Parts}
 use Rattle.ice_chip.specs.Lookups.{gbufpin_of}
 use Rattle.ice_chip.specs.declared.rows.Pad.{Pad}
@@ -14,19 +14,12 @@ use Rattle.ice_decode.specs.declared.role.Role.{Role}
 use Rattle.ice_decode.specs.declared.role.Role.TheVariants.{Plain, Output, LookUp, CarryOut, PadInput, Global, CarryIn, ClockEnable}
 use Rattle.ice_decode.specs.Cells.{has_flop}
 use Rattle.ice_decode.specs.Direct.{takes_pad}
-use Rattle.ice_decode.specs.Drivers.{driver}
+use Rattle.ice_decode.specs.Drivers.{driver, role_of}
 use Rattle.ice_decode.specs.Meaning.{passes}
 use Rattle.ice_decode.specs.Reads.{wire_point, global_feed}
-use Rattle.ice_decode.specs.Roles.{role_of}
 use Rattle.ice_back_laws.specs.declared.root.LevelRoot.{LevelRoot}
 use Rattle.ice_back_laws.specs.declared.root.LevelRoot.TheVariants.{Fixed, Register}
 use Rattle.ice_back_laws.specs.Roots.{table_root, carry_root, pad_root, fed_root, first_root, root_of}
-
--- a row that drives a wire leads from one of so many wires
-abbrev pub ComesFrom : ℕ → Driver → Type 0
-ComesFrom wires Nothing = Unit {0}
-ComesFrom wires (By s) = s.source.0 < wires
-ComesFrom wires (Several first second) = Unit {0}
 
 -- the root of a point, where `roots` has those of wires by their numbers
 abbrev pub root_in : Parts → Bits → List LevelRoot → Point → LevelRoot

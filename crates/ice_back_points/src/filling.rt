@@ -4,7 +4,8 @@ ghost use Rattle.ice_bits.specs.Configuration.{bits_of};
 ghost use Rattle.ice_decode.specs.Drivers.{driver};
 ghost use Rattle.ice_decode.specs.Points.{HasWire};
 ghost use Rattle.ice_decode.specs.Refusals.{AreDrivers, IsCircuitOf};
-ghost use Rattle.ice_back_points.specs.Filling.{ComesFrom, wire_root, filled, AreRoots};
+ghost use Rattle.ice_decode.specs.Tables.{ComesFrom};
+ghost use Rattle.ice_back_points.specs.Filling.{wire_root, filled, AreRoots};
 
 use crate::roots::{role_root, switch_root};
 use ice_back_laws::LevelRoot;

@@ -1,6 +1,6 @@
 //! The root of a point, by the roots of the wires that pass their levels on to it.
 ghost use Rattle.std.specs.Prelude.{◌≡◌, ◌<◌, ◌∷◌, [], false, None, Some, map, slice_index_or, if◌then◌else◌};
-ghost use Rattle.ice_base_values.specs.Inputs.{reading};
+ghost use Rattle.ice_base_values.specs.System.{reading};
 ghost use Rattle.ice_bits.specs.Configuration.{bits_of};
 ghost use Rattle.ice_net.specs.Meaning.{number_of};
 ghost use Rattle.ice_decode.specs.Cells.{cell_bit};

@@ -1,7 +1,7 @@
 -- Where bytes are cut at one of them.
 use Rattle.std.proofs.Common.{◌≡◌, ◌≢◌, ℕ, ◌<◌, ◌≤◌, ◌+◌, ◌-◌, ◌==◌, true, false, List, [], ◌∷◌, ◌++◌, length, get_or, take, drop, refl, sym, ap, ◌∙◌, Option, None, Some, option_map, rules, tests, append-nil, append_assoc}
 use Rattle.std.proofs.lemmas.List.{at_drop_more, at_drop_all, take_more}
-use Rattle.ice_base.specs.BitNames.{cut_at, onto_front}
+use Rattle.ice_base.specs.Places.{cut_at, onto_front}
 use Rattle.ice_base.proofs.Cuts.{tail_is}
 
 -- a cut of the bytes behind the first i, as one of all bytes

@@ -5,7 +5,7 @@ use Rattle.std.proofs.lemmas.List.{at_drop_more, at_drop_all}
 use Rattle.std.specs.Char.{is_ascii_digit}
 use Rattle.std.specs.Str.{all_ascii_digits}
 use Rattle.ice_base.proofs.Booleans.{and_false}
-use Rattle.ice_base.specs.Numbers.{with_digit, with_digits, decimal_value, is_number, number_in}
+use Rattle.ice_base.specs.Text.{with_digit, with_digits, decimal_value, is_number, number_in}
 
 -- the digits so far are read: those that are left decide
 pub record ReadTo (word rest : List ℕ) (number : ℕ) : Type 0 where

@@ -2,7 +2,7 @@
 use Rattle.std.proofs.Common.{◌≡◌, ℕ, ◌<◌, ◌≤◌, ◌+◌, List, [], ◌∷◌, ◌++◌, length, get_or, drop, map, refl, sym, ap, ◌∙◌, Bool, Option, None, Some, option_map, append-nil, append_assoc}
 use Rattle.std.proofs.lemmas.List.{at_drop_more, at_drop_all}
 use Rattle.ice_base.specs.Lists.{all_known}
-use Rattle.ice_base.specs.BitNames.{digit_value, values_in}
+use Rattle.ice_base.specs.Places.{digit_value, values_in}
 
 -- nothing was read yet
 pub all_begin : {A : Type 0} (o : Option (List A)) → o ≡ option_map (λ xs. [] ++ xs) o

@@ -4,9 +4,8 @@ use Rattle.std.specs.Char.{is_ascii_digit}
 use Rattle.std.specs.List.{AllByRecursion}
 use Rattle.std.specs.Str.{all_ascii_digits}
 use Rattle.std.proofs.lemmas.Bool.{and_parts}
-use Rattle.ice_base.specs.BitNames.{onto_front, cut_at, column_named, place_named, bit_named}
-use Rattle.ice_base.specs.Numbers.{decimal_value, is_number, number_in, number_below}
-use Rattle.ice_base.specs.Places.{bit_place}
+use Rattle.ice_base.specs.Places.{onto_front, cut_at, column_named, place_named, bit_named, bit_place}
+use Rattle.ice_base.specs.Text.{decimal_value, is_number, number_in, number_below}
 use Rattle.ice_base.proofs.Digits.{number_is}
 
 some_number : (word : List ℕ) (test : Bool) → is_some (if test then Some (decimal_value word) else None) ≡ true → test ≡ true

@@ -8,8 +8,7 @@ use Rattle.std.proofs.lemmas.Bool.{and_parts}
 use Rattle.std.proofs.lemmas.List.Elements.{filter-append}
 use Rattle.std.proofs.lemmas.Str.Parse.{IsNumeralModel, numerals_by_fold, tells_all_ascii_digits}
 use Rattle.std.proofs.lemmas.Fmt.{digits_decimal, digits_value-decimal, length-decimal-le, decimal_nonempty}
-use Rattle.ice_base.specs.Text.{onto_first, lines, pieces, words, words_of_lines, ends_word, IsLine, IsWord}
-use Rattle.ice_base.specs.Numbers.{with_digits, number_in}
+use Rattle.ice_base.specs.Text.{onto_first, lines, pieces, words, words_of_lines, ends_word, IsLine, IsWord, with_digits, number_in}
 use Rattle.ice_base.proofs.Cuts.{join_front, join_line, join_nothing, join_more, some_bytes, line_step, line_end, no_lines, piece_step, piece_end, words_are, no_pieces, no_words, kept}
 use Rattle.ice_base.proofs.Digits.{number_here}
 
@@ -46,6 +45,10 @@ pieces_behind (c ∷ word) b rest h ends = piece_step c (word ++ b ∷ rest) h.0
 pieces_alone : (word : List ℕ) → AllByRecursion (λ c. ends_word c ≡ false) word → pieces word ≡ word ∷ []
 pieces_alone [] h = no_pieces
 pieces_alone (c ∷ word) h = piece_step c word h.0 ∙ ap (onto_first c) (pieces_alone word h.1)
+
+-- no byte ends a word
+abbrev pub GoesOn : List ℕ → Type 0
+GoesOn bytes = AllByRecursion (λ b. ends_word b ≡ false) bytes
 
 -- a word and the blank or line feed behind it
 pub first_word : (word : List ℕ) (b : ℕ) (rest : List ℕ) → IsWord word → ends_word b ≡ true → words (word ++ b ∷ rest) ≡ word ∷ words rest

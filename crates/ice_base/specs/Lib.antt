@@ -1,9 +1,4 @@
 pub mod Text
-pub mod Comments
 pub mod Cursors
-pub mod Numbers
 pub mod Places
 pub mod Lists
-pub mod Names
-pub mod BitNames
-pub mod PlainLines

@@ -1,6 +1,8 @@
--- Lines and words of a text. A text is a list of bytes.
-use Rattle.std.specs.Prelude.{ℕ, ◌+◌, ◌-◌, ◌^◌, min, ◌<◌, ◌≡◌, ◌≢◌, Bool, false, ◌||◌, List, [], ◌∷◌, ◌++◌, length, filter, nat_lt, ◌==◌, if◌then◌else◌}
+-- Lines, words and numbers of a text. A text is a list of bytes.
+use Rattle.std.specs.Prelude.{ℕ, ◌+◌, ◌-◌, ◌^◌, min, ◌<◌, ◌≡◌, ◌≢◌, Bool, false, ◌||◌, List, [], ◌∷◌, ◌++◌, length, filter, nat_lt, ◌==◌, if◌then◌else◌, ◌*◌, ◌&&◌, nat_le, Option, Some, None}
 use Rattle.std.specs.List.{AllByRecursion, flat_map}
+use Rattle.std.specs.Option.{option_and_then}
+use Rattle.std.specs.Str.{all_ascii_digits}
 
 -- the byte joins the first piece
 abbrev pub onto_first : ℕ → List (List ℕ) → List (List ℕ)
@@ -59,3 +61,54 @@ IsWord bytes = (0 < length bytes) × AllByRecursion (λ b. ends_word b ≡ false
 abbrev pub StartsWord : List ℕ → Type 0
 StartsWord [] = Unit {0}
 StartsWord (b ∷ bytes) = ends_word b ≡ false
+
+-- ---- comments
+-- the word begins with this byte
+abbrev pub begins_with : ℕ → List ℕ → Bool
+begins_with b [] = false
+begins_with b (c ∷ word) = c == b
+
+-- the words of a line before its comment; 35 is `#`
+abbrev pub uncommented : List (List ℕ) → List (List ℕ)
+uncommented [] = []
+uncommented (w ∷ ws) = if begins_with 35 w then [] else w ∷ uncommented ws
+
+-- ---- lines that have words
+-- the number and the words of a line, before the others; a line without words is left out
+abbrev pub with_words : ℕ → List (List ℕ) → List (ℕ × List (List ℕ)) → List (ℕ × List (List ℕ))
+with_words number [] others = others
+with_words number (w ∷ ws) others = (number, w ∷ ws) ∷ others
+
+-- the number and the words of each of these lines that has words before its comment
+abbrev pub plain_lines : List (ℕ × List ℕ) → List (ℕ × List (List ℕ))
+plain_lines [] = []
+plain_lines (line ∷ lines) = with_words line.0 (uncommented (words line.1)) (plain_lines lines)
+
+-- those of a text
+abbrev pub plain_lines_of : List ℕ → List (ℕ × List (List ℕ))
+plain_lines_of text = plain_lines (numbered 1 (lines text))
+
+-- the number that n's digits and one more digit write; 48 is `0`
+abbrev pub with_digit : ℕ → ℕ → ℕ
+with_digit n digit = n * 10 + (digit - 48)
+
+-- the number that n's digits and these digits write
+abbrev pub with_digits : ℕ → List ℕ → ℕ
+with_digits n [] = n
+with_digits n (digit ∷ digits) = with_digits (with_digit n digit) digits
+
+-- the number that decimal digits write, the greatest place first
+abbrev pub decimal_value : List ℕ → ℕ
+decimal_value digits = with_digits 0 digits
+
+-- one to ten decimal digits of a value up to 4,294,967,295
+abbrev pub is_number : List ℕ → Bool
+is_number word = nat_le 1 (length word) && nat_le (length word) 10 && all_ascii_digits word && nat_lt (decimal_value word) (2 ^ 32)
+
+-- the value of a word that is a number, and none of any other word
+unfoldable pub number_in : List ℕ → Option ℕ
+number_in word = if is_number word then Some (decimal_value word) else None
+
+-- a number below a limit
+abbrev pub number_below : ℕ → List ℕ → Option ℕ
+number_below limit word = option_and_then (λ n. if nat_lt n limit then Some n else None) (number_in word)

@@ -1,6 +1,6 @@
 //! Names of configuration bits, and values of bits as digits.
 ghost use Rattle.std.specs.Prelude.{◌≡◌, ◌++◌, ◌∷◌, [], Some, IfSome, option_map};
-ghost use Rattle.ice_base.specs.BitNames.{cut_at, bit_named, digit_value};
+ghost use Rattle.ice_base.specs.Places.{cut_at, bit_named, digit_value};
 
 use crate::{BitAt, number_below};
 

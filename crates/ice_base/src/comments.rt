@@ -1,7 +1,6 @@
 //! The words of a line before its comment.
 ghost use Rattle.std.specs.Prelude.{◌≡◌};
-ghost use Rattle.ice_base.specs.Text.{words};
-ghost use Rattle.ice_base.specs.Comments.{uncommented, begins_with};
+ghost use Rattle.ice_base.specs.Text.{words, uncommented, begins_with};
 
 use crate::{WordIter, no_words, words_of};
 use std::marker::Model;
@@ -14,7 +13,7 @@ pub struct PlainWords<'a> {
 
 impl<'a> Model for PlainWords<'a> {
     ghost use Rattle.std.specs.Prelude.{List, ℕ};
-    ghost use Rattle.ice_base.specs.Comments.{uncommented};
+    ghost use Rattle.ice_base.specs.Text.{uncommented};
 
     ghost Value = { List (List ℕ) };
 

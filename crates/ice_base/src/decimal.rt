@@ -1,7 +1,7 @@
 //! Numbers as words of a text.
 ghost use Rattle.std.specs.Prelude.{◌≡◌, ◌^◌, ◌≤◌, ◌<◌, ◌&&◌, nat_lt, Some, None, IfSome, if◌then◌else◌};
 ghost use Rattle.std.specs.Char.{is_ascii_digit};
-ghost use Rattle.ice_base.specs.Numbers.{number_in, number_below, with_digit};
+ghost use Rattle.ice_base.specs.Text.{number_in, number_below, with_digit};
 
 // The number that a number's digits and one more write, where that is a digit and the number fits.
 fn appended(number: u32, digit: u8) -> Option<u32>

@@ -1,5 +1,7 @@
 //! Numbers of wires, nets, rows and signals, and places of tiles and bits.
 
+use std::hash::{Hash, Hasher};
+
 /// The number of a wire: a net of the chip database.
 #[derive(Clone, Copy, Debug, PartialEq, Eq)]
 pub struct WireNo(pub u32);
@@ -17,7 +19,7 @@ pub struct NetNo(pub u32);
 pub struct SignalNo(pub u32);
 
 /// The place of a tile: column `x` and row `y`, both from 0.
-#[derive(Clone, Copy, Debug, PartialEq, Eq, Hash)]
+#[derive(Clone, Copy, Debug, PartialEq, Eq)]
 pub struct TileAt {
     /// The column, from 0 on the left.
     pub x: u16,
@@ -26,10 +28,42 @@ pub struct TileAt {
 }
 
 /// The place of a configuration bit in its tile.
-#[derive(Clone, Copy, Debug, Default, PartialEq, Eq, Hash)]
+#[derive(Clone, Copy, Debug, Default, PartialEq, Eq)]
 pub struct BitAt {
     /// The line of the tile's bits, from 0.
     pub row: u8,
     /// The place in that line, from 0.
     pub col: u8,
+}
+
+/// A place is hashed as one number, as maps by places are looked up often.
+impl Hash for TileAt {
+    ghost use Rattle.std.specs.Prelude.{◌+◌, ◌*◌};
+    ghost use Rattle.std.specs.Hash as fed;
+    ghost use Rattle.std.specs.Cmp.Rules.{hashing};
+    ghost use Rattle.std.proofs.Common.{rules};
+
+    ghost hash_input = { λ tile. fed.u32 (tile.x * 65536 + tile.y) };
+
+    ghost respects_eq = { Prim.search (hashing, rules) };
+
+    fn hash<H: Hasher>(&self, state: &mut H) {
+        (u32::from(self.x) * 65_536 + u32::from(self.y)).hash(state);
+    }
+}
+
+/// A place is hashed as one number, as maps by places are looked up often.
+impl Hash for BitAt {
+    ghost use Rattle.std.specs.Prelude.{◌+◌, ◌*◌};
+    ghost use Rattle.std.specs.Hash as fed;
+    ghost use Rattle.std.specs.Cmp.Rules.{hashing};
+    ghost use Rattle.std.proofs.Common.{rules};
+
+    ghost hash_input = { λ bit. fed.u16 (bit.row * 256 + bit.col) };
+
+    ghost respects_eq = { Prim.search (hashing, rules) };
+
+    fn hash<H: Hasher>(&self, state: &mut H) {
+        (u16::from(self.row) * 256 + u16::from(self.col)).hash(state);
+    }
 }

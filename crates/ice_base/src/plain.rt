@@ -1,6 +1,6 @@
 //! The lines of a text that have words, with comments taken out.
 ghost use Rattle.std.specs.Prelude.{◌≡◌};
-ghost use Rattle.ice_base.specs.PlainLines.{plain_lines};
+ghost use Rattle.ice_base.specs.Text.{plain_lines};
 
 use crate::{LineIter, PlainWords, plain_words_of};
 use std::marker::Model;
@@ -24,7 +24,7 @@ pub struct PlainLines<'a> {
 
 impl<'a> Model for PlainLines<'a> {
     ghost use Rattle.std.specs.Prelude.{List, ℕ};
-    ghost use Rattle.ice_base.specs.PlainLines.{plain_lines};
+    ghost use Rattle.ice_base.specs.Text.{plain_lines};
 
     ghost Value = { List (ℕ × List (List ℕ)) };
 

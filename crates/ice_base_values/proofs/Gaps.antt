@@ -3,12 +3,11 @@ use Rattle.std.proofs.Common.{◌≡◌, ℕ, zero, suc, Option, None, Some, Lis
 use Rattle.std.specs.Prelude.{option_map}
 use Rattle.std.proofs.lemmas.List.{take_more}
 use Rattle.ice_base.specs.Lists.{all_known}
-use Rattle.ice_base_values.specs.System.{value}
+use Rattle.ice_base_values.specs.System.{value, present, reading, try_reading, filled_inputs, gapped}
 use Rattle.ice_base_values.specs.Order.{At}
-use Rattle.ice_base_values.specs.Inputs.{present, reading, try_reading, filled, gapped}
 
 -- what the inputs read, by an assignment to the connected points
-pub filled_map : {P A : Type 0} (bare : A) (v : P → A) (inputs : List (Option P)) → filled bare inputs (map v (present inputs)) ≡ map (reading bare v) inputs
+pub filled_map : {P A : Type 0} (bare : A) (v : P → A) (inputs : List (Option P)) → filled_inputs bare inputs (map v (present inputs)) ≡ map (reading bare v) inputs
 filled_map bare v [] = refl
 filled_map bare v (None ∷ inputs) = ap (λ xs. bare ∷ xs) (filled_map bare v inputs)
 filled_map bare v (Some p ∷ inputs) = ap (λ xs. v p ∷ xs) (filled_map bare v inputs)
@@ -18,21 +17,21 @@ option_map_twice f g None = refl
 option_map_twice f g (Some x) = refl
 
 one_more : {P A : Type 0} (bare : A) (w : P → Option A) (p : P) (inputs : List (Option P)) (o : Option A)
-    → all_known (map (try_reading bare w) inputs) ≡ option_map (filled bare inputs) (all_known (map w (present inputs)))
-    → all_known (o ∷ map (try_reading bare w) inputs) ≡ option_map (filled bare (Some p ∷ inputs)) (all_known (o ∷ map w (present inputs)))
+    → all_known (map (try_reading bare w) inputs) ≡ option_map (filled_inputs bare inputs) (all_known (map w (present inputs)))
+    → all_known (o ∷ map (try_reading bare w) inputs) ≡ option_map (filled_inputs bare (Some p ∷ inputs)) (all_known (o ∷ map w (present inputs)))
 one_more bare w p inputs None same = refl
 one_more bare w p inputs (Some x) same =
     ap (option_map (λ xs. x ∷ xs)) same
-    ∙ option_map_twice (λ xs. x ∷ xs) (filled bare inputs) (all_known (map w (present inputs)))
-    ∙ sym (option_map_twice (filled bare (Some p ∷ inputs)) (λ xs. x ∷ xs) (all_known (map w (present inputs))))
+    ∙ option_map_twice (λ xs. x ∷ xs) (filled_inputs bare inputs) (all_known (map w (present inputs)))
+    ∙ sym (option_map_twice (filled_inputs bare (Some p ∷ inputs)) (λ xs. x ∷ xs) (all_known (map w (present inputs))))
 
 -- all inputs have something to read where all connected points have a value
 pub together_present : {P A : Type 0} (bare : A) (w : P → Option A) (inputs : List (Option P))
-    → all_known (map (try_reading bare w) inputs) ≡ option_map (filled bare inputs) (all_known (map w (present inputs)))
+    → all_known (map (try_reading bare w) inputs) ≡ option_map (filled_inputs bare inputs) (all_known (map w (present inputs)))
 together_present bare w [] = refl
 together_present bare w (None ∷ inputs) =
     ap (option_map (λ xs. bare ∷ xs)) (together_present bare w inputs)
-    ∙ option_map_twice (λ xs. bare ∷ xs) (filled bare inputs) (all_known (map w (present inputs)))
+    ∙ option_map_twice (λ xs. bare ∷ xs) (filled_inputs bare inputs) (all_known (map w (present inputs)))
 together_present bare w (Some p ∷ inputs) = one_more bare w p inputs (w p) (together_present bare w inputs)
 
 -- a point's value, by what its inputs read
@@ -41,7 +40,7 @@ pub value_gapped : {P A : Type 0} (inputs : P → List (Option P)) (bare : A) (l
     ≡ option_map (local p) (all_known (map (try_reading bare (λ q. value (gapped inputs bare local) f q)) (inputs p)))
 value_gapped inputs bare local f p =
     sym (ap (option_map (local p)) (together_present bare (λ q. value (gapped inputs bare local) f q) (inputs p))
-    ∙ option_map_twice (local p) (filled bare (inputs p)) (all_known (map (λ q. value (gapped inputs bare local) f q) (present (inputs p)))))
+    ∙ option_map_twice (local p) (filled_inputs bare (inputs p)) (all_known (map (λ q. value (gapped inputs bare local) f q) (present (inputs p)))))
 
 -- what `local` makes of an assignment, by what the inputs read
 pub local_gapped : {P A : Type 0} (inputs : P → List (Option P)) (bare : A) (local : P → List A → A) (v : P → A) (p : P)

@@ -7,6 +7,7 @@ pub mod Machines
 pub mod Rows
 pub mod Turns
 pub mod Places
+pub mod Once
 pub mod SearchSteps
 pub mod FillingSteps
 pub mod Enough

@@ -1,6 +1,7 @@
 -- Points by their places, after a write, a push or a cut.
-use Rattle.std.proofs.Common.{◌≡◌, ◌≢◌, ◌⊎◌, ℕ, zero, suc, ◌+◌, ◌-◌, ◌<◌, ◌≤◌, List, [], ◌∷◌, ◌++◌, inl, inr, refl, ap, length, set, take, drop, replicate, arith, zero-add}
+use Rattle.std.proofs.Common.{◌≡◌, ◌≢◌, ◌⊎◌, ℕ, zero, suc, ◌+◌, ◌-◌, ◌<◌, ◌≤◌, List, [], ◌∷◌, ◌++◌, inl, inr, refl, ap, length, set, take, drop, replicate, arith, zero-add, append-nil, drop_of_length-le}
 use Rattle.std.specs.Prelude.{slice_get}
+use Rattle.std.proofs.lemmas.List.{take_all}
 use Rattle.std.proofs.lemmas.Option.{same_Some}
 use Rattle.ice_base_values.specs.Order.{At}
 
@@ -82,3 +83,9 @@ At_take zero xs i p at = cc at
 At_take (suc k) [] i p at = cc at
 At_take (suc k) (x ∷ xs) zero p at = (omega arith, at)
 At_take (suc k) (x ∷ xs) (suc i) p at = let rest = At_take k xs i p at in (omega (arith, rest.0), rest.1)
+
+-- a slice that a Vec lent, after a write
+pub written : {X : Type 0} (len : ℕ) (xs next : List X) → length next ≡ length xs → len ≡ length xs → take len (next ++ drop (length next) xs) ≡ next
+written len xs next same long =
+    let none : drop (length next) xs ≡ [] = drop_of_length-le xs (omega arith) in
+    rw (none, append-nil next) (take_all len next (omega arith))

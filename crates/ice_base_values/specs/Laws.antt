@@ -3,9 +3,7 @@ use Rattle.std.specs.Prelude.{◌≡◌, ℕ, ◌+◌, ◌<◌, Bool, true, None
 use Rattle.std.specs.List.{AllByRecursion}
 use Rattle.std.proofs.Common.{◌⊎◌, suc}
 use Rattle.ice_base.specs.Lists.{all_known}
-use Rattle.ice_base_values.specs.System.{System, value, MeetsEquation}
-use Rattle.ice_base_values.specs.Inputs.{try_reading, gapped}
-use Rattle.ice_base_values.specs.Machine.{shows, Simulates}
+use Rattle.ice_base_values.specs.System.{System, value, MeetsEquation, try_reading, gapped, machine_shows, Simulates}
 use Rattle.ice_base_values.specs.Order.{Has, IsOrder, IsCycle, IsCycleBelow}
 
 -- more steps change no value that is there
@@ -52,4 +50,4 @@ abbrev pub SimulationsShowTheSame : Type 0 → Type 0 → Type 0 → Type 0 → 
 SimulationsShowTheSame S T L O = (first : S → L → S × O) (second : T → L → T × O) (tied : S → T → Bool) (allowed : L → Bool)
     → Simulates first second (λ s t. tied s t ≡ true) (λ l. allowed l ≡ true)
     → (s : S) (t : T) → tied s t ≡ true → (levels : List L) → AllByRecursion (λ l. allowed l ≡ true) levels
-    → shows first s levels ≡ shows second t levels
+    → machine_shows first s levels ≡ machine_shows second t levels

@@ -1,7 +1,5 @@
 pub mod System
-pub mod Inputs
 pub mod Order
-pub mod Machine
 pub mod Graph
 pub mod Search
 pub mod SearchState

@@ -1,7 +1,6 @@
 pub mod Configuration
 pub mod Settings
 pub mod FunctionBits
-pub mod RowsOn
 pub mod Written
 pub mod Rewriting
 pub mod TilePlaces

@@ -3,9 +3,8 @@ use Rattle.std.specs.Prelude.{◌≡◌, ℕ, Bool, false, List, [], ◌∷◌, 
 use Rattle.std.specs.Option.{option_map_or}
 use Rattle.ice_base.specs.declared.number.TileAt.{TileAt}
 use Rattle.ice_base.specs.declared.number.BitAt.{BitAt}
-use Rattle.ice_chip.specs.Database.{Parts}
+use Rattle.ice_chip.specs.Database.{Parts, same_tile}
 use Rattle.ice_chip.specs.Lookups.{rows_of}
-use Rattle.ice_chip.specs.Places.{same_tile}
 use Rattle.ice_bits.specs.Configuration.{Bits, Configuration, bits_of, kind_in, is_there, IsOf}
 use Rattle.ice_bits.specs.Written.{with_bits}
 

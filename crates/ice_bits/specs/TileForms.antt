@@ -1,7 +1,7 @@
 -- The kinds of tiles, and their bits before any is written.
 use Rattle.std.specs.Prelude.{Bool, List}
 use Rattle.ice_base.specs.declared.number.TileAt.{TileAt}
-use Rattle.ice_chip.specs.Places.{columns}
+use Rattle.ice_chip.specs.Database.{columns}
 use Rattle.ice_chip.specs.declared.rows.TileKind.{TileKind}
 use Rattle.ice_chip.specs.declared.tile.Tile.{Tile}
 use Rattle.ice_bits.specs.Configuration.{blank_rows}

@@ -2,7 +2,7 @@
 ghost use Rattle.std.specs.Prelude.{◌≡◌, Some, [], ◌∷◌, ◌++◌, map, option_map, IfOk, OnOk};
 ghost use Rattle.std.specs.Map.{lookup};
 ghost use Rattle.std.specs.Option.{option_or};
-ghost use Rattle.ice_chip.specs.Places.{same_tile};
+ghost use Rattle.ice_chip.specs.Database.{same_tile};
 ghost use Rattle.ice_bits.specs.Rewriting.{rows_with, tiles_with};
 ghost use Rattle.ice_bits.specs.TilePlaces.{place_in};
 ghost use Rattle.ice_bits.specs.TileForms.{blank_at};

@@ -14,7 +14,7 @@ pub next : {X : Type 0} (same : X → X → Bool) (xs ys : List X) (k : ℕ) (d 
     → pointwise same (drop k xs) (drop k ys) ≡ (same (get_or xs k d) (get_or ys k e) && pointwise same (drop (k + 1) xs) (drop (k + 1) ys))
 next same xs ys k d e lt lt' = let one : k + 1 ≡ suc k = omega arith in rw one (after same xs ys k d e lt lt')
 
-kept : (b rest : Bool) → not b ≡ false → (b && rest) ≡ rest
+pub kept : (b rest : Bool) → not b ≡ false → (b && rest) ≡ rest
 kept true rest is = refl
 kept false rest is = absurd (cc)
 

@@ -7,7 +7,7 @@ use Rattle.std.specs.Cmp.Lexicographic.{pointwise}
 use Rattle.std.proofs.lemmas.Bool.{and_parts}
 use Rattle.ice_base.proofs.Keys.{nat_same}
 use Rattle.ice_chip.specs.Database.{SwitchRow}
-use Rattle.ice_bits.specs.RowsOn.{number_with}
+use Rattle.ice_bits.specs.Settings.{number_with}
 use Rattle.ice_bits_rows.specs.Plain.{is_above, do_rise}
 
 -- ---- two lists of values that are compared from the front

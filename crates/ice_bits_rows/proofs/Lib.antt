@@ -9,6 +9,6 @@ mod Pins
 mod Ascent
 mod Meeting
 mod Passing
-pub mod Sourcing
+pub mod WireUses
 pub mod Taken
 pub mod Known

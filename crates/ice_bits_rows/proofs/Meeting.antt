@@ -8,9 +8,8 @@ use Rattle.ice_base.proofs.Keys.{nat_self, tile_self, place_self}
 use Rattle.ice_base.specs.declared.number.TileAt.{TileAt}
 use Rattle.ice_base.specs.declared.number.BitAt.{BitAt}
 use Rattle.ice_base.specs.Places.{same_place}
-use Rattle.ice_chip.specs.Database.{SwitchRow, SwitchGroup}
-use Rattle.ice_chip.specs.Places.{same_tile}
-use Rattle.ice_bits.specs.RowsOn.{values_of, number_with, row_on, rows_on}
+use Rattle.ice_chip.specs.Database.{SwitchRow, SwitchGroup, same_tile}
+use Rattle.ice_bits.specs.Settings.{values_of, number_with, row_on, rows_on}
 use Rattle.ice_bits_rows.specs.Bundles.{groups_into, has_bit}
 use Rattle.ice_bits_rows.specs.Own.{rises_from}
 use Rattle.ice_bits_rows.specs.Sound.{value_at, sets, is_one}

@@ -1,10 +1,9 @@
 -- The rows that are on, group by group.
 use Rattle.std.proofs.Common.{◌≡◌, ℕ, Bool, true, false, cond, Option, None, Some, List, [], ◌∷◌, ◌++◌, refl}
 use Rattle.ice_base.specs.declared.number.TileAt.{TileAt}
-use Rattle.ice_chip.specs.Database.{SwitchGroup}
-use Rattle.ice_chip.specs.Places.{same_tile}
+use Rattle.ice_chip.specs.Database.{SwitchGroup, same_tile}
 use Rattle.ice_bits.specs.Configuration.{Bits}
-use Rattle.ice_bits.specs.RowsOn.{row_on, rows_on}
+use Rattle.ice_bits.specs.Settings.{row_on, rows_on}
 use Rattle.ice_bits_rows.specs.Sound.{is_one}
 use Rattle.ice_bits_rows.specs.Alone.{in_tile, on_there, are_two, either, listed_one}
 

@@ -7,7 +7,7 @@ use Rattle.ice_base.proofs.Keys.{place_self, place_same}
 use Rattle.ice_base.specs.declared.number.BitAt.{BitAt}
 use Rattle.ice_base.specs.Places.{same_tile, same_place}
 use Rattle.ice_chip.specs.Database.{SwitchRow, SwitchGroup}
-use Rattle.ice_bits.specs.RowsOn.{values_of}
+use Rattle.ice_bits.specs.Settings.{values_of}
 use Rattle.ice_bits_rows.specs.Bundles.{has_bit}
 use Rattle.ice_bits_rows.specs.Own.{place_code, rises_from}
 use Rattle.ice_bits_rows.specs.Sound.{value_at, sets}

@@ -6,7 +6,7 @@ use Rattle.ice_base.proofs.Booleans.{or_true, or_false, or_assoc}
 use Rattle.ice_base.proofs.Keys.{tile_same, place_same}
 use Rattle.ice_base.specs.declared.number.TileAt.{TileAt}
 use Rattle.ice_base.specs.declared.number.BitAt.{BitAt}
-use Rattle.ice_chip.specs.Places.{same_tile}
+use Rattle.ice_chip.specs.Database.{same_tile}
 use Rattle.ice_base.specs.Places.{same_place}
 use Rattle.ice_bits_rows.specs.Owners.{same_key, owner_with, is_other}
 use Rattle.ice_bits_rows.specs.declared.owners.Owner.{Owner}

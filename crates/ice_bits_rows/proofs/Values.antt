@@ -7,6 +7,7 @@ use Rattle.ice_base.proofs.Booleans.{and_false}
 use Rattle.ice_base.specs.declared.number.BitAt.{BitAt}
 use Rattle.ice_base.specs.Places.{same_place}
 use Rattle.ice_bits_rows.specs.Sound.{value_at}
+use Rattle.ice_bits_rows.proofs.Alike.{kept}
 
 after : (bits : List BitAt) (values : List Bool) (b : BitAt) (k : ℕ) (d : BitAt) (e : Bool) → k < length bits → k < length values
     → value_at (drop k bits) (drop k values) b ≡ ((same_place (get_or bits k d) b && get_or values k e) || value_at (drop (suc k) bits) (drop (suc k) values) b)
@@ -59,10 +60,6 @@ unlike_long f [] [] e = absurd (e refl)
 unlike_long f [] (p ∷ bits) e = refl
 unlike_long f (x ∷ values) [] e = refl
 unlike_long f (x ∷ values) (p ∷ bits) e = rw (unlike_long f values bits (λ same. e (ap suc same))) (and_false (beq x (f p)))
-
-kept : (b rest : Bool) → not b ≡ false → (b && rest) ≡ rest
-kept true rest is = refl
-kept false rest is = absurd (cc)
 
 -- values of which one more is that of its bit
 pub alike_passed : (f : BitAt → Bool) (values : List Bool) (bits lent : List BitAt) (k : ℕ) (v : Bool) (d : BitAt) (s : Bool) → lent ≡ bits → s ≡ f (get_or lent k d)

@@ -1,10 +1,9 @@
 -- Rows that are the only ones of their bundle that are on.
 use Rattle.std.specs.Prelude.{ℕ, Bool, true, false, Option, None, Some, List, [], ◌∷◌, filter, if◌then◌else◌}
 use Rattle.ice_base.specs.declared.number.TileAt.{TileAt}
-use Rattle.ice_chip.specs.Database.{SwitchGroup}
-use Rattle.ice_chip.specs.Places.{same_tile}
+use Rattle.ice_chip.specs.Database.{SwitchGroup, same_tile}
 use Rattle.ice_bits.specs.Configuration.{Bits}
-use Rattle.ice_bits.specs.RowsOn.{row_on}
+use Rattle.ice_bits.specs.Settings.{row_on}
 
 -- the groups of a tile among these
 abbrev pub in_tile : TileAt → List SwitchGroup → List SwitchGroup

@@ -3,9 +3,8 @@ use Rattle.std.specs.Prelude.{ℕ, ◌==◌, Bool, false, not, ◌&&◌, ◌||�
 use Rattle.std.specs.List.{list_any}
 use Rattle.ice_base.specs.declared.number.TileAt.{TileAt}
 use Rattle.ice_base.specs.declared.number.BitAt.{BitAt}
-use Rattle.ice_chip.specs.Database.{Parts, FunctionRow, SwitchGroup}
+use Rattle.ice_chip.specs.Database.{Parts, FunctionRow, SwitchGroup, same_tile}
 use Rattle.ice_base.specs.Places.{same_place}
-use Rattle.ice_chip.specs.Places.{same_tile}
 use Rattle.ice_chip.specs.Lookups.{kind_at}
 use Rattle.ice_chip.specs.Functions.{same_kind, is_foreign}
 use Rattle.ice_chip.specs.declared.rows.TileKind.{TileKind}

@@ -1,12 +1,11 @@
 pub mod Bundles
 pub mod WireNames
 pub mod Sound
-pub mod Sources
+pub mod Uses
 pub mod Usable
 pub mod FirstSound
 pub mod Lists
 pub mod Owners
-pub mod Index
 pub mod Alone
 pub mod Own
 pub mod Plain

@@ -3,8 +3,7 @@ use Rattle.std.specs.Prelude.{◌≡◌, ℕ, ◌==◌, Bool, false, not, ◌&&�
 use Rattle.std.specs.HashMap.{HashMap, get_by}
 use Rattle.ice_base.specs.declared.number.TileAt.{TileAt}
 use Rattle.ice_base.specs.declared.number.BitAt.{BitAt}
-use Rattle.ice_chip.specs.Database.{SwitchGroup}
-use Rattle.ice_chip.specs.Places.{same_tile}
+use Rattle.ice_chip.specs.Database.{SwitchGroup, same_tile}
 use Rattle.ice_base.specs.Places.{same_place}
 use Rattle.ice_bits_rows.specs.Bundles.{has_bit, is_of_other}
 use Rattle.ice_bits_rows.specs.declared.owners.Owner.{Owner}

@@ -2,8 +2,7 @@
 use Rattle.std.specs.Prelude.{◌≡◌, ℕ, ◌+◌, ◌==◌, Bool, true, false, ◌&&◌, ◌||◌, List, [], ◌∷◌, length, Some, slice_get, if◌then◌else◌}
 use Rattle.std.specs.Bool.{beq}
 use Rattle.std.specs.List.{list_any}
-use Rattle.ice_chip.specs.Database.{SwitchRow, SwitchGroup}
-use Rattle.ice_chip.specs.Places.{same_tile}
+use Rattle.ice_chip.specs.Database.{SwitchRow, SwitchGroup, same_tile}
 use Rattle.ice_bits_rows.specs.Bundles.{groups_into, has_bit}
 use Rattle.ice_bits_rows.specs.Own.{rises_from}
 use Rattle.ice_bits_rows.specs.Sound.{is_alone}

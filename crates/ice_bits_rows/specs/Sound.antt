@@ -1,11 +1,10 @@
 -- Sound rows: their values turn them on, and nothing else.
 use Rattle.std.specs.Prelude.{ℕ, ◌==◌, Bool, false, not, ◌&&◌, ◌||◌, List, [], ◌∷◌}
 use Rattle.ice_base.specs.declared.number.BitAt.{BitAt}
-use Rattle.ice_chip.specs.Database.{Parts, SwitchRow, SwitchGroup}
-use Rattle.ice_chip.specs.Places.{same_tile}
+use Rattle.ice_chip.specs.Database.{Parts, SwitchRow, SwitchGroup, same_tile}
 use Rattle.ice_base.specs.Places.{same_place}
 use Rattle.ice_bits.specs.Configuration.{Bits}
-use Rattle.ice_bits.specs.RowsOn.{rows_on}
+use Rattle.ice_bits.specs.Settings.{rows_on}
 use Rattle.ice_bits_rows.specs.Bundles.{bundle, is_private}
 use Rattle.ice_bits_rows.specs.WireNames.{has_memory_name}
 

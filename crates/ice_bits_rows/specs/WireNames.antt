@@ -3,7 +3,8 @@ use Rattle.std.specs.Prelude.{ℕ, Bool, false, not, ◌&&◌, ◌||◌, Option,
 use Rattle.std.specs.List.{list_any}
 use Rattle.ice_chip.specs.Database.{Parts}
 use Rattle.ice_chip.specs.Lookups.{kind_at, names_of}
-use Rattle.ice_chip.specs.PinNames.{cell_pin, is_input_name, is_memory_name, is_output_name}
+use Rattle.ice_chip.specs.Names.{cell_pin}
+use Rattle.ice_chip.specs.PinNames.{is_input_name, is_memory_name, is_output_name}
 use Rattle.ice_chip.specs.declared.rows.TileKind.{TileKind}
 
 -- a name of a wire that no route uses: of a memory, or `lutff_I/lout`

@@ -6,13 +6,11 @@ ghost use Rattle.ice_chip.specs.Lookups.{kind_at};
 ghost use Rattle.ice_chip.specs.Views.{function_view, group_view};
 ghost use Rattle.ice_bits_rows.specs.Bundles.{has_bit, is_of_function, is_shared, shares_bit, is_private};
 ghost use Rattle.ice_bits_rows.specs.Lists.{views};
-ghost use Rattle.ice_bits_rows.specs.Index.{IsIndexOf};
 ghost use Rattle.ice_bits_rows.specs.Alone.{in_tile};
 
-use crate::index::{Index, groups_into};
-use crate::owners::is_other;
+use crate::index::Index;
 use ice_base::{BitAt, TileAt, WireNo};
-use ice_chip::{Chip, Function, Group, TileKind, is_foreign, same_kind};
+use ice_chip::{Function, Group, TileKind, is_foreign, same_kind};
 
 // Whether the bit is among these.
 pub fn has_bit(bits: &[BitAt], bit: BitAt) -> bool
@@ -72,29 +70,20 @@ fn is_of_function(functions: &[Function], kind: Option<TileKind>, bit: BitAt) ->
 }
 
 // Whether the bit is in another bundle of the tile or in a foreign function of its kind.
-fn is_shared(
-    chip: &Chip,
-    index: &Index,
-    tile: TileAt,
-    kind: Option<TileKind>,
-    wire: WireNo,
-    bit: BitAt,
-) -> bool
-    requires index { IsIndexOf chip.now index.now }
-    requires kind { kind ≡ kind_at chip.now tile }
-    ensures { result ≡ is_shared chip.now tile wire.0 bit }
+fn is_shared(index: &Index, tile: TileAt, kind: Option<TileKind>, wire: WireNo, bit: BitAt) -> bool
+    requires kind { kind ≡ kind_at index.now.chip.now tile }
+    ensures { result ≡ is_shared index.now.chip.now tile wire.0 bit }
 {
-    is_other(index.owners.get(&(tile, bit)), wire) || is_of_function(chip.functions(), kind, bit)
+    index.is_of_other(tile, wire, bit) || is_of_function(index.chip.functions(), kind, bit)
 }
 
 // Whether the group has such a bit.
-fn shares_bit(chip: &Chip, index: &Index, group: &Group) -> bool
-    requires { IsIndexOf chip.now index.now }
-    ensures { result ≡ shares_bit chip.now (group_view group.now) }
+fn shares_bit(index: &Index, group: &Group) -> bool
+    ensures { result ≡ shares_bit index.now.chip.now (group_view group.now) }
 {
-    let kind = chip.kind_at(group.tile);
+    let kind = index.chip.kind_at(group.tile);
     for bit in group.bits.as_slice() {
-        if is_shared(chip, index, group.tile, kind, group.wire, *bit) {
+        if is_shared(index, group.tile, kind, group.wire, *bit) {
             return true;
         }
     }
@@ -102,13 +91,12 @@ fn shares_bit(chip: &Chip, index: &Index, group: &Group) -> bool
 }
 
 // Whether a group of the tile among these has such a bit.
-fn some_shares(chip: &Chip, index: &Index, groups: &[&Group], tile: TileAt) -> bool
-    requires { IsIndexOf chip.now index.now }
-    ensures { result ≡ list_any (shares_bit chip.now) (in_tile tile (views groups.now)) }
+fn some_shares(index: &Index, groups: &[&Group], tile: TileAt) -> bool
+    ensures { result ≡ list_any (shares_bit index.now.chip.now) (in_tile tile (views groups.now)) }
 {
     for group in groups {
         if group.tile == tile {
-            if shares_bit(chip, index, group) {
+            if shares_bit(index, group) {
                 return true;
             }
         }
@@ -118,9 +106,8 @@ fn some_shares(chip: &Chip, index: &Index, groups: &[&Group], tile: TileAt) -> b
 
 /// Whether the bundle of a tile and a wire is private: none of its bits is in another bundle of the tile or in a
 /// foreign function of its kind.
-pub fn is_private(chip: &Chip, index: &Index, tile: TileAt, wire: WireNo) -> bool
-    requires { IsIndexOf chip.now index.now }
-    ensures { result ≡ is_private chip.now tile wire.0 }
+pub fn is_private(index: &Index, tile: TileAt, wire: WireNo) -> bool
+    ensures { result ≡ is_private index.now.chip.now tile wire.0 }
 {
-    !some_shares(chip, index, groups_into(chip, index, wire), tile)
+    !some_shares(index, index.groups_into(wire), tile)
 }

@@ -1,54 +1,67 @@
 //! An index of a chip's groups: those into each wire, and the wires of each bit.
-ghost use Rattle.std.specs.Prelude.{◌≡◌, ◌<◌, IfOk};
-ghost use Rattle.ice_bits_rows.specs.Bundles.{groups_into};
-ghost use Rattle.ice_bits_rows.specs.Lists.{views};
-ghost use Rattle.ice_bits_rows.specs.Index.{IsIndexOf};
+ghost use Rattle.std.specs.Prelude.{◌≡◌, ◌<◌, [], replicate, IfOk};
+ghost use Rattle.ice_bits_rows.specs.Bundles.{groups_into, is_of_other};
+ghost use Rattle.ice_bits_rows.specs.Lists.{views, lists_of, listed};
+ghost use Rattle.ice_bits_rows.specs.Owners.{AreOwners};
 
 use crate::lists::groups_by_wire;
-use crate::owners::{Owner, owners_of};
+use crate::owners::{Owner, is_other, owners_of};
 use ice_base::{BitAt, NoMemory, TileAt, WireNo};
 use ice_chip::{Chip, Group};
 use std::alloc::Global;
 use std::collections::HashMap;
 
-/// The groups into each wire, and the wires whose groups have each bit of a tile.
+/// A chip whose groups are found at once by the wire into which they lead, and the wires by the bits of their groups.
 #[derive(Drop)]
 pub struct Index<'a> {
-    /// The groups into each wire, in order.
-    pub into: Vec<Vec<&'a Group>>,
-    /// The wires of each bit.
-    pub owners: HashMap<(TileAt, BitAt), Owner>,
+    /// The chip.
+    pub chip: &'a Chip,
+    // The groups into each wire, in order.
+    into: Vec<Vec<&'a Group>>,
+    // The wires of each bit.
+    owners: HashMap<(TileAt, BitAt), Owner>,
+    ghost are_listed: { lists_of into.items ≡ listed (replicate chip.now.wires []) chip.now.groups },
+    ghost are_owners: { AreOwners chip.now.groups owners },
 }
 
-/// The index of a chip's groups.
-pub fn index_of<'a>(alloc: Global, chip: &'a Chip) -> Result<Index<'a>, NoMemory>
-    ensures { IfOk result (λ index. IsIndexOf chip.now index) }
-{
-    let wires = chip.wires();
-    let groups = chip.groups();
-    Ok(Index {
-        into: groups_by_wire(alloc, groups, wires)?,
-        owners: owners_of(alloc, groups)?,
-    })
-}
-
-// The list of the groups into a wire. The wire is one of the chip.
-#[tactic(auto, using(crate::proofs::Listing::list_within, crate::proofs::Listing::groups_found))]
-fn list_of<'a, 'b>(chip: &Chip, index: &'b Index<'a>, wire: WireNo) -> &'b [&'a Group]
-    requires index { IsIndexOf chip.now index.now }
-    requires wire { wire.0 < chip.now.wires }
-    ensures { views result.now ≡ groups_into chip.now.groups wire.0 }
-{
-    &index.into[wire.0 as usize]
-}
-
-/// The groups into a wire, in order.
-pub fn groups_into<'a, 'b>(chip: &Chip, index: &'b Index<'a>, wire: WireNo) -> &'b [&'a Group]
-    requires { IsIndexOf chip.now index.now }
-    ensures { views result.now ≡ groups_into chip.now.groups wire.0 }
-{
-    if wire.0 >= chip.wires() {
-        return &[];
+impl<'a> Index<'a> {
+    /// The index of a chip's groups.
+    ///
+    /// # Errors
+    /// Want of memory alone.
+    pub fn new(alloc: Global, chip: &'a Chip) -> Result<Index<'a>, NoMemory>
+        ensures { IfOk result (λ index. index.chip.now ≡ chip.now) }
+    {
+        let wires = chip.wires();
+        let groups = chip.groups();
+        let into = groups_by_wire(alloc, groups, wires)?;
+        let owners = owners_of(alloc, groups)?;
+        Ok(Index { chip, into, owners })
     }
-    list_of(chip, index, wire)
+
+    // The list of the groups into a wire. The wire is one of the chip.
+    #[tactic(auto, using(crate::proofs::Listing::list_within, crate::proofs::Listing::groups_found))]
+    fn list_of<'b>(&'b self, wire: WireNo) -> &'b [&'a Group]
+        requires { wire.0 < self.now.chip.now.wires }
+        ensures { views result.now ≡ groups_into self.now.chip.now.groups wire.0 }
+    {
+        &self.into[wire.0 as usize]
+    }
+
+    /// The groups into a wire, in order.
+    pub fn groups_into<'b>(&'b self, wire: WireNo) -> &'b [&'a Group]
+        ensures { views result.now ≡ groups_into self.now.chip.now.groups wire.0 }
+    {
+        if wire.0 >= self.chip.wires() {
+            return &[];
+        }
+        self.list_of(wire)
+    }
+
+    /// Whether a group of the tile into another wire has the bit.
+    pub fn is_of_other(&self, tile: TileAt, wire: WireNo, bit: BitAt) -> bool
+        ensures { result ≡ is_of_other self.now.chip.now.groups tile wire.0 bit }
+    {
+        is_other(self.owners.get(&(tile, bit)), wire)
+    }
 }

@@ -12,10 +12,10 @@ mod owners;
 mod plain;
 mod rows;
 mod sound;
-mod sources;
+mod uses;
 
 pub use first::{first_sound, is_joined};
-pub use index::{Index, index_of};
+pub use index::Index;
 pub use plain::is_plain;
 pub use sound::{is_open, is_sound, is_taken, is_usable};
-pub use sources::sources_of;
+pub use uses::{WireUse, uses_of};

@@ -68,8 +68,8 @@ pub fn has_memory_name(chip: &Chip, wire: WireNo) -> bool
     false
 }
 
-// Whether the wire has a name that closes it to routes.
-fn has_closed_name(chip: &Chip, wire: WireNo) -> bool
+/// Whether the wire has a name that closes it to routes.
+pub fn has_closed_name(chip: &Chip, wire: WireNo) -> bool
     requires { wire.0 < chip.now.wires }
     ensures { result ≡ has_closed_name chip.now wire.0 }
 {
@@ -81,8 +81,8 @@ fn has_closed_name(chip: &Chip, wire: WireNo) -> bool
     false
 }
 
-// Whether the wire has an input name.
-fn has_input_name(chip: &Chip, wire: WireNo) -> bool
+/// Whether the wire has an input name.
+pub fn has_input_name(chip: &Chip, wire: WireNo) -> bool
     requires { wire.0 < chip.now.wires }
     ensures { result ≡ has_input_name chip.now wire.0 }
 {
@@ -94,8 +94,8 @@ fn has_input_name(chip: &Chip, wire: WireNo) -> bool
     false
 }
 
-// Whether the wire has an output name.
-fn has_output_name(chip: &Chip, wire: WireNo) -> bool
+/// Whether the wire has an output name.
+pub fn has_output_name(chip: &Chip, wire: WireNo) -> bool
     requires { wire.0 < chip.now.wires }
     ensures { result ≡ has_output_name chip.now wire.0 }
 {

@@ -2,14 +2,13 @@
 ghost use Rattle.std.specs.Prelude.{◌≡◌, [], map, true, false};
 ghost use Rattle.std.specs.List.{Contains};
 ghost use Rattle.ice_chip.specs.Views.{row_view, group_view};
-ghost use Rattle.ice_bits_rows.specs.Index.{IsIndexOf};
 ghost use Rattle.ice_bits_rows.specs.Lists.{views};
 ghost use Rattle.ice_bits_rows.specs.Plain.{is_above, do_rise, is_meeting, meets_one, is_plain, AreAlone};
 
 use crate::bundle::has_bit;
-use crate::index::{Index, groups_into};
+use crate::index::Index;
 use crate::rows::{are_rising, has_one};
-use ice_chip::{Chip, Group, Row};
+use ice_chip::{Group, Row};
 
 // Whether values stand above others: where they first differ, theirs is 1. Values that are missing are 0.
 #[tactic(auto, using(crate::proofs::Ascent::above_next, crate::proofs::Ascent::above_end))]
@@ -71,22 +70,20 @@ fn meets_one(groups: &[&Group], group: &Group) -> bool
 }
 
 // Whether the bits of a group and the values of its rows rise, and no other group of its bundle has a bit of it.
-fn looks_plain(chip: &Chip, index: &Index, group: &Group) -> bool
-    requires { IsIndexOf chip.now index.now }
-    ensures { result ≡ is_plain chip.now.groups (group_view group.now) }
+fn looks_plain(index: &Index, group: &Group) -> bool
+    ensures { result ≡ is_plain index.now.chip.now.groups (group_view group.now) }
 {
     are_rising(&group.bits)
         && do_rise(&group.rows, group.bits.len())
-        && meets_one(groups_into(chip, index, group.wire), group)
+        && meets_one(index.groups_into(group.wire), group)
 }
 
 /// Whether each row of a group of the chip is plainly the one row of its bundle that is on under its values: the group's
 /// bits and the values of its rows rise, and no other group of the bundle has a bit of it. Rows may be alone also where
 /// this is false.
-pub fn is_plain(chip: &Chip, index: &Index, group: &Group) -> bool
-    requires index { IsIndexOf chip.now index.now }
-    requires member { Contains chip.now.groups (group_view group.now) }
-    ensures { result ≡ true → AreAlone chip.now.groups (group_view group.now) }
+pub fn is_plain(index: &Index, group: &Group) -> bool
+    requires member { Contains index.now.chip.now.groups (group_view group.now) }
+    ensures { result ≡ true → AreAlone index.now.chip.now.groups (group_view group.now) }
 {
-    looks_plain(chip, index, group)
+    looks_plain(index, group)
 }

@@ -1,6 +1,6 @@
 -- What taking cells apart keeps, and where a hidden signal is one too many.
 use Rattle.std.proofs.Common.{◌≡◌, ℕ, ◌+◌, ◌*◌, ◌<◌, ◌≤◌, ◌==◌, Bool, true, false, List, [], ◌∷◌, ◌++◌, length, length-append, nat_lt, Option, Some, None, Result, Ok, Err, if◌then◌else◌, codes, refl, sym, ap, subst, ◌∙◌, arith, rules, tests, append-nil}
-use Rattle.ice_base.specs.Names.{with_name}
+use Rattle.ice_base.specs.Lists.{with_name}
 use Rattle.ice_net.specs.declared.cell.Cell.{Cell}
 use Rattle.ice_net.specs.declared.kind.CellKind.{CellKind}
 use Rattle.ice_net.specs.declared.kind.CellKind.TheVariants.{Lut, Cover, Carry, Flop, PadCell, Global}
@@ -11,7 +11,7 @@ use Rattle.ice_blif.specs.declared.fault.BlifFault.TheVariants.{TooMany}
 use Rattle.ice_blif.specs.Cells.{◌>>=◌, own_cell, with_cell}
 use Rattle.ice_blif.specs.FirstFault.{IsOneTooMany}
 use Rattle.ice_blif.specs.Registers.{hidden_name, input_pad, input_register, output_pad, output_register, buffer_of, with_input, with_output, with_pad, with_cells_of, with_buffer, with_apart, all_apart, few_signals, apart_says}
-use Rattle.ice_blif.specs.Signals.{named, signal_of}
+use Rattle.ice_blif.specs.State.{named, signal_of}
 use Rattle.ice_blif.proofs.Kept.{bound}
 
 -- ---- names

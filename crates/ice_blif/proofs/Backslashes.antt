@@ -30,7 +30,7 @@ found_at (b ∷ line) zero lt blanks at =
     ap (in_front_of b (list_all is_blank line)) (all_blank line blanks) ∙ rw (is, blanks) refl
 found_at (b ∷ line) (suc i) lt blanks at = ap (in_front_of b (list_all is_blank line)) (found_at line i (omega arith) blanks at)
 
-no_front : (t : Bool) → (let front : Option (List ℕ) = if t && false then Some [] else None in front) ≡ None
+pub no_front : (t : Bool) → (let front : Option (List ℕ) = if t && false then Some [] else None in front) ≡ None
 no_front true = refl
 no_front false = refl
 

@@ -2,7 +2,7 @@
 use Rattle.std.proofs.Common.{◌≡◌, ℕ, false, List, [], ◌∷◌, refl, ap}
 use Rattle.std.specs.List.{list_any}
 use Rattle.std.proofs.lemmas.Bool.{or_parts}
-use Rattle.ice_base.specs.Comments.{begins_with, uncommented}
+use Rattle.ice_base.specs.Text.{begins_with, uncommented}
 
 -- words none of which begins a comment
 pub no_comment : (ws : List (List ℕ)) → list_any (begins_with 35) ws ≡ false → uncommented ws ≡ ws

@@ -6,7 +6,7 @@ use Rattle.ice_net.specs.NetlistData.{NetlistData}
 use Rattle.ice_blif.specs.declared.fault.BlifFault.{BlifFault}
 use Rattle.ice_blif.specs.declared.fault.BlifFault.TheVariants.{NoModel, SecondModel, NoEnd}
 use Rattle.ice_blif.specs.JoinedLines.{FilledLine, joined, filled, last_number}
-use Rattle.ice_blif.specs.State.{State}
+use Rattle.ice_blif.specs.State.{NetReading}
 use Rattle.ice_blif.specs.Cells.{◌>>=◌, finished}
 use Rattle.ice_blif.specs.Grammar.{within_limits, line_says, after_end, ended, model_says, empty_reader, lines_say, text_says, netlist_of, HasNetlist, IsWithinLimits}
 use Rattle.ice_blif.specs.Registers.{taken_apart_says, without_cells}
@@ -52,39 +52,39 @@ second_says : (ls : List FilledLine) (f : BlifFault) → IsSecondModel ls f → 
 second_says ls f h = ap after_end h.stands ∙ after_between h.between h.line h.behind h.first h.model ∙ ap (λ e. Err e) (sym h.told)
 
 -- ---- the lines of a model
-ended_told : (r : State) (ls : List FilledLine) (f : BlifFault) (x : Result (Unit {0}) BlifFault) → after_end ls ≡ x → (x >>= (λ u. Ok (finished r.netlist r.last))) ≡ Err f → after_end ls ≡ Err f
+ended_told : (r : NetReading) (ls : List FilledLine) (f : BlifFault) (x : Result (Unit {0}) BlifFault) → after_end ls ≡ x → (x >>= (λ u. Ok (finished r.netlist r.last))) ≡ Err f → after_end ls ≡ Err f
 ended_told r ls f (Ok u) is e = absurd (cc)
 ended_told r ls f (Err g) is e = is ∙ ap (λ h. Err h) (same_fault {A = NetlistData} g f e)
 
-later : (last : ℕ) (r s : State) (l : FilledLine) (ls : List FilledLine) (f : BlifFault) → is_end l ≡ false → line_says within_limits l r ≡ Ok s → IsModelFault last s ls f → IsModelFault last r (l ∷ ls) f
+later : (last : ℕ) (r s : NetReading) (l : FilledLine) (ls : List FilledLine) (f : BlifFault) → is_end l ≡ false → line_says within_limits l r ≡ Ok s → IsModelFault last s ls f → IsModelFault last r (l ∷ ls) f
 later last r s l ls f n said (in_line before line behind t at leads ne e) = in_line (l ∷ before) line behind t (ap (λ xs. l ∷ xs) at) (n, s, said, leads) ne e
 later last r s l ls f n said (no_end t leads e) = no_end t (n, s, said, leads) e
 later last r s l ls f n said (behind_end before end behind t at leads ends second) = behind_end (l ∷ before) end behind t (ap (λ xs. l ∷ xs) at) (n, s, said, leads) ends second
 
-line_told : (last : ℕ) (r : State) (l : FilledLine) (ls : List FilledLine) (f : BlifFault) (x : Result State BlifFault) → is_end l ≡ false → line_says within_limits l r ≡ x
-    → ((s : State) → model_says within_limits last s ls ≡ Err f → IsModelFault last s ls f)
+line_told : (last : ℕ) (r : NetReading) (l : FilledLine) (ls : List FilledLine) (f : BlifFault) (x : Result NetReading BlifFault) → is_end l ≡ false → line_says within_limits l r ≡ x
+    → ((s : NetReading) → model_says within_limits last s ls ≡ Err f → IsModelFault last s ls f)
     → (x >>= (λ s. model_says within_limits last s ls)) ≡ Err f → IsModelFault last r (l ∷ ls) f
 line_told last r l ls f (Ok s) n is rest e = later last r s l ls f n is (rest s e)
 line_told last r l ls f (Err g) n is rest e = in_line [] l ls r refl refl n (is ∙ ap (λ h. Err h) (same_fault {A = NetlistData} g f e))
 
-model_told_by : (last : ℕ) (r : State) (l : FilledLine) (ls : List FilledLine) (f : BlifFault) (b : Bool) → is_end l ≡ b
-    → ((s : State) → model_says within_limits last s ls ≡ Err f → IsModelFault last s ls f)
+model_told_by : (last : ℕ) (r : NetReading) (l : FilledLine) (ls : List FilledLine) (f : BlifFault) (b : Bool) → is_end l ≡ b
+    → ((s : NetReading) → model_says within_limits last s ls ≡ Err f → IsModelFault last s ls f)
     → (if b then ended r ls else line_says within_limits l r >>= (λ s. model_says within_limits last s ls)) ≡ Err f → IsModelFault last r (l ∷ ls) f
 model_told_by last r l ls f true is rest e = behind_end [] l ls r refl refl is (second_told ls f (ended_told r ls f (after_end ls) refl e))
 model_told_by last r l ls f false is rest e = line_told last r l ls f (line_says within_limits l r) is refl rest e
 
-model_told : (last : ℕ) (r : State) (ls : List FilledLine) (f : BlifFault) → model_says within_limits last r ls ≡ Err f → IsModelFault last r ls f
+model_told : (last : ℕ) (r : NetReading) (ls : List FilledLine) (f : BlifFault) → model_says within_limits last r ls ≡ Err f → IsModelFault last r ls f
 model_told last r [] f e = no_end r refl (sym (same_fault {A = NetlistData} (NoEnd last) f e))
 model_told last r (l ∷ ls) f e = model_told_by last r l ls f (is_end l) refl (λ s h. model_told last s ls f h) e
 
 -- lines that lead to a state are read, and then the lines behind them
-led : (last : ℕ) (before : List FilledLine) (r s : State) (rest : List FilledLine) → LeadsTo r before s → model_says within_limits last r (before ++ rest) ≡ model_says within_limits last s rest
+led : (last : ℕ) (before : List FilledLine) (r s : NetReading) (rest : List FilledLine) → LeadsTo r before s → model_says within_limits last r (before ++ rest) ≡ model_says within_limits last s rest
 led last [] r s rest h = ap (λ t. model_says within_limits last t rest) h
 led last (l ∷ before) r s rest h =
     ap (λ b. if b then ended r (before ++ rest) else line_says within_limits l r >>= (λ t. model_says within_limits last t (before ++ rest))) h.0
     ∙ ap (λ x. x >>= (λ t. model_says within_limits last t (before ++ rest))) h.2 ∙ led last before h.1 s rest h.3
 
-model_faulty : (last : ℕ) (r : State) (ls : List FilledLine) (f : BlifFault) → IsModelFault last r ls f → model_says within_limits last r ls ≡ Err f
+model_faulty : (last : ℕ) (r : NetReading) (ls : List FilledLine) (f : BlifFault) → IsModelFault last r ls f → model_says within_limits last r ls ≡ Err f
 model_faulty last r ls f (in_line before line behind s at leads n e) =
     ap (model_says within_limits last r) at ∙ led last before r s (line ∷ behind) leads
     ∙ ap (λ b. if b then ended s behind else line_says within_limits line s >>= (λ t. model_says within_limits last t behind)) n

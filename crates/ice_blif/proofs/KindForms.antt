@@ -7,7 +7,7 @@ use Rattle.ice_net.specs.declared.kind.CellKind.{CellKind}
 use Rattle.ice_net.specs.Formed.{IsBelow, IsFormedKind}
 use Rattle.ice_net.specs.Kinds.{outs_count}
 use Rattle.ice_blif.specs.Cells.{with_kind, IsReadCell}
-use Rattle.ice_blif.specs.Parameters.{KeepsForm}
+use Rattle.ice_blif.specs.Gates.{KeepsForm}
 
 -- a cell with another parameter is as well formed
 pub with_kind_formed : (cell : Cell) (kind : CellKind) → KeepsForm cell.kind kind → (signals : ℕ) → IsReadCell signals cell → IsReadCell signals (with_kind cell kind)

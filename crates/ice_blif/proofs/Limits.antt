@@ -3,30 +3,30 @@ use Rattle.std.proofs.Common.{◌≡◌, ℕ, ◌+◌, Bool, true, false, List, 
 use Rattle.ice_net.specs.NetlistData.{NetlistData}
 use Rattle.ice_blif.specs.declared.fault.BlifFault.{BlifFault}
 use Rattle.ice_blif.specs.declared.fault.BlifFault.TheVariants.{TooMany, NoModel}
-use Rattle.ice_blif.specs.State.{State}
+use Rattle.ice_blif.specs.State.{NetReading}
 use Rattle.ice_base.specs.Text.{lines, numbered}
 use Rattle.ice_blif.specs.JoinedLines.{FilledLine, joined, filled, last_number}
 use Rattle.ice_blif.specs.Cells.{◌>>=◌, count_of}
 use Rattle.ice_blif.specs.Grammar.{within_limits, no_limits, line_says, model_says, lines_say, text_says, ended, empty_reader}
 use Rattle.ice_blif.proofs.Kept.{bound}
 
-within_by : (line : ℕ) (r s : State) (b c : Bool)
-    → (let said : Result State BlifFault = if b then Err (TooMany line 65534) else (if c then Err (TooMany line 1048576) else Ok r) in said) ≡ Ok s → r ≡ s
+within_by : (line : ℕ) (r s : NetReading) (b c : Bool)
+    → (let said : Result NetReading BlifFault = if b then Err (TooMany line 65534) else (if c then Err (TooMany line 1048576) else Ok r) in said) ≡ Ok s → r ≡ s
 within_by line r s true c h = absurd (cc)
 within_by line r s false true h = absurd (cc)
 within_by line r s false false h = cc
 
-within_same : (line : ℕ) (r s : State) → within_limits line r ≡ Ok s → r ≡ s
+within_same : (line : ℕ) (r s : NetReading) → within_limits line r ≡ Ok s → r ≡ s
 within_same line r s h = within_by line r s (nat_lt 65534 (length r.netlist.names)) (nat_lt 1048576 (length r.netlist.cells + count_of r.last)) h
 
 -- a line within the limits says the same without them
-line_has : (l : FilledLine) (r s : State) → line_says within_limits l r ≡ Ok s → line_says no_limits l r ≡ Ok s
+line_has : (l : FilledLine) (r s : NetReading) → line_says within_limits l r ≡ Ok s → line_says no_limits l r ≡ Ok s
 line_has l r s h =
     let parts = bound _ (within_limits l.number) s h in
     ap (λ x. x >>= no_limits l.number) parts.made ∙ ap Ok (within_same l.number parts.value s parts.goes_on)
 
-model_step : (last : ℕ) (l : FilledLine) (ls : List FilledLine) (r : State) (n : NetlistData) (b : Bool)
-    → ((s : State) → model_says within_limits last s ls ≡ Ok n → model_says no_limits last s ls ≡ Ok n)
+model_step : (last : ℕ) (l : FilledLine) (ls : List FilledLine) (r : NetReading) (n : NetlistData) (b : Bool)
+    → ((s : NetReading) → model_says within_limits last s ls ≡ Ok n → model_says no_limits last s ls ≡ Ok n)
     → (if b then ended r ls else line_says within_limits l r >>= (λ s. model_says within_limits last s ls)) ≡ Ok n
     → (if b then ended r ls else line_says no_limits l r >>= (λ s. model_says no_limits last s ls)) ≡ Ok n
 model_step last l ls r n true rest h = h
@@ -34,7 +34,7 @@ model_step last l ls r n false rest h =
     let parts = bound (line_says within_limits l r) (λ s. model_says within_limits last s ls) n h in
     ap (λ x. x >>= (λ s. model_says no_limits last s ls)) (line_has l r parts.value parts.made) ∙ rest parts.value parts.goes_on
 
-model_has : (last : ℕ) (ls : List FilledLine) (r : State) (n : NetlistData) → model_says within_limits last r ls ≡ Ok n → model_says no_limits last r ls ≡ Ok n
+model_has : (last : ℕ) (ls : List FilledLine) (r : NetReading) (n : NetlistData) → model_says within_limits last r ls ≡ Ok n → model_says no_limits last r ls ≡ Ok n
 model_has last [] r n h = absurd (cc)
 model_has last (l ∷ ls) r n h = model_step last l ls r n (bytes_eq l.first (codes ".end")) (λ s. model_has last ls s n) h
 

@@ -6,7 +6,7 @@ use Rattle.std.proofs.Math.Nat.{mod-lt}
 use Rattle.std.proofs.lemmas.List.Elements.{All-weaker}
 use Rattle.ice_base.specs.declared.number.SignalNo.{SignalNo}
 use Rattle.ice_net.specs.Formed.{IsBelow, IsPresent, IsFormedCell}
-use Rattle.ice_blif.specs.State.{OpenCover, LastCell, State, Nothing, Gate, Rows}
+use Rattle.ice_blif.specs.State.{OpenCover, LastCell, NetReading, Nothing, Gate, Rows}
 use Rattle.ice_blif.specs.Covers.{table_of}
 use Rattle.ice_net.specs.NetlistData.{NetlistData}
 use Rattle.ice_blif.specs.Cells.{cover_cell, finished, IsOpenCover, IsReadCell, IsFormedLast, IsReady, IsWithin, IsRawWithin, count_of}
@@ -84,7 +84,7 @@ finished_count n (Gate cell) = length-append n.cells (cell ∷ [])
 finished_count n (Rows cover) = length-append n.cells (cover_cell cover ∷ [])
 
 -- the netlist with the last cell is within the limits
-pub finished_within : (r : State) → IsWithin r → IsRawWithin (finished r.netlist r.last)
+pub finished_within : (r : NetReading) → IsWithin r → IsRawWithin (finished r.netlist r.last)
 finished_within r h = record {
   signals = rw (finished_names r.netlist r.last) h.signals;
   cells = omega (arith, finished_count r.netlist r.last, h.cells);

@@ -3,15 +3,15 @@ use Rattle.std.specs.Prelude.{◌≡◌, ℕ, ◌+◌, ◌^◌, ◌≤◌, Bool,
 use Rattle.ice_net.specs.declared.cell.Cell.{Cell}
 use Rattle.ice_net.specs.declared.kind.CellKind as kinds
 use Rattle.ice_net.specs.declared.kind.CellKind.{CellKind}
-use Rattle.ice_net.specs.declared.kind.CellKind.TheVariants.{Lut, Carry, Flop, PadCell, Global}
+use Rattle.ice_net.specs.declared.kind.CellKind.TheVariants.{Lut, PadCell}
 use Rattle.ice_net.specs.NetlistData.{NetlistData}
 use Rattle.ice_net.specs.Formed.{IsBelow, IsFormedCell, IsPresent}
 use Rattle.ice_net.specs.Kinds.{outs_count}
 use Rattle.ice_blif.specs.declared.fault.BlifFault.{BlifFault}
 use Rattle.ice_blif.specs.declared.fault.BlifFault.TheVariants.{BadCover}
-use Rattle.ice_blif.specs.State.{OpenCover, LastCell, State, Nothing, Gate, Rows}
-use Rattle.ice_blif.specs.Covers.{row_table, is_row, level_of, agrees, table_of}
-use Rattle.ice_blif.specs.Parameters.{bits_say, standard_says}
+use Rattle.ice_blif.specs.State.{OpenCover, LastCell, NetReading, Nothing, Gate, Rows}
+use Rattle.ice_blif.specs.Covers.{row_table, is_row, level_of_word, agrees, table_of}
+use Rattle.ice_blif.specs.Gates.{bits_say, standard_says}
 
 infixl 10 ◌>>=◌
 -- a value goes on, and the first fault stays
@@ -25,29 +25,28 @@ level_alone level [] = Some ([], level)
 level_alone level (w ∷ ws) = None
 
 abbrev pub row_and_level : List ℕ → List (List ℕ) → Option (List ℕ × List ℕ)
-row_and_level row [] = None
 row_and_level row (level ∷ []) = Some (row, level)
-row_and_level row (level ∷ w ∷ ws) = None
+row_and_level row ws = None
 
 -- the words of a row for so many inputs: its digits for the inputs, and its level. Without inputs it is the level alone
 abbrev pub row_parts : ℕ → List ℕ → List (List ℕ) → Option (List ℕ × List ℕ)
 row_parts width first others = if width == 0 then level_alone first others else row_and_level first others
 
 -- a cover with one row more
-abbrev pub with_row : OpenCover → List ℕ → Bool → OpenCover
-with_row c row level = record { line = c.line; ins = c.ins; outs = c.outs; covered = bit_or c.covered (row_table row); level = Some level }
+abbrev pub with_cover_row : OpenCover → List ℕ → Bool → OpenCover
+with_cover_row c row level = record { line = c.line; ins = c.ins; outs = c.outs; covered = bit_or c.covered (row_table row); level = Some level }
 
 abbrev pub row_of_level : ℕ → OpenCover → List ℕ → Option Bool → Result OpenCover BlifFault
 row_of_level line c row None = Err (BadCover line)
-row_of_level line c row (Some level) = if agrees c.level level then Ok (with_row c row level) else Err (BadCover line)
+row_of_level line c row (Some level) = if agrees c.level level then Ok (with_cover_row c row level) else Err (BadCover line)
 
-abbrev pub row_of : ℕ → OpenCover → Option (List ℕ × List ℕ) → Result OpenCover BlifFault
-row_of line c None = Err (BadCover line)
-row_of line c (Some parts) = if is_row (length c.ins) parts.0 then row_of_level line c parts.0 (level_of parts.1) else Err (BadCover line)
+abbrev pub cover_row_of : ℕ → OpenCover → Option (List ℕ × List ℕ) → Result OpenCover BlifFault
+cover_row_of line c None = Err (BadCover line)
+cover_row_of line c (Some parts) = if is_row (length c.ins) parts.0 then row_of_level line c parts.0 (level_of_word parts.1) else Err (BadCover line)
 
 -- the cover with the row of a line's words
-abbrev pub row_says : ℕ → OpenCover → List ℕ → List (List ℕ) → Result OpenCover BlifFault
-row_says line c first others = row_of line c (row_parts (length c.ins) first others)
+abbrev pub cover_row_says : ℕ → OpenCover → List ℕ → List (List ℕ) → Result OpenCover BlifFault
+cover_row_says line c first others = cover_row_of line c (row_parts (length c.ins) first others)
 
 -- the cell of a cover with all its rows
 abbrev pub cover_cell : OpenCover → Cell
@@ -68,11 +67,8 @@ pad_says line pin_type pullup name values =
 
 abbrev pub kind_says : ℕ → CellKind → List ℕ → List (List ℕ) → Result CellKind BlifFault
 kind_says line (Lut table) name values = lut_says line table name values
-kind_says line (kinds.TheVariants.Cover table width) name values = Ok (kinds.TheVariants.Cover table width)
-kind_says line Carry name values = Ok Carry
-kind_says line (Flop falling enable reset) name values = Ok (Flop falling enable reset)
 kind_says line (PadCell pin_type pullup) name values = pad_says line pin_type pullup name values
-kind_says line Global name values = Ok Global
+kind_says line kind name values = Ok kind
 
 abbrev pub with_kind : Cell → CellKind → Cell
 with_kind cell kind = record { kind = kind; line = cell.line; ins = cell.ins; outs = cell.outs }
@@ -80,9 +76,8 @@ with_kind cell kind = record { kind = kind; line = cell.line; ins = cell.ins; ou
 -- the cell made last with the parameter of a line; parameters of covers, and before any cell, are read over
 abbrev pub param_says : ℕ → LastCell → List (List ℕ) → Result LastCell BlifFault
 param_says line last [] = Ok last
-param_says line Nothing (name ∷ values) = Ok Nothing
 param_says line (Gate cell) (name ∷ values) = kind_says line cell.kind name values >>= (λ kind. Ok (Gate (with_kind cell kind)))
-param_says line (Rows cover) (name ∷ values) = Ok (Rows cover)
+param_says line last (name ∷ values) = Ok last
 
 -- ---- the cell made last joins the others
 abbrev pub with_cell : NetlistData → Cell → NetlistData
@@ -96,8 +91,7 @@ finished n (Rows cover) = with_cell n (cover_cell cover)
 -- how many cells the last is
 abbrev pub count_of : LastCell → ℕ
 count_of Nothing = 0
-count_of (Gate cell) = 1
-count_of (Rows cover) = 1
+count_of last = 1
 
 -- a cover over so many signals
 pub record IsOpenCover (signals : ℕ) (c : OpenCover) : Type 0 where
@@ -129,7 +123,7 @@ IsFormedLast signals (Gate cell) = IsReadCell signals cell
 IsFormedLast signals (Rows cover) = IsOpenCover signals cover
 
 -- at most 65,534 signals, and 1,048,576 lines that make a cell with that of the last
-pub record IsWithin (r : State) : Type 0 where
+pub record IsWithin (r : NetReading) : Type 0 where
   pub signals : length r.netlist.names ≤ 65534
   pub cells : length r.netlist.cells + count_of r.last ≤ 1048576
 
@@ -139,7 +133,7 @@ pub record IsRawWithin (n : NetlistData) : Type 0 where
   pub cells : length n.cells ≤ 1048576
 
 -- what a reader keeps: at most so many cells before the last, which is well formed
-pub record IsReady (most : ℕ) (r : State) : Type 0 where
+pub record IsReady (most : ℕ) (r : NetReading) : Type 0 where
   pub few : length r.netlist.cells ≤ most
   pub formed : IsFormedLast (length r.netlist.names) r.last
 

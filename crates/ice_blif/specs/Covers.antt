@@ -29,8 +29,8 @@ abbrev pub is_row : ℕ → List ℕ → Bool
 is_row width row = length row == width && list_all is_row_digit row
 
 -- the level that a row gives
-abbrev pub level_of : List ℕ → Option Bool
-level_of word = if bytes_eq word (codes "0") then Some false else (if bytes_eq word (codes "1") then Some true else None)
+abbrev pub level_of_word : List ℕ → Option Bool
+level_of_word word = if bytes_eq word (codes "0") then Some false else (if bytes_eq word (codes "1") then Some true else None)
 
 -- rows of a cover give one level
 abbrev pub agrees : Option Bool → Bool → Bool

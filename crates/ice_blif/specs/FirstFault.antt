@@ -7,7 +7,7 @@ use Rattle.ice_net.specs.NetlistData.{NetlistData}
 use Rattle.ice_blif.specs.declared.fault.BlifFault.{BlifFault}
 use Rattle.ice_blif.specs.declared.fault.BlifFault.TheVariants.{NoModel, SecondModel, NoEnd, TooMany}
 use Rattle.ice_blif.specs.JoinedLines.{FilledLine, joined, filled, last_number}
-use Rattle.ice_blif.specs.State.{State}
+use Rattle.ice_blif.specs.State.{NetReading}
 use Rattle.ice_blif.specs.Grammar.{within_limits, line_says, empty_reader, text_says}
 use Rattle.ice_blif.specs.Registers.{with_apart, all_apart, without_cells}
 
@@ -20,9 +20,9 @@ abbrev pub is_end : FilledLine → Bool
 is_end l = bytes_eq l.first (codes ".end")
 
 -- lines of a model, none of which is `.end` or has a fault, lead from one state to another
-abbrev pub LeadsTo : State → List FilledLine → State → Type 0
+abbrev pub LeadsTo : NetReading → List FilledLine → NetReading → Type 0
 LeadsTo r [] s = r ≡ s
-LeadsTo r (l ∷ ls) s = (is_end l ≡ false) × (t : State) × (line_says within_limits l r ≡ Ok t) × LeadsTo t ls s
+LeadsTo r (l ∷ ls) s = (is_end l ≡ false) × (t : NetReading) × (line_says within_limits l r ≡ Ok t) × LeadsTo t ls s
 
 -- the fault of the first of these lines that is `.model`
 pub record IsSecondModel (ls : List FilledLine) (fault : BlifFault) : Type 0 where
@@ -35,13 +35,13 @@ pub record IsSecondModel (ls : List FilledLine) (fault : BlifFault) : Type 0 whe
   pub told : fault ≡ SecondModel line.number
 
 -- The first fault of the lines behind `.model`, from a state on, in a text whose last line has the number `last`.
-pub data IsModelFault (last : ℕ) (r : State) (ls : List FilledLine) (fault : BlifFault) : Type 0 where
+pub data IsModelFault (last : ℕ) (r : NetReading) (ls : List FilledLine) (fault : BlifFault) : Type 0 where
   -- a line has it, and no line before it has one or is `.end`
-  in_line : (before : List FilledLine) (line : FilledLine) (behind : List FilledLine) (s : State) → ls ≡ before ++ line ∷ behind → LeadsTo r before s → is_end line ≡ false → line_says within_limits line s ≡ Err fault → IsModelFault last r ls fault
+  in_line : (before : List FilledLine) (line : FilledLine) (behind : List FilledLine) (s : NetReading) → ls ≡ before ++ line ∷ behind → LeadsTo r before s → is_end line ≡ false → line_says within_limits line s ≡ Err fault → IsModelFault last r ls fault
   -- no line has one, and none is `.end`
-  no_end : (s : State) → LeadsTo r ls s → fault ≡ NoEnd last → IsModelFault last r ls fault
+  no_end : (s : NetReading) → LeadsTo r ls s → fault ≡ NoEnd last → IsModelFault last r ls fault
   -- no line up to `.end` has one, and behind it stands a second `.model`
-  behind_end : (before : List FilledLine) (end : FilledLine) (behind : List FilledLine) (s : State) → ls ≡ before ++ end ∷ behind → LeadsTo r before s → is_end end ≡ true → IsSecondModel behind fault → IsModelFault last r ls fault
+  behind_end : (before : List FilledLine) (end : FilledLine) (behind : List FilledLine) (s : NetReading) → ls ≡ before ++ end ∷ behind → LeadsTo r before s → is_end end ≡ true → IsSecondModel behind fault → IsModelFault last r ls fault
 
 -- The first fault of the lines of a text whose joined lines with words are these, and whose last line has the number `last`.
 pub data IsFirstFault (last : ℕ) (ls : List FilledLine) (fault : BlifFault) : Type 0 where

@@ -1,35 +1,29 @@
 -- The netlist of a text, or the first fault in it.
 use Rattle.std.specs.Prelude.{◌≡◌, ◌≤◌, ℕ, ◌+◌, ◌-◌, Bool, true, false, ◌||◌, ◌==◌, List, [], ◌∷◌, ◌++◌, length, take, drop, position, nat_le, nat_lt, slice_set, slice_index_or, Option, Some, None, Result, Ok, Err, if◌then◌else◌, codes, bytes_eq}
-use Rattle.ice_base.specs.Text.{lines, numbered}
-use Rattle.ice_base.specs.Comments.{begins_with}
-use Rattle.ice_base.specs.Names.{with_name, number_of_name}
+use Rattle.ice_base.specs.Text.{lines, numbered, begins_with}
+use Rattle.ice_base.specs.Lists.{with_name, number_of_name}
 use Rattle.ice_base.specs.declared.number.SignalNo.{SignalNo}
 use Rattle.ice_net.specs.declared.cell.Cell.{Cell}
 use Rattle.ice_net.specs.declared.port.Way.{Way}
-use Rattle.ice_net.specs.declared.port.Way.TheVariants.{Input, Output, Both}
+use Rattle.ice_net.specs.declared.port.Way.TheVariants.{Input, Output}
 use Rattle.ice_net.specs.Kinds.{ins_count}
 use Rattle.ice_net.specs.NetlistData.{NetlistData, empty_netlist, with_port, way_of}
 use Rattle.ice_blif.specs.declared.fault.BlifFault.{BlifFault}
 use Rattle.ice_blif.specs.declared.fault.BlifFault.TheVariants.{NoModel, SecondModel, UnknownDirective, UnknownCell, UnknownPort, PortTwice, BadCover, TooWide, NoEnd, TooMany}
-use Rattle.ice_blif.specs.State.{OpenCover, LastCell, State, Connections, Nothing, Gate, Rows}
+use Rattle.ice_blif.specs.State.{OpenCover, LastCell, NetReading, Connections, Nothing, Gate, Rows, named, signal_of}
 use Rattle.ice_blif.specs.JoinedLines.{FilledLine, joined, filled, last_number}
-use Rattle.ice_blif.specs.Cells.{◌>>=◌, row_says, param_says, finished, count_of}
+use Rattle.ice_blif.specs.Cells.{◌>>=◌, cover_row_says, param_says, finished, count_of}
 use Rattle.ice_blif.specs.declared.kind.GateKind.{GateKind}
 use Rattle.ice_blif.specs.Gates.{gate_kind_of, gate_place, gate_outs}
-use Rattle.ice_blif.specs.Signals.{named, signal_of}
 use Rattle.ice_blif.specs.Registers.{taken_apart, taken_apart_says}
 
 -- ---- ports
 -- a signal was named as a port of this way
 abbrev pub was_named : Way → Option Way → Bool
 was_named way None = false
-was_named Input (Some Input) = true
 was_named Input (Some Output) = false
-was_named Input (Some Both) = true
 was_named Output (Some Input) = false
-was_named Output (Some Output) = true
-was_named Output (Some Both) = true
-was_named Both (Some now) = true
+was_named way (Some now) = true
 
 -- the netlist after a name is named as a port
 abbrev pub with_named_port : NetlistData → Way → List ℕ → NetlistData
@@ -106,15 +100,15 @@ cell_of line gate wiring = record {
 }
 
 -- a reader with a new last cell
-abbrev pub with_last : NetlistData → LastCell → LastCell → Bool → State
+abbrev pub with_last : NetlistData → LastCell → LastCell → Bool → NetReading
 with_last n before now rows = record { netlist = finished n before; last = now; rows = rows }
 
-abbrev pub gate_of_kind : ℕ → State → List (List ℕ) → Option GateKind → Result State BlifFault
+abbrev pub gate_of_kind : ℕ → NetReading → List (List ℕ) → Option GateKind → Result NetReading BlifFault
 gate_of_kind line r ws None = Err (UnknownCell line)
 gate_of_kind line r ws (Some gate) = connections_say line gate r.netlist no_wiring ws >>= (λ c. Ok (with_last c.0 r.last (Gate (cell_of line gate c.1)) false))
 
 -- `.gate KIND F=A ..` and `.subckt KIND F=A ..`
-abbrev pub gate_says : ℕ → State → List (List ℕ) → Result State BlifFault
+abbrev pub gate_says : ℕ → NetReading → List (List ℕ) → Result NetReading BlifFault
 gate_says line r [] = Err (UnknownCell line)
 gate_says line r (w ∷ ws) = gate_of_kind line r ws (gate_kind_of w)
 
@@ -129,38 +123,37 @@ cover_signals line n signals (w ∷ ws) =
 abbrev pub new_cover : ℕ → List (Option SignalNo) → OpenCover
 new_cover line signals = record { line = line; ins = take (length signals - 1) signals; outs = drop (length signals - 1) signals; covered = 0; level = None }
 
-abbrev pub cover_of : ℕ → State → NetlistData → List (Option SignalNo) → Result State BlifFault
+abbrev pub cover_of : ℕ → NetReading → NetlistData → List (Option SignalNo) → Result NetReading BlifFault
 cover_of line r n [] = Err (BadCover line)
 cover_of line r n (s ∷ signals) = Ok (with_last n r.last (Rows (new_cover line (s ∷ signals))) true)
 
 -- `.names I.. O`
-abbrev pub names_say : ℕ → State → List (List ℕ) → Result State BlifFault
+abbrev pub names_say : ℕ → NetReading → List (List ℕ) → Result NetReading BlifFault
 names_say line r ws = cover_signals line r.netlist [] ws >>= (λ c. cover_of line r c.0 c.1)
 
 -- ---- lines
 -- a reader that takes no rows
-abbrev pub without_rows : NetlistData → LastCell → State
+abbrev pub without_rows : NetlistData → LastCell → NetReading
 without_rows n last = record { netlist = n; last = last; rows = false }
 
-abbrev pub row_line : ℕ → State → LastCell → List ℕ → List (List ℕ) → Result State BlifFault
-row_line line r Nothing first others = Err (UnknownDirective line)
-row_line line r (Gate cell) first others = Err (UnknownDirective line)
-row_line line r (Rows cover) first others = row_says line cover first others >>= (λ c. Ok (record { netlist = r.netlist; last = Rows c; rows = true }))
+abbrev pub row_line : ℕ → NetReading → LastCell → List ℕ → List (List ℕ) → Result NetReading BlifFault
+row_line line r (Rows cover) first others = cover_row_says line cover first others >>= (λ c. Ok (record { netlist = r.netlist; last = Rows c; rows = true }))
+row_line line r last first others = Err (UnknownDirective line)
 
 -- a line whose first word begins with no dot: a row, where one may stand
-abbrev pub row_or_fault : ℕ → State → List ℕ → List (List ℕ) → Result State BlifFault
+abbrev pub row_or_fault : ℕ → NetReading → List ℕ → List (List ℕ) → Result NetReading BlifFault
 row_or_fault line r first others = if r.rows then row_line line r r.last first others else Err (UnknownDirective line)
 
 -- `.inputs NAME ..` and `.outputs NAME ..`
-abbrev pub port_directive_says : ℕ → Way → State → List (List ℕ) → Result State BlifFault
+abbrev pub port_directive_says : ℕ → Way → NetReading → List (List ℕ) → Result NetReading BlifFault
 port_directive_says line way r names = ports_say line way r.netlist names >>= (λ n. Ok (without_rows n r.last))
 
 -- `.param NAME VALUE`
-abbrev pub param_directive_says : ℕ → State → List (List ℕ) → Result State BlifFault
+abbrev pub param_directive_says : ℕ → NetReading → List (List ℕ) → Result NetReading BlifFault
 param_directive_says line r ws = param_says line r.last ws >>= (λ last. Ok (without_rows r.netlist last))
 
 -- a line whose first word begins with a dot, and is not `.end`
-abbrev pub directive_says : ℕ → State → List ℕ → List (List ℕ) → Result State BlifFault
+abbrev pub directive_says : ℕ → NetReading → List ℕ → List (List ℕ) → Result NetReading BlifFault
 directive_says line r first others =
     if bytes_eq first (codes ".gate") || bytes_eq first (codes ".subckt") then gate_says line r others
     else (if bytes_eq first (codes ".names") then names_say line r others
@@ -172,18 +165,18 @@ directive_says line r first others =
     else Err (UnknownDirective line)))))))
 
 -- at most 65,534 signals, and 1,048,576 lines that make a cell
-abbrev pub within_limits : ℕ → State → Result State BlifFault
+abbrev pub within_limits : ℕ → NetReading → Result NetReading BlifFault
 within_limits line r =
     if nat_lt 65534 (length r.netlist.names) then Err (TooMany line 65534)
     else (if nat_lt 1048576 (length r.netlist.cells + count_of r.last) then Err (TooMany line 1048576)
     else Ok r)
 
 -- no limits
-abbrev pub no_limits : ℕ → State → Result State BlifFault
+abbrev pub no_limits : ℕ → NetReading → Result NetReading BlifFault
 no_limits line r = Ok r
 
 -- a line of the model; `.` is 46. That a line goes beyond the limits is found after its other faults
-abbrev pub line_says : (ℕ → State → Result State BlifFault) → FilledLine → State → Result State BlifFault
+abbrev pub line_says : (ℕ → NetReading → Result NetReading BlifFault) → FilledLine → NetReading → Result NetReading BlifFault
 line_says limits l r = (if begins_with 46 l.first then directive_says l.number r l.first l.others else row_or_fault l.number r l.first l.others) >>= limits l.number
 
 -- ---- the text
@@ -193,25 +186,25 @@ after_end [] = Ok tt
 after_end (l ∷ ls) = if bytes_eq l.first (codes ".model") then Err (SecondModel l.number) else after_end ls
 
 -- the netlist of a reader that came to `.end`
-abbrev pub ended : State → List FilledLine → Result NetlistData BlifFault
+abbrev pub ended : NetReading → List FilledLine → Result NetlistData BlifFault
 ended r ls = after_end ls >>= (λ u. Ok (finished r.netlist r.last))
 
 -- the lines behind `.model`; `last` is the number of the text's last line
-abbrev pub model_says : (ℕ → State → Result State BlifFault) → ℕ → State → List FilledLine → Result NetlistData BlifFault
+abbrev pub model_says : (ℕ → NetReading → Result NetReading BlifFault) → ℕ → NetReading → List FilledLine → Result NetlistData BlifFault
 model_says limits last r [] = Err (NoEnd last)
 model_says limits last r (l ∷ ls) =
     if bytes_eq l.first (codes ".end") then ended r ls else line_says limits l r >>= (λ s. model_says limits last s ls)
 
-abbrev pub empty_reader : State
+abbrev pub empty_reader : NetReading
 empty_reader = record { netlist = empty_netlist; last = Nothing; rows = false }
 
 -- the lines of a text: `.model` comes first
-abbrev pub lines_say : (ℕ → State → Result State BlifFault) → ℕ → List FilledLine → Result NetlistData BlifFault
+abbrev pub lines_say : (ℕ → NetReading → Result NetReading BlifFault) → ℕ → List FilledLine → Result NetlistData BlifFault
 lines_say limits last [] = Err (NoModel 0)
 lines_say limits last (l ∷ ls) = if bytes_eq l.first (codes ".model") then model_says limits last empty_reader ls else Err (NoModel l.number)
 
 -- the text's netlist whose cells are as their lines say them
-abbrev pub text_says : (ℕ → State → Result State BlifFault) → List ℕ → Result NetlistData BlifFault
+abbrev pub text_says : (ℕ → NetReading → Result NetReading BlifFault) → List ℕ → Result NetlistData BlifFault
 text_says limits text = lines_say limits (last_number 0 (numbered 1 (lines text))) (filled (joined (numbered 1 (lines text))))
 
 -- the text has this netlist, whatever its size

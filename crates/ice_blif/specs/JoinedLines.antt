@@ -1,8 +1,7 @@
 -- Joined lines: a line whose last byte before blanks is a backslash outside a comment goes on in the next line.
 use Rattle.std.specs.Prelude.{ℕ, Bool, true, false, ◌&&◌, ◌==◌, List, [], ◌∷◌, ◌++◌, Option, Some, None, if◌then◌else◌}
 use Rattle.std.specs.List.{list_all, list_any}
-use Rattle.ice_base.specs.Text.{words, is_blank}
-use Rattle.ice_base.specs.Comments.{begins_with, uncommented}
+use Rattle.ice_base.specs.Text.{words, is_blank, begins_with, uncommented}
 
 -- the byte stands in front; 92 is the backslash
 abbrev pub in_front_of : ℕ → Bool → Option (List ℕ) → Option (List ℕ)
@@ -53,14 +52,14 @@ rest_of [] = []
 rest_of (l ∷ ls) = ls
 
 -- the joined lines that are left behind a line
-abbrev pub behind : Bool → List (ℕ × List (List ℕ)) → List (ℕ × List (List ℕ))
-behind false ls = ls
-behind true ls = rest_of ls
+abbrev pub later_joined : Bool → List (ℕ × List (List ℕ)) → List (ℕ × List (List ℕ))
+later_joined false ls = ls
+later_joined true ls = rest_of ls
 
 -- the joined lines of numbered lines: each has the number of its first line, and its words. The last may go on at the end of the text
 abbrev pub joined : List (ℕ × List ℕ) → List (ℕ × List (List ℕ))
 joined [] = []
-joined (l ∷ ls) = (l.0, with_next (goes_on l.1) (plain l.1) (joined ls)) ∷ behind (goes_on l.1) (joined ls)
+joined (l ∷ ls) = (l.0, with_next (goes_on l.1) (plain l.1) (joined ls)) ∷ later_joined (goes_on l.1) (joined ls)
 
 -- a joined line that has a word: its number, its first word and the others
 pub record FilledLine : Type 0 where

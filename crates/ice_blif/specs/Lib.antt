@@ -1,9 +1,7 @@
 pub mod JoinedLines
 pub mod State
 pub mod Covers
-pub mod Parameters
 pub mod Cells
-pub mod Signals
 pub mod Registers
 pub mod Gates
 pub mod Grammar

@@ -3,14 +3,14 @@ use Rattle.std.specs.Prelude.{ℕ, ◌==◌, Bool, true, false, List, [], ◌∷
 use Rattle.ice_base.specs.declared.number.SignalNo.{SignalNo}
 use Rattle.ice_net.specs.declared.cell.Cell.{Cell}
 use Rattle.ice_net.specs.declared.kind.CellKind.{CellKind}
-use Rattle.ice_net.specs.declared.kind.CellKind.TheVariants.{Lut, Cover, Carry, Flop, PadCell, Global}
+use Rattle.ice_net.specs.declared.kind.CellKind.TheVariants.{Flop, PadCell, Global}
 use Rattle.ice_net.specs.declared.kind.Reset.TheVariants.{Nothing}
 use Rattle.ice_net.specs.Kinds.{outs_count}
 use Rattle.ice_net.specs.NetlistData.{NetlistData}
 use Rattle.ice_blif.specs.declared.fault.BlifFault.{BlifFault}
 use Rattle.ice_blif.specs.declared.fault.BlifFault.TheVariants.{TooMany}
 use Rattle.ice_blif.specs.Cells.{◌>>=◌, own_cell, with_cell}
-use Rattle.ice_blif.specs.Signals.{named, signal_of}
+use Rattle.ice_blif.specs.State.{named, signal_of}
 
 -- ---- the cells of one
 -- the name of a hidden signal: the number of the cell's line, a blank (32) and a word. No word of a text has a blank
@@ -63,12 +63,8 @@ with_pad n cell pin_type pullup =
 
 -- with the cells of a cell of this kind
 abbrev pub with_cells_of : NetlistData → Cell → CellKind → NetlistData
-with_cells_of n cell (Lut table) = with_cell n cell
-with_cells_of n cell (Cover table width) = with_cell n cell
-with_cells_of n cell Carry = with_cell n cell
-with_cells_of n cell (Flop falling enable reset) = with_cell n cell
 with_cells_of n cell (PadCell pin_type pullup) = with_pad n cell pin_type pullup
-with_cells_of n cell Global = with_cell n cell
+with_cells_of n cell kind = with_cell n cell
 
 abbrev pub with_buffer : NetlistData → Option Cell → NetlistData
 with_buffer n None = n

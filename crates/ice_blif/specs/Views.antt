@@ -8,8 +8,8 @@ use Rattle.ice_blif.specs.declared.reader.Last as lasts
 use Rattle.ice_blif.specs.declared.reader.Last.{Last}
 use Rattle.ice_blif.specs.declared.reader.Reader.{Reader}
 use Rattle.ice_blif.specs.declared.wiring.Wiring.{Wiring}
-use Rattle.ice_blif.specs.State.{OpenCover, LastCell, Nothing, Gate, Rows, State, Connections}
-use Rattle.ice_blif.specs.JoinedLines.{FilledLine, joined, with_next, behind}
+use Rattle.ice_blif.specs.State.{OpenCover, LastCell, Nothing, Gate, Rows, NetReading, Connections}
+use Rattle.ice_blif.specs.JoinedLines.{FilledLine, joined, with_next, later_joined}
 
 -- ---- what is read so far
 abbrev pub cover_view : Cover → OpenCover
@@ -20,7 +20,7 @@ last_view lasts.TheVariants.Nothing = Nothing
 last_view (lasts.TheVariants.Gate cell) = Gate cell
 last_view (lasts.TheVariants.Rows cover) = Rows (cover_view cover)
 
-abbrev pub reader_view : Reader → State
+abbrev pub reader_view : Reader → NetReading
 reader_view r = record { netlist = r.netlist; last = last_view r.last; rows = r.rows }
 
 abbrev pub wiring_view : Wiring → Connections
@@ -33,7 +33,7 @@ words_left c = with_next c.goes_on c.words (joined c.lines)
 
 -- the joined lines behind it
 abbrev pub lines_left : Cursor → List (ℕ × List (List ℕ))
-lines_left c = behind c.goes_on (joined c.lines)
+lines_left c = later_joined c.goes_on (joined c.lines)
 
 -- a slice is these bytes, where there are any
 abbrev pub IsContinued : Option (Bor (List ℕ)) → Option (List ℕ) → Type 0

@@ -3,9 +3,9 @@ ghost use Rattle.std.specs.Prelude.{◌≡◌, ◌≤◌, ◌<◌, ◌^◌, [], 
 ghost use Rattle.ice_blif.specs.declared.fault.BlifFault.TheVariants.{NoMemory as out_of_memory};
 ghost use Rattle.std.specs.List.{list_all};
 ghost use Rattle.ice_blif.specs.Answers.{Gives, ArePartsOf};
-ghost use Rattle.ice_blif.specs.Covers.{covers, bit, four_bits, row_table, is_row_digit, is_row, level_of, agrees, table_of};
+ghost use Rattle.ice_blif.specs.Covers.{covers, bit, four_bits, row_table, is_row_digit, is_row, level_of_word, agrees, table_of};
 ghost use Rattle.ice_net.specs.Formed.{IsPresent};
-ghost use Rattle.ice_blif.specs.Cells.{row_parts, row_of_level, row_says, IsReady};
+ghost use Rattle.ice_blif.specs.Cells.{row_parts, row_of_level, cover_row_says, IsReady};
 ghost use Rattle.ice_blif.specs.Grammar.{cover_signals, new_cover, names_say};
 ghost use Rattle.ice_blif.specs.Views.{cover_view, reader_view, words_left, lines_left};
 
@@ -109,7 +109,7 @@ fn is_row(width: usize, row: &[u8]) -> bool
 
 // The level that a row gives.
 fn level_of(word: &[u8]) -> Option<bool>
-    ensures { result ≡ level_of word.now }
+    ensures { result ≡ level_of_word word.now }
 {
     if word == b"0".as_slice() {
         return Some(false);
@@ -175,7 +175,7 @@ pub(crate) fn row<'a>(
     first: &'a [u8],
     words: &mut Cursor<'a>,
 ) -> Result<(), BlifFault>
-    ensures cover { Gives (λ _. cover_view cover.new) result (row_says line (cover_view cover.old) first.now (words_left words.old)) }
+    ensures cover { Gives (λ _. cover_view cover.new) result (cover_row_says line (cover_view cover.old) first.now (words_left words.old)) }
     ensures shape { (cover.new.ins ≡ cover.old.ins) × (cover.new.outs ≡ cover.old.outs) }
     ensures lines { lines_left words.new ≡ lines_left words.old }
 {

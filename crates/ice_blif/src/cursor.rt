@@ -1,8 +1,7 @@
 //! A place in a text, read by joined lines and their words.
 ghost use Rattle.std.specs.Prelude.{◌≡◌, ◌<◌, [], ◌∷◌, length, drop, option_copied, IfSome, MatchOption, IsTrue, true, false};
 ghost use Rattle.std.specs.List.{list_any};
-ghost use Rattle.ice_base.specs.Text.{lines, numbered, words, is_blank};
-ghost use Rattle.ice_base.specs.Comments.{begins_with};
+ghost use Rattle.ice_base.specs.Text.{lines, numbered, words, is_blank, begins_with};
 ghost use Rattle.ice_blif.specs.JoinedLines.{before_backslash, continued, goes_on, plain, joined, filled, last_number};
 ghost use Rattle.ice_blif.specs.Views.{words_left, lines_left, IsContinued, IsFirstOf, IsNextWord, IsNextLine};
 

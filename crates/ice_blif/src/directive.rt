@@ -11,9 +11,9 @@ use crate::cursor::{Cursor, FirstWord};
 use crate::gate::gate;
 use crate::parameter::param;
 use crate::reader::{Last, Reader};
-use crate::signal::{MOST_SIGNALS, ports};
+use crate::signal::ports;
 use ice_base::begins_with;
-use ice_net::Way;
+use ice_net::{MOST_SIGNALS, Way};
 use std::alloc::Global;
 
 /// The lines that make a cell that a netlist may have.

@@ -1,7 +1,7 @@
 //! Parameters of cells.
 ghost use Rattle.std.specs.Prelude.{◌≡◌, ℕ, ◌<◌, ◌≤◌, ◌&&◌, nat_lt, Some, None, if◌then◌else◌, IfOk, IfSome, OnOk};
 ghost use Rattle.ice_blif.specs.Answers.{Gives};
-ghost use Rattle.ice_blif.specs.Parameters.{is_digit, with_digit, bits_from, bits_in, bits_say, standard_says, KeepsForm};
+ghost use Rattle.ice_blif.specs.Gates.{is_digit, with_param_digit, bits_from, bits_in, bits_say, standard_says, KeepsForm};
 ghost use Rattle.ice_blif.specs.Cells.{lut_says, pad_says, kind_says, param_says, IsFormedLast};
 ghost use Rattle.ice_blif.specs.Views.{last_view, words_left, lines_left};
 
@@ -19,7 +19,7 @@ fn is_digit(b: u8) -> bool
 // The number behind another's digits and one more, where that is a digit and the number is below the limit.
 fn appended(limit: u32, number: u32, digit: u8) -> Option<u32>
     requires { number < 65536 }
-    ensures { result ≡ (if is_digit digit && nat_lt (with_digit number digit) limit then Some (with_digit number digit) else None) }
+    ensures { result ≡ (if is_digit digit && nat_lt (with_param_digit number digit) limit then Some (with_param_digit number digit) else None) }
 {
     if !is_digit(digit) {
         return None;

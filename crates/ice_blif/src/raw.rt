@@ -4,7 +4,7 @@ ghost use Rattle.ice_net.specs.NetlistData.{empty_netlist, with_port, way_of};
 ghost use Rattle.ice_blif.specs.declared.fault.BlifFault.TheVariants.{NoMemory as out_of_memory};
 ghost use Rattle.ice_blif.specs.Cells.{IsReadCell, with_cell};
 ghost use Rattle.ice_blif.specs.Registers.{without_cells};
-ghost use Rattle.ice_blif.specs.Signals.{named, signal_of};
+ghost use Rattle.ice_blif.specs.State.{named, signal_of};
 
 use crate::BlifFault;
 use crate::signal::number;

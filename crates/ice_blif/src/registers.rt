@@ -1,17 +1,17 @@
 //! Pads with a register and pads that feed a global, taken apart into cells that a netlist has.
-ghost use Rattle.std.specs.Prelude.{◌≡◌, ◌+◌, ◌*◌, ◌<◌, ◌≤◌, length, codes, slice_index_or, None, All, OnOk, IfOk, IfErr, IfSome};
+ghost use Rattle.std.specs.Prelude.{◌≡◌, ◌+◌, ◌*◌, ◌<◌, ◌≤◌, length, codes, None, All, OnOk, IfOk, IfErr, IfSome};
 ghost use Rattle.ice_net.specs.Formed.{IsFormedCell};
 ghost use Rattle.ice_blif.specs.declared.fault.BlifFault.TheVariants.{NoMemory as out_of_memory};
 ghost use Rattle.ice_blif.specs.Answers.{Gives};
 ghost use Rattle.ice_blif.specs.Cells.{IsReadCell, IsPad, own_cell, with_cell};
 ghost use Rattle.ice_blif.specs.Registers.{hidden_name, register, input_pad, input_register, output_pad, output_register, buffer_of, with_input, with_output, with_pad, with_cells_of, with_buffer, with_apart, few_signals, apart_says, taken_apart_says};
-ghost use Rattle.ice_blif.specs.Signals.{named, signal_of};
+ghost use Rattle.ice_blif.specs.State.{named, signal_of};
 
 use crate::BlifFault;
 use crate::raw::RawNetlist;
-use crate::signal::{MOST_SIGNALS, number};
+use crate::signal::number;
 use ice_base::SignalNo;
-use ice_net::{Cell, CellKind, Netlist, Reset, Signals};
+use ice_net::{Cell, CellKind, MOST_SIGNALS, Netlist, Reset, Signals, signal_at};
 use itoa::Buffer;
 use std::alloc::Global;
 
@@ -38,13 +38,6 @@ const OUTPUT_CLK: usize = 7;
 
 /// The place of the port D_IN_0 of SB_IO among its outputs.
 const D_IN_0: usize = 0;
-
-// The signal at a place of a list; None behind its end.
-fn signal_at(signals: &[Option<SignalNo>], place: usize) -> Option<SignalNo>
-    ensures { result ≡ slice_index_or signals.now place None }
-{
-    *signals.get(place)?
-}
 
 // The hidden signal of a cell, by the number of its line and a word.
 fn hidden_signal(

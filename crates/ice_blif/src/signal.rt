@@ -3,7 +3,7 @@ ghost use Rattle.std.specs.Prelude.{◌≡◌, ◌<◌, ◌≤◌, length, OnOk,
 ghost use Rattle.ice_blif.specs.declared.fault.BlifFault.TheVariants.{NoMemory as out_of_memory};
 ghost use Rattle.ice_blif.specs.Answers.{Gives};
 ghost use Rattle.ice_blif.specs.Grammar.{was_named, port_says, ports_say};
-ghost use Rattle.ice_blif.specs.Signals.{named, signal_of};
+ghost use Rattle.ice_blif.specs.State.{named, signal_of};
 ghost use Rattle.ice_blif.specs.Views.{words_left, lines_left};
 
 use crate::BlifFault;
@@ -11,9 +11,6 @@ use crate::cursor::Cursor;
 use crate::raw::RawNetlist;
 use ice_base::SignalNo;
 use ice_net::{Netlist, Way};
-
-/// The signals that a netlist may have.
-pub(crate) const MOST_SIGNALS: u32 = 65_534;
 
 // The signal of a name that appears.
 pub(crate) fn number(netlist: &mut Netlist, name: &[u8]) -> Result<SignalNo, BlifFault>

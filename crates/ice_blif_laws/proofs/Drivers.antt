@@ -4,18 +4,18 @@ use Rattle.std.specs.Prelude.{option_map, slice_get}
 use Rattle.std.specs.Option.{option_map_or}
 use Rattle.std.proofs.lemmas.Option.{none-some}
 use Rattle.ice_base.specs.declared.number.SignalNo.{SignalNo}
-use Rattle.ice_base_values.specs.Inputs.{present}
+use Rattle.ice_base_values.specs.System.{present}
 use Rattle.ice_base_values.specs.Order.{Has}
 use Rattle.ice_net.specs.declared.cell.Cell.{Cell}
-use Rattle.ice_net.specs.declared.driver.Driver.{Driver}
-use Rattle.ice_net.specs.declared.driver.Driver.TheVariants as driver
+use Rattle.ice_net.specs.declared.driver.SignalDriver.{SignalDriver}
+use Rattle.ice_net.specs.declared.driver.SignalDriver.TheVariants as driver
 use Rattle.ice_net.specs.declared.kind.CellKind.{CellKind}
 use Rattle.ice_net.specs.declared.kind.CellKind.TheVariants.{Lut, Cover, Carry, Flop, PadCell, Global}
 use Rattle.ice_net.specs.declared.port.Port.{Port}
 use Rattle.ice_net.specs.declared.port.Way.{Way}
 use Rattle.ice_net.specs.declared.port.Way.TheVariants.{Input, Output}
 use Rattle.ice_net.specs.declared.port.Way.TheVariants as way
-use Rattle.ice_net.specs.Drivers.{number, is_signal, place_of, is_there, pin_by, pin_of, buffer_at, has_buffer, pad_by, pad_of, pads, output_of, outputs, driver_from, driver_of}
+use Rattle.ice_net.specs.Drivers.{signal_number, is_signal, place_of, is_there, pin_by, pin_of, buffer_at, has_buffer, pad_by, pad_of, pad_signals, output_of, outputs, driver_from, driver_of}
 use Rattle.ice_net.specs.Meaning.{reads_by, cell_reads, reads, depends_on}
 use Rattle.ice_net.specs.NetlistData.{NetlistData, port_at, is_at}
 use Rattle.ice_blif_laws.proofs.Alike.{Both, Each, each_map, each_at, each_or, each_position}
@@ -71,7 +71,7 @@ module _ (n m : NetlistData) (are : AreTied n m) where
       subst (λ w. IsTied n m (pad_of n.cells p) (pad_by q (has_buffer m.cells q.signal.0) w)) h.way
       (subst (λ b. IsTied n m (pad_of n.cells p) (pad_by q b p.way)) (has_buffer_same p.signal.0 q.signal.0 h.signal) (pad_by_tied p q (has_buffer n.cells p.signal.0) p.way h.signal))
 
-  pub pads_tied : Each (IsTied n m) (pads n) (pads m)
+  pub pads_tied : Each (IsTied n m) (pad_signals n) (pad_signals m)
   pads_tied = each_map (IsPortTied n m) (IsTied n m) (pad_of n.cells) (pad_of m.cells) pad_tied n.ports m.ports are.ports
 
   pub port_at_same : (s t : ℕ) → IsOne n m s t → port_at s n.ports ≡ port_at t m.ports
@@ -79,13 +79,13 @@ module _ (n m : NetlistData) (are : AreTied n m) where
 
   -- ---- drivers
   pub driver_same : (s t : ℕ) → IsOne n m s t → driver_of n s ≡ driver_of m t
-  driver_same s t st = (λ j. driver_from (place_same (pads n) (pads m) s t pads_tied st j) (place_same (outputs n) (outputs m) s t outputs_tied st j))
+  driver_same s t st = (λ j. driver_from (place_same (pad_signals n) (pad_signals m) s t pads_tied st j) (place_same (outputs n) (outputs m) s t outputs_tied st j))
 
   -- ---- what a driver reads
   abbrev pub NumberTied : Option ℕ → Option ℕ → Type 0
   NumberTied x y = Both (IsOne n m) x y
 
-  number_tied : (x y : Option SignalNo) → IsTied n m x y → NumberTied (number x) (number y)
+  number_tied : (x y : Option SignalNo) → IsTied n m x y → NumberTied (signal_number x) (signal_number y)
   number_tied None None h = tt
   number_tied None (Some y) h = absurd h
   number_tied (Some x) None h = absurd h
@@ -101,10 +101,10 @@ module _ (n m : NetlistData) (are : AreTied n m) where
 
   cell_reads_tied : (c d : Cell) → IsCellTied n m c d → Each NumberTied (cell_reads c) (cell_reads d)
   cell_reads_tied c d h =
-      each_map (IsTied n m) NumberTied number number number_tied (reads_by c.kind c.ins) (reads_by d.kind d.ins)
+      each_map (IsTied n m) NumberTied signal_number signal_number number_tied (reads_by c.kind c.ins) (reads_by d.kind d.ins)
       (subst (λ k. Each (IsTied n m) (reads_by c.kind c.ins) (reads_by k d.ins)) h.kind (reads_by_tied c.kind c.ins d.ins h.ins))
 
-  pub reads_tied : (d : Driver) → Each NumberTied (reads n d) (reads m d)
+  pub reads_tied : (d : SignalDriver) → Each NumberTied (reads n d) (reads m d)
   reads_tied driver.Nothing = tt
   reads_tied (driver.Pad k) = tt
   reads_tied (driver.Output i) = by (slice_get n.cells i) (slice_get m.cells i) (each_at (IsCellTied n m) n.cells m.cells i are.cells)

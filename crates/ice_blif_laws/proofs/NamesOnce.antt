@@ -1,9 +1,8 @@
 -- No name of a text's netlist stands twice: each line of the text keeps it so.
 use Rattle.std.proofs.Common.{ℕ, ◌+◌, Bool, true, false, ◌||◌, List, [], ◌∷◌, ◌++◌, length, drop, take, nat_lt, nat_le, Option, Some, None, Result, Ok, Err, IfOk, if◌then◌else◌, codes, bytes_eq, sym, subst}
 use Rattle.std.specs.List.{IsDistinct}
-use Rattle.ice_base.specs.Text.{lines, numbered}
-use Rattle.ice_base.specs.Comments.{begins_with}
-use Rattle.ice_base.specs.Names.{number_of_name}
+use Rattle.ice_base.specs.Text.{lines, numbered, begins_with}
+use Rattle.ice_base.specs.Lists.{number_of_name}
 use Rattle.ice_base.specs.declared.number.SignalNo.{SignalNo}
 use Rattle.ice_net.specs.declared.port.Way.{Way}
 use Rattle.ice_net.specs.declared.port.Way.TheVariants.{Input, Output}
@@ -14,10 +13,9 @@ use Rattle.ice_blif.specs.declared.fault.BlifFault.{BlifFault}
 use Rattle.ice_blif.specs.declared.fault.BlifFault.TheVariants.{NoModel, SecondModel, UnknownDirective, PortTwice, TooWide}
 use Rattle.ice_blif.specs.GateForms.{GateForm}
 use Rattle.ice_blif.specs.Gates.{gate_kind_of, gate_place}
-use Rattle.ice_blif.specs.Signals.{named, signal_of}
+use Rattle.ice_blif.specs.State.{named, signal_of, LastCell, NetReading, Connections, Nothing, Gate, Rows}
 use Rattle.ice_blif.specs.JoinedLines.{FilledLine, joined, filled, last_number}
-use Rattle.ice_blif.specs.State.{LastCell, State, Connections, Nothing, Gate, Rows}
-use Rattle.ice_blif.specs.Cells.{◌>>=◌, row_says, param_says, finished}
+use Rattle.ice_blif.specs.Cells.{◌>>=◌, cover_row_says, param_says, finished}
 use Rattle.ice_blif.specs.Grammar.{was_named, with_named_port, port_says, ports_say, no_wiring, is_missing, after_actual, connect_at, connect_by, equals_at, connection_says, connections_say, cell_of, with_last, without_rows, gate_of_kind, gate_says, cover_signals, cover_of, names_say, row_line, row_or_fault, port_directive_says, param_directive_says, directive_says, no_limits, line_says, after_end, ended, model_says, empty_reader, lines_say}
 use Rattle.ice_blif.specs.Registers.{hidden_name, without_cells}
 use Rattle.ice_blif.proofs.Apart.{HiddenKeep, all_keep}
@@ -32,7 +30,7 @@ NamesOnce n = IsDistinct bytes_eq n.names
 abbrev Beside : {X : Type 0} → NetlistData × X → Type 0
 Beside c = NamesOnce c.0
 
-abbrev StateOnce : State → Type 0
+abbrev StateOnce : NetReading → Type 0
 StateOnce s = NamesOnce s.netlist
 
 finished_once : (n : NetlistData) (last : LastCell) → NamesOnce n → NamesOnce (finished n last)
@@ -70,13 +68,13 @@ connections_once line gate n wiring (w ∷ ws) once =
     bind_keeps (Beside {X = Connections}) (Beside {X = Connections}) (connection_says line gate n wiring w) (λ c. connections_say line gate c.0 c.1 ws) (connect_once line gate n wiring w (equals_at w) once)
     (λ c later. connections_once line gate c.0 c.1 ws later)
 
-gate_of_kind_once : (line : ℕ) (r : State) (words : List (List ℕ)) (gate : Option GateForm) → StateOnce r → IfOk (gate_of_kind line r words gate) StateOnce
+gate_of_kind_once : (line : ℕ) (r : NetReading) (words : List (List ℕ)) (gate : Option GateForm) → StateOnce r → IfOk (gate_of_kind line r words gate) StateOnce
 gate_of_kind_once line r words None once = tt
 gate_of_kind_once line r words (Some gate) once =
     bind_keeps (Beside {X = Connections}) StateOnce (connections_say line gate r.netlist no_wiring words) (λ c. Ok (with_last c.0 r.last (Gate (cell_of line gate c.1)) false))
     (connections_once line gate r.netlist no_wiring words once) (λ c later. finished_once c.0 r.last later)
 
-gate_once : (line : ℕ) (r : State) (words : List (List ℕ)) → StateOnce r → IfOk (gate_says line r words) StateOnce
+gate_once : (line : ℕ) (r : NetReading) (words : List (List ℕ)) → StateOnce r → IfOk (gate_says line r words) StateOnce
 gate_once line r [] once = tt
 gate_once line r (w ∷ ws) once = gate_of_kind_once line r ws (gate_kind_of w) once
 
@@ -87,34 +85,34 @@ signals_once line n signals (w ∷ ws) once =
     either (Beside {X = List (Option SignalNo)}) (nat_lt 4 (length signals)) (Err (TooWide line)) (cover_signals line (named n w) (signals ++ Some (signal_of n w) ∷ []) ws) tt
     (signals_once line (named n w) (signals ++ Some (signal_of n w) ∷ []) ws (names_once n.names w once))
 
-cover_once : (line : ℕ) (r : State) (n : NetlistData) (signals : List (Option SignalNo)) → NamesOnce n → IfOk (cover_of line r n signals) StateOnce
+cover_once : (line : ℕ) (r : NetReading) (n : NetlistData) (signals : List (Option SignalNo)) → NamesOnce n → IfOk (cover_of line r n signals) StateOnce
 cover_once line r n [] once = tt
 cover_once line r n (s ∷ signals) once = finished_once n r.last once
 
-covers_once : (line : ℕ) (r : State) (words : List (List ℕ)) → StateOnce r → IfOk (names_say line r words) StateOnce
+covers_once : (line : ℕ) (r : NetReading) (words : List (List ℕ)) → StateOnce r → IfOk (names_say line r words) StateOnce
 covers_once line r words once =
     bind_keeps (Beside {X = List (Option SignalNo)}) StateOnce (cover_signals line r.netlist [] words) (λ c. cover_of line r c.0 c.1) (signals_once line r.netlist [] words once)
     (λ c later. cover_once line r c.0 c.1 later)
 
 -- ---- lines
-row_line_once : (line : ℕ) (r : State) (last : LastCell) (first : List ℕ) (others : List (List ℕ)) → StateOnce r → IfOk (row_line line r last first others) StateOnce
+row_line_once : (line : ℕ) (r : NetReading) (last : LastCell) (first : List ℕ) (others : List (List ℕ)) → StateOnce r → IfOk (row_line line r last first others) StateOnce
 row_line_once line r Nothing first others once = tt
 row_line_once line r (Gate cell) first others once = tt
 row_line_once line r (Rows cover) first others once =
-    bind_keeps (λ c. Unit {0}) StateOnce (row_says line cover first others) (λ c. Ok (record { netlist = r.netlist; last = Rows c; rows = true })) (any_ok (row_says line cover first others)) (λ c kept. once)
+    bind_keeps (λ c. Unit {0}) StateOnce (cover_row_says line cover first others) (λ c. Ok (record { netlist = r.netlist; last = Rows c; rows = true })) (any_ok (cover_row_says line cover first others)) (λ c kept. once)
 
-row_once : (line : ℕ) (r : State) (first : List ℕ) (others : List (List ℕ)) → StateOnce r → IfOk (row_or_fault line r first others) StateOnce
+row_once : (line : ℕ) (r : NetReading) (first : List ℕ) (others : List (List ℕ)) → StateOnce r → IfOk (row_or_fault line r first others) StateOnce
 row_once line r first others once = either StateOnce r.rows (row_line line r r.last first others) (Err (UnknownDirective line)) (row_line_once line r r.last first others once) tt
 
-port_directive_once : (line : ℕ) (way : Way) (r : State) (names : List (List ℕ)) → StateOnce r → IfOk (port_directive_says line way r names) StateOnce
+port_directive_once : (line : ℕ) (way : Way) (r : NetReading) (names : List (List ℕ)) → StateOnce r → IfOk (port_directive_says line way r names) StateOnce
 port_directive_once line way r names once =
     bind_keeps NamesOnce StateOnce (ports_say line way r.netlist names) (λ n. Ok (without_rows n r.last)) (ports_once line way r.netlist names once) (λ n later. later)
 
-param_directive_once : (line : ℕ) (r : State) (words : List (List ℕ)) → StateOnce r → IfOk (param_directive_says line r words) StateOnce
+param_directive_once : (line : ℕ) (r : NetReading) (words : List (List ℕ)) → StateOnce r → IfOk (param_directive_says line r words) StateOnce
 param_directive_once line r words once =
     bind_keeps (λ now. Unit {0}) StateOnce (param_says line r.last words) (λ last. Ok (without_rows r.netlist last)) (any_ok (param_says line r.last words)) (λ now kept. once)
 
-directive_once : (line : ℕ) (r : State) (first : List ℕ) (others : List (List ℕ)) → StateOnce r → IfOk (directive_says line r first others) StateOnce
+directive_once : (line : ℕ) (r : NetReading) (first : List ℕ) (others : List (List ℕ)) → StateOnce r → IfOk (directive_says line r first others) StateOnce
 directive_once line r first others once =
     either StateOnce (bytes_eq first (codes ".gate") || bytes_eq first (codes ".subckt")) (gate_says line r others) _ (gate_once line r others once)
     (either StateOnce (bytes_eq first (codes ".names")) (names_say line r others) _ (covers_once line r others once)
@@ -124,18 +122,18 @@ directive_once line r first others once =
     (either StateOnce (bytes_eq first (codes ".outputs")) (port_directive_says line Output r others) _ (port_directive_once line Output r others once)
     (either StateOnce (bytes_eq first (codes ".model")) (Err (SecondModel line)) (Err (UnknownDirective line)) tt tt))))))
 
-line_once : (l : FilledLine) (r : State) → StateOnce r → IfOk (line_says no_limits l r) StateOnce
+line_once : (l : FilledLine) (r : NetReading) → StateOnce r → IfOk (line_says no_limits l r) StateOnce
 line_once l r once =
     bind_keeps StateOnce StateOnce (if begins_with 46 l.first then directive_says l.number r l.first l.others else row_or_fault l.number r l.first l.others) (no_limits l.number)
     (either StateOnce (begins_with 46 l.first) (directive_says l.number r l.first l.others) (row_or_fault l.number r l.first l.others) (directive_once l.number r l.first l.others once) (row_once l.number r l.first l.others once))
     (λ s later. later)
 
 -- ---- the text
-ended_once : (r : State) (ls : List FilledLine) → StateOnce r → IfOk (ended r ls) NamesOnce
+ended_once : (r : NetReading) (ls : List FilledLine) → StateOnce r → IfOk (ended r ls) NamesOnce
 ended_once r ls once =
     bind_keeps (λ u. Unit {0}) NamesOnce (after_end ls) (λ u. Ok (finished r.netlist r.last)) (any_ok (after_end ls)) (λ u kept. finished_once r.netlist r.last once)
 
-model_once : (last : ℕ) (ls : List FilledLine) (r : State) → StateOnce r → IfOk (model_says no_limits last r ls) NamesOnce
+model_once : (last : ℕ) (ls : List FilledLine) (r : NetReading) → StateOnce r → IfOk (model_says no_limits last r ls) NamesOnce
 model_once last [] r once = tt
 model_once last (l ∷ ls) r once =
     either NamesOnce (bytes_eq l.first (codes ".end")) (ended r ls) (line_says no_limits l r >>= (λ s. model_says no_limits last s ls)) (ended_once r ls once)

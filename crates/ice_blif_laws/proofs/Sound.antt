@@ -5,7 +5,7 @@ use Rattle.std.specs.List.{flat_map}
 use Rattle.std.specs.Option.{option_map_or}
 use Rattle.std.proofs.lemmas.Option.{none-some}
 use Rattle.ice_base.specs.declared.number.SignalNo.{SignalNo}
-use Rattle.ice_base_values.specs.Inputs.{present}
+use Rattle.ice_base_values.specs.System.{present}
 use Rattle.ice_base_values.specs.Order.{At, Has, IsCycleBelow}
 use Rattle.ice_base_values.proofs.Cycles.{cycle_goes_on}
 use Rattle.ice_net.specs.declared.cell.Cell.{Cell}
@@ -15,7 +15,7 @@ use Rattle.ice_net.specs.declared.port.Port.{Port}
 use Rattle.ice_net.specs.declared.port.Way.{Way}
 use Rattle.ice_net.specs.declared.port.Way.TheVariants.{Input, Output}
 use Rattle.ice_net.specs.declared.port.Way.TheVariants as way
-use Rattle.ice_net.specs.Drivers.{is_signal, place_of, is_there, pin_of, has_buffer, pads, outputs, driver_from, driver_of}
+use Rattle.ice_net.specs.Drivers.{is_signal, place_of, is_there, pin_of, has_buffer, pad_signals, outputs, driver_from, driver_of}
 use Rattle.ice_net.specs.Drives.{output_type, enabled_type, data_of, enable_of, pad_uses, uses_by}
 use Rattle.ice_net.specs.Meaning.{reads, depends_on}
 use Rattle.ice_net.specs.NetlistData.{NetlistData, way_by, way_at}
@@ -161,24 +161,24 @@ module _ (n m : NetlistData) (are : AreTied n m) where
         by (inr unused) (inr hidden) = (λ j. is_nothing (driver_of m t) && (is_there (unused j) || is_there (hidden j))) ∙ idle (is_nothing (driver_of m t))
 
     driven_once : (t : ℕ) → t < length m.names → is_driven_twice m t ≡ false
-    driven_once t lt = by (named_or_not (pads n) (pads m) t (pads_tied n m are)) (named_or_not (outputs n) (outputs m) t (outputs_tied n m are))
+    driven_once t lt = by (named_or_not (pad_signals n) (pad_signals m) t (pads_tied n m are)) (named_or_not (outputs n) (outputs m) t (outputs_tied n m are))
       where
         named : (s : ℕ) → IsOne n m s t → is_driven_twice m t ≡ false
         named s st =
-            sym (λ j. nat_lt 1 (times_same (pads n) (pads m) s t (pads_tied n m are) st j + times_same (outputs n) (outputs m) s t (outputs_tied n m are) st j))
+            sym (λ j. nat_lt 1 (times_same (pad_signals n) (pad_signals m) s t (pads_tied n m are) st j + times_same (outputs n) (outputs m) s t (outputs_tied n m are) st j))
             ∙ none_of (is_driven_twice n) (length n.names) s sound.driven_once st.left
 
-        by : ((s : ℕ) × IsOne n m s t) ⊎ (place_of t (pads m) ≡ None) → ((s : ℕ) × IsOne n m s t) ⊎ (place_of t (outputs m) ≡ None) → is_driven_twice m t ≡ false
+        by : ((s : ℕ) × IsOne n m s t) ⊎ (place_of t (pad_signals m) ≡ None) → ((s : ℕ) × IsOne n m s t) ⊎ (place_of t (outputs m) ≡ None) → is_driven_twice m t ≡ false
         by (inl one) other = named one.0 one.1
         by (inr no_pad) (inl one) = named one.0 one.1
-        by (inr no_pad) (inr no_output) = (λ j. nat_lt 1 (times_zero t (pads m) no_pad j + times_zero t (outputs m) no_output j))
+        by (inr no_pad) (inr no_output) = (λ j. nat_lt 1 (times_zero t (pad_signals m) no_pad j + times_zero t (outputs m) no_output j))
 
   -- ---- loops
   -- a signal has one of the same name, or depends on nothing
   named_or_source : (t : ℕ) → ((s : ℕ) × IsOne n m s t) ⊎ (depends_on m t ≡ [])
-  named_or_source t = by (named_or_not (pads n) (pads m) t (pads_tied n m are)) (named_or_not (outputs n) (outputs m) t (outputs_tied n m are))
+  named_or_source t = by (named_or_not (pad_signals n) (pad_signals m) t (pads_tied n m are)) (named_or_not (outputs n) (outputs m) t (outputs_tied n m are))
     where
-      by : ((s : ℕ) × IsOne n m s t) ⊎ (place_of t (pads m) ≡ None) → ((s : ℕ) × IsOne n m s t) ⊎ (place_of t (outputs m) ≡ None) → ((s : ℕ) × IsOne n m s t) ⊎ (depends_on m t ≡ [])
+      by : ((s : ℕ) × IsOne n m s t) ⊎ (place_of t (pad_signals m) ≡ None) → ((s : ℕ) × IsOne n m s t) ⊎ (place_of t (outputs m) ≡ None) → ((s : ℕ) × IsOne n m s t) ⊎ (depends_on m t ≡ [])
       by (inl one) other = inl one
       by (inr no_pad) (inl one) = inl one
       by (inr no_pad) (inr no_output) = inr (λ j. present (reads m (driver_from (no_pad j) (no_output j))))

@@ -2,15 +2,14 @@
 use Rattle.std.proofs.Common.{◌≡◌, ℕ, Bool, true, false, Option, None, Some, List, [], ◌∷◌, map, zip, refl, sym, ap, ◌∙◌}
 use Rattle.std.specs.Prelude.{slice_get, slice_index_or}
 use Rattle.ice_base.specs.declared.number.SignalNo.{SignalNo}
-use Rattle.ice_base_values.specs.Inputs.{reading}
-use Rattle.ice_base_values.specs.Machine as machine
+use Rattle.ice_base_values.specs.System.{reading, machine_shows}
 use Rattle.ice_net.specs.declared.cell.Cell.{Cell}
 use Rattle.ice_net.specs.declared.kind.CellKind.{CellKind}
 use Rattle.ice_net.specs.declared.kind.CellKind.TheVariants.{Lut, Cover, Carry, Flop, PadCell, Global}
 use Rattle.ice_net.specs.declared.port.Port.{Port}
 use Rattle.ice_net.specs.Drivers.{buffer_at}
 use Rattle.ice_net.specs.Drives.{at_input, bare_drive, pad_drive, kind_drive, buffer_drive, drive_by, port_drive}
-use Rattle.ice_net.specs.Flops.{is_edge, fired}
+use Rattle.ice_net.specs.Kinds.{is_edge, fired}
 use Rattle.ice_net.specs.Meaning.{State, enable_level, set_level, kept_by, clock_by, signal_value, step, start, shows}
 use Rattle.ice_net.specs.NetlistData.{NetlistData}
 use Rattle.ice_blif_laws.proofs.Alike.{Both, Each, each_at, each_or, each_same}
@@ -108,12 +107,12 @@ module _ (n m : NetlistData) (are : AreTied n m) where
     clocks = each_same (IsCellTied n m) (λ (cell : Cell). let none : Option Bool = None in none) (λ (cell : Cell). let none : Option Bool = None in none) (λ c d h. refl) n.cells m.cells are.cells j;
   })
 
-  shows_from : (state : State) (levels : List (List Bool)) → machine.shows (step n) state levels ≡ machine.shows (step m) state levels
+  shows_from : (state : State) (levels : List (List Bool)) → machine_shows (step n) state levels ≡ machine_shows (step m) state levels
   shows_from state [] = refl
   shows_from state (now ∷ later) =
-      (λ j. (step_same state now j).1 ∷ machine.shows (step n) (step_same state now j).0 later)
+      (λ j. (step_same state now j).1 ∷ machine_shows (step n) (step_same state now j).0 later)
       ∙ ap (λ ds. (step m state now).1 ∷ ds) (shows_from (step m state now).0 later)
 
   -- they show the same
   pub shows_same : (levels : List (List Bool)) → shows m levels ≡ shows n levels
-  shows_same levels = sym (ap (λ s. machine.shows (step n) s levels) start_same ∙ shows_from (start m) levels)
+  shows_same levels = sym (ap (λ s. machine_shows (step n) s levels) start_same ∙ shows_from (start m) levels)

@@ -7,13 +7,12 @@ use Rattle.std.proofs.lemmas.List.FromFn.{length-range_with_len}
 use Rattle.ice_base.specs.Lists.{all_known}
 use Rattle.ice_base.proofs.Options.{option_map_same}
 use Rattle.ice_base.specs.declared.number.SignalNo.{SignalNo}
-use Rattle.ice_base_values.specs.Inputs.{present, filled}
 use Rattle.ice_base_values.specs.Order.{At, Has}
-use Rattle.ice_base_values.specs.System.{value}
+use Rattle.ice_base_values.specs.System.{value, present, filled_inputs}
 use Rattle.ice_base_values.proofs.Enough.{value_enough}
 use Rattle.ice_net.specs.declared.cell.Cell.{Cell}
-use Rattle.ice_net.specs.declared.driver.Driver.{Driver}
-use Rattle.ice_net.specs.declared.driver.Driver.TheVariants as driver
+use Rattle.ice_net.specs.declared.driver.SignalDriver.{SignalDriver}
+use Rattle.ice_net.specs.declared.driver.SignalDriver.TheVariants as driver
 use Rattle.ice_net.specs.Drivers.{pin_of, driver_of}
 use Rattle.ice_net.specs.Meaning.{level_by, pad_level, makes_by, reads, makes, depends_on, system_of, signal_value}
 use Rattle.ice_net.specs.NetlistData.{NetlistData}
@@ -32,7 +31,7 @@ in_range n i lt = (i, subst (λ k. At (range_with_len 0 n) i k) (let e : 0 + i �
 
 module _ (n m : NetlistData) (are : AreTied n m) (levels kept : List Bool) where
   -- ---- what a driver makes of what it reads
-  filled_same : (xs ys : List (Option ℕ)) (zs : List Bool) → Each (NumberTied n m are) xs ys → filled false xs zs ≡ filled false ys zs
+  filled_same : (xs ys : List (Option ℕ)) (zs : List Bool) → Each (NumberTied n m are) xs ys → filled_inputs false xs zs ≡ filled_inputs false ys zs
   filled_same [] [] zs h = refl
   filled_same [] (y ∷ ys) zs h = absurd h
   filled_same (x ∷ xs) [] zs h = absurd h
@@ -48,7 +47,7 @@ module _ (n m : NetlistData) (are : AreTied n m) (levels kept : List Bool) where
   pad_level_same (Some x) None h = absurd h
   pad_level_same (Some x) (Some y) h = ap (level_by levels) (port_at_same n m are x.0 y.0 h)
 
-  makes_same : (d : Driver) (zs : List Bool) → makes n levels kept d zs ≡ makes m levels kept d zs
+  makes_same : (d : SignalDriver) (zs : List Bool) → makes n levels kept d zs ≡ makes m levels kept d zs
   makes_same driver.Nothing zs = refl
   makes_same (driver.Pad k) zs = refl
   makes_same (driver.Output i) zs = by (slice_get n.cells i) (slice_get m.cells i) (each_at (IsCellTied n m) n.cells m.cells i are.cells)
@@ -77,15 +76,15 @@ module _ (n m : NetlistData) (are : AreTied n m) (levels kept : List Bool) where
   known_same f same (Some x ∷ xs) (None ∷ ys) h = absurd h.0
   known_same f same (Some x ∷ xs) (Some y ∷ ys) h = (λ j. same x y h.0 j ∷ known_same f same xs ys h.1 j)
 
-  made : NetlistData → (ℕ → Option Bool) → Driver → Option Bool
-  made k v d = option_map (λ xs. makes k levels kept d (filled false (reads k d) xs)) (all_known (map v (present (reads k d))))
+  made : NetlistData → (ℕ → Option Bool) → SignalDriver → Option Bool
+  made k v d = option_map (λ xs. makes k levels kept d (filled_inputs false (reads k d) xs)) (all_known (map v (present (reads k d))))
 
-  made_same : (f : ℕ) → ((s t : ℕ) → IsOne n m s t → left f s ≡ right f t) → (d : Driver) → made n (left f) d ≡ made m (right f) d
+  made_same : (f : ℕ) → ((s t : ℕ) → IsOne n m s t → left f s ≡ right f t) → (d : SignalDriver) → made n (left f) d ≡ made m (right f) d
   unfolding made
   made_same f same d =
-      ap (λ os. option_map (λ xs. makes n levels kept d (filled false (reads n d) xs)) (all_known os)) (known_same f same (reads n d) (reads m d) (reads_tied n m are d))
-      ∙ option_map_same (λ xs. makes n levels kept d (filled false (reads n d) xs)) (λ xs. makes m levels kept d (filled false (reads m d) xs))
-      (λ xs. makes_same d (filled false (reads n d) xs) ∙ ap (makes m levels kept d) (filled_same (reads n d) (reads m d) xs (reads_tied n m are d)))
+      ap (λ os. option_map (λ xs. makes n levels kept d (filled_inputs false (reads n d) xs)) (all_known os)) (known_same f same (reads n d) (reads m d) (reads_tied n m are d))
+      ∙ option_map_same (λ xs. makes n levels kept d (filled_inputs false (reads n d) xs)) (λ xs. makes m levels kept d (filled_inputs false (reads m d) xs))
+      (λ xs. makes_same d (filled_inputs false (reads n d) xs) ∙ ap (makes m levels kept d) (filled_same (reads n d) (reads m d) xs (reads_tied n m are d)))
       (all_known (map (right f) (present (reads m d))))
 
   -- after any number of steps

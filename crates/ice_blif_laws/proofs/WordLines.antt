@@ -1,10 +1,9 @@
 -- The joined lines of a text have words alone.
 use Rattle.std.proofs.Common.{◌≡◌, ℕ, zero, suc, ◌<◌, Bool, true, false, Option, None, Some, List, [], ◌∷◌, length, drop, filter, nat_lt, refl, if◌then◌else◌, rules, tests}
 use Rattle.std.specs.List.{AllByRecursion}
-use Rattle.ice_base.specs.Text.{onto_first, pieces, words, ends_word, IsWord, lines, numbered}
-use Rattle.ice_base.specs.Comments.{begins_with, uncommented}
+use Rattle.ice_base.specs.Text.{onto_first, pieces, words, ends_word, IsWord, lines, numbered, begins_with, uncommented}
 use Rattle.ice_base.proofs.TextLines.{all_append}
-use Rattle.ice_blif.specs.JoinedLines.{FilledLine, continued, goes_on, plain_by, plain, first_words, with_next, behind, joined, fill, filled}
+use Rattle.ice_blif.specs.JoinedLines.{FilledLine, continued, goes_on, plain_by, plain, first_words, with_next, later_joined, joined, fill, filled}
 
 -- ---- lists
 
@@ -71,7 +70,7 @@ next_have : (on : Bool) (ws : List (List ℕ)) (ls : List (ℕ × List (List ℕ
 next_have false ws ls words all = words
 next_have true ws ls words all = all_append IsWord ws (first_words ls) words (first_have ls all)
 
-behind_have : (on : Bool) (ls : List (ℕ × List (List ℕ))) → AllByRecursion HasWords ls → AllByRecursion HasWords (behind on ls)
+behind_have : (on : Bool) (ls : List (ℕ × List (List ℕ))) → AllByRecursion HasWords ls → AllByRecursion HasWords (later_joined on ls)
 behind_have false ls all = all
 behind_have true [] all = tt
 behind_have true (l ∷ ls) all = all.1

@@ -2,9 +2,8 @@
 use Rattle.std.proofs.Common.{◌≡◌, inl, inr, ℕ, ◌+◌, Bool, true, false, ◌||◌, List, [], ◌∷◌, ◌++◌, length, drop, take, nat_lt, nat_le, Option, Some, None, Result, Ok, Err, IfOk, if◌then◌else◌, codes, bytes_eq, refl, sym, subst, arith}
 use Rattle.std.specs.List.{AllByRecursion, list_any}
 use Rattle.std.proofs.lemmas.List.Elements.{All-from_recursion}
-use Rattle.ice_base.specs.Text.{lines, numbered, IsWord}
-use Rattle.ice_base.specs.Comments.{begins_with}
-use Rattle.ice_base.specs.Names.{with_name, number_of_name}
+use Rattle.ice_base.specs.Text.{lines, numbered, IsWord, begins_with}
+use Rattle.ice_base.specs.Lists.{with_name, number_of_name}
 use Rattle.ice_base.specs.declared.number.SignalNo.{SignalNo}
 use Rattle.ice_base.proofs.TextLines.{all_append}
 use Rattle.ice_net.specs.declared.port.Way.{Way}
@@ -15,10 +14,9 @@ use Rattle.ice_blif.specs.declared.fault.BlifFault.{BlifFault}
 use Rattle.ice_blif.specs.declared.fault.BlifFault.TheVariants.{NoModel, SecondModel, UnknownDirective, PortTwice, TooWide, TooMany}
 use Rattle.ice_blif.specs.GateForms.{GateForm}
 use Rattle.ice_blif.specs.Gates.{gate_kind_of, gate_place}
-use Rattle.ice_blif.specs.Signals.{named, signal_of}
+use Rattle.ice_blif.specs.State.{named, signal_of, LastCell, NetReading, Connections, Nothing, Gate, Rows}
 use Rattle.ice_blif.specs.JoinedLines.{FilledLine, joined, filled, last_number}
-use Rattle.ice_blif.specs.State.{LastCell, State, Connections, Nothing, Gate, Rows}
-use Rattle.ice_blif.specs.Cells.{◌>>=◌, row_says, param_says, finished, count_of}
+use Rattle.ice_blif.specs.Cells.{◌>>=◌, cover_row_says, param_says, finished, count_of}
 use Rattle.ice_blif.specs.Grammar.{was_named, with_named_port, port_says, ports_say, no_wiring, is_missing, after_actual, connect_at, connect_by, equals_at, connection_says, connections_say, cell_of, with_last, without_rows, gate_of_kind, gate_says, cover_signals, new_cover, cover_of, names_say, row_line, row_or_fault, port_directive_says, param_directive_says, directive_says, within_limits, line_says, after_end, ended, model_says, empty_reader, lines_say, text_says}
 use Rattle.ice_blif.specs.Registers.{hidden_name, taken_apart_says, without_cells}
 use Rattle.ice_blif.proofs.Apart.{HiddenKeep, all_keep, said_apart}
@@ -89,49 +87,49 @@ cover_signals_words line n signals (w ∷ ws) words all =
     (cover_signals_words line (named n w) (signals ++ Some (signal_of n w) ∷ []) ws words.1 (named_words n w words.0 all))
 
 -- ---- states
-abbrev StateWords : State → Type 0
+abbrev StateWords : NetReading → Type 0
 StateWords r = NamesWords r.netlist
 
 last_words : (n : NetlistData) (before now : LastCell) (rows : Bool) → NamesWords n → StateWords (with_last n before now rows)
 last_words n before now rows all = subst AreWords (sym (finished_names n before)) all
 
-gate_of_kind_words : (line : ℕ) (r : State) (words : List (List ℕ)) (gate : Option GateForm) → AreWords words → StateWords r → IfOk (gate_of_kind line r words gate) StateWords
+gate_of_kind_words : (line : ℕ) (r : NetReading) (words : List (List ℕ)) (gate : Option GateForm) → AreWords words → StateWords r → IfOk (gate_of_kind line r words gate) StateWords
 gate_of_kind_words line r words None are all = tt
 gate_of_kind_words line r words (Some gate) are all =
     bind_keeps (BesideWords {X = Connections}) StateWords (connections_say line gate r.netlist no_wiring words) (λ c. Ok (with_last c.0 r.last (Gate (cell_of line gate c.1)) false))
     (connections_words line gate r.netlist no_wiring words are all) (λ c kept. last_words c.0 r.last (Gate (cell_of line gate c.1)) false kept)
 
-gate_words : (line : ℕ) (r : State) (words : List (List ℕ)) → AreWords words → StateWords r → IfOk (gate_says line r words) StateWords
+gate_words : (line : ℕ) (r : NetReading) (words : List (List ℕ)) → AreWords words → StateWords r → IfOk (gate_says line r words) StateWords
 gate_words line r [] are all = tt
 gate_words line r (w ∷ ws) are all = gate_of_kind_words line r ws (gate_kind_of w) are.1 all
 
-cover_words : (line : ℕ) (r : State) (n : NetlistData) (signals : List (Option SignalNo)) → NamesWords n → IfOk (cover_of line r n signals) StateWords
+cover_words : (line : ℕ) (r : NetReading) (n : NetlistData) (signals : List (Option SignalNo)) → NamesWords n → IfOk (cover_of line r n signals) StateWords
 cover_words line r n [] all = tt
 cover_words line r n (s ∷ signals) all = last_words n r.last (Rows (new_cover line (s ∷ signals))) true all
 
-names_words : (line : ℕ) (r : State) (words : List (List ℕ)) → AreWords words → StateWords r → IfOk (names_say line r words) StateWords
+names_words : (line : ℕ) (r : NetReading) (words : List (List ℕ)) → AreWords words → StateWords r → IfOk (names_say line r words) StateWords
 names_words line r words are all =
     bind_keeps (BesideWords {X = List (Option SignalNo)}) StateWords (cover_signals line r.netlist [] words) (λ c. cover_of line r c.0 c.1) (cover_signals_words line r.netlist [] words are all)
     (λ c kept. cover_words line r c.0 c.1 kept)
 
-row_line_words : (line : ℕ) (r : State) (last : LastCell) (first : List ℕ) (others : List (List ℕ)) → StateWords r → IfOk (row_line line r last first others) StateWords
+row_line_words : (line : ℕ) (r : NetReading) (last : LastCell) (first : List ℕ) (others : List (List ℕ)) → StateWords r → IfOk (row_line line r last first others) StateWords
 row_line_words line r Nothing first others all = tt
 row_line_words line r (Gate cell) first others all = tt
 row_line_words line r (Rows cover) first others all =
-    bind_keeps (λ c. Unit {0}) StateWords (row_says line cover first others) (λ c. Ok (record { netlist = r.netlist; last = Rows c; rows = true })) (any_ok (row_says line cover first others)) (λ c kept. all)
+    bind_keeps (λ c. Unit {0}) StateWords (cover_row_says line cover first others) (λ c. Ok (record { netlist = r.netlist; last = Rows c; rows = true })) (any_ok (cover_row_says line cover first others)) (λ c kept. all)
 
-row_words : (line : ℕ) (r : State) (first : List ℕ) (others : List (List ℕ)) → StateWords r → IfOk (row_or_fault line r first others) StateWords
+row_words : (line : ℕ) (r : NetReading) (first : List ℕ) (others : List (List ℕ)) → StateWords r → IfOk (row_or_fault line r first others) StateWords
 row_words line r first others all = either StateWords r.rows (row_line line r r.last first others) (Err (UnknownDirective line)) (row_line_words line r r.last first others all) tt
 
-port_directive_words : (line : ℕ) (way : Way) (r : State) (names : List (List ℕ)) → AreWords names → StateWords r → IfOk (port_directive_says line way r names) StateWords
+port_directive_words : (line : ℕ) (way : Way) (r : NetReading) (names : List (List ℕ)) → AreWords names → StateWords r → IfOk (port_directive_says line way r names) StateWords
 port_directive_words line way r names are all =
     bind_keeps NamesWords StateWords (ports_say line way r.netlist names) (λ n. Ok (without_rows n r.last)) (ports_words line way r.netlist names are all) (λ n kept. kept)
 
-param_directive_words : (line : ℕ) (r : State) (words : List (List ℕ)) → StateWords r → IfOk (param_directive_says line r words) StateWords
+param_directive_words : (line : ℕ) (r : NetReading) (words : List (List ℕ)) → StateWords r → IfOk (param_directive_says line r words) StateWords
 param_directive_words line r words all =
     bind_keeps (λ now. Unit {0}) StateWords (param_says line r.last words) (λ last. Ok (without_rows r.netlist last)) (any_ok (param_says line r.last words)) (λ now kept. all)
 
-directive_words : (line : ℕ) (r : State) (first : List ℕ) (others : List (List ℕ)) → AreWords others → StateWords r → IfOk (directive_says line r first others) StateWords
+directive_words : (line : ℕ) (r : NetReading) (first : List ℕ) (others : List (List ℕ)) → AreWords others → StateWords r → IfOk (directive_says line r first others) StateWords
 directive_words line r first others are all =
     either StateWords (bytes_eq first (codes ".gate") || bytes_eq first (codes ".subckt")) (gate_says line r others) _ (gate_words line r others are all)
     (either StateWords (bytes_eq first (codes ".names")) (names_say line r others) _ (names_words line r others are all)
@@ -142,22 +140,22 @@ directive_words line r first others are all =
     (either StateWords (bytes_eq first (codes ".model")) (Err (SecondModel line)) (Err (UnknownDirective line)) tt tt))))))
 
 -- ---- the lines of a model
-limits_words : (line : ℕ) (r : State) → StateWords r → IfOk (within_limits line r) StateWords
+limits_words : (line : ℕ) (r : NetReading) → StateWords r → IfOk (within_limits line r) StateWords
 limits_words line r all =
     either StateWords (nat_lt 65534 (length r.netlist.names)) (Err (TooMany line 65534)) _ tt
     (either StateWords (nat_lt 1048576 (length r.netlist.cells + count_of r.last)) (Err (TooMany line 1048576)) (Ok r) tt all)
 
-line_words : (l : FilledLine) (r : State) → IsWordLine l → StateWords r → IfOk (line_says within_limits l r) StateWords
+line_words : (l : FilledLine) (r : NetReading) → IsWordLine l → StateWords r → IfOk (line_says within_limits l r) StateWords
 line_words l r are all =
     bind_keeps StateWords StateWords (if begins_with 46 l.first then directive_says l.number r l.first l.others else row_or_fault l.number r l.first l.others) (within_limits l.number)
     (either StateWords (begins_with 46 l.first) (directive_says l.number r l.first l.others) (row_or_fault l.number r l.first l.others) (directive_words l.number r l.first l.others are.others all) (row_words l.number r l.first l.others all))
     (λ s kept. limits_words l.number s kept)
 
-ended_words : (r : State) (ls : List FilledLine) → StateWords r → IfOk (ended r ls) NamesWords
+ended_words : (r : NetReading) (ls : List FilledLine) → StateWords r → IfOk (ended r ls) NamesWords
 ended_words r ls all =
     bind_keeps (λ u. Unit {0}) NamesWords (after_end ls) (λ u. Ok (finished r.netlist r.last)) (any_ok (after_end ls)) (λ u kept. subst AreWords (sym (finished_names r.netlist r.last)) all)
 
-model_words : (last : ℕ) (r : State) (ls : List FilledLine) → AllByRecursion IsWordLine ls → StateWords r → IfOk (model_says within_limits last r ls) NamesWords
+model_words : (last : ℕ) (r : NetReading) (ls : List FilledLine) → AllByRecursion IsWordLine ls → StateWords r → IfOk (model_says within_limits last r ls) NamesWords
 model_words last r [] are all = tt
 model_words last r (l ∷ ls) are all =
     either NamesWords (bytes_eq l.first (codes ".end")) (ended r ls) (line_says within_limits l r >>= (λ s. model_says within_limits last s ls)) (ended_words r ls all)

@@ -15,7 +15,7 @@ use Rattle.ice_blif.specs.Cells.{◌>>=◌, kind_says, with_kind}
 use Rattle.ice_blif.specs.GateForms.{GateForm}
 use Rattle.ice_blif.specs.Gates.{plain_gate, gate_kind_of}
 use Rattle.ice_blif.specs.Grammar.{no_wiring, cell_of, with_last, gate_of_kind, line_says, no_limits}
-use Rattle.ice_blif.specs.State.{Connections, LastCell, State, Gate}
+use Rattle.ice_blif.specs.State.{Connections, LastCell, NetReading, Gate}
 use Rattle.ice_blif_write.specs.RoundTrip.{IsName, named_signal, IsDefined}
 use Rattle.ice_blif_write.specs.Text.{name_of, connections, param_line}
 use Rattle.ice_blif_write.proofs.GateRead.{MayBeActual, AreActuals, ArePlaced, IsWired, none_wired, nones, AreRead, signals_read}
@@ -60,7 +60,7 @@ all_actual names kind k (signal ∷ ins) outs long named outs_named defined =
 
 -- ---- the cell of a gate's first line
 -- a reader has made this cell of a gate, up to parameters, and has this netlist
-pub record IsGateRead (names : List (List ℕ)) (r : State) (kind : CellKind) (ins outs : List (Option SignalNo)) (read : NetlistData) (cell : Cell) : Type 0 where
+pub record IsGateRead (names : List (List ℕ)) (r : NetReading) (kind : CellKind) (ins outs : List (Option SignalNo)) (read : NetlistData) (cell : Cell) : Type 0 where
   pub grew : GrewBy r.netlist read
   pub kind_is : cell.kind ≡ kind
   pub know_ins : Know read.names cell.ins (map (named_signal names) ins)
@@ -98,7 +98,7 @@ next_known names read front rest ins outs k m e o know later =
     ∙ ap (λ n. take n (map g outs ++ map f rest)) (sym o ∙ sym (length-map outs g))
     ∙ take-append_seam (map g outs) (map f rest)
 
-pub gate_read : (names : List (List ℕ)) (r : State) (word : List ℕ) (kind : CellKind) (formals : List (List ℕ)) (ins outs : List (Option SignalNo)) (k : ℕ)
+pub gate_read : (names : List (List ℕ)) (r : NetReading) (word : List ℕ) (kind : CellKind) (formals : List (List ℕ)) (ins outs : List (Option SignalNo)) (k : ℕ)
     → gate_kind_of word ≡ Some (plain_gate kind) → ArePlaced kind 0 formals → length ins ≡ ins_count kind → length outs ≡ outs_count kind → ins_count kind + outs_count kind ≡ length formals → length formals ≤ 10
     → AreActuals names kind 0 (ins ++ outs)
     → (m : NetlistData) × (cell : Cell) × (line_says no_limits (numbered_line k (codes ".gate", word ∷ connections names formals (ins ++ outs))) r ≡ Ok (with_last m r.last (Gate cell) false))
@@ -127,7 +127,7 @@ gate_read names r word kind formals ins outs k is placed in_long out_long long f
 
 -- ---- parameters
 -- a reader with a gate as its last cell
-abbrev pub at_gate : NetlistData → Cell → State
+abbrev pub at_gate : NetlistData → Cell → NetReading
 at_gate n cell = record { netlist = n; last = Gate cell; rows = false }
 
 pub param_read : (n : NetlistData) (cell : Cell) (name value : List ℕ) (now : CellKind) (k : ℕ) → kind_says k cell.kind name (value ∷ []) ≡ Ok now

@@ -15,7 +15,7 @@ use Rattle.ice_net.specs.NetlistData.{NetlistData}
 use Rattle.ice_blif.specs.declared.fault.BlifFault.{BlifFault}
 use Rattle.ice_blif.specs.Cells.{◌>>=◌, finished, cover_cell, kind_says, with_kind}
 use Rattle.ice_blif.specs.Covers.{table_of}
-use Rattle.ice_blif.specs.State.{OpenCover, State}
+use Rattle.ice_blif.specs.State.{OpenCover, NetReading}
 use Rattle.ice_blif_write.specs.RoundTrip.{IsName, named_signal, IsDefined, IsDefinedCell, IsSmallKind, IsSmallCell}
 use Rattle.ice_blif_write.specs.Text.{Words, port_names, kind_word, gate_line, first_line, param_line, digits_of, rows_from, cell_lines, lines_below}
 use Rattle.ice_blif_write.proofs.CellRead.{all_named, all_actual, IsGateRead, gate_read, at_gate, param_read}
@@ -69,7 +69,7 @@ record IsGateOf (names : List (List ℕ)) (kind : CellKind) (ins outs : List (Op
 
 -- ---- gates
 -- the first line of a gate is read, and then the lines behind it
-gate_first : (n : NetlistData) (r : State) (kind : CellKind) (ins outs : List (Option SignalNo)) (rest : List Words) → All IsName n.names → IsGateOf n.names kind ins outs
+gate_first : (n : NetlistData) (r : NetReading) (kind : CellKind) (ins outs : List (Option SignalNo)) (rest : List Words) → All IsName n.names → IsGateOf n.names kind ins outs
     → ((read : NetlistData) (cell : Cell) → IsGateRead n.names r (bare kind) ins outs read cell → Ends n (at_gate (finished read r.last) cell) rest)
     → Ends n r (gate_line n.names kind ins outs ∷ rest)
 gate_first n r kind ins outs rest names is later =
@@ -81,23 +81,23 @@ gate_first n r kind ins outs rest names is later =
     ends_line n r (λ k. at_gate (finished (read k).0 r.last) (read k).1) (gate_line n.names kind ins outs) rest refl (λ k. (read k).2) (λ k. later (read k).0 (read k).1 (read k).3)
 
 -- a gate with its parameters is a cell more
-gate_more : (n : NetlistData) (ports : List Port) (done : List Cell) (r : State) (kind : CellKind) (ins outs : List (Option SignalNo)) (line : ℕ) (read : NetlistData) (cell : Cell) (before : CellKind)
+gate_more : (n : NetlistData) (ports : List Port) (done : List Cell) (r : NetReading) (kind : CellKind) (ins outs : List (Option SignalNo)) (line : ℕ) (read : NetlistData) (cell : Cell) (before : CellKind)
     → cell.kind ≡ kind → IsGateRead n.names r before ins outs read (with_kind cell before)
     → HasRead n ports done r → HasRead n ports (done ++ cell_with kind line ins outs ∷ []) (at_gate (finished read r.last) cell)
 gate_more n ports done r kind ins outs line read cell before is g has =
     one_more n read ports done r (at_gate (finished read r.last) cell) cell (cell_with kind line ins outs) has g.grew refl refl (record { kind_is = is; ins = g.know_ins; outs = g.know_outs })
 
 -- the netlist, the cells before, and what is read so far
-record IsAt (n : NetlistData) (done : List Cell) (r : State) : Type 0 where
+record IsAt (n : NetlistData) (done : List Cell) (r : NetReading) : Type 0 where
   names : All IsName n.names
   has : HasRead n n.ports done r
 
 -- the lines behind a cell, from a reader that has this cell more
 abbrev Later : NetlistData → List Cell → Cell → List Words → Type 0
-Later n done cell rest = (s : State) → HasRead n n.ports (done ++ cell ∷ []) s → Ends n s rest
+Later n done cell rest = (s : NetReading) → HasRead n n.ports (done ++ cell ∷ []) s → Ends n s rest
 
 -- a gate without parameters
-plain_gate : (n : NetlistData) (done : List Cell) (r : State) (kind : CellKind) (line : ℕ) (ins outs : List (Option SignalNo)) (rest : List Words) → bare kind ≡ kind → IsAt n done r → IsGateOf n.names kind ins outs
+plain_gate : (n : NetlistData) (done : List Cell) (r : NetReading) (kind : CellKind) (line : ℕ) (ins outs : List (Option SignalNo)) (rest : List Words) → bare kind ≡ kind → IsAt n done r → IsGateOf n.names kind ins outs
     → Later n done (cell_with kind line ins outs) rest → Ends n r (gate_line n.names kind ins outs ∷ rest)
 plain_gate n done r kind line ins outs rest plain at is later =
     gate_first n r kind ins outs rest at.names is (λ read cell g. later (at_gate (finished read r.last) cell)
@@ -110,7 +110,7 @@ param_line_read : (n m : NetlistData) (cell : Cell) (name : List ℕ) (width num
 param_line_read n m cell name width number now rest says later =
     ends_line n (at_gate m cell) (λ k. at_gate m (with_kind cell now)) (param_line name (digits_of width number)) rest refl (λ k. param_read m cell name (digits_of width number) now k (says k)) (λ k. later)
 
-table_gate : (n : NetlistData) (done : List Cell) (r : State) (table line : ℕ) (ins outs : List (Option SignalNo)) (rest : List Words) → table < 2 ^ 16 → IsAt n done r → IsGateOf n.names (Lut table) ins outs
+table_gate : (n : NetlistData) (done : List Cell) (r : NetReading) (table line : ℕ) (ins outs : List (Option SignalNo)) (rest : List Words) → table < 2 ^ 16 → IsAt n done r → IsGateOf n.names (Lut table) ins outs
     → Later n done (cell_with (Lut table) line ins outs) rest → Ends n r (gate_line n.names (Lut table) ins outs ∷ (lines_below (Lut table) ++ rest))
 table_gate n done r table line ins outs rest small at is later =
     gate_first n r (Lut table) ins outs (lines_below (Lut table) ++ rest) at.names is (λ read cell g.
@@ -120,7 +120,7 @@ table_gate n done r table line ins outs rest small at is later =
     (later (at_gate (finished read r.last) (with_kind cell (Lut table)))
     (gate_more n n.ports done r (Lut table) ins outs line read (with_kind cell (Lut table)) (Lut 0) refl (record { grew = g.grew; kind_is = refl; know_ins = g.know_ins; know_outs = g.know_outs }) at.has)))
 
-pad_gate : (n : NetlistData) (done : List Cell) (r : State) (pin_type : ℕ) (pullup : Bool) (line : ℕ) (ins outs : List (Option SignalNo)) (rest : List Words) → pin_type < 2 ^ 6 → IsAt n done r
+pad_gate : (n : NetlistData) (done : List Cell) (r : NetReading) (pin_type : ℕ) (pullup : Bool) (line : ℕ) (ins outs : List (Option SignalNo)) (rest : List Words) → pin_type < 2 ^ 6 → IsAt n done r
     → IsGateOf n.names (PadCell pin_type pullup) ins outs → Later n done (cell_with (PadCell pin_type pullup) line ins outs) rest
     → Ends n r (gate_line n.names (PadCell pin_type pullup) ins outs ∷ (lines_below (PadCell pin_type pullup) ++ rest))
 pad_gate n done r pin_type pullup line ins outs rest small at is later =
@@ -155,7 +155,7 @@ record IsCoverOf (names : List (List ℕ)) (table width : ℕ) (ins outs : List 
   ins_there : AreThere ins
   outs_there : AreThere outs
 
-cover_more : (n : NetlistData) (done : List Cell) (r : State) (table width line : ℕ) (ins outs : List (Option SignalNo)) (read : NetlistData) (c now : OpenCover) → IsCoverOf n.names table width ins outs
+cover_more : (n : NetlistData) (done : List Cell) (r : NetReading) (table width line : ℕ) (ins outs : List (Option SignalNo)) (read : NetlistData) (c now : OpenCover) → IsCoverOf n.names table width ins outs
     → IsCoverRead n.names r ins outs read c → HasSignalsOf c now → IsCovering table width (2 ^ width) now → HasRead n n.ports done r
     → HasRead n n.ports (done ++ cell_with (Cover table width) line ins outs ∷ []) (at_cover (finished read r.last) now)
 cover_more n done r table width line ins outs read c now is g same covering has =
@@ -166,7 +166,7 @@ cover_more n done r table width line ins outs read c now is g same covering has 
       outs = subst (λ (ss : List (Option SignalNo)). Know read.names ss (map (named_signal n.names) outs)) (sym same.outs) g.know_outs;
     })
 
-one_cover : (n : NetlistData) (done : List Cell) (r : State) (table width line : ℕ) (ins outs : List (Option SignalNo)) (rest : List Words) → IsAt n done r → IsCoverOf n.names table width ins outs
+one_cover : (n : NetlistData) (done : List Cell) (r : NetReading) (table width line : ℕ) (ins outs : List (Option SignalNo)) (rest : List Words) → IsAt n done r → IsCoverOf n.names table width ins outs
     → Later n done (cell_with (Cover table width) line ins outs) rest → Ends n r (cell_lines n.names (cell_with (Cover table width) line ins outs) ++ rest)
 one_cover n done r table width line ins outs rest at is later =
     let narrow : length ins ≤ 4 = (let e = is.ins_long in let le = is.narrow in omega arith) in
@@ -187,7 +187,7 @@ gate_of names kind line ins outs gate formed defined = record {
   defined = recursion_from_All (IsDefined names) outs defined;
 }
 
-cell_read : (n : NetlistData) (done : List Cell) (r : State) (kind : CellKind) (line : ℕ) (ins outs : List (Option SignalNo)) (rest : List Words) → IsAt n done r
+cell_read : (n : NetlistData) (done : List Cell) (r : NetReading) (kind : CellKind) (line : ℕ) (ins outs : List (Option SignalNo)) (rest : List Words) → IsAt n done r
     → IsFormedCell (length n.names) (cell_with kind line ins outs) → IsDefinedCell n.names (cell_with kind line ins outs) → IsSmallKind kind
     → Later n done (cell_with kind line ins outs) rest → Ends n r (cell_lines n.names (cell_with kind line ins outs) ++ rest)
 cell_read n done r (Lut table) line ins outs rest at formed defined small later = table_gate n done r table line ins outs rest small at (gate_of n.names (Lut table) line ins outs tt formed defined) later
@@ -208,8 +208,8 @@ cell_read n done r (PadCell pin_type pullup) line ins outs rest at formed define
     pad_gate n done r pin_type pullup line ins outs rest (let lt : pin_type < 64 = formed.kind in omega arith) at (gate_of n.names (PadCell pin_type pullup) line ins outs formed.kind formed defined) later
 cell_read n done r Global line ins outs rest at formed defined small later = plain_gate n done r Global line ins outs rest refl at (gate_of n.names Global line ins outs tt formed defined) later
 
-pub cells_read : (n : NetlistData) (rest : List Words) → All IsName n.names → ((s : State) → HasRead n n.ports n.cells s → Ends n s rest)
-    → (done left : List Cell) (r : State) → n.cells ≡ done ++ left → AllByRecursion (IsFormedCell (length n.names)) left → AllByRecursion (IsDefinedCell n.names) left → AllByRecursion IsSmallCell left
+pub cells_read : (n : NetlistData) (rest : List Words) → All IsName n.names → ((s : NetReading) → HasRead n n.ports n.cells s → Ends n s rest)
+    → (done left : List Cell) (r : NetReading) → n.cells ≡ done ++ left → AllByRecursion (IsFormedCell (length n.names)) left → AllByRecursion (IsDefinedCell n.names) left → AllByRecursion IsSmallCell left
     → HasRead n n.ports done r → Ends n r (flat_map (cell_lines n.names) left ++ rest)
 cells_read n rest names later done [] r all formed defined small has = later r (subst (λ (cells : List Cell). HasRead n n.ports cells r) (sym (all ∙ append-nil done)) has)
 cells_read n rest names later done (cell ∷ left) r all formed defined small has =

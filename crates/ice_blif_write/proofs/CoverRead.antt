@@ -7,11 +7,10 @@ use Rattle.ice_net.specs.Meaning.{table_bit}
 use Rattle.ice_net.specs.NetlistData.{NetlistData}
 use Rattle.ice_blif.specs.declared.fault.BlifFault.{BlifFault}
 use Rattle.ice_blif.specs.declared.fault.BlifFault.TheVariants.{TooWide, BadCover}
-use Rattle.ice_blif.specs.Cells.{◌>>=◌, level_alone, row_and_level, row_parts, with_row, row_of, row_of_level, row_says}
-use Rattle.ice_blif.specs.Covers.{is_row_digit, is_row, level_of, agrees}
-use Rattle.ice_blif.specs.Signals.{named, signal_of}
+use Rattle.ice_blif.specs.Cells.{◌>>=◌, level_alone, row_and_level, row_parts, with_cover_row, cover_row_of, row_of_level, cover_row_says}
+use Rattle.ice_blif.specs.Covers.{is_row_digit, is_row, level_of_word, agrees}
+use Rattle.ice_blif.specs.State.{named, signal_of, OpenCover, NetReading, Rows}
 use Rattle.ice_blif.specs.Grammar.{new_cover, cover_signals, cover_of, with_last, row_or_fault, directive_says, line_says, no_limits}
-use Rattle.ice_blif.specs.State.{OpenCover, State, Rows}
 use Rattle.ice_blif_write.specs.RoundTrip.{named_signal}
 use Rattle.ice_blif_write.specs.Text.{Words, name_of, signal_words, digit_of, levels_of, row_line, rows_from}
 use Rattle.ice_blif_write.proofs.CellRead.{first_known, rest_known}
@@ -79,12 +78,12 @@ cover_signals_read names line n read done (Some signal ∷ signals) there few kn
       },
     )
 
-some_cover : (line : ℕ) (r : State) (n : NetlistData) (signals : List (Option SignalNo)) → 0 < length signals → cover_of line r n signals ≡ Ok (with_last n r.last (Rows (new_cover line signals)) true)
+some_cover : (line : ℕ) (r : NetReading) (n : NetlistData) (signals : List (Option SignalNo)) → 0 < length signals → cover_of line r n signals ≡ Ok (with_last n r.last (Rows (new_cover line signals)) true)
 some_cover line r n [] lt = absurd (omega arith)
 some_cover line r n (s ∷ signals) lt = refl
 
 -- a reader has made this cover, without rows, and has this netlist
-pub record IsCoverRead (names : List (List ℕ)) (r : State) (ins outs : List (Option SignalNo)) (read : NetlistData) (c : OpenCover) : Type 0 where
+pub record IsCoverRead (names : List (List ℕ)) (r : NetReading) (ins outs : List (Option SignalNo)) (read : NetlistData) (c : OpenCover) : Type 0 where
   pub grew : GrewBy r.netlist read
   pub long : length c.ins ≡ length ins
   pub know_ins : Know read.names c.ins (map (named_signal names) ins)
@@ -92,7 +91,7 @@ pub record IsCoverRead (names : List (List ℕ)) (r : State) (ins outs : List (O
   pub level : c.level ≡ None
   pub covered : c.covered ≡ 0
 
-pub cover_read : (names : List (List ℕ)) (r : State) (ins outs : List (Option SignalNo)) (k : ℕ) → AreThere ins → AreThere outs → length ins ≤ 4 → length outs ≡ 1
+pub cover_read : (names : List (List ℕ)) (r : NetReading) (ins outs : List (Option SignalNo)) (k : ℕ) → AreThere ins → AreThere outs → length ins ≤ 4 → length outs ≡ 1
     → (m : NetlistData) × (c : OpenCover) × (line_says no_limits (numbered_line k (codes ".names", flat_map (signal_words names) (ins ++ outs))) r ≡ Ok (with_last m r.last (Rows c) true))
     × IsCoverRead names r ins outs m c
 cover_read names r ins outs k ins_there outs_there narrow one =
@@ -111,7 +110,7 @@ cover_read names r ins outs k ins_there outs_there narrow one =
       c.0,
       cover,
       ap (λ (x : Result (NetlistData × List (Option SignalNo)) BlifFault). (x >>= (λ d. cover_of k r d.0 d.1)) >>= no_limits k) read.1
-          ∙ ap (λ (x : Result State BlifFault). x >>= no_limits k) (some_cover k r c.0 c.1 (omega (arith, long))),
+          ∙ ap (λ (x : Result NetReading BlifFault). x >>= no_limits k) (some_cover k r c.0 c.1 (omega (arith, long))),
       record {
         grew = is.grew;
         long = length-take (length c.1 - 1) c.1 ∙ omega (arith, long);
@@ -142,21 +141,21 @@ levels_are_row width j =
     ap (λ b. b && list_all is_row_digit (levels_of width j)) same ∙ level_digits width j
 
 -- a reader with a cover as its last cell
-abbrev pub at_cover : NetlistData → OpenCover → State
+abbrev pub at_cover : NetlistData → OpenCover → NetReading
 at_cover n c = record { netlist = n; last = Rows c; rows = true }
 
 -- the words of a row are its digits and its level
 row_said : (c : OpenCover) (width j k : ℕ) (first : List ℕ) (others : List (List ℕ)) → length c.ins ≡ width → row_parts width first others ≡ Some (levels_of width j, codes "1") → agrees c.level true ≡ true
-    → row_says k c first others ≡ Ok (with_row c (levels_of width j) true)
+    → cover_row_says k c first others ≡ Ok (with_cover_row c (levels_of width j) true)
 row_said c width j k first others long parts agree =
     let row : List ℕ = levels_of width j in
     let is : is_row (length c.ins) row ≡ true = ap (λ w. is_row w row) long ∙ levels_are_row width j in
-    ap (λ w. row_of k c (row_parts w first others)) long ∙ ap (row_of k c) parts
-    ∙ ap (λ b. if b then row_of_level k c row (level_of (codes "1")) else Err (BadCover k)) is
-    ∙ ap (λ b. if b then Ok (with_row c row true) else Err (BadCover k)) agree
+    ap (λ w. cover_row_of k c (row_parts w first others)) long ∙ ap (cover_row_of k c) parts
+    ∙ ap (λ b. if b then row_of_level k c row (level_of_word (codes "1")) else Err (BadCover k)) is
+    ∙ ap (λ b. if b then Ok (with_cover_row c row true) else Err (BadCover k)) agree
 
 row_read : (n : NetlistData) (c : OpenCover) (width j k : ℕ) → length c.ins ≡ width → agrees c.level true ≡ true
-    → line_says no_limits (numbered_line k (row_line width j)) (at_cover n c) ≡ Ok (at_cover n (with_row c (levels_of width j) true))
+    → line_says no_limits (numbered_line k (row_line width j)) (at_cover n c) ≡ Ok (at_cover n (with_cover_row c (levels_of width j) true))
 row_read n c zero j k long agree =
     ap (λ (x : Result OpenCover BlifFault). (x >>= (λ d. Ok (at_cover n d))) >>= no_limits k) (row_said c zero j k (codes "1") [] long refl agree)
 row_read n c (suc width) j k long agree =
@@ -194,12 +193,12 @@ rows_read n m first rest table width narrow sixteen later j zero c all long same
 rows_read n m first rest table width narrow sixteen later j (suc left) c all long same is =
     let next = rows_read n m first rest table width narrow sixteen later (j + 1) left in
     of (table_bit table j) refl (next c (omega arith) long same)
-    (next (with_row c (levels_of width j) true) (omega arith) long (record { ins = same.ins; outs = same.outs }))
+    (next (with_cover_row c (levels_of width j) true) (omega arith) long (record { ins = same.ins; outs = same.outs }))
   where
     of : (b : Bool) → table_bit table j ≡ b → (IsCovering table width (j + 1) c → Ends n (at_cover m c) (rows_from table width (j + 1) left ++ rest))
-        → (IsCovering table width (j + 1) (with_row c (levels_of width j) true) → Ends n (at_cover m (with_row c (levels_of width j) true)) (rows_from table width (j + 1) left ++ rest))
+        → (IsCovering table width (j + 1) (with_cover_row c (levels_of width j) true) → Ends n (at_cover m (with_cover_row c (levels_of width j) true)) (rows_from table width (j + 1) left ++ rest))
         → Ends n (at_cover m c) (((if b then row_line width j ∷ [] else []) ++ rows_from table width (j + 1) left) ++ rest)
     of false e skip add = skip (row_skipped table width j c e is)
     of true e skip add =
-        ends_line n (at_cover m c) (λ k. at_cover m (with_row c (levels_of width j) true)) (row_line width j) (rows_from table width (j + 1) left ++ rest) (row_no_end width j)
+        ends_line n (at_cover m c) (λ k. at_cover m (with_cover_row c (levels_of width j) true)) (row_line width j) (rows_from table width (j + 1) left ++ rest) (row_no_end width j)
         (λ k. row_read m c width j k long (agree_on table width j c is)) (λ k. add (row_added table width j c narrow sixteen (omega arith) e is))

@@ -4,7 +4,7 @@ use Rattle.std.specs.List.{position_or_len, list_all}
 use Rattle.std.proofs.lemmas.Bool.{and_parts}
 use Rattle.std.proofs.Math.Seq.{drop-append_seam, take-append_seam, get_or-append_seam, set-append_seam}
 use Rattle.ice_base.specs.declared.number.SignalNo.{SignalNo}
-use Rattle.ice_base.specs.Names.{with_name, number_of_name}
+use Rattle.ice_base.specs.Lists.{with_name, number_of_name}
 use Rattle.ice_base.proofs.Keys.{bytes_same}
 use Rattle.ice_net.specs.declared.kind.CellKind.{CellKind}
 use Rattle.ice_net.specs.declared.kind.CellKind.TheVariants.{Lut, Cover, Carry, Flop, PadCell, Global}
@@ -14,10 +14,9 @@ use Rattle.ice_net.specs.Kinds.{port_place, ins_count, IsGateKind}
 use Rattle.ice_net.specs.NetlistData.{NetlistData}
 use Rattle.ice_blif.specs.Cells.{◌>>=◌}
 use Rattle.ice_blif.specs.Gates.{plain_gate, gate_kind_of}
-use Rattle.ice_blif.specs.Signals.{named, signal_of}
+use Rattle.ice_blif.specs.State.{named, signal_of, Connections}
 use Rattle.ice_blif.specs.Grammar.{no_wiring, wired, is_missing, connect, connect_at, connect_by, equals_at, connection_says, connections_say}
 use Rattle.ice_blif.specs.declared.fault.BlifFault.TheVariants.{PortTwice}
-use Rattle.ice_blif.specs.State.{Connections}
 use Rattle.ice_blif_write.specs.RoundTrip.{IsName, named_signal}
 use Rattle.ice_blif_write.specs.Text.{name_of, connections, port_names, kind_word}
 use Rattle.ice_blif_write.proofs.NamesRead.{Grows, grows_same, grows_more, grows_name, Know, know_later, know_more, know_name}

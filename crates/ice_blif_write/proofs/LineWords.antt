@@ -2,8 +2,7 @@
 use Rattle.std.proofs.Common.{◌≡◌, ℕ, ◌+◌, ◌^◌, ◌/◌, ◌%◌, ◌<◌, ◌&&◌, zero, suc, not, ◌==◌, Bool, true, false, Option, Some, None, List, [], ◌∷◌, ◌++◌, length, nat_lt, if◌then◌else◌, codes, refl, arith, rules, tests}
 use Rattle.std.specs.List.{AllByRecursion, flat_map, list_all}
 use Rattle.std.proofs.lemmas.Bool.{and_parts}
-use Rattle.ice_base.specs.Comments.{begins_with}
-use Rattle.ice_base.specs.Text.{ends_word}
+use Rattle.ice_base.specs.Text.{ends_word, begins_with}
 use Rattle.ice_base.specs.declared.number.SignalNo.{SignalNo}
 use Rattle.ice_base.proofs.TextLines.{all_append}
 use Rattle.ice_net.specs.declared.kind.CellKind.{CellKind}

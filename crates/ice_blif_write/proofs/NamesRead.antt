@@ -3,7 +3,7 @@ use Rattle.std.proofs.Common.{◌≡◌, ℕ, ◌+◌, Bool, true, false, not, �
 use Rattle.std.specs.List.{list_any}
 use Rattle.std.proofs.lemmas.List.{map-append}
 use Rattle.ice_base.specs.declared.number.SignalNo.{SignalNo}
-use Rattle.ice_base.specs.Names.{with_name, number_of_name}
+use Rattle.ice_base.specs.Lists.{with_name, number_of_name}
 use Rattle.ice_base.proofs.Keys.{bytes_same}
 use Rattle.ice_blif_write.specs.RoundTrip.{named_signal}
 

@@ -6,7 +6,7 @@ use Rattle.std.proofs.lemmas.Cmp.{nat_list_eq_equiv}
 use Rattle.std.proofs.lemmas.List.{map-append}
 use Rattle.std.proofs.lemmas.Map.Keys.{apart_from_distinct}
 use Rattle.std.proofs.Math.Seq.{set-append_seam}
-use Rattle.ice_base.specs.Names.{with_name, number_of_name}
+use Rattle.ice_base.specs.Lists.{with_name, number_of_name}
 use Rattle.ice_net.specs.declared.port.Port.{Port}
 use Rattle.ice_net.specs.declared.port.Way.{Way}
 use Rattle.ice_net.specs.declared.port.Way.TheVariants.{Input, Output, Both}
@@ -15,9 +15,8 @@ use Rattle.ice_net.specs.NetlistData.{NetlistData, is_at, port_at, port_by, port
 use Rattle.ice_blif.specs.declared.fault.BlifFault.{BlifFault}
 use Rattle.ice_blif.specs.declared.fault.BlifFault.TheVariants.{PortTwice}
 use Rattle.ice_blif.specs.Cells.{◌>>=◌}
-use Rattle.ice_blif.specs.Signals.{signal_of}
+use Rattle.ice_blif.specs.State.{signal_of, NetReading, Nothing}
 use Rattle.ice_blif.specs.Grammar.{was_named, with_named_port, port_says, without_rows, line_says, no_limits}
-use Rattle.ice_blif.specs.State.{State, Nothing}
 use Rattle.ice_blif_write.specs.RoundTrip.{named_port}
 use Rattle.ice_blif_write.specs.Text.{Words, name_of, port_lines_by, port_lines}
 use Rattle.ice_blif_write.proofs.NamesRead.{Grows, grows_name, with_name_behind, number_has_name}
@@ -85,7 +84,7 @@ abbrev pub port_joined : NetlistData → List ℕ → Way → NetlistData
 port_joined m name way = record { names = with_name m.names name; ports = m.ports ++ (record { signal = signal_of m name; way = way }) ∷ []; cells = m.cells }
 
 -- a reader of ports
-abbrev pub at_ports : NetlistData → State
+abbrev pub at_ports : NetlistData → NetReading
 at_ports m = record { netlist = m; last = Nothing; rows = false }
 
 new_port : (line : ℕ) (way : Way) (m : NetlistData) (name : List ℕ) → IsNoPort (number_of_name m.names name) m.ports → port_says line way m name ≡ Ok (port_joined m name way)
@@ -116,7 +115,7 @@ other_way line m name none =
     by_parts n w ports = record { names = with_name n.names w; ports = ports; cells = n.cells }
 
 -- ---- a line
-abbrev directive_line : ℕ → NetlistData → Way → List ℕ → Result State BlifFault
+abbrev directive_line : ℕ → NetlistData → Way → List ℕ → Result NetReading BlifFault
 directive_line k m way name = (((port_says k way m name >>= (λ n. Ok n)) >>= (λ n. Ok (without_rows n Nothing))) >>= no_limits k)
 
 in_line : (k : ℕ) (m : NetlistData) (name : List ℕ) → line_says no_limits (numbered_line k (codes ".inputs", name ∷ [])) (at_ports m) ≡ directive_line k m Input name

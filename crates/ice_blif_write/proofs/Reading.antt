@@ -10,7 +10,7 @@ use Rattle.ice_blif.specs.declared.fault.BlifFault.{BlifFault}
 use Rattle.ice_blif.specs.Cells.{◌>>=◌, finished, cover_cell}
 use Rattle.ice_blif.specs.Grammar.{line_says, model_says, no_limits, ended}
 use Rattle.ice_blif.specs.JoinedLines.{FilledLine}
-use Rattle.ice_blif.specs.State.{LastCell, State, Nothing, Gate, Rows}
+use Rattle.ice_blif.specs.State.{LastCell, NetReading, Nothing, Gate, Rows}
 use Rattle.ice_blif_write.specs.RoundTrip.{named_signal, named_port, NamedCell, named_cell, IsSameByNames}
 use Rattle.ice_blif_write.specs.Text.{Words}
 use Rattle.ice_blif_write.proofs.NamesRead.{Grows, Know}
@@ -21,22 +21,22 @@ abbrev pub numbered_line : ℕ → Words → FilledLine
 numbered_line k ws = record { number = k; first = ws.0; others = ws.1 }
 
 -- from a reader on, the lines end in this netlist, up to line numbers and the list of names
-abbrev pub Ends : NetlistData → State → List Words → Type 0
+abbrev pub Ends : NetlistData → NetReading → List Words → Type 0
 Ends n r wss = (last k : ℕ) → (m : NetlistData) × (model_says no_limits last r (lines_from k wss) ≡ Ok m) × IsSameByNames n m
 
 -- one line more
-pub ends_line : (n : NetlistData) (r : State) (s : ℕ → State) (ws : Words) (wss : List Words) → bytes_eq ws.0 (codes ".end") ≡ false
+pub ends_line : (n : NetlistData) (r : NetReading) (s : ℕ → NetReading) (ws : Words) (wss : List Words) → bytes_eq ws.0 (codes ".end") ≡ false
     → ((k : ℕ) → line_says no_limits (numbered_line k ws) r ≡ Ok (s k)) → ((k : ℕ) → Ends n (s k) wss) → Ends n r (ws ∷ wss)
 ends_line n r s ws wss other says later last k =
     let end = later k last (next_number k) in (
       end.0,
       ap (λ b. if b then ended r (lines_from (next_number k) wss) else line_says no_limits (numbered_line k ws) r >>= (λ t. model_says no_limits last t (lines_from (next_number k) wss))) other
-          ∙ ap (λ (x : Result State BlifFault). x >>= (λ t. model_says no_limits last t (lines_from (next_number k) wss))) (says k) ∙ end.1,
+          ∙ ap (λ (x : Result NetReading BlifFault). x >>= (λ t. model_says no_limits last t (lines_from (next_number k) wss))) (says k) ∙ end.1,
       end.2,
     )
 
 -- the reader has these ports and cells, up to line numbers and the list of names, whatever names come later
-pub record HasRead (n : NetlistData) (ps : List Port) (cs : List Cell) (r : State) : Type 0 where
+pub record HasRead (n : NetlistData) (ps : List Port) (cs : List Cell) (r : NetReading) : Type 0 where
   pub ports : (later : List (List ℕ)) → map (named_port (r.netlist.names ++ later)) r.netlist.ports ≡ map (named_port n.names) ps
   pub cells : (later : List (List ℕ)) → map (named_cell (r.netlist.names ++ later)) (finished r.netlist r.last).cells ≡ map (named_cell n.names) cs
 
@@ -72,7 +72,7 @@ pub grown_names : (before now later : List (List ℕ)) → (g : Grows before now
 grown_names before now later g = ap (λ ns. ns ++ later) g.1 ∙ append_assoc before g.0 later
 
 -- one cell more
-pub one_more : (n m : NetlistData) (ports : List Port) (cells : List Cell) (r s : State) (now was : Cell) → HasRead n ports cells r → GrewBy r.netlist m
+pub one_more : (n m : NetlistData) (ports : List Port) (cells : List Cell) (r s : NetReading) (now was : Cell) → HasRead n ports cells r → GrewBy r.netlist m
     → s.netlist ≡ finished m r.last → (finished s.netlist s.last).cells ≡ (finished m r.last).cells ++ now ∷ []
     → IsCellOf n.names m.names now.kind now was → HasRead n ports (cells ++ was ∷ []) s
 one_more n m ports cells r s now was has grew netlist made is =

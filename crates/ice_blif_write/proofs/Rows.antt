@@ -6,7 +6,7 @@ use Rattle.std.proofs.lemmas.Bool.{cases_lt}
 use Rattle.std.proofs.lemmas.Nat.Bits.{bit_at_or, bit_at-zero, bit_at-lt, bit_at_lowest, bit_at-suc, same_from_bits_below, bit_at_cat_low}
 use Rattle.std.proofs.Math.Nat.{div-add-mod, mod-lt}
 use Rattle.ice_net.specs.Meaning.{table_bit}
-use Rattle.ice_blif.specs.Cells.{with_row}
+use Rattle.ice_blif.specs.Cells.{with_cover_row}
 use Rattle.ice_blif.specs.Covers.{covers, bit, row_table, table_of}
 use Rattle.ice_blif.specs.State.{OpenCover}
 use Rattle.ice_blif_write.specs.Text.{digit_of, levels_of}
@@ -115,7 +115,7 @@ row_skipped table width j c no_bit is = record {
     of i below (inl lt) next = is.below i lt below
     of i below (inr le) next = let e : i ≡ j = omega arith in is.above i le below ∙ sym (ap (bit_at table) e ∙ none)
 
-pub row_added : (table width j : ℕ) (c : OpenCover) → width ≤ 4 → 2 ^ width ≤ 16 → j < 2 ^ width → table_bit table j ≡ true → IsCovering table width j c → IsCovering table width (j + 1) (with_row c (levels_of width j) true)
+pub row_added : (table width j : ℕ) (c : OpenCover) → width ≤ 4 → 2 ^ width ≤ 16 → j < 2 ^ width → table_bit table j ≡ true → IsCovering table width j c → IsCovering table width (j + 1) (with_cover_row c (levels_of width j) true)
 row_added table width j c narrow sixteen lt_j has is = record {
   level = inr refl;
   below = λ i lt below. bits i below ∙ of i below (cases_lt i j) lt;

@@ -11,7 +11,7 @@ use Rattle.ice_net.specs.NetlistData.{NetlistData, empty_netlist}
 use Rattle.ice_blif.specs.Cells.{finished}
 use Rattle.ice_blif.specs.Grammar.{no_limits, lines_say}
 use Rattle.ice_blif.specs.JoinedLines.{FilledLine, last_number}
-use Rattle.ice_blif.specs.State.{State}
+use Rattle.ice_blif.specs.State.{NetReading}
 use Rattle.ice_blif_write.specs.RoundTrip.{IsName, IsDefinedCell, IsPlainCell, IsSmallCell, named_port, named_cell, WrittenIsRead}
 use Rattle.ice_blif_write.specs.Text.{Words, name_of, port_lines, cell_lines, netlist_lines, blif_text}
 use Rattle.ice_blif_write.proofs.CellRead.{MayBeNamed, all_named}
@@ -23,7 +23,7 @@ use Rattle.ice_blif_write.proofs.Reading.{Ends, HasRead, finished_names, finishe
 use Rattle.ice_blif_write.proofs.WrittenLines.{AreWords, text_lines}
 
 -- ---- the end
-at_end : (n : NetlistData) (r : State) → HasRead n n.ports n.cells r → Ends n r ((codes ".end", []) ∷ [])
+at_end : (n : NetlistData) (r : NetReading) → HasRead n n.ports n.cells r → Ends n r ((codes ".end", []) ∷ [])
 at_end n r has last k =
     let m : NetlistData = finished r.netlist r.last in
     let nothing : List (List ℕ) = [] in

@@ -1,13 +1,13 @@
 -- A line of words has these words, and does not go on in the next line.
-use Rattle.std.proofs.Common.{◌≡◌, ◌≢◌, ℕ, ◌==◌, ◌&&◌, Bool, true, false, Option, Some, None, List, [], ◌∷◌, ◌++◌, map, if◌then◌else◌, refl, sym, ap, ◌∙◌, subst, append-nil, append_assoc, arith, rules, tests}
+use Rattle.std.proofs.Common.{◌≡◌, ◌≢◌, ℕ, ◌==◌, ◌&&◌, Bool, true, false, None, List, [], ◌∷◌, ◌++◌, map, if◌then◌else◌, refl, sym, ap, ◌∙◌, subst, append-nil, append_assoc, arith, rules, tests}
 use Rattle.std.specs.List.{AllByRecursion, flat_map, list_all}
 use Rattle.std.proofs.lemmas.Grind.{flat_map-append}
 use Rattle.ice_base.proofs.Booleans.{and_false}
-use Rattle.ice_base.specs.Comments.{uncommented}
-use Rattle.ice_base.specs.Text.{words, lines, ends_word, is_blank, IsWord, IsLine, text_of_lines, numbered, next_number}
+use Rattle.ice_base.specs.Text.{words, lines, ends_word, is_blank, IsWord, IsLine, text_of_lines, numbered, next_number, uncommented}
 use Rattle.ice_base.proofs.TextLaws.{first_word, last_word}
 use Rattle.ice_base.proofs.TextLines.{all_append, word_line, lines_read}
-use Rattle.ice_blif.specs.JoinedLines.{before_backslash, in_front_of, continued, outside_comment, goes_on, goes_on_by, plain, plain_by, with_next, behind, joined, FilledLine, filled}
+use Rattle.ice_blif.specs.JoinedLines.{before_backslash, in_front_of, continued, outside_comment, goes_on, goes_on_by, plain, plain_by, with_next, later_joined, joined, FilledLine, filled}
+use Rattle.ice_blif.proofs.Backslashes.{no_front}
 use Rattle.ice_blif_write.specs.RoundTrip.{IsName}
 use Rattle.ice_blif_write.specs.Text.{Words, behind_space, ends_in, line_of}
 
@@ -71,10 +71,6 @@ some_unblank : (b : ℕ) (line : List ℕ) → last_blank (b ∷ line) ≡ false
 some_unblank b [] h = rw h refl
 some_unblank b (c ∷ line) h = ap (λ t. is_blank b && t) (some_unblank c line h) ∙ and_false (is_blank b)
 
-no_front : (t : Bool) → (let front : Option (List ℕ) = if t && false then Some [] else None in front) ≡ None
-no_front true = refl
-no_front false = refl
-
 no_backslash : (line : List ℕ) → last_blank line ≡ false → ends_in 92 line ≡ false → before_backslash line ≡ None
 no_backslash [] h e = refl
 no_backslash (b ∷ []) h e = rw e refl
@@ -136,7 +132,7 @@ filled_lines k [] h = refl
 filled_lines k (ws ∷ wss) h =
     let p : IsPlain ws (line_of ws) = plain_line ws h.0 in
     let rest : List (ℕ × List (List ℕ)) = joined (numbered (next_number k) (map line_of wss)) in
-    ap (λ b. filled ((k, with_next b (plain (line_of ws)) rest) ∷ behind b rest)) p.ends
+    ap (λ b. filled ((k, with_next b (plain (line_of ws)) rest) ∷ later_joined b rest)) p.ends
     ∙ ap (λ vs. filled ((k, vs) ∷ rest)) p.plain
     ∙ ap (λ ls. (record { number = k; first = ws.0; others = ws.1 }) ∷ ls) (filled_lines (next_number k) wss h.1)
 

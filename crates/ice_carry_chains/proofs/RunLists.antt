@@ -5,6 +5,7 @@ use Rattle.std.proofs.lemmas.List.{length-append}
 use Rattle.std.proofs.lemmas.Option.{none-some, same_Some}
 use Rattle.ice_base_values.specs.Order.{At, Has, StandOnce}
 use Rattle.ice_base_values.proofs.Members.{At_left, At_right, At_parts, Has_none}
+use Rattle.ice_base_values.proofs.Once.{once_append}
 use Rattle.ice_cells.specs.declared.cell.LogicCell.{LogicCell}
 use Rattle.ice_cells.specs.declared.design.Run.{Run}
 use Rattle.ice_cells.specs.declared.root.CarryIn.{CarryIn}
@@ -200,15 +201,6 @@ module _ (marks : List Follow) (m : ℕ) (x : Head) where
   run_count = parts_count (takes_in x) (passes_out marks x) m (m + one_if (takes_in x)) inner
 
 -- ---- lists in which nothing stands twice
-pub once_append : {X : Type 0} (xs ys : List X) → StandOnce xs → StandOnce ys → ((x : X) → Has xs x → Has ys x → ⊥) → StandOnce (xs ++ ys)
-once_append {X} xs ys one other apart i j x at there = by (At_parts xs ys i x at) (At_parts xs ys j x there)
-  where
-    by : At xs i x ⊎ ((k : ℕ) × (i ≡ length xs + k) × At ys k x) → At xs j x ⊎ ((k : ℕ) × (j ≡ length xs + k) × At ys k x) → i ≡ j
-    by (inl a) (inl b) = one i j x a b
-    by (inl a) (inr (k, e, b)) = absurd (apart x (i, a) (k, b))
-    by (inr (k, e, a)) (inl b) = absurd (apart x (j, b) (k, a))
-    by (inr (k, e, a)) (inr (l, f, b)) = e ∙ ap (λ n. length xs + n) (other k l x a b) ∙ sym f
-
 if_once : (b : Bool) (m : ℕ) → StandOnce (list_if b m)
 if_once b m i j c at there = (if_back b m i c at).1 ∙ sym (if_back b m j c there).1
 

@@ -3,11 +3,12 @@ use Rattle.std.proofs.Common.{◌≡◌, ◌⊎◌, ℕ, suc, ◌+◌, ◌<◌, 
 use Rattle.std.specs.List.{flat_map}
 use Rattle.std.proofs.lemmas.Option.{none-some}
 use Rattle.ice_base_values.specs.Order.{At, Has, StandOnce}
+use Rattle.ice_base_values.proofs.Once.{once_append}
 use Rattle.ice_cells.specs.declared.design.Run.{Run}
 use Rattle.ice_cells.specs.declared.follow.Follow.{Follow}
 use Rattle.ice_cells.specs.Chains.{Head, chain, takes_in, passes_out, one_if, feeds, feed_cells, run_from, runs_from}
 use Rattle.ice_carry_chains.proofs.ChainLaws.{IsHead, FollowsOne, chain_at, one_head}
-use Rattle.ice_carry_chains.proofs.RunLists.{feeds_before, feeds_within, run_back, run_parts, flat_back, once_append, run_once}
+use Rattle.ice_carry_chains.proofs.RunLists.{feeds_before, feeds_within, run_back, run_parts, flat_back, run_once}
 
 -- the cells of all runs
 abbrev pub cells_from : List Follow → ℕ → List Head → List ℕ

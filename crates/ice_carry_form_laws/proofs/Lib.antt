@@ -7,4 +7,5 @@ mod PackedResets
 mod PackedRoots
 mod PackedReads
 mod Forming
+mod Few
 pub mod Constants

@@ -7,15 +7,14 @@ use Rattle.std.proofs.lemmas.List.{get_or_past, length-map}
 use Rattle.std.proofs.lemmas.Option.{same_Some}
 use Rattle.ice_base.specs.Lists.{all_known}
 use Rattle.ice_base.specs.declared.number.SignalNo.{SignalNo}
-use Rattle.ice_base_values.specs.System.{value}
-use Rattle.ice_base_values.specs.Inputs.{try_reading}
+use Rattle.ice_base_values.specs.System.{value, try_reading}
 use Rattle.ice_base_values.proofs.Gaps.{value_gapped}
 use Rattle.ice_net.specs.declared.cell.Cell.{Cell}
-use Rattle.ice_net.specs.declared.driver.Driver.{Driver}
-use Rattle.ice_net.specs.declared.driver.Driver.TheVariants.{Nothing, Output}
-use Rattle.ice_net.specs.declared.driver.Driver.TheVariants as driver
+use Rattle.ice_net.specs.declared.driver.SignalDriver.{SignalDriver}
+use Rattle.ice_net.specs.declared.driver.SignalDriver.TheVariants.{Nothing, Output}
+use Rattle.ice_net.specs.declared.driver.SignalDriver.TheVariants as driver
 use Rattle.ice_net.specs.NetlistData.{NetlistData}
-use Rattle.ice_net.specs.Drivers.{place_of, pad_of, pads, outputs, driver_from, driver_of}
+use Rattle.ice_net.specs.Drivers.{place_of, pad_of, pad_signals, outputs, driver_from, driver_of}
 use Rattle.ice_check.proofs.CellOrders.{place_within}
 use Rattle.ice_cells.specs.declared.origin.Origin.{Origin}
 use Rattle.ice_cells.specs.declared.origin.Origin.TheVariants.{Fixed, Pad, Made}
@@ -41,8 +40,8 @@ module _ (n : NetlistData) where
 
   driver_port : (s k : ℕ) → driver_of n s ≡ driver.Pad k → k < length n.ports
   driver_port s k e =
-      let lt = place_within s (pads n) k (driver_pad (place_of s (pads n)) (place_of s (outputs n)) k e) in
-      let long : length (pads n) ≡ length n.ports = length-map n.ports (pad_of n.cells) in
+      let lt = place_within s (pad_signals n) k (driver_pad (place_of s (pad_signals n)) (place_of s (outputs n)) k e) in
+      let long : length (pad_signals n) ≡ length n.ports = length-map n.ports (pad_of n.cells) in
       omega (arith, lt, long)
 
   -- ---- one step
@@ -56,7 +55,7 @@ module _ (n : NetlistData) where
   output_step i os first None = fixed_is false
   output_step i os first (Some cell) = cell_step i os first (is_alias cell.kind) (constant_of cell.kind)
 
-  step : (d : Driver) (os : List Origin) → ((k : ℕ) → d ≡ driver.Pad k → k < length n.ports) → IsPortOf (slice_index_or os 0 (Fixed false)) → IsPortOf (origin_made n d os)
+  step : (d : SignalDriver) (os : List Origin) → ((k : ℕ) → d ≡ driver.Pad k → k < length n.ports) → IsPortOf (slice_index_or os 0 (Fixed false)) → IsPortOf (origin_made n d os)
   step Nothing os port first = fixed_is false
   step (driver.Pad j) os port first = λ k e. port k (let same : j ≡ k = cc e in ap driver.Pad same)
   step (Output i) os port first = output_step i os first (slice_get n.cells i)

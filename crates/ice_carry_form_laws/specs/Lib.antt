@@ -1,2 +1,3 @@
 pub mod FormLaws
 pub mod Constants
+pub mod Few

@@ -1,5 +1,6 @@
 //! The laws of packed designs, each as the contract of a function that does nothing but call laws below.
 ghost use Rattle.ice_carry_form_laws.specs.Constants.{DrivenConstantsAreMade};
+ghost use Rattle.ice_carry_form_laws.specs.Few.{DesignsReadFew};
 ghost use Rattle.ice_carry_form_laws.specs.FormLaws.{DesignsAreFormed, DesignsHaveValues, DesignsShowTheSame, PackedAreBeforeRuns, PackedAreFormed, PackedReadWithin};
 
 use ice_carry_laws::laws::{runs_are_formed, runs_have_values, runs_show_the_same};
@@ -33,6 +34,14 @@ pub fn designs_are_formed()
 {
     packed_netlists_have_values();
     runs_are_formed();
+}
+
+/// The design of a sound netlist, its runs made, reads at most two roots more than the netlist has signals: one of each signal, and the
+/// cells of the two constants. A look-up table that only a flip-flop reads has none of its own, unless the flip-flop moves to a cell of its own.
+pub fn designs_read_few()
+    ensures { DesignsReadFew }
+{
+    packed_netlists_have_values();
 }
 
 /// Each node of the design of a sound netlist, its runs made, has a value.

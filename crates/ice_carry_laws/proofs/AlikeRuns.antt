@@ -60,7 +60,7 @@ piece_below : (n k i : ℕ) → 8 * k + i < n → k < (n + 7) / 8
 piece_below n k i lt = omega arith
 
 -- a cell of a piece stands in the list, and the piece is one of its pieces
-in_piece : (xs : List ℕ) (k i c : ℕ) → At (piece xs k) i c → Has xs c × (k < pieces_count xs)
+pub in_piece : (xs : List ℕ) (k i c : ℕ) → At (piece xs k) i c → Has xs c × (k < pieces_count xs)
 in_piece xs k i c at =
     let taken = At_take 8 (drop (8 * k) xs) i c at in
     let there : At xs (8 * k + i) c = sym (At_drop xs (8 * k) i) ∙ taken.1 in

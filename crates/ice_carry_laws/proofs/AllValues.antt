@@ -99,7 +99,7 @@ module _ (d : Design) (ready : IsBeforeRuns d) (within : ReadsWithin d) (levels 
   out_value c y at (Passing k passes has) =
       made (Net (CellOut c)) (None ∷ None ∷ None ∷ Some (Net (CarryOut k)) ∷ []) (false ∷ false ∷ false ∷ v (Net (CarryOut k)) ∷ [])
       (out_reads c (Some passing) passes.at ∙ ap (λ o. None ∷ None ∷ None ∷ o ∷ []) passes.into) (refl, (refl, (refl, (has_own (Net (CarryOut k)) (ready.there k has), tt))))
-  out_value c y at (Gone m cell flop old e is) =
+  out_value c y at (Gone m cell flop old e mover is) =
       let has_flop : y.flop ≡ renamed_flop moved fed (Some flop)
       = ap (λ (z : LogicCell). z.flop) (sym is) ∙ ap (λ o. renamed_flop moved fed (option_map_or (λ (x : LogicCell). x.flop) o None)) old ∙ ap (renamed_flop moved fed) e in
       nothing (Net (CellOut c)) (out_reads c (Some y) at ∙ ap (λ f. output_reads f (cell_inputs new c y)) has_flop)
@@ -120,7 +120,7 @@ module _ (d : Design) (ready : IsBeforeRuns d) (within : ReadsWithin d) (levels 
       one : HasNew (Level true) true
       one = value_made (node_reads new) false (node_makes new levels new_kept) (Level true) [] true tt refl
   up_value c y at (Passing k passes has) = nothing (Net (CarryOut c)) (up_reads c (Some passing) passes.at)
-  up_value c y at (Gone m cell flop old e is) =
+  up_value c y at (Gone m cell flop old e mover is) =
       nothing (Net (CarryOut c)) (up_reads c (Some (moved_cell moved fed d.cells m)) (at ∙ ap Some (sym is)))
 
   has_all : (n : Node) → (x : Bool) × HasNew n x

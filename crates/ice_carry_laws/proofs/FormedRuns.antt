@@ -65,7 +65,7 @@ module _ (d : Design) (ready : IsBeforeRuns d) (within : ReadsWithin d) (formed 
     where
       by : NewRoot d r → IsRootOf new r
       by (Renamed is) = subst (λ (q : Root). IsRootOf new q) is.is (renamed_within is.root is.read is.passed)
-      by (Left m cell at e) = subst (λ (q : Root). IsRootOf new q) e (cell_stays m (At_within d.cells m cell at))
+      by (Left m cell flop at is mover e) = subst (λ (q : Root). IsRootOf new q) e (cell_stays m (At_within d.cells m cell at))
 
   -- ---- cells
   four_after : (c : ℕ) (y : LogicCell) → At new.cells c y → length y.ins ≡ 4
@@ -99,7 +99,7 @@ module _ (d : Design) (ready : IsBeforeRuns d) (within : ReadsWithin d) (formed 
           reset_after c x control old back.0 (kept_back (slice_index_or moved c None) x.flop (back.0, Nothing) back.1) back.2
       by (Taking root takes has passed) = absurd (none-some (control, Nothing) (ap (λ (z : LogicCell). z.flop) (same_Some (taking (renamed moved fed root)) y (sym takes.at ∙ at)) ∙ e))
       by (Passing k passes has) = absurd (none-some (control, Nothing) (ap (λ (z : LogicCell). z.flop) (same_Some passing y (sym passes.at ∙ at)) ∙ e))
-      by (Gone m cell flop old f is) =
+      by (Gone m cell flop old f mover is) =
           let back = flop_back (Some flop) control Nothing
           (sym (ap (λ o. renamed_flop moved fed (option_map_or (λ (z : LogicCell). z.flop) o None)) old ∙ ap (renamed_flop moved fed) f) ∙ ap (λ (z : LogicCell). z.flop) is ∙ e) in
           reset_after m cell control old back.0 (f ∙ back.1) back.2

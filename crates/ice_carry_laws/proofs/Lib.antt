@@ -7,7 +7,8 @@ mod TiedRuns
 mod Shown
 mod NewCells
 mod AllValues
-mod NewReads
+pub mod NewReads
 mod PadReads
 mod AlikeRuns
+pub mod Movers
 mod FormedRuns

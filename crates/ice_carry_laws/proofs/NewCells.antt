@@ -33,7 +33,7 @@ pub data NewCell (d : Design) (c : ℕ) (y : LogicCell) : Type 0 where
   Taking : (root : Root) → TakesIn (runs_of d) c (renamed (moved_numbers d) (fed_numbers d) root) → Has (roots_read d) (Some root)
       → ((k : ℕ) → root ≡ CarryOut k → (f : ℕ) × (slice_index_or (fed_numbers d) k None ≡ Some f)) → NewCell d c y
   Passing : (k : ℕ) → PassesOn (runs_of d) c k → HasCarry d k → NewCell d c y
-  Gone : (m : ℕ) (cell : LogicCell) (flop : Control × Reset) → At d.cells m cell → cell.flop ≡ Some flop → moved_cell (moved_numbers d) (fed_numbers d) d.cells m ≡ y → NewCell d c y
+  Gone : (m : ℕ) (cell : LogicCell) (flop : Control × Reset) → At d.cells m cell → cell.flop ≡ Some flop → Has (movers d) m → moved_cell (moved_numbers d) (fed_numbers d) d.cells m ≡ y → NewCell d c y
 
 become_from_back : (moved fed : List (Option ℕ)) (c : ℕ) (cells : List LogicCell) (j : ℕ) (y : LogicCell) → At (become_from moved fed c cells) j y → (x : LogicCell) × At cells j x
 become_from_back moved fed c [] j y at = absurd (none-some y at)
@@ -63,10 +63,11 @@ module _ (d : Design) (ready : IsBeforeRuns d) where
       Passing (end (follows d) (length (follows d)) head.0)
       (passed_by d ready r head (end (follows d) (length (follows d)) head.0) c at passes refl (ap (λ n. feed_number d r + n) (sym h) ∙ sym number)) (end_carry d ready r head at)
 
-  old_flop : (m : ℕ) (cell : LogicCell) (flop : Control × Reset) (c : ℕ) (y : LogicCell) → cell.flop ≡ Some flop → At (cells_fed d) m cell → moved_cell moved fed (cells_fed d) m ≡ y → CellFed d m cell → NewCell d c y
-  old_flop m cell flop c y e at is (Old old) =
+  old_flop : (m : ℕ) (cell : LogicCell) (flop : Control × Reset) (c : ℕ) (y : LogicCell) → cell.flop ≡ Some flop → At (cells_fed d) m cell → Has (movers d) m → moved_cell moved fed (cells_fed d) m ≡ y
+      → CellFed d m cell → NewCell d c y
+  old_flop m cell flop c y e at mover is (Old old) =
       let found : slice_get d.cells m ≡ slice_get (cells_fed d) m = old ∙ sym at in
-      Gone m cell flop old e
+      Gone m cell flop old e mover
       ((λ i. record {
         table = 43690;
         ins = (moved_cell moved fed (cells_fed d) m).ins;
@@ -74,8 +75,8 @@ module _ (d : Design) (ready : IsBeforeRuns d) where
         carry_to_in3 = false;
         flop = renamed_flop moved fed (option_map_or (λ (x : LogicCell). x.flop) (found i) None);
       }) ∙ is)
-  old_flop m cell flop c y e at is (Feed r head i there (FeedsIn root f h k) number) = absurd (none-some flop (ap (λ (z : LogicCell). z.flop) k ∙ e))
-  old_flop m cell flop c y e at is (Feed r head i there (FeedsOut f h k) number) = absurd (none-some flop (ap (λ (z : LogicCell). z.flop) k ∙ e))
+  old_flop m cell flop c y e at mover is (Feed r head i there (FeedsIn root f h k) number) = absurd (none-some flop (ap (λ (z : LogicCell). z.flop) k ∙ e))
+  old_flop m cell flop c y e at mover is (Feed r head i there (FeedsOut f h k) number) = absurd (none-some flop (ap (λ (z : LogicCell). z.flop) k ∙ e))
 
   pub new_cell : (c : ℕ) (y : LogicCell) → At (runs_of d).cells c y → NewCell d c y
   new_cell c y at = by (At_parts (become_from moved fed 0 (cells_fed d)) (map (moved_cell moved fed (cells_fed d)) (movers d)) c y at)
@@ -85,4 +86,4 @@ module _ (d : Design) (ready : IsBeforeRuns d) where
       by (inr (j, e, there)) =
           let back = map_At (moved_cell moved fed (cells_fed d)) (movers d) j y there in
           let is = moves_back (cells_fed d) (runs_of d).runs back.0 (j, back.1) in
-          old_flop back.0 is.cell is.flop c y is.is is.at back.2 (cell_fed d back.0 is.cell is.at)
+          old_flop back.0 is.cell is.flop c y is.is is.at (j, back.1) back.2 (cell_fed d back.0 is.cell is.at)

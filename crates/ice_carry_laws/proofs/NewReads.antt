@@ -17,7 +17,7 @@ use Rattle.ice_cells.specs.declared.root.Root.{Root}
 use Rattle.ice_cells.specs.declared.root.Root.TheVariants.{CellOut, CarryOut}
 use Rattle.ice_cells.specs.Moves.{renamed, renamed_source, renamed_flop, kept_flop, is_chained, last_input, become, moved_cell}
 use Rattle.ice_cells.specs.Readings.{Reading, plain, carry_reading, control_readings, cell_readings, cells_readings, pad_readings, readings, control_roots, cell_roots, pad_roots, roots_read}
-use Rattle.ice_cells.specs.Runs.{renamed_pad, fed_numbers, moved_numbers, runs_of}
+use Rattle.ice_cells.specs.Runs.{renamed_pad, fed_numbers, moved_numbers, movers, runs_of}
 use Rattle.ice_carry_chains.specs.Before.{IsBeforeRuns}
 use Rattle.ice_carry_chains.proofs.DesignRuns.{old_at}
 use Rattle.ice_carry_chains.proofs.ReadsFed.{plain_fed}
@@ -35,7 +35,7 @@ pub record IsRenamed (d : Design) (r : Root) : Type 0 where
 
 pub data NewRoot (d : Design) (r : Root) : Type 0 where
   Renamed : IsRenamed d r → NewRoot d r
-  Left : (m : ℕ) (cell : LogicCell) → At d.cells m cell → CellOut m ≡ r → NewRoot d r
+  Left : (m : ℕ) (cell : LogicCell) (flop : Control × Reset) → At d.cells m cell → cell.flop ≡ Some flop → Has (movers d) m → CellOut m ≡ r → NewRoot d r
 
 -- ---- readings of the design
 next_number : (c j : ℕ) → c + 1 + j ≡ c + suc j
@@ -173,12 +173,12 @@ module _ (d : Design) (ready : IsBeforeRuns d) where
   passing_new (suc (suc (suc zero))) r there = absurd (none-some r (same_Some None (Some r) there))
   passing_new (suc (suc (suc (suc i)))) r there = absurd (none-some (Some r) there)
 
-  gone_new : (m : ℕ) (cell : LogicCell) (flop : Control × Reset) → At d.cells m cell → cell.flop ≡ Some flop → (i : ℕ) (r : Root) → At (cell_roots (moved_cell moved fed d.cells m)) i (Some r) → NewRoot d r
-  gone_new m cell flop at e zero r there = Left m cell at (same_Some (CellOut m) r (same_Some (Some (CellOut m)) (Some r) there))
-  gone_new m cell flop at e (suc zero) r there = absurd (none-some r (same_Some None (Some r) there))
-  gone_new m cell flop at e (suc (suc zero)) r there = absurd (none-some r (same_Some None (Some r) there))
-  gone_new m cell flop at e (suc (suc (suc zero))) r there = absurd (none-some r (same_Some None (Some r) there))
-  gone_new m cell flop at e (suc (suc (suc (suc i)))) r there =
+  gone_new : (m : ℕ) (cell : LogicCell) (flop : Control × Reset) → At d.cells m cell → cell.flop ≡ Some flop → Has (movers d) m → (i : ℕ) (r : Root) → At (cell_roots (moved_cell moved fed d.cells m)) i (Some r) → NewRoot d r
+  gone_new m cell flop at e mover zero r there = Left m cell flop at e mover (same_Some (CellOut m) r (same_Some (Some (CellOut m)) (Some r) there))
+  gone_new m cell flop at e mover (suc zero) r there = absurd (none-some r (same_Some None (Some r) there))
+  gone_new m cell flop at e mover (suc (suc zero)) r there = absurd (none-some r (same_Some None (Some r) there))
+  gone_new m cell flop at e mover (suc (suc (suc zero))) r there = absurd (none-some r (same_Some None (Some r) there))
+  gone_new m cell flop at e mover (suc (suc (suc (suc i)))) r there =
       control_new m cell flop at e i r
       (subst (λ (f : Option (Control × Reset)). At (control_roots (renamed_flop moved fed f)) i (Some r)) (ap (λ o. option_map_or (λ (x : LogicCell). x.flop) o None) at ∙ e) there)
 
@@ -188,7 +188,7 @@ module _ (d : Design) (ready : IsBeforeRuns d) where
   cell_new c y at (Taking root takes has passed) i r there =
       taking_new root has passed i r (subst (λ (z : LogicCell). At (cell_roots z) i (Some r)) (same_Some y (taking (renamed moved fed root)) (sym at ∙ takes.at)) there)
   cell_new c y at (Passing k passes has) i r there = passing_new i r (subst (λ (z : LogicCell). At (cell_roots z) i (Some r)) (same_Some y passing (sym at ∙ passes.at)) there)
-  cell_new c y at (Gone m cell flop old e is) i r there = gone_new m cell flop old e i r (subst (λ (z : LogicCell). At (cell_roots z) i (Some r)) (sym is) there)
+  cell_new c y at (Gone m cell flop old e mover is) i r there = gone_new m cell flop old e mover i r (subst (λ (z : LogicCell). At (cell_roots z) i (Some r)) (sym is) there)
 
   pad_new : (k : ℕ) (pad : DesignPad) → At d.pads k pad → (i : ℕ) (r : Root) → At (pad_roots (renamed_pad moved fed pad)) i (Some r) → NewRoot d r
   pad_new k pad at zero r there =

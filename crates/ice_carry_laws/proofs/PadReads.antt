@@ -68,7 +68,7 @@ module _ (d : Design) (ready : IsBeforeRuns d) where
     where
       by : NewRoot d (PadIn k) → Has (roots_read d) (Some (PadIn k))
       by (Renamed is) = subst (λ (q : Root). Has (roots_read d) (Some q)) (pad_back k is.root is.is is.passed) is.read
-      by (Left m cell at e) = cc e
+      by (Left m cell flop at is mover e) = cc e
 
   -- ---- what was read, is read afterwards
   carry_on : (c : ℕ) (into : CarryIn) (i k : ℕ) → At d.carries i (c, into) → carry_root (c, into) ≡ Some (PadIn k) → Has (roots_read new) (Some (PadIn k))

@@ -4,11 +4,10 @@ use Rattle.std.specs.Prelude.{unwrap_or, slice_index_or}
 use Rattle.std.specs.Option.{option_map_or}
 use Rattle.ice_net.specs.declared.kind.Reset.{Reset}
 use Rattle.ice_net.specs.Drives.{pad_drive}
-use Rattle.ice_net.specs.Flops.{is_edge, fired}
+use Rattle.ice_net.specs.Kinds.{is_edge, fired}
 use Rattle.ice_net.specs.Meaning.{number_of, table_bit, State}
 use Rattle.ice_base_values.specs.Arriving.{HasValue}
-use Rattle.ice_base_values.specs.Inputs.{reading}
-use Rattle.ice_base_values.specs.Machine.{Simulates}
+use Rattle.ice_base_values.specs.System.{reading, Simulates}
 use Rattle.ice_base_values.specs.Order.{At, Has}
 use Rattle.ice_base_values.proofs.Machines.{shows_always_alike}
 use Rattle.ice_base_values.proofs.Members.{At_within}
@@ -24,7 +23,7 @@ use Rattle.ice_cells.specs.Moves.{renamed, renamed_source, renamed_flop, kept_fl
 use Rattle.ice_cells.specs.Nodes.{Node, Net, net}
 use Rattle.ice_cells.specs.Readings.{control_roots, cell_roots, roots_read}
 use Rattle.ice_cells.specs.Runs.{renamed_pad}
-use Rattle.ice_cells.proofs.TableLaws.{get_or-table}
+use Rattle.ice_cells.proofs.TableLaws.{get_or-table, passes}
 use Rattle.ice_carry_laws.proofs.Arriving.{arrives, read_value, have_four, table_new}
 use Rattle.ice_cells.proofs.NodeLevels.{level_is, level_meets, level_rank, level_falls}
 use Rattle.ice_carry_laws.proofs.ReadRoots.{cell_read, four_read, pad_read}
@@ -39,10 +38,6 @@ pub record Tied (old : Design) (moved : List (Option ℕ)) (s t : State) : Type 
 map_alike : {X Y Z : Type 0} (f : Y → Z) (g : X → Y) (h : X → Z) (xs : List X) → ((k : ℕ) (x : X) → At xs k x → f (g x) ≡ h x) → map f (map g xs) ≡ map h xs
 map_alike f g h [] same = refl
 map_alike f g h (x ∷ xs) same = (λ i. same 0 x refl i ∷ map_alike f g h xs (λ k y at. same (suc k) y at) i)
-
-passes : (b : Bool) → table_bit 43690 (number_of (b ∷ false ∷ false ∷ false ∷ [])) ≡ b
-passes true = refl
-passes false = refl
 
 module _ (old new : Design) (moved fed : List (Option ℕ)) (runs : AreRuns old new moved fed) (values : HasValues old)
     (roots : (root : Root) → Has (roots_read old) (Some root) → IsIn old (Net root))

@@ -12,12 +12,12 @@ use Rattle.ice_base_values.specs.Order.{At, Has}
 use Rattle.ice_base_values.proofs.Cycles.{cycle_below_same}
 use Rattle.ice_base_values.proofs.Members.{At_parts, At_within}
 use Rattle.ice_base_values.proofs.Gaps.{present_at}
-use Rattle.ice_base_values.specs.Inputs.{present}
+use Rattle.ice_base_values.specs.System.{present}
 use Rattle.ice_net.specs.declared.cell.Cell.{Cell}
 use Rattle.ice_net.specs.declared.port.Port.{Port}
 use Rattle.ice_net.specs.NetlistData.{NetlistData}
 use Rattle.ice_net.specs.Formed.{IsBelow, IsFormed}
-use Rattle.ice_net.specs.Drivers.{numbers, is_there, place_of, pin_of, output_of, pads, outputs, driver_of}
+use Rattle.ice_net.specs.Drivers.{numbers, is_there, place_of, pin_of, output_of, pad_signals, outputs, driver_of}
 use Rattle.ice_net.specs.Meaning.{depends_on}
 use Rattle.ice_check.specs.Faults.{first_number, uses_of, is_used, shown_by, is_shown, is_nothing, is_undriven, is_driven_twice, undriven, driven_twice, port_is, is_bare_by, pad_shared, inout_bare, cell_is, is_type_out, is_portless}
 use Rattle.ice_check.specs.Loops.{HasNoLoop}
@@ -112,24 +112,24 @@ module _ (n : NetlistData) (names : List (List ℕ)) (lists : List Ins) (formed 
   times_outputs : (s : ℕ) → times s (outputs new) ≡ times s (outputs n) + times s (map output_of added)
   times_outputs s = ap (times s) (outputs_are n names lists) ∙ times_append s (outputs n) (map output_of added)
 
-  times_pads : (s : ℕ) → times s (pads new) ≡ times s (pads n)
+  times_pads : (s : ℕ) → times s (pad_signals new) ≡ times s (pad_signals n)
   times_pads s = ap (times s) (pads_same n names lists)
 
   once_after : driven_twice n ≡ None → driven_twice new ≡ None
-  once_after none = pass_all (is_driven_twice new) (length new.names) (λ s lt on. by s (ltb-true 1 (times s (pads new) + times s (outputs new)) on) (which s lt))
+  once_after none = pass_all (is_driven_twice new) (length new.names) (λ s lt on. by s (ltb-true 1 (times s (pad_signals new) + times s (outputs new)) on) (which s lt))
     where
-      by : (s : ℕ) → 1 < times s (pads new) + times s (outputs new) → IsNumber s → ⊥
+      by : (s : ℕ) → 1 < times s (pad_signals new) + times s (outputs new) → IsNumber s → ⊥
       by s twice (old lt) =
           let p = times_pads s in
           let o = times_outputs s in
           let c = count_outs_above s count lists lt in
-          none_of (is_driven_twice n) count s none lt (lt-ltb 1 (times s (pads n) + times s (outputs n)) (omega (arith, twice, p, o, c)))
+          none_of (is_driven_twice n) count s none lt (lt-ltb 1 (times s (pad_signals n) + times s (outputs n)) (omega (arith, twice, p, o, c)))
       by s twice (added_at j ins at e) =
           let tp = times_pads s in
           let to = times_outputs s in
           let c = count_outs s count lists in
           let le : count ≤ s = omega (arith, e) in
-          let p = times_above s count (pads n) (pads_below n formed) le in
+          let p = times_above s count (pad_signals n) (pads_below n formed) le in
           let o = times_above s count (outputs n) (outputs_below n formed) le in
           absurd (omega (arith, twice, tp, to, c, p, o))
 

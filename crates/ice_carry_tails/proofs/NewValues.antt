@@ -2,8 +2,7 @@
 use Rattle.std.proofs.Common.{◌≡◌, ℕ, ◌+◌, ◌<◌, ◌≤◌, Bool, false, Option, List, length, ap, sym, ◌∙◌, arith, length-append}
 use Rattle.std.specs.Prelude.{slice_index_or, unwrap_or}
 use Rattle.std.proofs.lemmas.List.{map-id}
-use Rattle.ice_base_values.specs.Inputs.{filled}
-use Rattle.ice_base_values.specs.System.{System, value}
+use Rattle.ice_base_values.specs.System.{filled_inputs, System, value}
 use Rattle.ice_base_values.proofs.Values.{value_along}
 use Rattle.ice_net.specs.NetlistData.{NetlistData}
 use Rattle.ice_net.specs.Formed.{IsFormed}
@@ -33,9 +32,9 @@ module _ (n : NetlistData) (names : List (List ℕ)) (lists : List Ins) (formed 
   -- what an old signal makes
   local_same : (s : ℕ) (xs : List Bool) → s < length n.names → new_system.local s xs ≡ old_system.local s xs
   local_same s xs lt =
-      ap (λ d. makes new levels after d (filled false (reads new d) xs)) (driver_old n names lists s lt)
-      ∙ ap (λ (rs : List (Option ℕ)). makes new levels after (driver_of n s) (filled false rs xs)) (reads_same n names lists (driver_of n s) (driver_there n s))
-      ∙ makes_same n names lists levels kept after same (driver_of n s) (driver_there n s) (filled false (reads n (driver_of n s)) xs)
+      ap (λ d. makes new levels after d (filled_inputs false (reads new d) xs)) (driver_old n names lists s lt)
+      ∙ ap (λ (rs : List (Option ℕ)). makes new levels after (driver_of n s) (filled_inputs false rs xs)) (reads_same n names lists (driver_of n s) (driver_there n s))
+      ∙ makes_same n names lists levels kept after same (driver_of n s) (driver_there n s) (filled_inputs false (reads n (driver_of n s)) xs)
 
   steps_same : (f s : ℕ) → s < length n.names → value new_system f s ≡ value old_system f s
   steps_same f s lt =

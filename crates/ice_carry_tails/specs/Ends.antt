@@ -4,8 +4,8 @@ use Rattle.std.specs.List.{filter, flat_map, range_with_len}
 use Rattle.std.specs.Option.{option_map_or}
 use Rattle.ice_base.specs.declared.number.SignalNo.{SignalNo}
 use Rattle.ice_net.specs.declared.cell.Cell.{Cell}
-use Rattle.ice_net.specs.declared.driver.Driver.{Driver}
-use Rattle.ice_net.specs.declared.driver.Driver.TheVariants.{Nothing, Pad, Output}
+use Rattle.ice_net.specs.declared.driver.SignalDriver.{SignalDriver}
+use Rattle.ice_net.specs.declared.driver.SignalDriver.TheVariants.{Nothing, Pad, Output}
 use Rattle.ice_net.specs.declared.kind.CellKind.{CellKind}
 use Rattle.ice_net.specs.declared.kind.CellKind.TheVariants as kind
 use Rattle.ice_net.specs.declared.port.Port.{Port}
@@ -43,7 +43,7 @@ is_carry (kind.PadCell pin_type pullup) = false
 is_carry kind.Global = false
 
 -- what drives a signal is a carry
-abbrev pub is_carry_out : NetlistData → Driver → Bool
+abbrev pub is_carry_out : NetlistData → SignalDriver → Bool
 is_carry_out n Nothing = false
 is_carry_out n (Pad k) = false
 is_carry_out n (Output i) = option_map_or (λ (cell : Cell). is_carry cell.kind) (slice_get n.cells i) false

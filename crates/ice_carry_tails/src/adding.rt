@@ -6,9 +6,8 @@ ghost use Rattle.ice_carry_tails.specs.TailLaws.{CanTakeTails};
 ghost use Rattle.ice_carry_tails.specs.Tailable.{HasRoomForTails};
 ghost use Rattle.ice_carry_tails.specs.Tails.{behind, read_behind, tail, tail_name, tail_names, tails, with_tails};
 
-use crate::reading::signal_at;
 use ice_base::{NoMemory, SignalNo};
-use ice_net::{Cell, CellKind, Netlist, Signals};
+use ice_net::{Cell, CellKind, Netlist, Signals, signal_at};
 use std::alloc::Global;
 
 // The name of an added carry's signal.

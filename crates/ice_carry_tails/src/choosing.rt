@@ -9,16 +9,13 @@ ghost use Rattle.ice_check.specs.Tables.{AreDrivers, AreTimes};
 ghost use Rattle.ice_carry_tails.specs.Ends.{all_read, can_share, chain_ends, ends_chain, is_carry, is_carry_out, is_end, is_free, is_free_by, is_last_carry, most_tails, own, own_ends, reads_one_by, tables_of};
 ghost use Rattle.ice_carry_tails.specs.TailLaws.{is_lut};
 
-use crate::reading::{reads_of, signal_at};
+use crate::reading::reads_of;
 use ice_base::{NoMemory, SignalNo};
 use ice_cells::Origin;
 use ice_check::Sound;
-use ice_net::{Cell, CellKind, Driver, Netlist};
+use ice_net::{Cell, CellKind, MOST_SIGNALS, Netlist, SignalDriver, signal_at};
 use ice_pack_share::{bare_outputs, facts_of, homes_of, luts_behind, origins};
 use std::alloc::Global;
-
-// The most signals of a netlist that is placed.
-const MOST_SIGNALS: u32 = 65_534;
 
 fn is_lut(kind: CellKind) -> bool
     ensures { result ≡ is_lut kind }
@@ -33,10 +30,10 @@ fn is_carry(kind: CellKind) -> bool
 }
 
 // Whether a carry's output is this driver.
-fn is_carry_out(netlist: &Netlist, driver: Driver) -> bool
+fn is_carry_out(netlist: &Netlist, driver: SignalDriver) -> bool
     ensures { result ≡ is_carry_out netlist.now driver }
 {
-    let Driver::Output(i) = driver else {
+    let SignalDriver::Output(i) = driver else {
         return false;
     };
     match netlist.cells().get(i) {
@@ -48,7 +45,7 @@ fn is_carry_out(netlist: &Netlist, driver: Driver) -> bool
 // Whether a carry drives the signal, which is read once in all.
 fn is_last_carry(
     netlist: &Netlist,
-    drivers: &[Driver],
+    drivers: &[SignalDriver],
     reads: &[usize],
     signal: Option<SignalNo>,
 ) -> bool
@@ -67,7 +64,7 @@ fn is_last_carry(
 
 // Whether a cell is a look-up table at which a chain of carries ends.
 #[tactic(auto, using(ice_check::proofs::ListsBelow::at_below))]
-fn ends_chain(netlist: &Netlist, drivers: &[Driver], reads: &[usize], cell: &Cell) -> bool
+fn ends_chain(netlist: &Netlist, drivers: &[SignalDriver], reads: &[usize], cell: &Cell) -> bool
     requires drivers { AreDrivers netlist.now drivers.now }
     requires reads { AreTimes (length netlist.now.names) (all_read netlist.now) reads.now }
     requires below { All (IsBelow (length netlist.now.names)) cell.now.ins }
@@ -90,7 +87,7 @@ fn push_if(list: &mut Vec<usize>, is_so: bool, number: usize) -> Result<(), NoMe
 fn ends_by(
     alloc: Global,
     netlist: &Netlist,
-    drivers: &[Driver],
+    drivers: &[SignalDriver],
     reads: &[usize],
 ) -> Result<Vec<usize>, NoMemory>
     requires drivers { AreDrivers netlist.now drivers.now }
@@ -110,7 +107,7 @@ fn chain_ends(alloc: Global, sound: &Sound) -> Result<Vec<usize>, NoMemory>
     ensures { IfOk result (λ ends. ends.items ≡ chain_ends sound.now) }
 {
     let netlist = sound.netlist();
-    let _cells = netlist.cells();
+    netlist.is_formed();
     let reads = reads_of(alloc, netlist)?;
     let ends = ends_by(alloc, netlist, sound.drivers(), &reads)?;
     Ok(ends)

@@ -1,5 +1,5 @@
 //! How often each signal is read.
-ghost use Rattle.std.specs.Prelude.{◌≡◌, ◌++◌, None, length, map, slice_index_or, IfOk, OnOk};
+ghost use Rattle.std.specs.Prelude.{◌≡◌, ◌++◌, length, map, IfOk, OnOk};
 ghost use Rattle.std.specs.List.{flat_map};
 ghost use Rattle.ice_net.specs.Formed.{IsFormed};
 ghost use Rattle.ice_check.specs.Tables.{AreTimes};
@@ -9,17 +9,6 @@ use ice_base::{NoMemory, SignalNo};
 use ice_check::times_of;
 use ice_net::{Cell, Netlist, Port};
 use std::alloc::Global;
-
-/// The signal at a place, if there is one.
-pub(crate) fn signal_at(signals: &[Option<SignalNo>], place: usize) -> Option<SignalNo>
-    ensures { result ≡ slice_index_or signals.now place None }
-{
-    if place < signals.len() {
-        signals[place]
-    } else {
-        None
-    }
-}
 
 // The inputs, cell by cell.
 fn all_ins(alloc: Global, cells: &[Cell]) -> Result<Vec<Option<SignalNo>>, NoMemory>

@@ -2,7 +2,7 @@
 use Rattle.std.proofs.Common.{◌≡◌, ℕ, true, false, List, [], ◌∷◌, Option, Some, None, length, map, refl}
 use Rattle.ice_base.specs.declared.number.SignalNo.{SignalNo}
 use Rattle.ice_net.specs.declared.cell.Cell.{Cell}
-use Rattle.ice_net.specs.declared.drive.Drive.TheVariants.{Off, Low, High}
+use Rattle.ice_net.specs.declared.driver.Drive.TheVariants.{Off, Low, High}
 use Rattle.ice_net.specs.declared.kind.Reset.TheVariants.{Nothing, SyncReset}
 use Rattle.ice_net.specs.declared.kind.CellKind.{CellKind}
 use Rattle.ice_net.specs.declared.kind.CellKind.TheVariants.{Lut, Cover, Carry, Flop}

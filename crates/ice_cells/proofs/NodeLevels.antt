@@ -9,9 +9,8 @@ use Rattle.std.proofs.lemmas.List.FromFn.{length-range_with_len, get_or-range_wi
 use Rattle.std.proofs.lemmas.Option.{same_Some, slice_get_past, slice_get-get_or}
 use Rattle.ice_base.specs.Lists.{all_known}
 use Rattle.ice_base_values.specs.Arriving.{HasValue}
-use Rattle.ice_base_values.specs.Inputs.{reading, present}
 use Rattle.ice_base_values.specs.Order.{At, Has}
-use Rattle.ice_base_values.specs.System.{System, value}
+use Rattle.ice_base_values.specs.System.{System, value, reading, present}
 use Rattle.ice_base_values.proofs.Arriving.{values_rank}
 use Rattle.ice_base_values.proofs.Enough.{first, value_enough}
 use Rattle.ice_base_values.proofs.Gaps.{local_gapped}

@@ -4,6 +4,7 @@ use Rattle.std.specs.List.{find}
 use Rattle.std.proofs.lemmas.Bool.{cases_eq, eq-eqb, ne_eqb}
 use Rattle.std.proofs.lemmas.List.{ext_get_or, length-set, get_or-set_same, get_or-set_other, get_or-replicate, length-replicate}
 use Rattle.std.proofs.lemmas.List.FromFn.{length-map-range_with_len, get_or-map-range_with_len}
+use Rattle.ice_net.specs.Meaning.{number_of, table_bit}
 use Rattle.ice_cells.specs.Tables.{table, is_place, gathered, put_at, scattered, keep}
 
 pub length-table : {X : Type 0} (f : ℕ → X) (n : ℕ) → length (table f n) ≡ n
@@ -78,3 +79,8 @@ pub scattered_kept : {R V : Type 0} (place : R → Option ℕ) (value : R → V)
 scattered_kept place value n rs =
     ap (λ us. scattered place (keep value) None us rs) (replicate_table n None) ∙ scattered_table place (keep value) None (λ j. None) n rs
     ∙ table_same _ (λ j. option_map value (find (λ r. is_place j (place r)) rs)) n (λ j lt. gathered_kept place value j rs)
+
+-- the table that hands its first input on
+pub passes : (b : Bool) → table_bit 43690 (number_of (b ∷ false ∷ false ∷ false ∷ [])) ≡ b
+passes true = refl
+passes false = refl

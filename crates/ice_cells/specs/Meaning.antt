@@ -2,13 +2,11 @@
 use Rattle.std.specs.Prelude.{◌≡◌, ℕ, ◌+◌, ◌*◌, Bool, true, false, Option, None, Some, List, [], ◌∷◌, length, map, if◌then◌else◌, slice_get, slice_index_or, unwrap_or}
 use Rattle.std.specs.List.{range_with_len}
 use Rattle.std.specs.Option.{option_map_or}
-use Rattle.ice_base_values.specs.System.{System, value}
-use Rattle.ice_base_values.specs.Inputs.{reading, gapped}
-use Rattle.ice_base_values.specs.Machine as machine
-use Rattle.ice_net.specs.declared.drive.Drive.{Drive}
+use Rattle.ice_base_values.specs.System.{System, value, reading, gapped, machine_shows}
+use Rattle.ice_net.specs.declared.driver.Drive.{Drive}
 use Rattle.ice_net.specs.declared.kind.Reset.{Reset}
 use Rattle.ice_net.specs.Meaning.{number_of, table_bit, majority, State}
-use Rattle.ice_net.specs.Flops.{is_edge, fired}
+use Rattle.ice_net.specs.Kinds.{is_edge, fired}
 use Rattle.ice_net.specs.Drives.{pad_drive}
 use Rattle.ice_cells.specs.declared.cell.Control.{Control}
 use Rattle.ice_cells.specs.declared.cell.LogicCell.{LogicCell}
@@ -124,4 +122,4 @@ start d = record { kept = map (λ (cell : LogicCell). false) d.cells; clocks = m
 
 -- what the pad of each port drives, step by step, for a list of levels
 abbrev pub shows : Design → List (List Bool) → List (List Drive)
-shows d levels = machine.shows (step d) (start d) levels
+shows d levels = machine_shows (step d) (start d) levels

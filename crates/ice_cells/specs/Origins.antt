@@ -2,14 +2,13 @@
 use Rattle.std.specs.Prelude.{ℕ, ◌+◌, ◌==◌, ◌&&◌, not, Bool, true, false, Option, None, Some, List, [], length, slice_get, slice_index_or, unwrap_or, if◌then◌else◌}
 use Rattle.std.specs.Option.{option_map_or}
 use Rattle.ice_base.specs.declared.number.SignalNo.{SignalNo}
-use Rattle.ice_base_values.specs.System.{System, value}
-use Rattle.ice_base_values.specs.Inputs.{gapped}
+use Rattle.ice_base_values.specs.System.{System, value, gapped}
 use Rattle.ice_net.specs.declared.cell.Cell.{Cell}
 use Rattle.ice_net.specs.declared.kind.CellKind.{CellKind}
 use Rattle.ice_net.specs.declared.kind.CellKind.TheVariants.{Lut, Cover, Carry, Flop, PadCell, Global}
-use Rattle.ice_net.specs.declared.driver.Driver.{Driver}
-use Rattle.ice_net.specs.declared.driver.Driver.TheVariants.{Nothing, Output}
-use Rattle.ice_net.specs.declared.driver.Driver.TheVariants as driver
+use Rattle.ice_net.specs.declared.driver.SignalDriver.{SignalDriver}
+use Rattle.ice_net.specs.declared.driver.SignalDriver.TheVariants.{Nothing, Output}
+use Rattle.ice_net.specs.declared.driver.SignalDriver.TheVariants as driver
 use Rattle.ice_net.specs.NetlistData.{NetlistData}
 use Rattle.ice_net.specs.Drivers.{numbers, driver_of}
 use Rattle.ice_net.specs.Meaning.{table_bit}
@@ -50,7 +49,7 @@ is_table_kind Global = false
 abbrev pub cell_aliases : Cell → List (Option ℕ)
 cell_aliases cell = if is_alias cell.kind then numbers cell.ins else []
 
-abbrev pub aliases : NetlistData → Driver → List (Option ℕ)
+abbrev pub aliases : NetlistData → SignalDriver → List (Option ℕ)
 aliases n Nothing = []
 aliases n (driver.Pad k) = []
 aliases n (Output i) = option_map_or cell_aliases (slice_get n.cells i) []
@@ -58,7 +57,7 @@ aliases n (Output i) = option_map_or cell_aliases (slice_get n.cells i) []
 abbrev pub cell_origin : ℕ → List Origin → Cell → Origin
 cell_origin i os cell = if is_alias cell.kind then slice_index_or os 0 (Fixed false) else option_map_or (λ b. Fixed b) (constant_of cell.kind) (Made i)
 
-abbrev pub origin_made : NetlistData → Driver → List Origin → Origin
+abbrev pub origin_made : NetlistData → SignalDriver → List Origin → Origin
 origin_made n Nothing os = Fixed false
 origin_made n (driver.Pad k) os = Pad k
 origin_made n (Output i) os = option_map_or (cell_origin i os) (slice_get n.cells i) (Fixed false)

@@ -5,17 +5,16 @@ use Rattle.std.specs.Option.{option_map_or}
 use Rattle.std.proofs.lemmas.List.{length-map, get_or-map}
 use Rattle.std.proofs.lemmas.Option.{slice_get-get_or, same_Some}
 use Rattle.ice_base.specs.declared.number.SignalNo.{SignalNo}
-use Rattle.ice_base_values.specs.System.{System}
+use Rattle.ice_base_values.specs.System.{System, present}
 use Rattle.ice_base_values.specs.Order.{At, Has, IsOrder, IsCycleBelow}
-use Rattle.ice_base_values.specs.Inputs.{present}
 use Rattle.ice_base_values.proofs.Values.{value_ordered}
 use Rattle.ice_base_values.proofs.Cycles.{value_never, cycle_goes_on}
 use Rattle.ice_net.specs.declared.cell.Cell.{Cell}
 use Rattle.ice_net.specs.declared.kind.CellKind.TheVariants.{Carry}
-use Rattle.ice_net.specs.declared.driver.Driver.{Driver}
-use Rattle.ice_net.specs.declared.driver.Driver.TheVariants.{Nothing, Pad, Output}
+use Rattle.ice_net.specs.declared.driver.SignalDriver.{SignalDriver}
+use Rattle.ice_net.specs.declared.driver.SignalDriver.TheVariants.{Nothing, Pad, Output}
 use Rattle.ice_net.specs.NetlistData.{NetlistData}
-use Rattle.ice_net.specs.Drivers.{is_signal, place_of, output_of, outputs, pads, driver_from, driver_of}
+use Rattle.ice_net.specs.Drivers.{is_signal, place_of, output_of, outputs, pad_signals, driver_from, driver_of}
 use Rattle.ice_net.specs.Formed.{IsFormed}
 use Rattle.ice_net.specs.Meaning.{cell_reads, reads, depends_on}
 use Rattle.ice_check.specs.Tables.{AreDrivers}
@@ -40,18 +39,18 @@ output_from None None i e = cc e
 -- the place of a cell that drives a signal
 pub driver_within : (n : NetlistData) (s i : ℕ) → driver_of n s ≡ Output i → i < length n.cells
 driver_within n s i e =
-    let h : i < length (outputs n) = place_within s (outputs n) i (output_from (place_of s (pads n)) (place_of s (outputs n)) i e) in
+    let h : i < length (outputs n) = place_within s (outputs n) i (output_from (place_of s (pad_signals n)) (place_of s (outputs n)) i e) in
     let long : length (outputs n) ≡ length n.cells = length-map n.cells (λ (cell : Cell). output_of cell) in omega arith
 
 -- ---- the cells before a cell
 -- some of the signals is driven by the cell
-abbrev pub Drives : (ℕ → Driver) → List ℕ → ℕ → Type 0
+abbrev pub Drives : (ℕ → SignalDriver) → List ℕ → ℕ → Type 0
 Drives driver signals i = (s : ℕ) × Has signals s × (driver s ≡ Output i)
 
-drives_later : (driver : ℕ → Driver) (t : ℕ) (signals : List ℕ) (i : ℕ) → Drives driver signals i → Drives driver (t ∷ signals) i
+drives_later : (driver : ℕ → SignalDriver) (t : ℕ) (signals : List ℕ) (i : ℕ) → Drives driver signals i → Drives driver (t ∷ signals) i
 drives_later driver t signals i found = (found.0, (suc found.1.0, found.1.1), found.2)
 
-drives_step : (driver : ℕ → Driver) (t : ℕ) (signals : List ℕ) (i : ℕ) (d : Driver) → driver t ≡ d
+drives_step : (driver : ℕ → SignalDriver) (t : ℕ) (signals : List ℕ) (i : ℕ) (d : SignalDriver) → driver t ≡ d
     → ((j : ℕ) → At (cells_at driver signals) j i → Drives driver signals i)
     → (j : ℕ) → At (present (cell_by d ∷ map (λ s. cell_by (driver s)) signals)) j i → Drives driver (t ∷ signals) i
 drives_step driver t signals i Nothing e rest j at = drives_later driver t signals i (rest j at)
@@ -60,24 +59,24 @@ drives_step driver t signals i (Output k) e rest zero at = (t, (0, refl), e ∙ 
 drives_step driver t signals i (Output k) e rest (suc j) at = drives_later driver t signals i (rest j at)
 
 -- each of the cells that drive some signals drives one of them
-pub cells_drive : (driver : ℕ → Driver) (signals : List ℕ) (i j : ℕ) → At (cells_at driver signals) j i → Drives driver signals i
+pub cells_drive : (driver : ℕ → SignalDriver) (signals : List ℕ) (i j : ℕ) → At (cells_at driver signals) j i → Drives driver signals i
 cells_drive driver [] i j at = cc at
 cells_drive driver (t ∷ signals) i j at = drives_step driver t signals i (driver t) refl (λ k h. cells_drive driver signals i k h) j at
 
-cells_same : (d e : ℕ → Driver) (signals : List ℕ) → ((j s : ℕ) → At signals j s → d s ≡ e s) → map (λ s. cell_by (d s)) signals ≡ map (λ s. cell_by (e s)) signals
+cells_same : (d e : ℕ → SignalDriver) (signals : List ℕ) → ((j s : ℕ) → At signals j s → d s ≡ e s) → map (λ s. cell_by (d s)) signals ≡ map (λ s. cell_by (e s)) signals
 cells_same d e [] same = refl
 cells_same d e (t ∷ signals) same =
-    ap (λ (driver : Driver). cell_by driver ∷ map (λ s. cell_by (d s)) signals) (same 0 t refl)
+    ap (λ (driver : SignalDriver). cell_by driver ∷ map (λ s. cell_by (d s)) signals) (same 0 t refl)
     ∙ ap (λ (rest : List (Option ℕ)). cell_by (e t) ∷ rest) (cells_same d e signals (λ j s at. same (suc j) s at))
 
 -- ---- the graph of cells
 blank : Cell
 blank = record { kind = Carry; line = 0; ins = []; outs = [] }
 
-abbrev pub row_of : List Driver → Cell → List ℕ
+abbrev pub row_of : List SignalDriver → Cell → List ℕ
 row_of drivers cell = cells_at (λ s. slice_index_or drivers s Nothing) (present (cell_reads cell))
 
-row_is : (n : NetlistData) → IsFormed n → (drivers : List Driver) → AreDrivers n drivers → (i : ℕ) (cell : Cell) → slice_get n.cells i ≡ Some cell
+row_is : (n : NetlistData) → IsFormed n → (drivers : List SignalDriver) → AreDrivers n drivers → (i : ℕ) (cell : Cell) → slice_get n.cells i ≡ Some cell
     → row_of drivers cell ≡ cells_before n i
 row_is n formed drivers are i cell at =
     let e : reads n (Output i) ≡ cell_reads cell = ap (λ (o : Option Cell). option_map_or (λ (c : Cell). cell_reads c) o []) at in
@@ -85,7 +84,7 @@ row_is n formed drivers are i cell at =
     (λ j s here. are.drivers s (reads_below n formed (Output i) j s (subst (λ (r : List (Option ℕ)). At (present r) j s) (sym e) here))))
     ∙ ap (λ (r : List (Option ℕ)). cells_at (driver_of n) (present r)) (sym e)
 
-pub cells_graph : (n : NetlistData) → IsFormed n → (drivers : List Driver) → AreDrivers n drivers
+pub cells_graph : (n : NetlistData) → IsFormed n → (drivers : List SignalDriver) → AreDrivers n drivers
     → IsGraphOf (length n.cells) (cells_before n) (map (row_of drivers) n.cells)
 cells_graph n formed drivers are =
     graph_from (length n.cells) (cells_before n) (map (row_of drivers) n.cells) (length-map n.cells (row_of drivers))
@@ -109,7 +108,7 @@ driven_goes_on : (n : NetlistData) → IsFormed n → (cycle : List ℕ) → IsC
     → (s : ℕ) → Driven n cycle s → (t : ℕ) × Has (depends_on n s) t × Driven n cycle t
 driven_goes_on n formed cycle c s here =
     let next = cycle_reads n formed cycle c here.1 here.2 in
-    (next.0, subst (λ (driver : Driver). Has (present (reads n driver)) next.0) (sym here.3) next.1, next.2)
+    (next.0, subst (λ (driver : SignalDriver). Has (present (reads n driver)) next.0) (sym here.3) next.1, next.2)
 
 pub no_cell_cycle : (n : NetlistData) → IsFormed n → HasOrder n → (cycle : List ℕ) → IsCycleBelow (length n.cells) (cells_before n) cycle → ⊥
 no_cell_cycle n formed o cycle c =

@@ -3,9 +3,8 @@ use Rattle.std.proofs.Common.{◌≡◌, ◌≢◌, ℕ, zero, suc, ◌+◌, ◌
 use Rattle.std.specs.Prelude.{slice_get, slice_index_or, unwrap_or}
 use Rattle.std.proofs.lemmas.List.{map_more}
 use Rattle.std.proofs.lemmas.Option.{same_Some, slice_get_read, slice_get-get_or, get_or_from_slice_get}
-use Rattle.ice_base_values.specs.System.{value}
+use Rattle.ice_base_values.specs.System.{value, reading}
 use Rattle.ice_base_values.specs.Order.{IsOrder}
-use Rattle.ice_base_values.specs.Inputs.{reading}
 use Rattle.ice_base_values.proofs.Gaps.{filled_map}
 use Rattle.ice_base_values.proofs.Values.{value_ordered, value_unique}
 use Rattle.ice_base_values.proofs.Cycles.{no_cycle}

@@ -11,12 +11,12 @@ use Rattle.ice_base_values.specs.Order.{At, IsOrder, IsCycleBelow}
 use Rattle.ice_base_values.proofs.Values.{order_same}
 use Rattle.ice_base_values.proofs.Cycles.{cycle_below_same}
 use Rattle.ice_base_values.specs.Graph.{depends_of}
-use Rattle.ice_base_values.specs.Inputs.{present}
+use Rattle.ice_base_values.specs.System.{present}
 use Rattle.ice_net.specs.declared.cell.Cell.{Cell}
 use Rattle.ice_net.specs.declared.kind.CellKind.{CellKind}
 use Rattle.ice_net.specs.declared.kind.CellKind.TheVariants.{Lut, Cover, Carry, Flop, PadCell, Global}
-use Rattle.ice_net.specs.declared.driver.Driver.{Driver}
-use Rattle.ice_net.specs.declared.driver.Driver.TheVariants.{Nothing, Pad, Output}
+use Rattle.ice_net.specs.declared.driver.SignalDriver.{SignalDriver}
+use Rattle.ice_net.specs.declared.driver.SignalDriver.TheVariants.{Nothing, Pad, Output}
 use Rattle.ice_net.specs.NetlistData.{NetlistData}
 use Rattle.ice_net.specs.Drivers.{numbers, driver_of}
 use Rattle.ice_net.specs.Formed.{IsBelow, IsFormedCell, IsFormed}
@@ -47,7 +47,7 @@ cell_formed n formed i cell at =
     subst (IsFormedCell (length n.names)) (get_or_from_slice_get n.cells i cell cell at)
     (All-get_or (IsFormedCell (length n.names)) n.cells i cell (slice_get_within n.cells i cell at) formed.cells)
 
-pub reads_below : (n : NetlistData) → IsFormed n → (driver : Driver) (j q : ℕ) → At (present (reads n driver)) j q → q < length n.names
+pub reads_below : (n : NetlistData) → IsFormed n → (driver : SignalDriver) (j q : ℕ) → At (present (reads n driver)) j q → q < length n.names
 reads_below n formed Nothing j q at = cc at
 reads_below n formed (Pad k) j q at = cc at
 reads_below n formed (Output i) j q at = by (slice_get n.cells i) refl at
@@ -74,13 +74,13 @@ graph_from points depends rows long are below = record {
   };
 }
 
-pub signals_graph : (n : NetlistData) → IsFormed n → (drivers : List Driver) → AreDrivers n drivers
-    → IsGraphOf (length n.names) (depends_on n) (map (λ (driver : Driver). present (reads n driver)) drivers)
+pub signals_graph : (n : NetlistData) → IsFormed n → (drivers : List SignalDriver) → AreDrivers n drivers
+    → IsGraphOf (length n.names) (depends_on n) (map (λ (driver : SignalDriver). present (reads n driver)) drivers)
 signals_graph n formed drivers are =
-    graph_from (length n.names) (depends_on n) (map (λ (driver : Driver). present (reads n driver)) drivers)
-    (length-map drivers (λ (driver : Driver). present (reads n driver)) ∙ are.long)
-    (λ p lt. get_or-map (λ (driver : Driver). present (reads n driver)) drivers p Nothing [] (let l = are.long in omega arith)
-    ∙ ap (λ (driver : Driver). present (reads n driver)) (are.drivers p lt))
+    graph_from (length n.names) (depends_on n) (map (λ (driver : SignalDriver). present (reads n driver)) drivers)
+    (length-map drivers (λ (driver : SignalDriver). present (reads n driver)) ∙ are.long)
+    (λ p lt. get_or-map (λ (driver : SignalDriver). present (reads n driver)) drivers p Nothing [] (let l = are.long in omega arith)
+    ∙ ap (λ (driver : SignalDriver). present (reads n driver)) (are.drivers p lt))
     (λ p j q lt at. reads_below n formed (driver_of n p) j q at)
 
 -- an order of the rows is one of the dependences

@@ -15,7 +15,7 @@ use Rattle.ice_net.specs.Drives.{output_type, enabled_type, data_of, enable_of, 
 use Rattle.ice_check.specs.Faults.{uses_of, shown_by, shown_of}
 use Rattle.ice_net.specs.NetlistData.{NetlistData}
 use Rattle.ice_net.specs.Formed.{IsBelow, IsPortBelow, IsFormedCell, IsFormed}
-use Rattle.ice_net.specs.Drivers.{pin_by, pin_of, pad_by, pad_of, has_buffer, output_of, pads, outputs}
+use Rattle.ice_net.specs.Drivers.{pin_by, pin_of, pad_by, pad_of, has_buffer, output_of, pad_signals, outputs}
 
 pub at_below : (n : ℕ) (ins : List (Option SignalNo)) (k : ℕ) → All (IsBelow n) ins → IsBelow n (get_or ins k None)
 at_below n ins k all =
@@ -46,7 +46,7 @@ pad_below n port buffered Both lt = lt
 pad_below n port true Output lt = lt
 pad_below n port false Output lt = tt
 
-pub pads_below : (n : NetlistData) → IsFormed n → All (IsBelow (length n.names)) (pads n)
+pub pads_below : (n : NetlistData) → IsFormed n → All (IsBelow (length n.names)) (pad_signals n)
 pads_below n f =
     All-map (IsBelow (length n.names)) (pad_of n.cells) n.ports
     (All-weaker (IsPortBelow (length n.names)) (λ (port : Port). IsBelow (length n.names) (pad_of n.cells port))

@@ -7,11 +7,11 @@ use Rattle.std.proofs.lemmas.Option.{none-some, slice_get_within, slice_get-get_
 use Rattle.std.proofs.lemmas.Slice.Zip.{length-zip}
 use Rattle.ice_base_values.specs.Order.{At, Has, IsCycleBelow}
 use Rattle.ice_net.specs.declared.cell.Cell.{Cell}
-use Rattle.ice_net.specs.declared.driver.Driver.{Driver}
-use Rattle.ice_net.specs.declared.driver.Driver.TheVariants.{Nothing, Pad, Output}
+use Rattle.ice_net.specs.declared.driver.SignalDriver.{SignalDriver}
+use Rattle.ice_net.specs.declared.driver.SignalDriver.TheVariants.{Nothing, Pad, Output}
 use Rattle.ice_net.specs.NetlistData.{NetlistData}
 use Rattle.ice_net.specs.Formed.{IsFormed}
-use Rattle.ice_net.specs.Drivers.{place_of, output_of, driver_from, pads, outputs, driver_of}
+use Rattle.ice_net.specs.Drivers.{place_of, output_of, driver_from, pad_signals, outputs, driver_of}
 use Rattle.ice_net.specs.Meaning.{State, kept_by, kept_after, depends_on}
 use Rattle.ice_check.proofs.Graphs.{reads_below}
 use Rattle.ice_check.proofs.Places.{place_within}
@@ -19,7 +19,7 @@ use Rattle.ice_check.proofs.Places.{place_within}
 module _ (n : NetlistData) where
   -- ---- drivers
   -- a driver that is an output is one of a cell
-  abbrev pub IsThere : Driver → Type 0
+  abbrev pub IsThere : SignalDriver → Type 0
   IsThere Nothing = Unit {0}
   IsThere (Pad k) = Unit {0}
   IsThere (Output i) = (cell : Cell) × At n.cells i cell
@@ -37,7 +37,7 @@ module _ (n : NetlistData) where
   at_place i lt = from_place i lt (slice_get n.cells i) refl
 
   pub driver_there : (s : ℕ) → IsThere (driver_of n s)
-  driver_there s = by (place_of s (pads n)) (place_of s (outputs n)) (place_within s (outputs n))
+  driver_there s = by (place_of s (pad_signals n)) (place_of s (outputs n)) (place_within s (outputs n))
     where
       by : (o p : Option ℕ) → ((i : ℕ) → p ≡ Some i → i < length (outputs n)) → IsThere (driver_from o p)
       by (Some k) p within = tt

@@ -11,9 +11,9 @@ use Rattle.ice_net.specs.declared.port.Port.{Port}
 use Rattle.ice_net.specs.declared.port.Way.{Way}
 use Rattle.ice_net.specs.declared.port.Way.TheVariants.{Input, Output, Both}
 use Rattle.ice_net.specs.NetlistData.{NetlistData, way_of}
-use Rattle.ice_net.specs.declared.driver.Driver.{Driver}
-use Rattle.ice_net.specs.declared.driver.Driver.TheVariants as driver
-use Rattle.ice_net.specs.Drivers.{is_there, place_of, pin_of, has_buffer, pads, outputs, driver_of}
+use Rattle.ice_net.specs.declared.driver.SignalDriver.{SignalDriver}
+use Rattle.ice_net.specs.declared.driver.SignalDriver.TheVariants as driver
+use Rattle.ice_net.specs.Drivers.{is_there, place_of, pin_of, has_buffer, pad_signals, outputs, driver_of}
 use Rattle.ice_net.specs.Drives.{is_type, uses_by}
 use Rattle.ice_check.specs.Tables.{times}
 
@@ -45,7 +45,7 @@ shown_of cells port = shown_by port (has_buffer cells port.signal.0) port.way
 abbrev pub is_shown : NetlistData → ℕ → Bool
 is_shown n s = is_there (place_of s (map (shown_of n.cells) n.ports))
 
-abbrev pub is_nothing : Driver → Bool
+abbrev pub is_nothing : SignalDriver → Bool
 is_nothing driver.Nothing = true
 is_nothing (driver.Pad k) = false
 is_nothing (driver.Output i) = false
@@ -56,7 +56,7 @@ is_undriven n s = is_nothing (driver_of n s) && (is_used n s || is_shown n s)
 
 -- the signal has two drivers among the pads and the connected outputs
 abbrev pub is_driven_twice : NetlistData → ℕ → Bool
-is_driven_twice n s = nat_lt 1 (times s (pads n) + times s (outputs n))
+is_driven_twice n s = nat_lt 1 (times s (pad_signals n) + times s (outputs n))
 
 -- the first signal that is undriven, and the first that is driven twice
 abbrev pub undriven : NetlistData → Option ℕ

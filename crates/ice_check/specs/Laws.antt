@@ -1,8 +1,7 @@
 -- The laws of sound netlists, each as one sentence.
 use Rattle.std.specs.Prelude.{◌≡◌, ◌≢◌, ℕ, ◌+◌, ◌<◌, Bool, false, Some, List, length, map}
-use Rattle.ice_base_values.specs.System.{value}
+use Rattle.ice_base_values.specs.System.{value, reading}
 use Rattle.ice_base_values.specs.Order.{IsOrder}
-use Rattle.ice_base_values.specs.Inputs.{reading}
 use Rattle.ice_net.specs.NetlistData.{NetlistData}
 use Rattle.ice_net.specs.Drivers.{driver_of}
 use Rattle.ice_net.specs.Meaning.{reads, makes, depends_on, system_of, signal_value}

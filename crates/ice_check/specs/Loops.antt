@@ -2,11 +2,11 @@
 use Rattle.std.specs.Prelude.{◌≡◌, ℕ, ◌<◌, ◌≤◌, List, length, map, Option, Some, None}
 use Rattle.ice_base_values.specs.Order.{At, IsOrder, IsCycleBelow, IsSimpleCycle}
 use Rattle.ice_base_values.specs.Graph.{depends_of, IsWithin}
-use Rattle.ice_base_values.specs.Inputs.{present}
+use Rattle.ice_base_values.specs.System.{present}
 use Rattle.ice_base_values.specs.declared.search.Outcome.{Outcome}
 use Rattle.ice_base_values.specs.declared.search.Outcome.TheVariants.{Order, Cycle}
-use Rattle.ice_net.specs.declared.driver.Driver.{Driver}
-use Rattle.ice_net.specs.declared.driver.Driver.TheVariants.{Nothing, Pad, Output}
+use Rattle.ice_net.specs.declared.driver.SignalDriver.{SignalDriver}
+use Rattle.ice_net.specs.declared.driver.SignalDriver.TheVariants.{Nothing, Pad, Output}
 use Rattle.ice_net.specs.NetlistData.{NetlistData}
 use Rattle.ice_net.specs.Drivers.{driver_of}
 use Rattle.ice_net.specs.Meaning.{reads, depends_on}
@@ -34,13 +34,13 @@ pub record HasOrder (n : NetlistData) : Type 0 where
 
 -- ---- cells
 -- the cell whose output a driver is
-abbrev pub cell_by : Driver → Option ℕ
+abbrev pub cell_by : SignalDriver → Option ℕ
 cell_by Nothing = None
 cell_by (Pad k) = None
 cell_by (Output i) = Some i
 
 -- the cells that drive some signals, where `driver` tells what drives each
-abbrev pub cells_at : (ℕ → Driver) → List ℕ → List ℕ
+abbrev pub cells_at : (ℕ → SignalDriver) → List ℕ → List ℕ
 cells_at driver signals = present (map (λ s. cell_by (driver s)) signals)
 
 -- the cells whose outputs the output of a cell depends on

@@ -1,7 +1,7 @@
 -- Sound netlists, and what is kept with one.
 use Rattle.std.specs.Prelude.{◌≡◌, ℕ, List, length, map, Option, None}
 use Rattle.ice_base_values.specs.Order.{IsOrder}
-use Rattle.ice_net.specs.declared.driver.Driver.{Driver}
+use Rattle.ice_net.specs.declared.driver.SignalDriver.{SignalDriver}
 use Rattle.ice_net.specs.NetlistData.{NetlistData}
 use Rattle.ice_net.specs.Drivers.{pin_of}
 use Rattle.ice_net.specs.Meaning.{depends_on}
@@ -37,7 +37,7 @@ abbrev pub AreBuffers : NetlistData → List (Option ℕ) → Type 0
 AreBuffers n table = ArePlaces (length n.names) (map pin_of n.cells) table
 
 -- a sound netlist with an order of its cells, one of its signals, and what drives and what buffers each signal
-pub record IsChecked (n : NetlistData) (order signal_order : List ℕ) (drivers : List Driver) (buffers : List (Option ℕ)) : Type 0 where
+pub record IsChecked (n : NetlistData) (order signal_order : List ℕ) (drivers : List SignalDriver) (buffers : List (Option ℕ)) : Type 0 where
   pub sound : IsSound n
   pub cells : IsOrder (length n.cells) (cells_before n) order
   pub signals : IsOrder (length n.names) (depends_on n) signal_order

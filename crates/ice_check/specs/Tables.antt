@@ -1,8 +1,8 @@
 -- Tables by the number of a signal.
 use Rattle.std.specs.Prelude.{◌≡◌, ℕ, ◌+◌, ◌<◌, Bool, true, false, List, [], ◌∷◌, length, Option, Some, None, slice_index_or}
 use Rattle.ice_base.specs.declared.number.SignalNo.{SignalNo}
-use Rattle.ice_net.specs.declared.driver.Driver.{Driver}
-use Rattle.ice_net.specs.declared.driver.Driver.TheVariants.{Nothing}
+use Rattle.ice_net.specs.declared.driver.SignalDriver.{SignalDriver}
+use Rattle.ice_net.specs.declared.driver.SignalDriver.TheVariants.{Nothing}
 use Rattle.ice_net.specs.NetlistData.{NetlistData}
 use Rattle.ice_net.specs.Drivers.{is_signal, place_of, driver_from, driver_of}
 
@@ -33,11 +33,11 @@ pub record AreTimes (count : ℕ) (list : List (Option SignalNo)) (table : List 
   pub times_are : (s : ℕ) → s < count → slice_index_or table s 0 ≡ times s list
 
 -- a table of what drives each signal of a netlist
-pub record AreDrivers (n : NetlistData) (table : List Driver) : Type 0 where
+pub record AreDrivers (n : NetlistData) (table : List SignalDriver) : Type 0 where
   pub long : length table ≡ length n.names
   pub drivers : (s : ℕ) → s < length n.names → slice_index_or table s Nothing ≡ driver_of n s
 
 -- the drivers of so many signals, by a place for the pad and a place for the output of each
-pub record AreJoined (count : ℕ) (pads outputs : List (Option ℕ)) (table : List Driver) : Type 0 where
+pub record AreJoined (count : ℕ) (pads outputs : List (Option ℕ)) (table : List SignalDriver) : Type 0 where
   pub long : length table ≡ count
   pub joined : (s : ℕ) → s < count → slice_index_or table s Nothing ≡ driver_from (slice_index_or pads s None) (slice_index_or outputs s None)

@@ -21,7 +21,7 @@ use crate::sound::Orders;
 use crate::{NetFault, Sound};
 use ice_base::NoMemory;
 use ice_base_values::Outcome;
-use ice_net::{CellKind, Driver, Netlist};
+use ice_net::{CellKind, Netlist, SignalDriver};
 use std::alloc::Global;
 
 // The PIN_TYPE of an SB_IO, and 0 for other cells.
@@ -65,7 +65,7 @@ fn check_driven_once(alloc: Global, netlist: &Netlist) -> Result<(), NetFault>
 fn check_signals(
     alloc: Global,
     netlist: &Netlist,
-    drivers: &[Driver],
+    drivers: &[SignalDriver],
 ) -> Result<Vec<usize>, NetFault>
     requires formed { IsFormed netlist.now }
     requires drivers { AreDrivers netlist.now drivers.now }
@@ -113,7 +113,7 @@ fn check_pads(alloc: Global, netlist: &Netlist) -> Result<(), NetFault>
 }
 
 // Looks for the faults of signals, and gives orders of evaluation of the cells and of the signals.
-fn orders(alloc: Global, netlist: &Netlist, drivers: &[Driver]) -> Result<Orders, NetFault>
+fn orders(alloc: Global, netlist: &Netlist, drivers: &[SignalDriver]) -> Result<Orders, NetFault>
     requires formed { IsFormed netlist.now }
     requires drivers { AreDrivers netlist.now drivers.now }
     ensures cells { IfOk result (λ orders. IsOrder (length netlist.now.cells) (cells_before netlist.now) orders.cells.items) }

@@ -1,20 +1,20 @@
 //! What drives each signal of a netlist, and where its SB_IO is.
 ghost use Rattle.std.specs.Prelude.{◌≡◌, length, map, IfOk};
-ghost use Rattle.ice_net.specs.Drivers.{pin_of, pads, outputs, driver_from};
+ghost use Rattle.ice_net.specs.Drivers.{pin_of, pad_signals, outputs, driver_from};
 ghost use Rattle.ice_net.specs.Formed.{IsFormed};
 ghost use Rattle.ice_check.specs.Tables.{ArePlaces, AreDrivers, AreJoined};
 
 use crate::lists::{outputs, pads, pins};
 use crate::tables::places;
 use ice_base::NoMemory;
-use ice_net::{Driver, Netlist};
+use ice_net::{Netlist, SignalDriver};
 use std::alloc::Global;
 
 /// What drives each signal of a netlist, and where its SB_IO is, by the number of the signal.
 #[derive(Drop)]
 pub(crate) struct SignalTables {
     /// What drives it.
-    pub(crate) drivers: Vec<Driver>,
+    pub(crate) drivers: Vec<SignalDriver>,
     /// The place of the first SB_IO at it, in the list of cells.
     pub(crate) buffers: Vec<Option<usize>>,
 }
@@ -34,13 +34,13 @@ pub(crate) fn buffers(alloc: Global, netlist: &Netlist) -> Result<Vec<Option<usi
 }
 
 // What has the first of the places.
-fn driver_from(pad: Option<usize>, output: Option<usize>) -> Driver
+fn driver_from(pad: Option<usize>, output: Option<usize>) -> SignalDriver
     ensures { result ≡ driver_from pad output }
 {
     match (pad, output) {
-        (Some(port), _) => Driver::Pad(port),
-        (None, Some(cell)) => Driver::Output(cell),
-        (None, None) => Driver::Nothing,
+        (Some(port), _) => SignalDriver::Pad(port),
+        (None, Some(cell)) => SignalDriver::Output(cell),
+        (None, None) => SignalDriver::Nothing,
     }
 }
 
@@ -50,7 +50,7 @@ fn joined(
     alloc: Global,
     pads: &[Option<usize>],
     outputs: &[Option<usize>],
-) -> Result<Vec<Driver>, NoMemory>
+) -> Result<Vec<SignalDriver>, NoMemory>
     requires { length outputs.now ≡ length pads.now }
     ensures { IfOk result (λ table. AreJoined (length pads.now) pads.now outputs.now table.items) }
 {
@@ -64,7 +64,7 @@ fn joined(
 // The place of the first port whose pad drives each signal.
 #[tactic(auto, using(crate::proofs::ListsBelow::pads_below))]
 fn pad_places(alloc: Global, netlist: &Netlist) -> Result<Vec<Option<usize>>, NoMemory>
-    ensures places { IfOk result (λ table. ArePlaces (length netlist.now.names) (pads netlist.now) table.items) }
+    ensures places { IfOk result (λ table. ArePlaces (length netlist.now.names) (pad_signals netlist.now) table.items) }
     ensures formed { IsFormed netlist.now }
 {
     let buffers = buffers(alloc, netlist)?;
@@ -88,7 +88,7 @@ fn output_places(alloc: Global, netlist: &Netlist) -> Result<Vec<Option<usize>>,
 /// # Errors
 /// Want of memory alone.
 #[tactic(auto, using(crate::proofs::DriverTables::drivers_joined))]
-pub(crate) fn drivers(alloc: Global, netlist: &Netlist) -> Result<Vec<Driver>, NoMemory>
+pub(crate) fn drivers(alloc: Global, netlist: &Netlist) -> Result<Vec<SignalDriver>, NoMemory>
     ensures { IfOk result (λ table. AreDrivers netlist.now table.items) }
 {
     let pads = pad_places(alloc, netlist)?;

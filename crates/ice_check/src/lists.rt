@@ -1,21 +1,11 @@
 //! The signals of a netlist at pads, at outputs and at the PACKAGE_PINs of SB_IO cells, as lists.
-ghost use Rattle.std.specs.Prelude.{◌≡◌, ◌<◌, length, map, slice_index_or, None, IfOk};
-ghost use Rattle.ice_net.specs.Drivers.{pin_of, pad_by, pad_of, output_of, pads};
+ghost use Rattle.std.specs.Prelude.{◌≡◌, ◌<◌, length, map, None, IfOk};
+ghost use Rattle.ice_net.specs.Drivers.{pin_of, pad_by, pad_of, output_of, pad_signals};
 ghost use Rattle.ice_check.specs.Tables.{ArePlaces};
 
 use ice_base::{NoMemory, SignalNo};
-use ice_net::{Cell, CellKind, Netlist, Port, Way};
+use ice_net::{Cell, CellKind, Netlist, Port, Way, signal_at};
 use std::alloc::Global;
-
-// The signal at a place; None behind the end.
-pub(crate) fn signal_at(signals: &[Option<SignalNo>], place: usize) -> Option<SignalNo>
-    ensures { result ≡ slice_index_or signals.now place None }
-{
-    match signals.get(place) {
-        Some(signal) => *signal,
-        None => None,
-    }
-}
 
 // The signal at the PACKAGE_PIN of an SB_IO.
 pub(crate) fn pin_of(cell: &Cell) -> Option<SignalNo>
@@ -83,7 +73,7 @@ pub(crate) fn pads(
     buffers: &[Option<usize>],
 ) -> Result<Vec<Option<SignalNo>>, NoMemory>
     requires { ArePlaces (length netlist.now.names) (map pin_of netlist.now.cells) buffers.now }
-    ensures { IfOk result (λ list. list.items ≡ pads netlist.now) }
+    ensures { IfOk result (λ list. list.items ≡ pad_signals netlist.now) }
 {
     let mut list = Vec::new(alloc);
     for port in netlist.ports() {

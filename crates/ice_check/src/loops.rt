@@ -1,6 +1,6 @@
 //! The search for loops: signals that depend on one another in a circle.
 ghost use Rattle.std.specs.Prelude.{◌≡◌, ◌++◌, length, map, IfOk, OnOk};
-ghost use Rattle.ice_base_values.specs.Inputs.{present};
+ghost use Rattle.ice_base_values.specs.System.{present};
 ghost use Rattle.ice_net.specs.Drivers.{numbers};
 ghost use Rattle.ice_net.specs.Formed.{IsFormed};
 ghost use Rattle.ice_net.specs.Meaning.{reads_by, reads, depends_on};
@@ -9,7 +9,7 @@ ghost use Rattle.ice_check.specs.Loops.{IsGraphOf, IsSearched};
 
 use ice_base::{NoMemory, SignalNo};
 use ice_base_values::{Graph, Outcome, from_least, order};
-use ice_net::{CellKind, Driver, Netlist};
+use ice_net::{CellKind, Netlist, SignalDriver};
 use std::alloc::Global;
 
 // Puts the numbers of the signals that are there behind a row.
@@ -40,11 +40,15 @@ pub(crate) fn read_by(
 }
 
 // Makes a row the signals that a driver depends on.
-fn read_by_driver(netlist: &Netlist, driver: Driver, row: &mut Vec<usize>) -> Result<(), NoMemory>
+fn read_by_driver(
+    netlist: &Netlist,
+    driver: SignalDriver,
+    row: &mut Vec<usize>,
+) -> Result<(), NoMemory>
     ensures { OnOk result (row.new.items ≡ present (reads netlist.now driver)) }
 {
     row.clear();
-    let Driver::Output(place) = driver else {
+    let SignalDriver::Output(place) = driver else {
         return Ok(());
     };
     let Some(cell) = netlist.cells().get(place) else {
@@ -54,7 +58,11 @@ fn read_by_driver(netlist: &Netlist, driver: Driver, row: &mut Vec<usize>) -> Re
 }
 
 // The signals with what each depends on.
-fn graph_of_signals(alloc: Global, netlist: &Netlist, drivers: &[Driver]) -> Result<Graph, NoMemory>
+fn graph_of_signals(
+    alloc: Global,
+    netlist: &Netlist,
+    drivers: &[SignalDriver],
+) -> Result<Graph, NoMemory>
     requires formed { IsFormed netlist.now }
     requires drivers { AreDrivers netlist.now drivers.now }
     ensures { IfOk result (IsGraphOf (length netlist.now.names) (depends_on netlist.now)) }
@@ -72,7 +80,7 @@ fn graph_of_signals(alloc: Global, netlist: &Netlist, drivers: &[Driver]) -> Res
 pub(crate) fn search_signals(
     alloc: Global,
     netlist: &Netlist,
-    drivers: &[Driver],
+    drivers: &[SignalDriver],
 ) -> Result<Outcome, NoMemory>
     requires formed { IsFormed netlist.now }
     requires drivers { AreDrivers netlist.now drivers.now }

@@ -8,23 +8,27 @@ ghost use Rattle.ice_check.specs.Loops.{IsGraphOf, HasOrder, cell_by, cells_at, 
 use crate::loops::read_by;
 use ice_base::NoMemory;
 use ice_base_values::{Graph, Outcome, order};
-use ice_net::{Driver, Netlist};
+use ice_net::{Netlist, SignalDriver};
 use std::alloc::Global;
 
 // The cell that drives a signal, if one does.
-fn cell_at(drivers: &[Driver], signal: usize) -> Option<usize>
-    ensures { result ≡ cell_by (slice_index_or drivers.now signal Driver.Nothing) }
+fn cell_at(drivers: &[SignalDriver], signal: usize) -> Option<usize>
+    ensures { result ≡ cell_by (slice_index_or drivers.now signal SignalDriver.Nothing) }
 {
     match drivers.get(signal) {
-        Some(Driver::Output(cell)) => Some(*cell),
+        Some(SignalDriver::Output(cell)) => Some(*cell),
         _ => None,
     }
 }
 
 // Puts the cells that drive some signals behind a row.
-fn push_cells(drivers: &[Driver], signals: &[usize], row: &mut Vec<usize>) -> Result<(), NoMemory>
+fn push_cells(
+    drivers: &[SignalDriver],
+    signals: &[usize],
+    row: &mut Vec<usize>,
+) -> Result<(), NoMemory>
     ensures { OnOk result (row.new.items
-        ≡ row.old.items ++ cells_at (λ s. slice_index_or drivers.now s Driver.Nothing) signals.now) }
+        ≡ row.old.items ++ cells_at (λ s. slice_index_or drivers.now s SignalDriver.Nothing) signals.now) }
 {
     for &signal in signals {
         if let Some(cell) = cell_at(drivers, signal) {
@@ -35,7 +39,11 @@ fn push_cells(drivers: &[Driver], signals: &[usize], row: &mut Vec<usize>) -> Re
 }
 
 // The cells with what each depends on.
-fn graph_of_cells(alloc: Global, netlist: &Netlist, drivers: &[Driver]) -> Result<Graph, NoMemory>
+fn graph_of_cells(
+    alloc: Global,
+    netlist: &Netlist,
+    drivers: &[SignalDriver],
+) -> Result<Graph, NoMemory>
     requires { AreDrivers netlist.now drivers.now }
     ensures graph { IfOk result (IsGraphOf (length netlist.now.cells) (cells_before netlist.now)) }
     ensures formed { IsFormed netlist.now }
@@ -69,7 +77,7 @@ fn narrowed(alloc: Global, points: &[usize]) -> Result<Vec<u32>, NoMemory>
 pub(crate) fn order_of_cells(
     alloc: Global,
     netlist: &Netlist,
-    drivers: &[Driver],
+    drivers: &[SignalDriver],
 ) -> Result<Vec<u32>, NoMemory>
     requires drivers { AreDrivers netlist.now drivers.now }
     requires signals { HasOrder netlist.now }

@@ -1,17 +1,17 @@
 //! The faults of signals: one that is read or shown and that nothing drives, and one that is driven twice.
 ghost use Rattle.std.specs.Prelude.{◌≡◌, ◌<◌, ◌+◌, ◌++◌, length, map, nat_lt, IfOk, OnOk};
 ghost use Rattle.std.specs.List.{flat_map};
-ghost use Rattle.ice_net.specs.Drivers.{pin_of, pads, outputs};
+ghost use Rattle.ice_net.specs.Drivers.{pin_of, pad_signals, outputs};
 ghost use Rattle.ice_net.specs.Drives.{pad_uses};
 ghost use Rattle.ice_check.specs.Tables.{ArePlaces, AreTimes, AreDrivers};
 ghost use Rattle.ice_check.specs.Faults.{uses_of, shown_by, shown_of, is_nothing, undriven, driven_twice};
 
 use crate::cells::{ENABLED_TYPE, OUTPUT_TYPE};
 use crate::drivers::{buffers, drivers};
-use crate::lists::{outputs, pads, signal_at};
+use crate::lists::{outputs, pads};
 use crate::tables::{places, times_of};
 use ice_base::{NoMemory, SignalNo};
-use ice_net::{Cell, CellKind, Driver, Netlist, Port, Way};
+use ice_net::{Cell, CellKind, Netlist, Port, SignalDriver, Way, signal_at};
 use std::alloc::Global;
 
 // Adds the inputs of an SB_IO that are in use.
@@ -102,12 +102,12 @@ fn shown_at(alloc: Global, netlist: &Netlist) -> Result<Vec<Option<usize>>, NoMe
 }
 
 // Whether a driver is none.
-fn is_nothing(driver: Driver) -> bool
+fn is_nothing(driver: SignalDriver) -> bool
     ensures { result ≡ is_nothing driver }
 {
     match driver {
-        Driver::Nothing => true,
-        Driver::Pad(_) | Driver::Output(_) => false,
+        SignalDriver::Nothing => true,
+        SignalDriver::Pad(_) | SignalDriver::Output(_) => false,
     }
 }
 
@@ -115,7 +115,7 @@ fn is_nothing(driver: Driver) -> bool
 #[tactic(auto, using(crate::proofs::FirstNumbers::first_here, crate::proofs::FirstNumbers::first_next, crate::proofs::FirstNumbers::first_none))]
 fn first_undriven(
     netlist: &Netlist,
-    drivers: &[Driver],
+    drivers: &[SignalDriver],
     used: &[Option<usize>],
     shown: &[Option<usize>],
 ) -> Option<usize>
@@ -158,7 +158,7 @@ fn is_twice(pads: usize, outputs: usize) -> bool
 // The first signal that is driven twice, by how many pads and how many outputs drive each.
 #[tactic(auto, using(crate::proofs::FirstNumbers::first_here, crate::proofs::FirstNumbers::first_next, crate::proofs::FirstNumbers::first_none))]
 fn first_twice(netlist: &Netlist, pad_counts: &[usize], output_counts: &[usize]) -> Option<usize>
-    requires pads { AreTimes (length netlist.now.names) (pads netlist.now) pad_counts.now }
+    requires pads { AreTimes (length netlist.now.names) (pad_signals netlist.now) pad_counts.now }
     requires outputs { AreTimes (length netlist.now.names) (outputs netlist.now) output_counts.now }
     ensures { result ≡ driven_twice netlist.now }
 {
@@ -173,7 +173,7 @@ fn first_twice(netlist: &Netlist, pad_counts: &[usize], output_counts: &[usize])
 // How often each signal is driven by a pad.
 #[tactic(auto, using(crate::proofs::ListsBelow::pads_below))]
 fn pad_counts(alloc: Global, netlist: &Netlist) -> Result<Vec<usize>, NoMemory>
-    ensures { IfOk result (λ table. AreTimes (length netlist.now.names) (pads netlist.now) table.items) }
+    ensures { IfOk result (λ table. AreTimes (length netlist.now.names) (pad_signals netlist.now) table.items) }
 {
     let buffers = buffers(alloc, netlist)?;
     let pads = pads(alloc, netlist, &buffers)?;

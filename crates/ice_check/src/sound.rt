@@ -8,7 +8,7 @@ ghost use Rattle.ice_check.specs.Loops.{cells_before};
 ghost use Rattle.ice_check.specs.Sound.{IsSound, IsChecked, AreBuffers};
 
 use crate::drivers::SignalTables;
-use ice_net::{Driver, Netlist};
+use ice_net::{Netlist, SignalDriver};
 use std::marker::Model;
 
 /// Orders of evaluation of a netlist.
@@ -56,7 +56,7 @@ impl Sound {
         ensures sound { IsSound self.now }
         ensures ordered { (order : List ℕ) × IsOrder (length self.now.names) (depends_on self.now) order }
     {
-        self.netlist.ports();
+        self.netlist.is_formed();
     }
 
     /// The cells in an order of evaluation: each after the cells whose outputs its own output depends on.
@@ -74,7 +74,7 @@ impl Sound {
     }
 
     /// What drives each signal, by its number.
-    pub fn drivers(&self) -> &[Driver]
+    pub fn drivers(&self) -> &[SignalDriver]
         ensures { AreDrivers self.now result.now }
     {
         self.tables.drivers.as_slice()

@@ -6,15 +6,15 @@ use Rattle.std.proofs.Math.Path.{fun_ext}
 use Rattle.std.proofs.lemmas.List.{length-map, map-append}
 use Rattle.ice_base.specs.declared.number.SignalNo.{SignalNo}
 use Rattle.ice_base_values.specs.Order.{At}
-use Rattle.ice_base_values.specs.Inputs.{present}
+use Rattle.ice_base_values.specs.System.{present}
 use Rattle.ice_base_values.proofs.Members.{At_left, At_right, At_map, At_within}
 use Rattle.ice_net.specs.declared.cell.Cell.{Cell}
 use Rattle.ice_net.specs.declared.port.Port.{Port}
-use Rattle.ice_net.specs.declared.driver.Driver.{Driver}
-use Rattle.ice_net.specs.declared.driver.Driver.TheVariants.{Nothing, Pad, Output}
+use Rattle.ice_net.specs.declared.driver.SignalDriver.{SignalDriver}
+use Rattle.ice_net.specs.declared.driver.SignalDriver.TheVariants.{Nothing, Pad, Output}
 use Rattle.ice_net.specs.NetlistData.{NetlistData}
 use Rattle.ice_net.specs.Formed.{IsFormed}
-use Rattle.ice_net.specs.Drivers.{numbers, place_of, is_there, pin_of, buffer_at, has_buffer, pad_by, output_of, driver_from, pads, outputs, driver_of}
+use Rattle.ice_net.specs.Drivers.{numbers, place_of, is_there, pin_of, buffer_at, has_buffer, pad_by, output_of, driver_from, pad_signals, outputs, driver_of}
 use Rattle.ice_net.specs.Meaning.{makes_by, cell_reads, pad_level, reads, makes, depends_on}
 use Rattle.ice_check.proofs.ListsBelow.{pads_below, outputs_below}
 use Rattle.ice_check.proofs.OldSignals.{IsThere, driver_there}
@@ -65,25 +65,25 @@ module _ (n : NetlistData) (clocks : List ℕ) where
   pub buffered_same : (s : ℕ) → has_buffer new.cells s ≡ has_buffer n.cells s
   buffered_same s = ap is_there (buffer_same s)
 
-  pub pads_same : pads new ≡ pads n
+  pub pads_same : pad_signals new ≡ pad_signals n
   pads_same = ap (λ (f : Port → Option SignalNo). map f n.ports) (fun_ext (λ (port : Port). ap (λ b. pad_by port b port.way) (buffered_same port.signal.0)))
 
   -- ---- drivers
   pub driver_old : (s : ℕ) → s < count → driver_of new s ≡ driver_of n s
   driver_old s lt =
       ap (λ xs. driver_from (place_of s xs) (place_of s (outputs new))) pads_same
-      ∙ ap (driver_from (place_of s (pads n))) (ap (place_of s) outputs_are ∙ place_left s (outputs n) (map output_of added) (own.outs_above s count clocks lt))
+      ∙ ap (driver_from (place_of s (pad_signals n))) (ap (place_of s) outputs_are ∙ place_left s (outputs n) (map output_of added) (own.outs_above s count clocks lt))
 
   pub driver_new : IsFormed n → (j clock : ℕ) → At clocks j clock → driver_of new (count + j) ≡ Output (length n.cells + j)
   driver_new formed j clock at =
       let above : count ≤ count + j = omega arith in
-      ap (λ o. driver_from o (place_of (count + j) (outputs new))) (ap (place_of (count + j)) pads_same ∙ place_above (count + j) count (pads n) (pads_below n formed) above)
+      ap (λ o. driver_from o (place_of (count + j) (outputs new))) (ap (place_of (count + j)) pads_same ∙ place_above (count + j) count (pad_signals n) (pads_below n formed) above)
       ∙ ap (driver_from None) (ap (place_of (count + j)) outputs_are
       ∙ place_right (count + j) (outputs n) (map output_of added) j (place_above (count + j) count (outputs n) (outputs_below n formed) above) (own.out_at count clocks j clock at)
       ∙ ap (λ k. Some (k + j)) (length-map n.cells output_of))
 
   -- ---- what drivers read and make
-  pub reads_same : (d : Driver) → IsThere n d → reads new d ≡ reads n d
+  pub reads_same : (d : SignalDriver) → IsThere n d → reads new d ≡ reads n d
   reads_same Nothing there = refl
   reads_same (Pad k) there = refl
   reads_same (Output i) (cell, at) =
@@ -92,7 +92,7 @@ module _ (n : NetlistData) (clocks : List ℕ) where
       ∙ sym (ap (λ o. option_map_or (λ (cell : Cell). cell_reads cell) o []) at)
 
   pub makes_same : (levels kept after : List Bool) → ((i : ℕ) → i < length n.cells → slice_index_or after i false ≡ slice_index_or kept i false)
-      → (d : Driver) → IsThere n d → (xs : List Bool) → makes new levels after d xs ≡ makes n levels kept d xs
+      → (d : SignalDriver) → IsThere n d → (xs : List Bool) → makes new levels after d xs ≡ makes n levels kept d xs
   makes_same levels kept after same Nothing there xs = refl
   makes_same levels kept after same (Pad k) there xs = refl
   makes_same levels kept after same (Output i) (cell, at) xs =

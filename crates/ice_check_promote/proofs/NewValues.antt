@@ -5,8 +5,7 @@ use Rattle.std.specs.Option.{option_map_or}
 use Rattle.std.proofs.lemmas.List.{map-id}
 use Rattle.ice_base.specs.Lists.{all_known}
 use Rattle.ice_base_values.specs.Order.{At}
-use Rattle.ice_base_values.specs.Inputs.{try_reading, filled}
-use Rattle.ice_base_values.specs.System.{System, value}
+use Rattle.ice_base_values.specs.System.{try_reading, filled_inputs, System, value}
 use Rattle.ice_base_values.proofs.Gaps.{value_gapped}
 use Rattle.ice_base_values.proofs.Members.{At_within}
 use Rattle.ice_base_values.proofs.Values.{value_along}
@@ -40,9 +39,9 @@ module _ (n : NetlistData) (clocks : List ℕ) (formed : IsFormed n) (below : (j
   -- what an old signal makes
   local_same : (s : ℕ) (xs : List Bool) → s < length n.names → new_system.local s xs ≡ old_system.local s xs
   local_same s xs lt =
-      ap (λ d. makes new levels after d (filled false (reads new d) xs)) (driver_old n clocks s lt)
-      ∙ ap (λ (rs : List (Option ℕ)). makes new levels after (driver_of n s) (filled false rs xs)) (reads_same n clocks (driver_of n s) (driver_there n s))
-      ∙ makes_same n clocks levels kept after same (driver_of n s) (driver_there n s) (filled false (reads n (driver_of n s)) xs)
+      ap (λ d. makes new levels after d (filled_inputs false (reads new d) xs)) (driver_old n clocks s lt)
+      ∙ ap (λ (rs : List (Option ℕ)). makes new levels after (driver_of n s) (filled_inputs false rs xs)) (reads_same n clocks (driver_of n s) (driver_there n s))
+      ∙ makes_same n clocks levels kept after same (driver_of n s) (driver_there n s) (filled_inputs false (reads n (driver_of n s)) xs)
 
   steps_same : (f s : ℕ) → s < length n.names → value new_system f s ≡ value old_system f s
   steps_same f s lt =

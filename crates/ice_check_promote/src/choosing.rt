@@ -7,11 +7,8 @@ ghost use Rattle.ice_check_promote.specs.Promoted.{is_promotable, promoted_clock
 
 use crate::counting::{Counts, counts_of};
 use ice_base::NoMemory;
-use ice_net::Netlist;
+use ice_net::{MOST_SIGNALS, Netlist};
 use std::alloc::Global;
-
-// The most signals of a netlist that is placed.
-const MOST_SIGNALS: u32 = 65_534;
 
 // So many flip-flops do without a global network.
 const MOST_FLOPS: usize = 15;

@@ -1,9 +1,8 @@
 -- The numbers of the rows of a chip's groups.
 use Rattle.std.proofs.Common.{◌≡◌, ℕ, zero, suc, ◌+◌, ◌<◌, ◌≤◌, List, [], ◌∷◌, map, length, get_or, ap, ◌∙◌, arith}
 use Rattle.std.proofs.lemmas.List.{length-map, length-append}
-use Rattle.ice_chip.specs.Database.{SwitchGroup}
+use Rattle.ice_chip.specs.Database.{SwitchGroup, most_rows}
 use Rattle.ice_chip.specs.IsRead.{AreNumbered}
-use Rattle.ice_chip.specs.Limits.{most_rows}
 use Rattle.ice_chip.specs.Lookups.{rows_of, in_group}
 use Rattle.ice_chip.specs.Views.{row_view, group_view}
 use Rattle.ice_chip.specs.declared.rows.Group.{Group}

@@ -5,7 +5,7 @@ use Rattle.ice_base.specs.declared.number.TileAt.{TileAt}
 use Rattle.ice_base.proofs.Keys.{nat_same, tile_same, nat_self, tile_self}
 use Rattle.ice_chip.specs.declared.rows.Pad.{Pad}
 use Rattle.ice_chip.specs.declared.index.NumberedName.{NumberedName}
-use Rattle.ice_chip.specs.Places.{same_tile, same_pad}
+use Rattle.ice_chip.specs.Database.{same_tile, same_pad}
 use Rattle.ice_chip.specs.Indices.{same_numbered}
 
 pub pad_same : (a b : Pad) → same_pad a b ≡ true → a ≡ b

@@ -7,7 +7,7 @@ use Rattle.ice_chip.specs.Database.{Parts, FunctionRow}
 use Rattle.ice_chip.specs.FirstLacking.{is_needed, Lacks, IsWrong, IsFirstLack}
 use Rattle.ice_chip.specs.Functions.{function_line}
 use Rattle.ice_chip.specs.LacksFunction.{has_tile, is_buffer_source, has_needed, lacks_needed, has_wrong_bits, wrong_bits, lacks_function}
-use Rattle.ice_chip.specs.declared.parts.TileLine.{TileLine}
+use Rattle.ice_chip.specs.declared.rows.TileLine.{TileLine}
 use Rattle.ice_chip.specs.declared.rows.TileKind.{TileKind}
 use Rattle.ice_chip.specs.declared.rows.TileKind.TheVariants.{Io, Logic, RamBottom, RamTop}
 use Rattle.std.proofs.lemmas.Bool.{and_parts, or_cases}

@@ -5,7 +5,7 @@ use Rattle.std.proofs.lemmas.Slice.Eq.{strip_prefix_is}
 use Rattle.std.proofs.lemmas.Bool.Decides.{Decides-eqb}
 use Rattle.std.specs.Cmp.Lexicographic.{pointwise}
 use Rattle.std.specs.Borrow.{Bor}
-use Rattle.ice_chip.specs.Digits.{digit, number_of, lone_number, leading_number, behind, number_behind, number_within, number_or, numbered_or}
+use Rattle.ice_chip.specs.Names.{digit, number_of_digit, lone_number, leading_number, behind, number_behind, number_within, number_or, numbered_or}
 use Rattle.std.proofs.lemmas.Bool.{and_parts}
 use Rattle.ice_base.proofs.Keys.{nat_same, nat_self}
 
@@ -52,7 +52,7 @@ both_so false b a_so b_so = a_so
 pub digit_is : (n : ℕ) → n < 10 → digit n ≡ 48 + n
 digit_is n lt = omega arith
 
-pub number_digit : (limit n : ℕ) → n < limit → limit ≤ 10 → number_of limit (digit n) ≡ Some n
+pub number_digit : (limit n : ℕ) → n < limit → limit ≤ 10 → number_of_digit limit (digit n) ≡ Some n
 number_digit limit n lt le =
     let low : nat_le 48 (digit n) ≡ true = le-leb 48 (digit n) (omega arith) in
     let below : nat_lt (digit n - 48) limit ≡ true = lt-ltb (digit n - 48) limit (omega arith) in
@@ -60,7 +60,7 @@ number_digit limit n lt le =
     taken (nat_le 48 (digit n) && nat_lt (digit n - 48) limit) (Some (digit n - 48)) None (both_so (nat_le 48 (digit n)) (nat_lt (digit n - 48) limit) low below)
     ∙ ap (λ k. Some k) same
 
-pub number_told : (limit d n : ℕ) → limit ≤ 10 → number_of limit d ≡ Some n → (n < limit) × (d ≡ digit n)
+pub number_told : (limit d n : ℕ) → limit ≤ 10 → number_of_digit limit d ≡ Some n → (n < limit) × (d ≡ digit n)
 number_told limit d n le e =
     let parts = if_some (nat_le 48 d && nat_lt (d - 48) limit) (Some (d - 48)) n e in
     let so = and_parts (nat_le 48 d) (nat_lt (d - 48) limit) parts.0 in
@@ -100,7 +100,7 @@ mapped_some f (Some x) y e = (x, refl, cc)
 leading_told : (limit : ℕ) (text : List ℕ) (found : ℕ × List ℕ) → limit ≤ 10 → leading_number limit text ≡ Some found → (found.0 < limit) × (text ≡ digit found.0 ∷ found.1)
 leading_told limit [] found le e = absurd (cc)
 leading_told limit (d ∷ text) found le e =
-    let known = mapped_some (λ (k : ℕ). (k, text)) (number_of limit d) found e in
+    let known = mapped_some (λ (k : ℕ). (k, text)) (number_of_digit limit d) found e in
     let number = number_told limit d known.0 le known.1 in
     subst (λ (f : ℕ × List ℕ). (f.0 < limit) × (d ∷ text ≡ digit f.0 ∷ f.1)) known.2 (number.0, ap (λ k. k ∷ text) number.1)
 

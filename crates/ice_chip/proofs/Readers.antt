@@ -6,9 +6,8 @@ use Rattle.std.specs.Option.{option_and_then}
 use Rattle.std.specs.Map.{lookup}
 use Rattle.std.specs.declared.alloc.Global.{Global}
 use Rattle.ice_base.specs.declared.number.TileAt.{TileAt}
-use Rattle.ice_base.specs.Names.{number_of_name}
-use Rattle.ice_chip.specs.Database.{Parts}
-use Rattle.ice_chip.specs.Places.{same_tile, same_pad}
+use Rattle.ice_base.specs.Lists.{number_of_name}
+use Rattle.ice_chip.specs.Database.{Parts, same_tile, same_pad}
 use Rattle.ice_chip.specs.Lookups.{in_group, placed_names, placed_wire, names_of, wire_named, global_tile, fed_pad, enable_counts, buffer_counts, served_tile, global_of, gbufpin_of, padin_of, ieren_of, colbuf_of}
 use Rattle.ice_chip.specs.Indices.{Numbered, same_numbered, numbered, lists_of, listed, firsts, row_in, row_at}
 use Rattle.ice_chip.specs.NameIndex.{no_names}

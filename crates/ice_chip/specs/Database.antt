@@ -1,10 +1,13 @@
--- A chip database as data. Wires, lines and rows are numbers; names are lists of bytes.
-use Rattle.std.specs.Prelude.{ℕ, Bool, List, []}
+-- A chip database as data, its limits and its places. Wires, lines and rows are numbers; names are lists of bytes.
+use Rattle.std.specs.Prelude.{ℕ, Bool, List, [], ◌==◌, ◌&&◌, Option}
 use Rattle.ice_base.specs.declared.number.TileAt.{TileAt}
 use Rattle.ice_base.specs.declared.number.BitAt.{BitAt}
 use Rattle.ice_chip.specs.declared.rows.TileKind.{TileKind}
 use Rattle.ice_chip.specs.declared.rows.Pad.{Pad}
-use Rattle.ice_chip.specs.declared.parts.TileLine.{TileLine}
+use Rattle.ice_chip.specs.declared.rows.TileLine.{TileLine}
+use Rattle.std.specs.Map.{lookup}
+pub use Rattle.ice_base.specs.Places.{same_tile}
+use Rattle.ice_chip.specs.declared.rows.TileKind.TheVariants.{Io, Logic}
 
 -- a name of the configuration bits of all tiles of a kind
 pub record FunctionRow : Type 0 where
@@ -75,3 +78,28 @@ no_parts width height wires = record {
   ieren = [];
   colbuf = [];
 }
+
+-- the columns, and the rows of places
+abbrev pub most_places : ℕ
+most_places = 256
+
+-- the wires
+abbrev pub most_wires : ℕ
+most_wires = 1048576
+
+-- the switch rows
+abbrev pub most_rows : ℕ
+most_rows = 16777216
+
+abbrev pub same_pad : Pad → Pad → Bool
+same_pad a b = same_tile a.tile b.tile && (a.pio == b.pio)
+
+-- the columns of a tile's bits, which have 16 rows
+abbrev pub columns : TileKind → ℕ
+columns Io = 18
+columns Logic = 54
+columns memory = 42
+
+-- what is known of the tile at a place
+abbrev pub tile_known : List (TileAt × TileLine) → TileAt → Option TileLine
+tile_known tiles tile = lookup (same_tile tile) tiles

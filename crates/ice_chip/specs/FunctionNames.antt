@@ -1,34 +1,8 @@
--- The names of the functions that are read: a maker of each, and the reader of all.
-use Rattle.std.specs.Prelude.{◌≡◌, ℕ, ◌<◌, Option, None, Some, List, [], ◌∷◌, ◌++◌, codes, bytes_eq, option_map, IfSome, if◌then◌else◌}
-use Rattle.ice_chip.specs.Digits.{digit, number_behind, number_within, number_or, numbered_or}
+-- The names of the functions that are read: all of them, and their reader.
+use Rattle.std.specs.Prelude.{◌≡◌, ℕ, ◌<◌, Option, None, Some, List, codes, bytes_eq, option_map, IfSome, if◌then◌else◌}
+use Rattle.ice_chip.specs.Names.{number_behind, number_within, number_or, numbered_or, carry_set_function, cell_function, column_buffer_function, falling_clock_function, input_enable_function, pin_type_function, pull_up_function}
 use Rattle.ice_chip.specs.declared.function_names.TileFunction.{TileFunction}
 use Rattle.ice_chip.specs.declared.function_names.TileFunction.TheVariants.{Cell, FallingClock, CarrySet, PinType, InputEnable, PullUp, ColumnBuffer}
-
--- `LC_I`, the 20 bits of a cell
-abbrev pub cell_function : ℕ → List ℕ
-cell_function cell = codes "LC_" ++ digit cell ∷ []
-
--- the clock's edge, and the carry into the first cell
-abbrev pub falling_clock_function : List ℕ
-falling_clock_function = codes "NegClk"
-
-abbrev pub carry_set_function : List ℕ
-carry_set_function = codes "CarryInSet"
-
--- `IOB_P.PINTYPE_K`, a digit of a pad's pin type
-abbrev pub pin_type_function : ℕ → ℕ → List ℕ
-pin_type_function pio place = codes "IOB_" ++ digit pio ∷ (codes ".PINTYPE_" ++ digit place ∷ [])
-
--- `IoCtrl.IE_P` and `IoCtrl.REN_P`, a pad's input enable and pull-up
-abbrev pub input_enable_function : ℕ → List ℕ
-input_enable_function pio = codes "IoCtrl.IE_" ++ digit pio ∷ []
-
-abbrev pub pull_up_function : ℕ → List ℕ
-pull_up_function pio = codes "IoCtrl.REN_" ++ digit pio ∷ []
-
--- `ColBufCtrl.glb_netwk_N`, the column buffer of a global
-abbrev pub column_buffer_function : ℕ → List ℕ
-column_buffer_function n = codes "ColBufCtrl.glb_netwk_" ++ digit n ∷ []
 
 -- ---- all of them
 abbrev pub function_name : TileFunction → List ℕ

@@ -1,9 +1,9 @@
 -- Which functions of a kind of tile are read or kept.
-use Rattle.std.specs.Prelude.{ℕ, ◌==◌, Bool, ◌||◌, ◌&&◌, true, false, Option, Some, None, is_some, List, [], ◌∷◌, codes, bytes_eq, if◌then◌else◌}
+use Rattle.std.specs.Prelude.{ℕ, zero, suc, ◌==◌, Bool, ◌||◌, ◌&&◌, true, false, Option, Some, None, is_some, List, [], ◌∷◌, codes, bytes_eq, if◌then◌else◌}
 use Rattle.ice_chip.specs.declared.rows.TileKind.{TileKind}
 use Rattle.ice_chip.specs.declared.rows.TileKind.TheVariants.{Io, Logic, RamBottom, RamTop}
 use Rattle.ice_chip.specs.Database.{FunctionRow}
-use Rattle.ice_chip.specs.Digits.{number_behind}
+use Rattle.ice_chip.specs.Names.{number_behind, column_buffer_function}
 
 -- the bits of the eight logic cells, `LC_I`
 abbrev pub is_logic_cell : List ℕ → Bool
@@ -29,24 +29,18 @@ is_pad_enable name = is_some (number_behind 2 (codes "IoCtrl.IE_") name) || is_s
 abbrev pub is_read : TileKind → List ℕ → Bool
 is_read Io name = is_first_pin_type name || is_second_pin_type name || is_pad_enable name || is_column_buffer name
 is_read Logic name = is_logic_cell name || bytes_eq name (codes "NegClk") || bytes_eq name (codes "CarryInSet") || is_column_buffer name
-is_read RamBottom name = is_column_buffer name
-is_read RamTop name = is_column_buffer name
+is_read memory name = is_column_buffer name
 
 -- the name begins with `PLL.`: 80 is `P`, 76 is `L`, 46 is `.`
 abbrev pub is_of_pll : List ℕ → Bool
-is_of_pll [] = false
-is_of_pll (a ∷ []) = false
-is_of_pll (a ∷ b ∷ []) = false
-is_of_pll (a ∷ b ∷ c ∷ []) = false
 is_of_pll (a ∷ b ∷ c ∷ d ∷ name) = (a == 80) && (b == 76) && (c == 76) && (d == 46)
+is_of_pll name = false
 
 -- The functions of PLLs and of pairs of pads, and the falling clock of the registers of pads, which are kept so that bits which set them
 -- can be refused. They aren't read.
 abbrev pub is_foreign : TileKind → List ℕ → Bool
 is_foreign Io name = is_of_pll name || bytes_eq name (codes "IoCtrl.LVDS") || bytes_eq name (codes "NegClk")
-is_foreign Logic name = false
-is_foreign RamBottom name = false
-is_foreign RamTop name = false
+is_foreign kind name = false
 
 abbrev pub same_kind : TileKind → TileKind → Bool
 same_kind Io Io = true
@@ -59,3 +53,16 @@ same_kind a b = false
 abbrev pub function_line : TileKind → List ℕ → List FunctionRow → Option ℕ
 function_line kind name [] = None
 function_line kind name (f ∷ fs) = if same_kind f.kind kind && bytes_eq f.name name then Some f.line else function_line kind name fs
+
+-- ---- the functions that a kind has
+abbrev pub has_function : TileKind → List ℕ → List FunctionRow → Bool
+has_function kind name fs = is_some (function_line kind name fs)
+
+-- the kind has the functions of all numbers below a number
+abbrev pub has_each : TileKind → (ℕ → List ℕ) → ℕ → List FunctionRow → Bool
+has_each kind name zero fs = true
+has_each kind name (suc n) fs = has_each kind name n fs && has_function kind (name n) fs
+
+-- the column buffers of the eight globals
+abbrev pub has_column_buffers : TileKind → List FunctionRow → Bool
+has_column_buffers kind fs = has_each kind column_buffer_function 8 fs

@@ -3,9 +3,8 @@ use Rattle.std.specs.Prelude.{ℕ, zero, suc, ◌==◌, ◌&&◌, Bool, Option, 
 use Rattle.std.specs.Map.{lookup}
 use Rattle.std.specs.Option.{option_and_then}
 use Rattle.std.specs.declared.alloc.Global.{Global}
-use Rattle.ice_base.specs.Names.{with_name, number_of_name}
-use Rattle.ice_chip.specs.Database.{Parts, WireName, SwitchGroup, SwitchRow}
-use Rattle.ice_chip.specs.Places.{same_tile, same_pad}
+use Rattle.ice_base.specs.Lists.{with_name, number_of_name}
+use Rattle.ice_chip.specs.Database.{Parts, WireName, SwitchGroup, SwitchRow, same_tile, same_pad}
 use Rattle.ice_chip.specs.WholeFaults.{placed}
 use Rattle.ice_chip.specs.Lookups.{in_group, enable_counts}
 use Rattle.ice_chip.specs.declared.rows.Pad.{Pad}

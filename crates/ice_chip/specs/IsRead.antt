@@ -2,10 +2,8 @@
 use Rattle.std.specs.Prelude.{◌≡◌, ℕ, ◌+◌, ◌<◌, ◌≤◌, List, [], ◌∷◌, length, All, None}
 use Rattle.std.specs.List.{IsDistinct}
 use Rattle.std.specs.Map.{keys_of}
-use Rattle.ice_chip.specs.Database.{Parts, SwitchGroup}
-use Rattle.ice_chip.specs.Limits.{most_places, most_wires, most_rows}
+use Rattle.ice_chip.specs.Database.{Parts, SwitchGroup, most_places, most_wires, most_rows, same_tile}
 use Rattle.ice_chip.specs.Lookups.{rows_of}
-use Rattle.ice_chip.specs.Places.{same_tile}
 use Rattle.ice_chip.specs.Whole.{whole_fault}
 use Rattle.ice_chip.specs.Within.{IsPlace, FeedsGlobal, PadFeedsGlobal, ArePads, ArePlaces, IsKept, is_again, IsGroup, IsPackage}
 

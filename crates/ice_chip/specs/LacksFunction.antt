@@ -1,15 +1,15 @@
 -- Kinds of tiles that lack a function, or have one with another number of bits.
-use Rattle.std.specs.Prelude.{ℕ, zero, suc, ◌==◌, ◌&&◌, ◌||◌, not, Bool, true, false, Option, None, Some, is_some, List, [], ◌∷◌, length, if◌then◌else◌}
+use Rattle.std.specs.Prelude.{ℕ, ◌==◌, ◌&&◌, ◌||◌, not, Bool, true, false, Option, None, Some, List, [], ◌∷◌, length, if◌then◌else◌}
 use Rattle.std.specs.Map.{values_of}
 use Rattle.ice_base.specs.declared.number.TileAt.{TileAt}
-use Rattle.ice_chip.specs.Database.{Parts, FunctionRow}
-use Rattle.ice_chip.specs.FunctionNames.{cell_function, falling_clock_function, carry_set_function, pin_type_function, input_enable_function, pull_up_function, column_buffer_function}
-use Rattle.ice_chip.specs.Functions.{is_read, is_logic_cell, same_kind, function_line}
+use Rattle.ice_chip.specs.Database.{Parts, FunctionRow, tile_known}
+use Rattle.ice_chip.specs.Names.{cell_function, falling_clock_function, carry_set_function, pin_type_function, input_enable_function, pull_up_function}
+use Rattle.ice_chip.specs.Functions.{is_read, is_logic_cell, same_kind}
+pub use Rattle.ice_chip.specs.Functions.{has_function, has_each, has_column_buffers}
 use Rattle.ice_chip.specs.LeastLine.{least_of}
-use Rattle.ice_chip.specs.Places.{tile_known}
 use Rattle.ice_chip.specs.declared.rows.TileKind.{TileKind}
 use Rattle.ice_chip.specs.declared.rows.TileKind.TheVariants.{Io, Logic, RamBottom, RamTop}
-use Rattle.ice_chip.specs.declared.parts.TileLine.{TileLine}
+use Rattle.ice_chip.specs.declared.rows.TileLine.{TileLine}
 
 -- ---- the kinds that tiles have
 abbrev pub is_of_kind : TileKind → Option TileLine → Bool
@@ -30,18 +30,6 @@ is_buffer_source kind tiles [] = false
 is_buffer_source kind tiles (row ∷ rows) = if is_of_kind kind (tile_known tiles row.0) then true else is_buffer_source kind tiles rows
 
 -- ---- the functions that a kind needs
-abbrev pub has_function : TileKind → List ℕ → List FunctionRow → Bool
-has_function kind name fs = is_some (function_line kind name fs)
-
--- the kind has the functions of all numbers below a number
-abbrev pub has_each : TileKind → (ℕ → List ℕ) → ℕ → List FunctionRow → Bool
-has_each kind name zero fs = true
-has_each kind name (suc n) fs = has_each kind name n fs && has_function kind (name n) fs
-
--- the column buffers of the eight globals
-abbrev pub has_column_buffers : TileKind → List FunctionRow → Bool
-has_column_buffers kind fs = has_each kind column_buffer_function 8 fs
-
 -- the eight logic cells, the inverted clock and the first carry
 abbrev pub has_logic : List FunctionRow → Bool
 has_logic fs = has_each Logic cell_function 8 fs && has_function Logic falling_clock_function fs && has_function Logic carry_set_function fs

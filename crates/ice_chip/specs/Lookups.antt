@@ -2,15 +2,12 @@
 use Rattle.std.specs.Prelude.{ℕ, ◌==◌, ◌&&◌, Bool, true, false, Option, None, Some, List, [], ◌∷◌, ◌++◌, map, filter, find, is_some, option_map, unwrap_or, bytes_eq, nat_eq}
 use Rattle.std.specs.Map.{lookup}
 use Rattle.ice_base.specs.declared.number.TileAt.{TileAt}
-use Rattle.ice_chip.specs.Database.{Parts, WireName, SwitchGroup, SwitchRow, PackageRows, FunctionRow}
-use Rattle.ice_chip.specs.Places.{same_tile, same_pad, tile_known}
-use Rattle.ice_chip.specs.Functions.{same_kind}
-use Rattle.ice_chip.specs.LacksFunction.{has_column_buffers}
-use Rattle.ice_chip.specs.WholeFaults.{placed, same_placed}
+use Rattle.ice_chip.specs.Database.{Parts, WireName, SwitchGroup, SwitchRow, PackageRows, FunctionRow, same_tile, same_pad, tile_known}
+use Rattle.ice_chip.specs.Functions.{same_kind, has_column_buffers}
 use Rattle.ice_chip.specs.declared.rows.Pad.{Pad}
 use Rattle.ice_chip.specs.declared.rows.TileKind.{TileKind}
-use Rattle.ice_chip.specs.declared.rows.TileKind.TheVariants.{Io, Logic, RamBottom, RamTop}
-use Rattle.ice_chip.specs.declared.parts.TileLine.{TileLine}
+use Rattle.ice_chip.specs.declared.rows.TileKind.TheVariants.{Io}
+use Rattle.ice_chip.specs.declared.rows.TileLine.{TileLine}
 use Rattle.ice_chip.specs.declared.tile.Tile.{Tile}
 use Rattle.ice_chip.specs.declared.placed.PlacedName.{PlacedName}
 
@@ -22,6 +19,12 @@ abbrev pub kind_at : Parts → TileAt → Option TileKind
 kind_at parts tile = option_map (λ known. known.kind) (tile_known parts.tiles tile)
 
 -- ---- names; one at a place without a tile has no effect
+abbrev pub same_placed : PlacedName → PlacedName → Bool
+same_placed a b = same_tile a.tile b.tile && bytes_eq a.name b.name
+
+abbrev pub placed : WireName → PlacedName
+placed n = record { tile = n.tile; name = n.name }
+
 abbrev pub is_placed : List (TileAt × TileLine) → WireName → Bool
 is_placed tiles n = is_some (tile_known tiles n.tile)
 
@@ -72,9 +75,7 @@ padin_of parts n = lookup (nat_eq n) parts.padin
 
 abbrev pub is_io_kind : TileKind → Bool
 is_io_kind Io = true
-is_io_kind Logic = false
-is_io_kind RamBottom = false
-is_io_kind RamTop = false
+is_io_kind kind = false
 
 abbrev pub is_io : Option TileLine → Bool
 is_io None = false

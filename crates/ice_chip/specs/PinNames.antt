@@ -1,23 +1,12 @@
 -- Names of wires that lead into the cells or pads of a tile, or out of them.
-use Rattle.std.specs.Prelude.{ℕ, ◌==◌, Bool, ◌&&◌, true, false, is_some, List, [], ◌∷◌, nat_eq, nat_le, codes, if◌then◌else◌}
-use Rattle.std.specs.List.{starts_with}
+use Rattle.std.specs.Prelude.{ℕ, List, Bool, true, false, nat_eq, codes}
 use Rattle.std.specs.Option.{option_map_or}
-use Rattle.ice_chip.specs.Digits.{number_behind}
+use Rattle.std.specs.List.{starts_with}
 use Rattle.ice_chip.specs.WireNames.{tile_wire}
 use Rattle.ice_chip.specs.declared.rows.TileKind.{TileKind}
 use Rattle.ice_chip.specs.declared.rows.TileKind.TheVariants.{Io, Logic}
 use Rattle.ice_chip.specs.declared.wire_names.TileWire.{TileWire}
 use Rattle.ice_chip.specs.declared.wire_names.TileWire.TheVariants.{CellInput, CellOutput, CarryOut, LookUp, Clock, ClockEnable, SetReset, FirstCarry, PadInput, PadOutput, OutputEnable, InputClock, OutputClock, InOutEnable, Fabout, Global}
-
--- the name of a global in a tile, `glb_netwk_N`
-abbrev pub is_global_name : List ℕ → Bool
-is_global_name name = is_some (number_behind 8 (codes "glb_netwk_") name)
-
--- the pin of a logic cell that `lutff_I/PIN` names, where I is from 0 to 7, or no byte: 48 is `0`, 55 is `7`
-abbrev pub cell_pin : List ℕ → List ℕ
-cell_pin (a ∷ b ∷ c ∷ d ∷ e ∷ f ∷ i ∷ g ∷ pin) =
-    if (a == 108) && (b == 117) && (c == 116) && (d == 102) && (e == 102) && (f == 95) && nat_le 48 i && nat_le i 55 && (g == 47) then pin else []
-cell_pin other = []
 
 -- what the cells or pads of such a tile read
 abbrev pub is_input_of : TileKind → TileWire → Bool

@@ -2,11 +2,10 @@
 use Rattle.std.specs.Prelude.{ℕ, ◌==◌, ◌&&◌, ◌||◌, Bool, true, false, Option, None, Some, List, [], ◌∷◌, ◌++◌, map, fold, nat_lt, if◌then◌else◌}
 use Rattle.std.specs.List.{flat_map}
 use Rattle.ice_base.specs.declared.number.BitAt.{BitAt}
-use Rattle.ice_chip.specs.Database.{Parts, FunctionRow, SwitchGroup}
+use Rattle.ice_chip.specs.Database.{Parts, FunctionRow, SwitchGroup, tile_known}
 use Rattle.ice_chip.specs.Functions.{is_read, is_foreign, same_kind}
-use Rattle.ice_chip.specs.Places.{tile_known}
 use Rattle.ice_chip.specs.declared.rows.TileKind.{TileKind}
-use Rattle.ice_chip.specs.declared.parts.TileLine.{TileLine}
+use Rattle.ice_chip.specs.declared.rows.TileLine.{TileLine}
 use Rattle.ice_chip.specs.declared.uses.KindBit.{KindBit}
 use Rattle.ice_chip.specs.declared.uses.BitUse.{BitUse}
 

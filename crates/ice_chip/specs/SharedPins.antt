@@ -3,11 +3,11 @@ use Rattle.std.specs.Prelude.{ℕ, Bool, ◌||◌, ◌&&◌, false, Option, None
 use Rattle.std.specs.Map.{lookup}
 use Rattle.std.specs.Prelude.{nat_eq}
 use Rattle.ice_base.specs.declared.number.TileAt.{TileAt}
-use Rattle.ice_chip.specs.Database.{Parts, WireName}
-use Rattle.ice_chip.specs.Places.{same_tile, tile_known}
-use Rattle.ice_chip.specs.PinNames.{is_global_name, is_input_name, is_output_name}
+use Rattle.ice_chip.specs.Database.{Parts, WireName, same_tile, tile_known}
+use Rattle.ice_chip.specs.Names.{is_global_name}
+use Rattle.ice_chip.specs.PinNames.{is_input_name, is_output_name}
 use Rattle.ice_chip.specs.WholeFaults.{placed, unless_clash}
-use Rattle.ice_chip.specs.declared.parts.TileLine.{TileLine}
+use Rattle.ice_chip.specs.declared.rows.TileLine.{TileLine}
 use Rattle.ice_chip.specs.declared.placed.PlacedName.{PlacedName}
 use Rattle.ice_chip.specs.declared.placed.PinLine.{PinLine}
 

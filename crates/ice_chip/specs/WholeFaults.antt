@@ -1,11 +1,11 @@
 -- Faults that rows far apart make together, each at the first line at which it comes.
-use Rattle.std.specs.Prelude.{ℕ, ◌==◌, Bool, true, false, Option, None, Some, List, [], ◌∷◌, ◌++◌, ◌&&◌, nat_lt, bytes_eq, if◌then◌else◌, Result, Ok, Err}
+use Rattle.std.specs.Prelude.{ℕ, ◌==◌, Bool, true, false, Option, None, Some, List, [], ◌∷◌, ◌++◌, nat_lt, if◌then◌else◌, Result, Ok, Err}
 use Rattle.std.specs.Map.{lookup}
 use Rattle.ice_base.specs.declared.number.TileAt.{TileAt}
 use Rattle.ice_base.specs.declared.number.BitAt.{BitAt}
-use Rattle.ice_chip.specs.Database.{SwitchGroup, WireName}
-use Rattle.ice_chip.specs.Places.{same_tile, columns, tile_known}
-use Rattle.ice_chip.specs.declared.parts.TileLine.{TileLine}
+use Rattle.ice_chip.specs.Database.{SwitchGroup, WireName, columns, tile_known}
+pub use Rattle.ice_chip.specs.Lookups.{placed, same_placed}
+use Rattle.ice_chip.specs.declared.rows.TileLine.{TileLine}
 use Rattle.ice_chip.specs.declared.placed.PlacedName.{PlacedName}
 use Rattle.ice_chip.specs.declared.placed.WireLine.{WireLine}
 
@@ -34,12 +34,6 @@ group_beyond_tile tiles [] = None
 group_beyond_tile tiles (g ∷ gs) = if exceeds (tile_known tiles g.tile) g.bits then Some g.line else group_beyond_tile tiles gs
 
 -- ---- one name of two wires in a tile
-abbrev pub same_placed : PlacedName → PlacedName → Bool
-same_placed a b = same_tile a.tile b.tile && bytes_eq a.name b.name
-
-abbrev pub placed : WireName → PlacedName
-placed n = record { tile = n.tile; name = n.name }
-
 abbrev pub wire_line : WireName → WireLine
 wire_line n = record { wire = n.wire; line = n.line }
 

@@ -4,7 +4,7 @@ ghost use Rattle.std.specs.Map.{lookup};
 ghost use Rattle.ice_chip.specs.IsRead.{IsRead, IsChip};
 ghost use Rattle.ice_chip.specs.Whole.{whole_fault};
 ghost use Rattle.ice_chip.specs.Indices.{row_at, enables_of};
-ghost use Rattle.ice_chip.specs.Places.{same_pad};
+ghost use Rattle.ice_chip.specs.Database.{same_pad};
 ghost use Rattle.ice_chip.specs.Lookups.{tile_of, kind_at, names_of, wire_named, rows_of, package_of, global_of, gbufpin_of, padin_of, ieren_of, colbuf_of, function_of};
 ghost use Rattle.ice_chip.specs.Views.{function_view, row_view, group_view, package_view, parts_view};
 
@@ -96,6 +96,7 @@ impl Chip {
     pub fn is_chip(&self)
         ensures { IsChip self.now }
     {
+        // What holds of a chip is known where a field is looked at.
         let _ = &self.parts;
     }
 

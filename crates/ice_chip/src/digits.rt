@@ -1,6 +1,6 @@
 //! Names with a number in them, which is one digit long.
 ghost use Rattle.std.specs.Prelude.{◌≡◌, option_map};
-ghost use Rattle.ice_chip.specs.Digits.{digit, number_of, behind, lone_number, number_behind, leading_number, number_within};
+ghost use Rattle.ice_chip.specs.Names.{digit, number_of_digit, behind, lone_number, number_behind, leading_number, number_within};
 
 /// The digit of a number, and of a larger one its last digit.
 pub fn digit(number: u8) -> u8
@@ -11,7 +11,7 @@ pub fn digit(number: u8) -> u8
 
 // The number of a digit that is below the limit.
 fn number_of(limit: u8, digit: u8) -> Option<u8>
-    ensures { result ≡ number_of limit digit }
+    ensures { result ≡ number_of_digit limit digit }
 {
     if digit >= b'0' && digit - b'0' < limit {
         return Some(digit - b'0');

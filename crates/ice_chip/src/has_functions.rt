@@ -1,7 +1,7 @@
 //! Whether a kind of tile has a function.
 ghost use Rattle.std.specs.Prelude.{◌≡◌, map};
 ghost use Rattle.ice_chip.specs.LacksFunction.{has_function, has_column_buffers};
-ghost use Rattle.ice_chip.specs.FunctionNames.{column_buffer_function};
+ghost use Rattle.ice_chip.specs.Names.{column_buffer_function};
 ghost use Rattle.ice_chip.specs.Views.{function_view};
 
 use crate::{Function, TileKind, column_buffer_function, function_line};

@@ -35,10 +35,10 @@ pub use function_names::{
 };
 pub use functions::{function_line, is_foreign, is_logic_cell, is_read, same_kind};
 pub use has_functions::{has_column_buffers, has_function};
-pub use parts::{ChipParts, Package, TileLine};
+pub use parts::{ChipParts, Package};
 pub use pin_names::{cell_pin, is_global_name, is_input_name, is_memory_name, is_output_name};
 pub use placed::{PinLine, PlacedName, WireLine};
-pub use rows::{BitList, Function, Group, NameRow, Pad, Row, TileKind, ValueList};
+pub use rows::{BitList, Function, Group, NameRow, Pad, Row, TileKind, TileLine, ValueList};
 pub use tile::Tile;
 pub use uses::{BitUse, KindBit};
 pub use wire_names::{

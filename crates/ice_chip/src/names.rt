@@ -1,10 +1,10 @@
 //! Wires by their names at places.
 ghost use Rattle.std.specs.Prelude.{◌≡◌, [], map, filter, position, bytes_eq, IfOk, OnOk};
 ghost use Rattle.std.specs.Map.{lookup};
-ghost use Rattle.ice_chip.specs.Places.{tile_known};
+ghost use Rattle.ice_chip.specs.Database.{tile_known};
 ghost use Rattle.ice_chip.specs.Lookups.{is_placed, placed_names, placed_wire};
 ghost use Rattle.ice_chip.specs.Indices.{with_first, same_numbered, with_named, numbered};
-ghost use Rattle.ice_base.specs.Names.{texts, with_name, number_of_name};
+ghost use Rattle.ice_base.specs.Lists.{texts, with_name, number_of_name};
 ghost use Rattle.ice_chip.specs.NameIndex.{numbered_of, no_names};
 ghost use Rattle.ice_chip.specs.Views.{name_view, parts_view};
 

@@ -4,19 +4,10 @@ ghost use Rattle.std.specs.Prelude.{◌≡◌};
 ghost use Rattle.ice_chip.specs.Database.{no_parts};
 ghost use Rattle.ice_chip.specs.Views.{parts_view};
 
-use crate::{Function, Group, NameRow, Pad, TileKind};
+use crate::{Function, Group, NameRow, Pad, TileLine};
 use ice_base::{Name, TileAt};
 use indexmap::{IndexMap, IndexSet};
 use std::alloc::Global;
-
-/// What is known of the tile at a place.
-#[derive(Clone, Copy)]
-pub struct TileLine {
-    /// The kind of the tile.
-    pub kind: TileKind,
-    /// The number of the line of its heading.
-    pub line: u32,
-}
 
 /// The pins and pads of a package.
 #[derive(Drop)]

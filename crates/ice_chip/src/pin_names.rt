@@ -1,6 +1,7 @@
 //! Names of wires that lead into the cells or pads of a tile, or out of them.
 ghost use Rattle.std.specs.Prelude.{◌≡◌};
-ghost use Rattle.ice_chip.specs.PinNames.{is_global_name, cell_pin, is_input_of, is_output_of, is_input_name, is_output_name, is_memory_name};
+ghost use Rattle.ice_chip.specs.Names.{is_global_name, cell_pin};
+ghost use Rattle.ice_chip.specs.PinNames.{is_input_of, is_output_of, is_input_name, is_output_name, is_memory_name};
 
 use crate::{TileKind, TileWire, number_behind, tile_wire};
 

@@ -32,6 +32,15 @@ pub struct Pad {
     pub pio: u8,
 }
 
+/// What is known of the tile at a place.
+#[derive(Clone, Copy)]
+pub struct TileLine {
+    /// The kind of the tile.
+    pub kind: TileKind,
+    /// The number of the line of its heading.
+    pub line: u32,
+}
+
 /// A function of the tiles of one kind: a name for configuration bits.
 #[derive(Drop)]
 pub struct Function {

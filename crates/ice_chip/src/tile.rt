@@ -1,6 +1,6 @@
 //! Tiles with their kinds.
 ghost use Rattle.std.specs.Prelude.{◌≡◌};
-ghost use Rattle.ice_chip.specs.Places.{columns, tile_known};
+ghost use Rattle.ice_chip.specs.Database.{columns, tile_known};
 ghost use Rattle.ice_chip.specs.Views.{parts_view};
 
 use crate::{ChipParts, TileKind, TileLine};

@@ -5,7 +5,7 @@ use Rattle.std.specs.Option.{option_map_or}
 use Rattle.ice_chip.specs.PinNames.{is_input_of, is_output_of}
 use Rattle.ice_chip.specs.SharedPins.{is_pin}
 use Rattle.ice_chip.specs.WireNames.{tile_wire}
-use Rattle.ice_chip.specs.declared.parts.TileLine.{TileLine}
+use Rattle.ice_chip.specs.declared.rows.TileLine.{TileLine}
 
 pub no_pin : (tile : Option TileLine) (name : List ℕ) → tile_wire name ≡ None → is_pin tile name ≡ false
 no_pin None name e = refl

@@ -9,12 +9,11 @@ use Rattle.indexmap.specs.IndexMap.{insert_entry}
 use Rattle.ice_base.specs.declared.number.TileAt.{TileAt}
 use Rattle.ice_base.specs.declared.number.BitAt.{BitAt}
 use Rattle.ice_chip_build.specs.BitsUsed.{BitsUsed, none_used, with_line, with_clash, with_use, with_uses, with_functions, with_groups, with_others, groups_shared}
-use Rattle.ice_chip.specs.Database.{Parts, FunctionRow, SwitchGroup}
+use Rattle.ice_chip.specs.Database.{Parts, FunctionRow, SwitchGroup, tile_known}
 use Rattle.ice_chip.specs.Functions.{same_kind}
-use Rattle.ice_chip.specs.Places.{tile_known}
 use Rattle.ice_chip.specs.LeastLine.{least_of}
 use Rattle.ice_chip.specs.SharedFunction.{same_bit, bit_use, bit_uses, function_uses, group_uses, clash, two_lines, clashes_with, clashes, first_of, shared_function}
-use Rattle.ice_chip.specs.declared.parts.TileLine.{TileLine}
+use Rattle.ice_chip.specs.declared.rows.TileLine.{TileLine}
 use Rattle.ice_chip.specs.declared.rows.TileKind.{TileKind}
 use Rattle.ice_chip.specs.declared.uses.BitUse.{BitUse}
 use Rattle.ice_chip.specs.declared.uses.KindBit.{KindBit}

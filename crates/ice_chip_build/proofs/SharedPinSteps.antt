@@ -3,11 +3,11 @@ use Rattle.std.proofs.Common.{◌≡◌, ℕ, ◌+◌, ◌<◌, Option, None, So
 use Rattle.std.specs.Prelude.{is_some}
 use Rattle.std.proofs.lemmas.List.{at_drop_more}
 use Rattle.ice_base.specs.declared.number.TileAt.{TileAt}
-use Rattle.ice_chip.specs.Places.{tile_known}
+use Rattle.ice_chip.specs.Database.{tile_known}
 use Rattle.ice_chip.specs.SharedPins.{with_pin_name, shared_from}
 use Rattle.ice_chip.specs.Views.{name_view}
 use Rattle.ice_chip.specs.WholeFaults.{clash_or, unless_clash}
-use Rattle.ice_chip.specs.declared.parts.TileLine.{TileLine}
+use Rattle.ice_chip.specs.declared.rows.TileLine.{TileLine}
 use Rattle.ice_chip.specs.declared.placed.PinLine.{PinLine}
 use Rattle.ice_chip.specs.declared.rows.NameRow.{NameRow}
 

@@ -3,11 +3,10 @@ use Rattle.std.specs.Prelude.{ℕ, Bool, true, false, Option, None, Some, List, 
 use Rattle.std.specs.Map.{lookup}
 use Rattle.indexmap.specs.IndexMap.{insert_entry}
 use Rattle.ice_base.specs.declared.number.TileAt.{TileAt}
-use Rattle.ice_chip.specs.Database.{FunctionRow, SwitchGroup}
+use Rattle.ice_chip.specs.Database.{FunctionRow, SwitchGroup, tile_known}
 use Rattle.ice_chip.specs.LeastLine.{least_of}
-use Rattle.ice_chip.specs.Places.{tile_known}
 use Rattle.ice_chip.specs.SharedFunction.{same_bit, function_uses, group_uses, two_lines, first_of}
-use Rattle.ice_chip.specs.declared.parts.TileLine.{TileLine}
+use Rattle.ice_chip.specs.declared.rows.TileLine.{TileLine}
 use Rattle.ice_chip.specs.declared.uses.KindBit.{KindBit}
 use Rattle.ice_chip.specs.declared.uses.BitUse.{BitUse}
 

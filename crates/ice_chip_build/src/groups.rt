@@ -1,6 +1,6 @@
 //! Groups of switches at places without a tile, and with bits that their tile doesn't have.
 ghost use Rattle.std.specs.Prelude.{◌≡◌};
-ghost use Rattle.ice_chip.specs.Places.{tile_known};
+ghost use Rattle.ice_chip.specs.Database.{tile_known};
 ghost use Rattle.ice_chip.specs.WholeFaults.{group_without_tile, has_bit_beyond, exceeds, group_beyond_tile};
 ghost use Rattle.ice_chip.specs.Views.{parts_view};
 

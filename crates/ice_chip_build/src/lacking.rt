@@ -1,7 +1,7 @@
 //! Functions that a kind of tile lacks, or has with another number of bits.
 ghost use Rattle.std.specs.Prelude.{◌≡◌, map};
 ghost use Rattle.ice_chip.specs.LacksFunction.{is_of_kind, has_kind, has_tile, is_buffer_source, has_each, has_logic, has_pin_types, has_pad_enables, has_needed, lacks_needed, bits_needed, has_wrong_bits, wrong_bits, lacks_function};
-ghost use Rattle.ice_chip.specs.FunctionNames.{cell_function, pin_type_function, input_enable_function, pull_up_function};
+ghost use Rattle.ice_chip.specs.Names.{cell_function, pin_type_function, input_enable_function, pull_up_function};
 ghost use Rattle.ice_chip.specs.declared.rows.TileKind.TheVariants.{Io, Logic};
 ghost use Rattle.ice_chip.specs.Views.{function_view, parts_view};
 

@@ -1,5 +1,5 @@
 //! One name of two wires in a tile.
-ghost use Rattle.std.specs.Prelude.{◌≡◌, [], IfOk};
+ghost use Rattle.std.specs.Prelude.{◌≡◌, ◌==◌, [], None, Some, if◌then◌else◌, IfOk};
 ghost use Rattle.std.specs.Map.{lookup};
 ghost use Rattle.ice_chip.specs.WholeFaults.{same_placed, with_placed, with_name, clash_or, name_of_two_wires};
 ghost use Rattle.ice_chip_build.specs.PlacedTexts.{by_placed, placed_text};
@@ -19,8 +19,19 @@ pub struct PlacedText<'a> {
     pub text: &'a [u8],
 }
 
-// Notes a name in a tile; or the lines of two wires with this name, the later one first.
-#[tactic(auto, using(crate::proofs::PlacedTexts::found))]
+// The lines of these two wires of one name, where they are two.
+fn clash_of(known: WireLine, first: WireLine) -> Option<(u32, u32)>
+    ensures { result ≡ (if first.wire == known.wire then None else Some (known.line, first.line)) }
+{
+    if first.wire == known.wire {
+        None
+    } else {
+        Some((known.line, first.line))
+    }
+}
+
+// Notes a name in a tile; or the lines of two wires with this name, the later one first. Hardly a name of the databases is
+// met again, so it is put in at once, and the wire that had it put back.
 fn note_placed<'a>(
     seen: &mut IndexMap<PlacedText<'a>, WireLine>,
     placed: PlacedText<'a>,
@@ -28,14 +39,14 @@ fn note_placed<'a>(
 ) -> Result<Option<(u32, u32)>, NoMemory>
     ensures { IfOk result (λ lines. with_placed (by_placed seen.old.entries) (placed_text placed.entry) known (lookup (same_placed (placed_text placed.entry)) (by_placed seen.old.entries)) ≡ clash_or lines (by_placed seen.new.entries)) }
 {
-    if let Some(old) = seen.get(&placed) {
-        if old.wire == known.wire {
-            return Ok(None);
+    let met = seen.insert(placed, known)?;
+    match met {
+        None => Ok(None),
+        Some(first) => {
+            seen.insert(placed, first)?;
+            Ok(clash_of(known, first))
         }
-        return Ok(Some((known.line, old.line)));
     }
-    seen.insert(placed, known)?;
-    Ok(None)
 }
 
 // Notes a name at a place, where a tile stands there; or the lines of two wires with this name, the later one first.

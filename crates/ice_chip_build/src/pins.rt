@@ -1,7 +1,7 @@
 //! Wires that lead to two pins.
 ghost use Rattle.std.specs.Prelude.{◌≡◌, IfOk, nat_eq};
 ghost use Rattle.std.specs.Map.{lookup};
-ghost use Rattle.ice_chip.specs.Places.{tile_known};
+ghost use Rattle.ice_chip.specs.Database.{tile_known};
 ghost use Rattle.ice_chip.specs.SharedPins.{is_pin, same_pin, with_pin, with_pin_name, shared_pin, shared_from};
 ghost use Rattle.ice_chip.specs.WholeFaults.{clash_or};
 ghost use Rattle.ice_chip.specs.Views.{name_view, parts_view};

@@ -7,14 +7,13 @@ use Rattle.std.proofs.lemmas.Bool.{and_parts, and_from, or_left, or_right}
 use Rattle.std.proofs.lemmas.Option.{slice_get-get_or}
 use Rattle.ice_base.specs.declared.number.TileAt.{TileAt}
 use Rattle.ice_base.specs.declared.number.BitAt.{BitAt}
-use Rattle.ice_chip.specs.Database.{Parts, FunctionRow}
+use Rattle.ice_chip.specs.Database.{Parts, FunctionRow, same_tile, tile_known}
 use Rattle.ice_chip.specs.FirstLacking.{needs_buffers, is_needed, Lacks, IsWrong, IsFirstLack, LacksFunctionIsFirst}
 use Rattle.ice_chip.specs.Functions.{is_read, is_column_buffer, same_kind, function_line}
 use Rattle.ice_chip.specs.IsRead.{IsChip}
 use Rattle.ice_chip.specs.LacksFunction.{is_of_kind, has_kind, has_tile, is_buffer_source, has_function, has_column_buffers, bits_needed, has_wrong_bits}
 use Rattle.ice_chip.specs.Lookups.{kind_at, is_function, function_of}
-use Rattle.ice_chip.specs.Places.{same_tile, tile_known}
-use Rattle.ice_chip.specs.declared.parts.TileLine.{TileLine}
+use Rattle.ice_chip.specs.declared.rows.TileLine.{TileLine}
 use Rattle.ice_chip.specs.declared.rows.TileKind.{TileKind}
 use Rattle.ice_chip.specs.declared.rows.TileKind.TheVariants.{Io, Logic, RamBottom, RamTop}
 use Rattle.ice_chip_laws.specs.Bits.{function_place}

@@ -5,13 +5,12 @@ use Rattle.std.proofs.lemmas.Option.{none-some}
 use Rattle.std.proofs.lemmas.Bool.{ltb-true}
 use Rattle.ice_base.specs.declared.number.TileAt.{TileAt}
 use Rattle.ice_base.specs.declared.number.BitAt.{BitAt}
-use Rattle.ice_chip.specs.Database.{Parts, SwitchGroup, SwitchRow}
+use Rattle.ice_chip.specs.Database.{Parts, SwitchGroup, SwitchRow, columns, tile_known}
 use Rattle.ice_chip.specs.IsRead.{IsChip, HasWiresBelow}
 use Rattle.ice_chip.specs.Lookups.{kind_at}
-use Rattle.ice_chip.specs.Places.{columns, tile_known}
 use Rattle.ice_chip.specs.Within.{IsBit, IsGroup}
 use Rattle.ice_chip.specs.WholeFaults.{lacks_tile, group_without_tile, has_bit_beyond, exceeds, group_beyond_tile}
-use Rattle.ice_chip.specs.declared.parts.TileLine.{TileLine}
+use Rattle.ice_chip.specs.declared.rows.TileLine.{TileLine}
 use Rattle.ice_chip.specs.declared.rows.TileKind.{TileKind}
 use Rattle.ice_base_values.specs.Order.{Has}
 use Rattle.ice_chip_laws.specs.Groups.{HasGroups}

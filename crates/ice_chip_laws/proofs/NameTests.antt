@@ -2,7 +2,7 @@
 use Rattle.std.proofs.Common.{◌≡◌, ℕ, ◌≤◌, Bool, true, false, List, [], ◌∷◌, ◌++◌, inl, inr, refl, arith}
 use Rattle.std.specs.Prelude.{◌&&◌, ◌||◌, ◌==◌, not, is_some, codes}
 use Rattle.std.proofs.lemmas.Bool.{or_cases, not-true}
-use Rattle.ice_chip.specs.Digits.{digit, number_behind}
+use Rattle.ice_chip.specs.Names.{digit, number_behind}
 use Rattle.ice_chip.specs.Functions.{is_logic_cell, is_column_buffer, is_first_pin_type, is_second_pin_type, is_pad_enable, is_read, is_foreign}
 use Rattle.ice_chip.specs.LacksFunction.{bits_needed}
 use Rattle.ice_chip.specs.declared.rows.TileKind.{TileKind}

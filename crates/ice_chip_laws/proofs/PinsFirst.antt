@@ -5,12 +5,11 @@ use Rattle.std.specs.Prelude.{◌||◌, ◌⊎◌, nat_eq, bytes_eq, Result, Ok,
 use Rattle.std.specs.Map.{lookup}
 use Rattle.std.proofs.lemmas.Bool.{and_parts, or_cases}
 use Rattle.ice_base.specs.declared.number.TileAt.{TileAt}
-use Rattle.ice_chip.specs.Database.{WireName}
-use Rattle.ice_chip.specs.PinNames.{is_global_name}
-use Rattle.ice_chip.specs.Places.{same_tile, tile_known}
+use Rattle.ice_chip.specs.Database.{WireName, same_tile, tile_known}
+use Rattle.ice_chip.specs.Names.{is_global_name}
 use Rattle.ice_chip.specs.SharedPins.{is_pin, same_pin, pin_line, with_pin, with_pin_name, shared_from}
 use Rattle.ice_chip.specs.WholeFaults.{placed, unless_clash}
-use Rattle.ice_chip.specs.declared.parts.TileLine.{TileLine}
+use Rattle.ice_chip.specs.declared.rows.TileLine.{TileLine}
 use Rattle.ice_chip.specs.declared.placed.PinLine.{PinLine}
 use Rattle.ice_chip.specs.declared.placed.PlacedName.{PlacedName}
 use Rattle.ice_chip_laws.specs.FirstPins.{AreTwoPins, SharedPinIsFirst}

@@ -4,7 +4,7 @@ use Rattle.std.specs.Prelude.{bytes_eq}
 use Rattle.std.proofs.lemmas.Bool.{and_parts}
 use Rattle.ice_base.proofs.Keys.{bytes_same, bytes_self, tile_same, tile_self}
 use Rattle.ice_chip.specs.declared.placed.PlacedName.{PlacedName}
-use Rattle.ice_chip.specs.Places.{same_tile}
+use Rattle.ice_chip.specs.Database.{same_tile}
 use Rattle.ice_chip.specs.WholeFaults.{same_placed}
 
 pub placed_same : (a b : PlacedName) → same_placed a b ≡ true → a ≡ b

@@ -2,14 +2,13 @@
 use Rattle.std.proofs.Common.{◌≡◌, true, Option, None, Some, List, refl, sym, ap, subst, ◌∙◌, true≢false}
 use Rattle.std.specs.Prelude.{ℕ, ◌<◌, map, filter, nat_eq}
 use Rattle.ice_base.specs.declared.number.TileAt.{TileAt}
-use Rattle.ice_chip.specs.Database.{Parts, FunctionRow}
+use Rattle.ice_chip.specs.Database.{Parts, FunctionRow, same_tile, same_pad, tile_known}
 use Rattle.ice_chip.specs.FirstLacking.{LacksFunctionIsFirst}
 use Rattle.ice_chip.specs.IsRead.{IsChip}
 use Rattle.ice_chip.specs.LacksFunction.{has_column_buffers}
 use Rattle.ice_chip.specs.Lookups.{kind_at, colbuf_of, ieren_of, global_of, global_tile, is_io_kind, is_io, enable_counts, holds_buffers, buffer_counts, served_tile}
-use Rattle.ice_chip.specs.Places.{same_tile, same_pad, tile_known}
 use Rattle.ice_chip.specs.Within.{ArePads}
-use Rattle.ice_chip.specs.declared.parts.TileLine.{TileLine}
+use Rattle.ice_chip.specs.declared.rows.TileLine.{TileLine}
 use Rattle.ice_chip.specs.declared.rows.Pad.{Pad}
 use Rattle.ice_chip.specs.declared.rows.TileKind.{TileKind}
 use Rattle.ice_chip.specs.declared.rows.TileKind.TheVariants.{Io, Logic, RamBottom, RamTop}

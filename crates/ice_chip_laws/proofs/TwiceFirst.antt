@@ -4,11 +4,10 @@ use Rattle.std.proofs.Math.Path.{fun_ext}
 use Rattle.std.specs.Prelude.{◌==◌, is_some, Result, Ok, if◌then◌else◌}
 use Rattle.std.specs.Map.{lookup}
 use Rattle.ice_base.specs.declared.number.TileAt.{TileAt}
-use Rattle.ice_chip.specs.Database.{WireName}
+use Rattle.ice_chip.specs.Database.{WireName, tile_known}
 use Rattle.ice_chip.specs.Lookups.{is_placed}
-use Rattle.ice_chip.specs.Places.{tile_known}
 use Rattle.ice_chip.specs.WholeFaults.{same_placed, placed, wire_line, with_placed, with_name, unless_clash, name_of_two_wires}
-use Rattle.ice_chip.specs.declared.parts.TileLine.{TileLine}
+use Rattle.ice_chip.specs.declared.rows.TileLine.{TileLine}
 use Rattle.ice_chip.specs.declared.placed.PlacedName.{PlacedName}
 use Rattle.ice_chip.specs.declared.placed.WireLine.{WireLine}
 use Rattle.ice_chip_laws.specs.FirstTwice.{AreOfTwoWires, NameOfTwoWiresIsFirst}

@@ -6,16 +6,15 @@ use Rattle.std.specs.Option.{option_and_then}
 use Rattle.std.proofs.lemmas.Bool.{cases_order, or_right}
 use Rattle.std.proofs.lemmas.Option.{none-some, same_Some}
 use Rattle.ice_base.specs.declared.number.BitAt.{BitAt}
-use Rattle.ice_chip.specs.Database.{Parts, FunctionRow, SwitchGroup}
+use Rattle.ice_chip.specs.Database.{Parts, FunctionRow, SwitchGroup, columns, tile_known}
 use Rattle.ice_chip.specs.FirstLacking.{LacksFunctionIsFirst}
 use Rattle.ice_chip.specs.FirstShared.{AreShared, AreFirstShared, SharedFunctionIsFirst}
 use Rattle.ice_chip.specs.Functions.{is_read, is_foreign}
 use Rattle.ice_chip.specs.IsRead.{IsChip}
 use Rattle.ice_chip.specs.Lookups.{kind_at, function_of}
-use Rattle.ice_chip.specs.Places.{columns, tile_known}
 use Rattle.ice_chip.specs.Within.{IsBit, IsKept}
 use Rattle.ice_chip.specs.SharedFunction.{bit_use, function_uses, group_uses, bit_uses, clash, two_lines}
-use Rattle.ice_chip.specs.declared.parts.TileLine.{TileLine}
+use Rattle.ice_chip.specs.declared.rows.TileLine.{TileLine}
 use Rattle.ice_chip.specs.declared.rows.TileKind.{TileKind}
 use Rattle.ice_chip.specs.declared.uses.BitUse.{BitUse}
 use Rattle.ice_chip_laws.specs.Bits.{function_place, IsReadAt, HasOwnBits}

@@ -1,11 +1,10 @@
 -- The lines of a wire of two pins, told by the rows of names.
 use Rattle.std.specs.Prelude.{◌≡◌, true, false, List}
 use Rattle.ice_base.specs.declared.number.TileAt.{TileAt}
-use Rattle.ice_chip.specs.Database.{Parts, WireName}
-use Rattle.ice_chip.specs.Places.{tile_known}
+use Rattle.ice_chip.specs.Database.{Parts, WireName, tile_known}
 use Rattle.ice_chip.specs.SharedPins.{is_pin, same_pin, shared_pin}
 use Rattle.ice_chip.specs.WholeFaults.{placed}
-use Rattle.ice_chip.specs.declared.parts.TileLine.{TileLine}
+use Rattle.ice_chip.specs.declared.rows.TileLine.{TileLine}
 use Rattle.ice_chip_laws.specs.FirstTwo.{AreLinesOfFirst}
 
 -- two rows give one wire input or output names that are not of one pin

@@ -4,7 +4,7 @@ use Rattle.ice_base.specs.declared.number.TileAt.{TileAt}
 use Rattle.ice_chip.specs.Database.{Parts, WireName}
 use Rattle.ice_chip.specs.Lookups.{is_placed}
 use Rattle.ice_chip.specs.WholeFaults.{placed, name_of_two_wires}
-use Rattle.ice_chip.specs.declared.parts.TileLine.{TileLine}
+use Rattle.ice_chip.specs.declared.rows.TileLine.{TileLine}
 use Rattle.ice_chip_laws.specs.FirstTwo.{AreLinesOfFirst}
 
 -- two rows give one name at one place with a tile to different wires

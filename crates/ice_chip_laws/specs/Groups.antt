@@ -1,9 +1,8 @@
 -- Groups of switches, and the numbers of their rows.
 use Rattle.std.specs.Prelude.{◌≡◌, ℕ, ◌+◌, ◌<◌, Some, length}
 use Rattle.ice_base.specs.declared.number.BitAt.{BitAt}
-use Rattle.ice_chip.specs.Database.{Parts, SwitchGroup, SwitchRow}
+use Rattle.ice_chip.specs.Database.{Parts, SwitchGroup, SwitchRow, columns}
 use Rattle.ice_chip.specs.Lookups.{kind_at, rows_of}
-use Rattle.ice_chip.specs.Places.{columns}
 use Rattle.ice_chip.specs.declared.rows.TileKind.{TileKind}
 use Rattle.ice_base_values.specs.Order.{At, Has}
 use Rattle.ice_chip_laws.specs.Tiles.{Stands}

@@ -2,7 +2,8 @@
 use Rattle.std.specs.Prelude.{◌≡◌, ◌⊎◌, ◌||◌, ℕ, Bool, true, false, Option, None, Some, List, find}
 use Rattle.ice_chip.specs.Database.{Parts}
 use Rattle.ice_chip.specs.Lookups.{kind_at, names_of}
-use Rattle.ice_chip.specs.PinNames.{is_global_name, is_input_name, is_output_name}
+use Rattle.ice_chip.specs.Names.{is_global_name}
+use Rattle.ice_chip.specs.PinNames.{is_input_name, is_output_name}
 use Rattle.ice_chip.specs.declared.rows.TileKind.{TileKind}
 use Rattle.ice_chip.specs.declared.placed.PlacedName.{PlacedName}
 use Rattle.ice_chip_laws.specs.Names.{HasName}

@@ -2,25 +2,20 @@
 use Rattle.std.proofs.Common.{ℕ, ◌==◌, ◌&&◌, Bool, true, false, Option, Some, None, List, [], ◌∷◌, length, Result, Ok, Err, refl, nat_lt, if◌then◌else◌, bytes_eq, codes}
 use Rattle.std.specs.Map.{lookup}
 use Rattle.std.specs.Prelude.{nat_eq}
-use Rattle.ice_base.specs.BitNames.{bits_named, values_in}
-use Rattle.ice_base.specs.Comments.{begins_with}
-use Rattle.ice_base.specs.Numbers.{number_in}
+use Rattle.ice_base.specs.Places.{bits_named, values_in}
+use Rattle.ice_base.specs.Text.{begins_with, number_in}
 use Rattle.ice_base.specs.declared.number.TileAt.{TileAt}
 use Rattle.ice_base.specs.declared.number.BitAt.{BitAt}
-use Rattle.ice_chip.specs.Database.{Parts}
+use Rattle.ice_chip.specs.Database.{Parts, most_places, most_wires, most_rows, columns, tile_known}
 use Rattle.ice_chip.specs.Functions.{is_read, is_foreign, function_line}
-use Rattle.ice_chip.specs.Limits.{most_places, most_wires, most_rows}
-use Rattle.ice_chip.specs.Places.{columns, tile_known}
 use Rattle.ice_chip.specs.declared.fault.ChipFault.{ChipFault}
-use Rattle.ice_chip.specs.declared.parts.TileLine.{TileLine}
+use Rattle.ice_chip.specs.declared.rows.TileLine.{TileLine}
 use Rattle.ice_chip.specs.declared.rows.TileKind.{TileKind}
 use Rattle.ice_chip_read.specs.Faults.{◌>>=◌}
 use Rattle.ice_chip_read.specs.FirstFault.{NamesLine}
-use Rattle.ice_chip_read.specs.ExtraBits.{padin_global}
-use Rattle.ice_chip_read.specs.Headings.{heading_of}
-use Rattle.ice_chip_read.specs.Lines.{tile_in, pad_in, wire_in, global_in, unseen, one_word, sizes_in, begun_within, device_first, new_tile, tile_heading, bits_heading, net_heading, bits_at, group_bits, switches_heading, heading_says, pin_row, buffer_input_row, buffer_pin_row, extra_row, input_enable_row, column_buffer_row, kept_function, function_row, name_row, known_values, values_at, switch_row, row_says, with_closed, line_says, first_says}
+use Rattle.ice_chip_read.specs.Words.{padin_global, known, number, two, three, no_word_left, heading_of}
+use Rattle.ice_chip_read.specs.Lines.{tile_in, pad_in, wire_in, global_in, unseen, one_word, sizes_in, begun_within, device_first, new_tile, tile_heading, bits_heading, net_heading, bits_at, group_bits, switches_heading, heading_says, pin_row, buffer_input_row, buffer_pin_row, extra_row, input_enable_row, column_buffer_row, kept_function, function_row, name_row, known_values, values_at, switch_row, row_says, with_closed, chip_line_says, first_says}
 use Rattle.ice_chip_read.specs.Reading.{Reading}
-use Rattle.ice_chip_read.specs.Words.{known, number, two, three, ended}
 use Rattle.ice_chip_read.specs.declared.section.Section.{Section}
 use Rattle.ice_chip_read.specs.declared.section.Section.TheVariants as section
 use Rattle.ice_chip_read.specs.declared.section.Heading.{Heading}
@@ -54,13 +49,13 @@ two_names line ws = bind line (number line ws) _ (number_names line ws) (λ a. b
 three_names : (line : ℕ) (ws : List (List ℕ)) → Names line (three line ws)
 three_names line ws = bind line (number line ws) _ (number_names line ws) (λ a. bind line (two line a.1) _ (two_names line a.1) (λ b. tt))
 
-ended_names : (line : ℕ) (ws : List (List ℕ)) → Names line (ended line ws)
+ended_names : (line : ℕ) (ws : List (List ℕ)) → Names line (no_word_left line ws)
 ended_names line [] = tt
 ended_names line (w ∷ ws) = refl
 
 one_word_names : (line : ℕ) (ws : List (List ℕ)) → Names line (one_word line ws)
 one_word_names line [] = refl
-one_word_names line (w ∷ ws) = bind line (ended line ws) _ (ended_names line ws) (λ u. tt)
+one_word_names line (w ∷ ws) = bind line (no_word_left line ws) _ (ended_names line ws) (λ u. tt)
 
 -- ---- places, pads, wires and globals
 tile_names : (line : ℕ) (parts : Parts) (x y : ℕ) → Names line (tile_in line parts x y)
@@ -82,7 +77,7 @@ unseen_names line (Some other) = refl
 -- ---- headings
 sizes_names : (line : ℕ) (ws : List (List ℕ)) → Names line (sizes_in line ws)
 sizes_names line [] = refl
-sizes_names line (name ∷ ws) = bind line (three line ws) _ (three_names line ws) (λ a. bind line (ended line a.1) _ (ended_names line a.1) (λ u. either line (bytes_eq name (codes "1k")) _ _ tt refl))
+sizes_names line (name ∷ ws) = bind line (three line ws) _ (three_names line ws) (λ a. bind line (no_word_left line a.1) _ (ended_names line a.1) (λ u. either line (bytes_eq name (codes "1k")) _ _ tt refl))
 
 begun_names : (line : ℕ) (sizes : ℕ × ℕ × ℕ) → Names line (begun_within line sizes)
 begun_names line (width, height, wires) =
@@ -97,16 +92,16 @@ new_tile_names r line kind tile (Some old) = refl
 
 tile_heading_names : (r : Reading) (line : ℕ) (kind : TileKind) (ws : List (List ℕ)) → Names line (tile_heading r line kind ws)
 tile_heading_names r line kind ws =
-    bind line (two line ws) _ (two_names line ws) (λ a. bind line (ended line a.1) _ (ended_names line a.1) (λ u.
+    bind line (two line ws) _ (two_names line ws) (λ a. bind line (no_word_left line a.1) _ (ended_names line a.1) (λ u.
     bind line (tile_in line r.parts a.0.0 a.0.1) _ (tile_names line r.parts a.0.0 a.0.1) (λ tile. new_tile_names r line kind tile (tile_known r.parts.tiles tile))))
 
 bits_heading_names : (r : Reading) (line : ℕ) (kind : TileKind) (ws : List (List ℕ)) → Names line (bits_heading r line kind ws)
 bits_heading_names r line kind ws =
-    bind line (two line ws) _ (two_names line ws) (λ a. bind line (ended line a.1) _ (ended_names line a.1) (λ u. either line ((a.0.0 == columns kind) && (a.0.1 == 16)) _ _ tt refl))
+    bind line (two line ws) _ (two_names line ws) (λ a. bind line (no_word_left line a.1) _ (ended_names line a.1) (λ u. either line ((a.0.0 == columns kind) && (a.0.1 == 16)) _ _ tt refl))
 
 net_heading_names : (r : Reading) (line : ℕ) (ws : List (List ℕ)) → Names line (net_heading r line ws)
 net_heading_names r line ws =
-    bind line (number line ws) _ (number_names line ws) (λ a. bind line (ended line a.1) _ (ended_names line a.1) (λ u.
+    bind line (number line ws) _ (number_names line ws) (λ a. bind line (no_word_left line a.1) _ (ended_names line a.1) (λ u.
     bind line (wire_in line r.parts a.0) _ (wire_names line r.parts a.0) (λ wire. bind line (unseen line (lookup (nat_eq wire) r.nets)) _ (unseen_names line (lookup (nat_eq wire) r.nets)) (λ v. tt))))
 
 bits_at_names : (line : ℕ) (o : Option (List BitAt)) → Names line (bits_at line o)
@@ -124,11 +119,11 @@ switches_names r line ws =
 heading_names : (r : Reading) (line : ℕ) (h : Heading) (ws : List (List ℕ)) → Names line (heading_says r line h ws)
 heading_names r line heading.Device ws = bind line (sizes_in line ws) _ (sizes_names line ws) (λ sizes. refl)
 heading_names r line heading.Pins ws = bind line (one_word line ws) _ (one_word_names line ws) (λ name. tt)
-heading_names r line heading.BufferInputs ws = bind line (ended line ws) _ (ended_names line ws) (λ u. tt)
-heading_names r line heading.BufferPins ws = bind line (ended line ws) _ (ended_names line ws) (λ u. tt)
-heading_names r line heading.ExtraBits ws = bind line (ended line ws) _ (ended_names line ws) (λ u. tt)
-heading_names r line heading.InputEnables ws = bind line (ended line ws) _ (ended_names line ws) (λ u. tt)
-heading_names r line heading.ColumnBuffers ws = bind line (ended line ws) _ (ended_names line ws) (λ u. tt)
+heading_names r line heading.BufferInputs ws = bind line (no_word_left line ws) _ (ended_names line ws) (λ u. tt)
+heading_names r line heading.BufferPins ws = bind line (no_word_left line ws) _ (ended_names line ws) (λ u. tt)
+heading_names r line heading.ExtraBits ws = bind line (no_word_left line ws) _ (ended_names line ws) (λ u. tt)
+heading_names r line heading.InputEnables ws = bind line (no_word_left line ws) _ (ended_names line ws) (λ u. tt)
+heading_names r line heading.ColumnBuffers ws = bind line (no_word_left line ws) _ (ended_names line ws) (λ u. tt)
 heading_names r line (heading.Tile kind) ws = tile_heading_names r line kind ws
 heading_names r line (heading.Bits kind) ws = bits_heading_names r line kind ws
 heading_names r line heading.Net ws = net_heading_names r line ws
@@ -138,33 +133,33 @@ heading_names r line heading.Other ws = tt
 -- ---- rows
 pin_row_names : (r : Reading) (line : ℕ) (pin : List ℕ) (ws : List (List ℕ)) → Names line (pin_row r line pin ws)
 pin_row_names r line pin ws =
-    bind line (three line ws) _ (three_names line ws) (λ a. bind line (ended line a.1) _ (ended_names line a.1) (λ u.
+    bind line (three line ws) _ (three_names line ws) (λ a. bind line (no_word_left line a.1) _ (ended_names line a.1) (λ u.
     bind line (pad_in line r.parts a.0.0 a.0.1 a.0.2) _ (pad_names line r.parts a.0.0 a.0.1 a.0.2) (λ pad. tt)))
 
 buffer_input_names : (r : Reading) (line : ℕ) (ws : List (List ℕ)) → Names line (buffer_input_row r line ws)
 buffer_input_names r line ws =
-    bind line (three line ws) _ (three_names line ws) (λ a. bind line (ended line a.1) _ (ended_names line a.1) (λ u.
+    bind line (three line ws) _ (three_names line ws) (λ a. bind line (no_word_left line a.1) _ (ended_names line a.1) (λ u.
     bind line (tile_in line r.parts a.0.0 a.0.1) _ (tile_names line r.parts a.0.0 a.0.1) (λ tile. bind line (global_in line a.0.2) _ (global_names line a.0.2) (λ global. tt))))
 
 buffer_pin_names : (r : Reading) (line : ℕ) (ws : List (List ℕ)) → Names line (buffer_pin_row r line ws)
 buffer_pin_names r line ws =
-    bind line (three line ws) _ (three_names line ws) (λ a. bind line (number line a.1) _ (number_names line a.1) (λ b. bind line (ended line b.1) _ (ended_names line b.1) (λ u.
+    bind line (three line ws) _ (three_names line ws) (λ a. bind line (number line a.1) _ (number_names line a.1) (λ b. bind line (no_word_left line b.1) _ (ended_names line b.1) (λ u.
     bind line (pad_in line r.parts a.0.0 a.0.1 a.0.2) _ (pad_names line r.parts a.0.0 a.0.1 a.0.2) (λ pad. bind line (global_in line b.0) _ (global_names line b.0) (λ global. tt)))))
 
 extra_names : (r : Reading) (line : ℕ) (o : Option ℕ) (ws : List (List ℕ)) → Names line (extra_row r line o ws)
 extra_names r line None ws = tt
 extra_names r line (Some n) ws =
-    bind line (three line ws) _ (three_names line ws) (λ a. bind line (ended line a.1) _ (ended_names line a.1) (λ u. bind line (global_in line n) _ (global_names line n) (λ global. tt)))
+    bind line (three line ws) _ (three_names line ws) (λ a. bind line (no_word_left line a.1) _ (ended_names line a.1) (λ u. bind line (global_in line n) _ (global_names line n) (λ global. tt)))
 
 input_enable_names : (r : Reading) (line : ℕ) (ws : List (List ℕ)) → Names line (input_enable_row r line ws)
 input_enable_names r line ws =
-    bind line (three line ws) _ (three_names line ws) (λ a. bind line (three line a.1) _ (three_names line a.1) (λ b. bind line (ended line b.1) _ (ended_names line b.1) (λ u.
+    bind line (three line ws) _ (three_names line ws) (λ a. bind line (three line a.1) _ (three_names line a.1) (λ b. bind line (no_word_left line b.1) _ (ended_names line b.1) (λ u.
     bind line (pad_in line r.parts a.0.0 a.0.1 a.0.2) _ (pad_names line r.parts a.0.0 a.0.1 a.0.2) (λ pad.
     bind line (pad_in line r.parts b.0.0 b.0.1 b.0.2) _ (pad_names line r.parts b.0.0 b.0.1 b.0.2) (λ enable. tt)))))
 
 column_buffer_names : (r : Reading) (line : ℕ) (ws : List (List ℕ)) → Names line (column_buffer_row r line ws)
 column_buffer_names r line ws =
-    bind line (two line ws) _ (two_names line ws) (λ a. bind line (two line a.1) _ (two_names line a.1) (λ b. bind line (ended line b.1) _ (ended_names line b.1) (λ u.
+    bind line (two line ws) _ (two_names line ws) (λ a. bind line (two line a.1) _ (two_names line a.1) (λ b. bind line (no_word_left line b.1) _ (ended_names line b.1) (λ u.
     bind line (tile_in line r.parts a.0.0 a.0.1) _ (tile_names line r.parts a.0.0 a.0.1) (λ source.
     bind line (tile_in line r.parts b.0.0 b.0.1) _ (tile_names line r.parts b.0.0 b.0.1) (λ served. tt)))))
 
@@ -191,7 +186,7 @@ values_names line bits digits = either line (length digits == bits) _ _ (known_v
 
 switch_names : (r : Reading) (line : ℕ) (digits : List ℕ) (ws : List (List ℕ)) → Names line (switch_row r line digits ws)
 switch_names r line digits ws =
-    bind line (number line ws) _ (number_names line ws) (λ a. bind line (ended line a.1) _ (ended_names line a.1) (λ u.
+    bind line (number line ws) _ (number_names line ws) (λ a. bind line (no_word_left line a.1) _ (ended_names line a.1) (λ u.
     bind line (wire_in line r.parts a.0) _ (wire_names line r.parts a.0) (λ source.
     bind line (values_at line (length r.group.bits) digits) _ (values_names line (length r.group.bits) digits) (λ values. either line (nat_lt r.rows most_rows) _ _ tt tt))))
 
@@ -209,7 +204,7 @@ row_names r line (section.Names wire) w ws = name_names r line wire (w ∷ ws)
 row_names r line section.Switches w ws = switch_names r line w ws
 
 -- ---- lines
-pub line_names : (r : Reading) (line : ℕ) (ws : List (List ℕ)) → Names line (line_says r line ws)
+pub line_names : (r : Reading) (line : ℕ) (ws : List (List ℕ)) → Names line (chip_line_says r line ws)
 line_names r line [] = tt
 line_names r line (w ∷ ws) = either line (begins_with 46 w) _ _ (heading_names (with_closed r) line (heading_of w) ws) (row_names r line r.open_section w ws)
 

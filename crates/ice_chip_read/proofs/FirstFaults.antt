@@ -6,7 +6,7 @@ use Rattle.ice_chip.specs.Whole.{whole_fault}
 use Rattle.ice_chip.specs.declared.fault.ChipFault.{ChipFault}
 use Rattle.ice_chip_read.specs.Faults.{◌>>=◌}
 use Rattle.ice_chip_read.specs.FirstFault.{WordLine, NamesLine, AreSound, AreRows, HasParts, IsFirstFault, word_lines, HasChip, HasFirstFault}
-use Rattle.ice_chip_read.specs.Lines.{line_says, lines_say, first_says, plain_says}
+use Rattle.ice_chip_read.specs.Lines.{chip_line_says, chip_lines_say, first_says, plain_says}
 use Rattle.ice_chip_read.specs.Reading.{Reading, closed}
 use Rattle.ice_chip_read.specs.Whole.{chip_says}
 use Rattle.ice_chip_read.proofs.FaultLines.{Names, line_names, first_names}
@@ -20,25 +20,25 @@ record FaultsAt (r : Reading) (ls : List WordLine) (fault : ChipFault) : Type 0 
   reached : Reading
   stands : ls ≡ before ++ line ∷ behind
   sound : AreSound r before reached
-  faulty : line_says reached line.0 line.1 ≡ Err fault
+  faulty : chip_line_says reached line.0 line.1 ≡ Err fault
   names : NamesLine line.0 fault
 
 abbrev LinesMean : Reading → List WordLine → Result Reading ChipFault → Type 0
 LinesMean r ls (Ok behind) = AreSound r ls behind
 LinesMean r ls (Err fault) = FaultsAt r ls fault
 
-line_means : (r : Reading) (l : WordLine) (ls : List WordLine) (said : Result Reading ChipFault) → line_says r l.0 l.1 ≡ said → ((next : Reading) → LinesMean next ls (lines_say next ls))
-    → LinesMean r (l ∷ ls) (said >>= (λ next. lines_say next ls))
+line_means : (r : Reading) (l : WordLine) (ls : List WordLine) (said : Result Reading ChipFault) → chip_line_says r l.0 l.1 ≡ said → ((next : Reading) → LinesMean next ls (chip_lines_say next ls))
+    → LinesMean r (l ∷ ls) (said >>= (λ next. chip_lines_say next ls))
 line_means r l ls (Err fault) e more = record { before = []; line = l; behind = ls; reached = r; stands = refl; sound = refl; faulty = e; names = subst (Names l.0) e (line_names r l.0 l.1) }
-line_means r l ls (Ok next) e more = by (lines_say next ls) (more next)
+line_means r l ls (Ok next) e more = by (chip_lines_say next ls) (more next)
   where
     by : (said : Result Reading ChipFault) → LinesMean next ls said → LinesMean r (l ∷ ls) said
     by (Ok behind) sound = (next, e, sound)
     by (Err fault) m = record { before = l ∷ m.before; line = m.line; behind = m.behind; reached = m.reached; stands = ap (λ xs. l ∷ xs) m.stands; sound = (next, e, m.sound); faulty = m.faulty; names = m.names }
 
-lines_mean : (r : Reading) (ls : List WordLine) → LinesMean r ls (lines_say r ls)
+lines_mean : (r : Reading) (ls : List WordLine) → LinesMean r ls (chip_lines_say r ls)
 lines_mean r [] = refl
-lines_mean r (l ∷ ls) = line_means r l ls (line_says r l.0 l.1) refl (λ next. lines_mean next ls)
+lines_mean r (l ∷ ls) = line_means r l ls (chip_line_says r l.0 l.1) refl (λ next. lines_mean next ls)
 
 -- ---- what all lines say
 abbrev says : List WordLine → Result Parts ChipFault
@@ -58,29 +58,29 @@ begun_means l ls r e (Err fault) m =
 begun_means l ls r e (Ok behind) sound =
     whole_means (l ∷ ls) (closed behind) (record { first = l; others = ls; begun = r; ended = behind; stands = refl; device = e; sound = sound; rows = refl }) (whole_fault (closed behind)) refl
 
-first_means : (l : WordLine) (ls : List WordLine) (said : Result Reading ChipFault) → first_says l.0 l.1 ≡ said → Means (l ∷ ls) (((said >>= (λ r. lines_say r ls)) >>= (λ s. Ok (closed s))) >>= chip_of)
+first_means : (l : WordLine) (ls : List WordLine) (said : Result Reading ChipFault) → first_says l.0 l.1 ≡ said → Means (l ∷ ls) (((said >>= (λ r. chip_lines_say r ls)) >>= (λ s. Ok (closed s))) >>= chip_of)
 first_means l ls (Err fault) e = inr (inl (record { first = l; others = ls; stands = refl; faulty = e; names = subst (Names l.0) e (first_names l.0 l.1) }))
-first_means l ls (Ok r) e = begun_means l ls r e (lines_say r ls) (lines_mean r ls)
+first_means l ls (Ok r) e = begun_means l ls r e (chip_lines_say r ls) (lines_mean r ls)
 
 means : (ls : List WordLine) → Means ls (says ls)
 means [] = inl (record { none = refl; faulty = refl })
 means (l ∷ ls) = first_means l ls (first_says l.0 l.1) refl
 
 -- ---- and back
-lines_sound : (r : Reading) (ls : List WordLine) (behind : Reading) → AreSound r ls behind → lines_say r ls ≡ Ok behind
+lines_sound : (r : Reading) (ls : List WordLine) (behind : Reading) → AreSound r ls behind → chip_lines_say r ls ≡ Ok behind
 lines_sound r [] behind same = ap (λ x. Ok x) same
-lines_sound r (l ∷ ls) behind (next, e, sound) = ap (λ said. said >>= (λ more. lines_say more ls)) e ∙ lines_sound next ls behind sound
+lines_sound r (l ∷ ls) behind (next, e, sound) = ap (λ said. said >>= (λ more. chip_lines_say more ls)) e ∙ lines_sound next ls behind sound
 
-lines_fault : (r : Reading) (before : List WordLine) (line : WordLine) (behind : List WordLine) (reached : Reading) (fault : ChipFault) → AreSound r before reached → line_says reached line.0 line.1 ≡ Err fault
-    → lines_say r (before ++ line ∷ behind) ≡ Err fault
-lines_fault r [] line behind reached fault same e = ap (λ s. line_says s line.0 line.1 >>= (λ more. lines_say more behind)) same ∙ ap (λ said. said >>= (λ more. lines_say more behind)) e
+lines_fault : (r : Reading) (before : List WordLine) (line : WordLine) (behind : List WordLine) (reached : Reading) (fault : ChipFault) → AreSound r before reached → chip_line_says reached line.0 line.1 ≡ Err fault
+    → chip_lines_say r (before ++ line ∷ behind) ≡ Err fault
+lines_fault r [] line behind reached fault same e = ap (λ s. chip_line_says s line.0 line.1 >>= (λ more. chip_lines_say more behind)) same ∙ ap (λ said. said >>= (λ more. chip_lines_say more behind)) e
 lines_fault r (l ∷ before) line behind reached fault (next, one, sound) e =
-    ap (λ said. said >>= (λ more. lines_say more (before ++ line ∷ behind))) one ∙ lines_fault next before line behind reached fault sound e
+    ap (λ said. said >>= (λ more. chip_lines_say more (before ++ line ∷ behind))) one ∙ lines_fault next before line behind reached fault sound e
 
 rows_said : (ls : List WordLine) (parts : Parts) → AreRows ls parts → (plain_says ls >>= (λ r. Ok (closed r))) ≡ Ok parts
 rows_said ls parts are =
     ap (λ (xs : List WordLine). plain_says xs >>= (λ r. Ok (closed r))) are.stands
-    ∙ ap (λ said. (said >>= (λ r. lines_say r are.others)) >>= (λ s. Ok (closed s))) are.device
+    ∙ ap (λ said. (said >>= (λ r. chip_lines_say r are.others)) >>= (λ s. Ok (closed s))) are.device
     ∙ ap (λ said. said >>= (λ s. Ok (closed s))) (lines_sound are.begun are.others are.ended are.sound)
     ∙ ap (λ x. Ok x) are.rows
 
@@ -89,10 +89,10 @@ parts_said ls parts has = ap (λ said. said >>= chip_of) (rows_said ls parts has
 
 fault_said : (ls : List WordLine) (fault : ChipFault) → IsFirstFault ls fault → says ls ≡ Err fault
 fault_said ls fault (inl empty) = ap says empty.none ∙ ap (λ f. Err f) (sym empty.faulty)
-fault_said ls fault (inr (inl at)) = ap says at.stands ∙ ap (λ said. ((said >>= (λ r. lines_say r at.others)) >>= (λ s. Ok (closed s))) >>= chip_of) at.faulty
+fault_said ls fault (inr (inl at)) = ap says at.stands ∙ ap (λ said. ((said >>= (λ r. chip_lines_say r at.others)) >>= (λ s. Ok (closed s))) >>= chip_of) at.faulty
 fault_said ls fault (inr (inr (inl at))) =
     ap says at.stands
-    ∙ ap (λ said. ((said >>= (λ r. lines_say r (at.before ++ at.line ∷ at.behind))) >>= (λ s. Ok (closed s))) >>= chip_of) at.device
+    ∙ ap (λ said. ((said >>= (λ r. chip_lines_say r (at.before ++ at.line ∷ at.behind))) >>= (λ s. Ok (closed s))) >>= chip_of) at.device
     ∙ ap (λ said. (said >>= (λ s. Ok (closed s))) >>= chip_of) (lines_fault at.begun at.before at.line at.behind at.reached fault at.sound at.faulty)
 fault_said ls fault (inr (inr (inr at))) = ap (λ said. said >>= chip_of) (rows_said ls at.parts at.rows) ∙ ap (unless_fault at.parts) at.faulty
 

@@ -1,17 +1,15 @@
 -- Places, pads, globals, bits and values that are read are in range.
 use Rattle.std.proofs.Common.{◌≡◌, ℕ, ◌<◌, ◌==◌, ◌&&◌, Bool, true, false, List, [], ◌∷◌, map, length, All, IfOk, IfSome, Option, None, Some, Ok, Err, refl, arith, rules, tests, nat_lt, option_and_then, if◌then◌else◌}
 use Rattle.std.proofs.lemmas.List.Elements.{All-nil, All-cons}
-use Rattle.ice_base.specs.Numbers.{number_in}
+use Rattle.ice_base.specs.Text.{number_in, number_below}
 use Rattle.ice_base.specs.declared.number.TileAt.{TileAt}
 use Rattle.ice_base.specs.declared.number.BitAt.{BitAt}
 use Rattle.ice_chip.specs.Database.{Parts}
 use Rattle.ice_chip.specs.Within.{IsPlace, IsPad, IsBit}
 use Rattle.ice_chip.specs.declared.fault.ChipFault.TheVariants.{OutOfRange, BadBit, BadValues}
 use Rattle.ice_base.specs.Lists.{all_known}
-use Rattle.ice_base.specs.Numbers.{number_below}
-use Rattle.ice_base.specs.Places.{bit_place}
-use Rattle.ice_base.specs.BitNames.{cut_at, column_named, place_named, bit_named, bits_named, digit_value, values_in}
-use Rattle.ice_chip_read.specs.Lines.{tile_in, pad_of, pad_in, global_in, bits_at, group_bits, known_values, values_at}
+use Rattle.ice_base.specs.Places.{bit_place, cut_at, column_named, place_named, bit_named, bits_named, digit_value, values_in}
+use Rattle.ice_chip_read.specs.Lines.{tile_in, tile_pad, pad_in, global_in, bits_at, group_bits, known_values, values_at}
 use Rattle.ice_chip_read.specs.Reading.{tile_at}
 use Rattle.ice_chip_read.proofs.Results.{bind_meeting, some_then, some_mapped, some_any}
 
@@ -28,7 +26,7 @@ pub pad_read : (line : ℕ) (parts : Parts) (x y pio : ℕ) → IfOk (pad_in lin
 pad_read line parts x y pio =
     bind_meeting (IsPad parts.width parts.height) (IsPlace parts.width parts.height) (tile_in line parts x y) _ (place_read line parts x y) (λ tile at. by tile at (nat_lt pio 2) refl)
   where
-    by : (tile : TileAt) → IsPlace parts.width parts.height tile → (b : Bool) → nat_lt pio 2 ≡ b → IfOk (if b then Ok (pad_of tile pio) else Err (OutOfRange line)) (IsPad parts.width parts.height)
+    by : (tile : TileAt) → IsPlace parts.width parts.height tile → (b : Bool) → nat_lt pio 2 ≡ b → IfOk (if b then Ok (tile_pad tile pio) else Err (OutOfRange line)) (IsPad parts.width parts.height)
     by tile at true is = record { place = at; pio = search (rules, tests) }
     by tile at false is = tt
 

@@ -5,17 +5,15 @@ use Rattle.std.specs.List.{AllByRecursion}
 use Rattle.std.specs.Str.{all_ascii_digits}
 use Rattle.std.proofs.lemmas.Bool.{and_parts}
 use Rattle.std.proofs.lemmas.List.{drop_more}
-use Rattle.ice_base.specs.BitNames.{digit_value, values_in}
-use Rattle.ice_base.specs.Comments.{begins_with, uncommented}
+use Rattle.ice_base.specs.Places.{digit_value, values_in}
+use Rattle.ice_base.specs.Text.{begins_with, uncommented, words, ends_word, IsWord, decimal_value, is_number, number_in}
 use Rattle.ice_base.specs.Lists.{all_known}
-use Rattle.ice_base.specs.Numbers.{decimal_value, is_number, number_in}
-use Rattle.ice_base.specs.Text.{words, ends_word, IsWord}
 use Rattle.ice_base.proofs.Cuts.{tail_is}
 use Rattle.ice_base.proofs.Digits.{number_is}
 use Rattle.ice_base.proofs.TextLaws.{first_word, last_word}
 use Rattle.ice_chip.specs.declared.fault.ChipFault.{ChipFault}
 use Rattle.ice_chip_read.specs.Faults.{◌>>=◌}
-use Rattle.ice_chip_read.specs.Lines.{known_values, line_says, row_says, switch_row, values_at, wire_in}
+use Rattle.ice_chip_read.specs.Lines.{known_values, chip_line_says, row_says, switch_row, values_at, wire_in}
 use Rattle.ice_chip_read.specs.PlainRows.{IsCutRow, row_joins, row_comes}
 use Rattle.ice_chip_read.specs.Reading.{Reading}
 use Rattle.ice_chip_read.specs.Views.{Gives}
@@ -116,16 +114,16 @@ switch_says r line digits word values source count are number =
     (row_joins r line values)
     (λ s. ap (λ m. m >>= (λ vs. row_joins r line vs s)) (values_are line (length r.group.bits) digits values count are)))
 
-row_is : (r : Reading) (line : ℕ) (digits word : List ℕ) → r.open_section ≡ section.Switches → begins_with 46 digits ≡ false → line_says r line (digits ∷ word ∷ []) ≡ switch_row r line digits (word ∷ [])
+row_is : (r : Reading) (line : ℕ) (digits word : List ℕ) → r.open_section ≡ section.Switches → begins_with 46 digits ≡ false → chip_line_says r line (digits ∷ word ∷ []) ≡ switch_row r line digits (word ∷ [])
 row_is r line digits word opened row = rw row (ap (λ s. row_says r line s digits (word ∷ [])) opened)
 
 cut_row_says : (r : Reading) (line : ℕ) (text digits : List ℕ) (values : List Bool) (source : ℕ) → r.open_section ≡ section.Switches → IsCutRow (length r.group.bits) text digits source
-    → values_in digits ≡ Some values → line_says r line (uncommented (words text)) ≡ row_comes r line values source
+    → values_in digits ≡ Some values → chip_line_says r line (uncommented (words text)) ≡ row_comes r line values source
 cut_row_says r line text digits values source opened cut are =
     let first : IsPlainWord digits = digits_plain digits values (subst (λ n. 0 < n) (sym cut.count) cut.some) are in
     let second : IsPlainWord cut.word = number_plain cut.word source cut.number in
-    ap (λ t. line_says r line (uncommented (words t))) cut.whole
-    ∙ ap (line_says r line) (two_words digits cut.word first second)
+    ap (λ t. chip_line_says r line (uncommented (words t))) cut.whole
+    ∙ ap (chip_line_says r line) (two_words digits cut.word first second)
     ∙ row_is r line digits cut.word opened first.no_heading
     ∙ switch_says r line digits cut.word values source cut.count are cut.number
 
@@ -139,13 +137,13 @@ are_known line (Some found) values e = ap (λ m. ok_or_none m) e
 
 -- what a line in this form says
 said_by : (r : Reading) (line bits : ℕ) (text digits : List ℕ) (values : List Bool) (source : ℕ) → r.open_section ≡ section.Switches → bits ≡ length r.group.bits → IsCutRow bits text digits source
-    → known_values line (values_in digits) ≡ Ok values → line_says r line (uncommented (words text)) ≡ row_comes r line values source
+    → known_values line (values_in digits) ≡ Ok values → chip_line_says r line (uncommented (words text)) ≡ row_comes r line values source
 said_by r line bits text digits values source opened count cut are =
     cut_row_says r line text digits values source opened (subst (λ n. IsCutRow n text digits source) count cut) (are_known line (values_in digits) values are)
 
 pub row_said : {X : Type 0} (view : X → Reading) (result : Result X ChipStop) (r : Reading) (line bits : ℕ) (text digits : List ℕ) (values : List Bool) (source : ℕ) → r.open_section ≡ section.Switches
     → bits ≡ length r.group.bits → IsCutRow bits text digits source → known_values line (values_in digits) ≡ Ok values → Gives view result (row_comes r line values source)
-    → Gives view result (line_says r line (uncommented (words text)))
+    → Gives view result (chip_line_says r line (uncommented (words text)))
 row_said view result r line bits text digits values source opened count cut are gives =
     subst (Gives view result) (sym (said_by r line bits text digits values source opened count cut are)) gives
 

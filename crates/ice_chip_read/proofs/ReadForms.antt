@@ -4,14 +4,13 @@ use Rattle.std.proofs.lemmas.List.{map-append}
 use Rattle.std.proofs.lemmas.List.Elements.{All-nil, All-push, All-same}
 use Rattle.std.specs.List.{IsDistinct}
 use Rattle.std.specs.Map.{lookup, keys_of}
-use Rattle.ice_base.specs.Comments.{begins_with}
+use Rattle.ice_base.specs.Text.{begins_with}
 use Rattle.ice_base.specs.declared.number.TileAt.{TileAt}
-use Rattle.ice_chip.specs.Database.{Parts, FunctionRow, WireName, SwitchGroup, PackageRows}
+use Rattle.ice_chip.specs.Database.{Parts, FunctionRow, WireName, SwitchGroup, PackageRows, most_wires, most_places, most_rows, columns, same_tile, tile_known}
 use Rattle.ice_chip.specs.Functions.{is_read, is_foreign, function_line}
-use Rattle.ice_chip.specs.Places.{columns, same_tile, tile_known}
 use Rattle.ice_chip.specs.Within.{IsPlace, IsPad, FeedsGlobal, PadFeedsGlobal, ArePads, ArePlaces, IsBit, IsKept, is_again, IsGroup, IsPackage}
 use Rattle.ice_chip.specs.declared.fault.ChipFault.TheVariants.{NoDevice, OutOfRange, TooMany}
-use Rattle.ice_chip.specs.declared.parts.TileLine.{TileLine}
+use Rattle.ice_chip.specs.declared.rows.TileLine.{TileLine}
 use Rattle.ice_chip.specs.declared.rows.Pad.{Pad}
 use Rattle.ice_chip.specs.declared.rows.TileKind.{TileKind}
 use Rattle.ice_chip_read.specs.declared.section.Section.{Section}
@@ -19,13 +18,10 @@ use Rattle.ice_chip_read.specs.declared.section.Section.TheVariants as section
 use Rattle.ice_chip_read.specs.declared.section.Heading.{Heading}
 use Rattle.ice_chip_read.specs.declared.section.Heading.TheVariants as heading
 use Rattle.ice_chip_read.specs.Faults.{◌>>=◌}
-use Rattle.ice_chip_read.specs.ExtraBits.{padin_global}
-use Rattle.ice_chip_read.specs.Headings.{heading_of}
+use Rattle.ice_chip_read.specs.Words.{padin_global, number, two, three, no_word_left, heading_of}
 use Rattle.ice_chip_read.specs.Reading.{Reading, begun, closed}
-use Rattle.ice_base.specs.BitNames.{bits_named}
-use Rattle.ice_chip_read.specs.Words.{number, two, three, ended}
-use Rattle.ice_chip.specs.Limits.{most_wires, most_places, most_rows}
-use Rattle.ice_chip_read.specs.Lines.{tile_in, pad_in, wire_in, global_in, unseen, one_word, sizes_in, begun_within, device_first, tile_line, new_tile, bits_at, group_bits, heading_says, kept_function, function_row, extra_row, values_at, with_row, row_says, with_closed, line_says, lines_say, first_says, plain_says}
+use Rattle.ice_base.specs.Places.{bits_named}
+use Rattle.ice_chip_read.specs.Lines.{tile_in, pad_in, wire_in, global_in, unseen, one_word, sizes_in, begun_within, device_first, tile_line, new_tile, bits_at, group_bits, heading_says, kept_function, function_row, extra_row, values_at, with_row, row_says, with_closed, chip_line_says, chip_lines_say, first_says, plain_says}
 use Rattle.ice_chip_read.proofs.Results.{bind, bind_meeting, held}
 use Rattle.ice_chip_read.proofs.Once.{distinct_none, keys_further, tile_laws, AreOthers, others_unseen, others_unread, functions_further, package_further}
 use Rattle.ice_chip_read.proofs.InRange.{place_read, pad_read, global_read, bits_read, AreSomeBits, group_bits_read, values_read}
@@ -146,13 +142,13 @@ heading_forms r line heading.Pins ws h =
       within = h.within;
       opened = record { once = distinct_none bytes_eq; pins = All-nil (λ pin. IsPad r.parts.width r.parts.height pin.1); pads = refl };
     })
-heading_forms r line heading.BufferInputs ws h = bind Forms (ended line ws) _ (λ x e. record { within = h.within; opened = tt })
-heading_forms r line heading.BufferPins ws h = bind Forms (ended line ws) _ (λ x e. record { within = h.within; opened = tt })
-heading_forms r line heading.ExtraBits ws h = bind Forms (ended line ws) _ (λ x e. record { within = h.within; opened = tt })
-heading_forms r line heading.InputEnables ws h = bind Forms (ended line ws) _ (λ x e. record { within = h.within; opened = tt })
-heading_forms r line heading.ColumnBuffers ws h = bind Forms (ended line ws) _ (λ x e. record { within = h.within; opened = tt })
+heading_forms r line heading.BufferInputs ws h = bind Forms (no_word_left line ws) _ (λ x e. record { within = h.within; opened = tt })
+heading_forms r line heading.BufferPins ws h = bind Forms (no_word_left line ws) _ (λ x e. record { within = h.within; opened = tt })
+heading_forms r line heading.ExtraBits ws h = bind Forms (no_word_left line ws) _ (λ x e. record { within = h.within; opened = tt })
+heading_forms r line heading.InputEnables ws h = bind Forms (no_word_left line ws) _ (λ x e. record { within = h.within; opened = tt })
+heading_forms r line heading.ColumnBuffers ws h = bind Forms (no_word_left line ws) _ (λ x e. record { within = h.within; opened = tt })
 heading_forms r line heading.Net ws h =
-    bind Forms (number line ws) _ (λ a e. bind Forms (ended line a.1) _ (λ u f. bind Forms (wire_in line r.parts a.0) _ (λ wire g.
+    bind Forms (number line ws) _ (λ a e. bind Forms (no_word_left line a.1) _ (λ u f. bind Forms (wire_in line r.parts a.0) _ (λ wire g.
     bind Forms (unseen line (lookup (nat_eq wire) r.nets)) _ (λ v k. record { within = h.within; opened = tt }))))
 heading_forms r line heading.Switches ws h =
     bind Forms (three line ws) _ (λ a e.
@@ -164,11 +160,11 @@ heading_forms r line heading.Switches ws h =
     }))))
 heading_forms r line heading.Other ws h = record { within = h.within; opened = tt }
 heading_forms r line (heading.Tile kind) ws h =
-    bind Forms (two line ws) _ (λ a e. bind Forms (ended line a.1) _ (λ u f.
+    bind Forms (two line ws) _ (λ a e. bind Forms (no_word_left line a.1) _ (λ u f.
     bind_meeting Forms (IsPlace r.parts.width r.parts.height) (tile_in line r.parts a.0.0 a.0.1) _ (place_read line r.parts a.0.0 a.0.1) (λ tile at.
     tile_forms r line kind tile h at (tile_known r.parts.tiles tile) refl)))
 heading_forms r line (heading.Bits kind) ws h =
-    bind Forms (two line ws) _ (λ a e. bind Forms (ended line a.1) _ (λ u f. by ((a.0.0 == columns kind) && (a.0.1 == 16))))
+    bind Forms (two line ws) _ (λ a e. bind Forms (no_word_left line a.1) _ (λ u f. by ((a.0.0 == columns kind) && (a.0.1 == 16))))
   where
     by : (b : Bool) → IfOk (if b then Ok (record r { open_section = section.Bits kind }) else Err (OutOfRange line)) Forms
     by true = record { within = h.within; opened = tt }
@@ -214,7 +210,7 @@ extra_forms : (r : Reading) (line : ℕ) (o : Option ℕ) (ws : List (List ℕ))
     → IfOk (extra_row (record r { open_section = section.ExtraBits }) line o ws) Forms
 extra_forms r line None ws h = h
 extra_forms r line (Some n) ws h =
-    bind Forms (three line ws) _ (λ a e. bind Forms (ended line a.1) _ (λ u f.
+    bind Forms (three line ws) _ (λ a e. bind Forms (no_word_left line a.1) _ (λ u f.
     bind_meeting Forms (λ n. n < 8) (global_in line n) _ (global_read line n) (λ global lt. record {
       within = record {
         small = h.within.small;
@@ -235,13 +231,13 @@ row_forms : (r : Reading) (s : Section) (line : ℕ) (w : List ℕ) (ws : List (
 row_forms r section.Rowless line w ws h = tt
 row_forms r section.ReadOver line w ws h = h
 row_forms r section.Pins line w ws h =
-    bind Forms (three line ws) _ (λ a e. bind Forms (ended line a.1) _ (λ u f.
+    bind Forms (three line ws) _ (λ a e. bind Forms (no_word_left line a.1) _ (λ u f.
     bind_meeting Forms (IsPad r.parts.width r.parts.height) (pad_in line r.parts a.0.0 a.0.1 a.0.2) _ (pad_read line r.parts a.0.0 a.0.1 a.0.2) (λ pad at. record {
       within = h.within;
       opened = package_further r.parts.width r.parts.height r.pins w pad h.opened at (lookup (bytes_eq w) r.pins.pins) refl;
     })))
 row_forms r section.BufferInputs line w ws h =
-    bind Forms (three line (w ∷ ws)) _ (λ a e. bind Forms (ended line a.1) _ (λ u f.
+    bind Forms (three line (w ∷ ws)) _ (λ a e. bind Forms (no_word_left line a.1) _ (λ u f.
     bind_meeting Forms (IsPlace r.parts.width r.parts.height) (tile_in line r.parts a.0.0 a.0.1) _ (place_read line r.parts a.0.0 a.0.1) (λ tile at.
     bind_meeting Forms (λ n. n < 8) (global_in line a.0.2) _ (global_read line a.0.2) (λ global lt. record {
       within = record {
@@ -259,7 +255,7 @@ row_forms r section.BufferInputs line w ws h =
       opened = tt;
     }))))
 row_forms r section.BufferPins line w ws h =
-    bind Forms (three line (w ∷ ws)) _ (λ a e. bind Forms (number line a.1) _ (λ b f. bind Forms (ended line b.1) _ (λ u g.
+    bind Forms (three line (w ∷ ws)) _ (λ a e. bind Forms (number line a.1) _ (λ b f. bind Forms (no_word_left line b.1) _ (λ u g.
     bind_meeting Forms (IsPad r.parts.width r.parts.height) (pad_in line r.parts a.0.0 a.0.1 a.0.2) _ (pad_read line r.parts a.0.0 a.0.1 a.0.2) (λ pad at.
     bind_meeting Forms (λ n. n < 8) (global_in line b.0) _ (global_read line b.0) (λ global lt. record {
       within = record {
@@ -278,7 +274,7 @@ row_forms r section.BufferPins line w ws h =
     })))))
 row_forms r section.ExtraBits line w ws h = extra_forms r line (padin_global w) ws h
 row_forms r section.InputEnables line w ws h =
-    bind Forms (three line (w ∷ ws)) _ (λ a e. bind Forms (three line a.1) _ (λ b f. bind Forms (ended line b.1) _ (λ u g.
+    bind Forms (three line (w ∷ ws)) _ (λ a e. bind Forms (three line a.1) _ (λ b f. bind Forms (no_word_left line b.1) _ (λ u g.
     bind_meeting Forms (IsPad r.parts.width r.parts.height) (pad_in line r.parts a.0.0 a.0.1 a.0.2) _ (pad_read line r.parts a.0.0 a.0.1 a.0.2) (λ pad at.
     bind_meeting Forms (IsPad r.parts.width r.parts.height) (pad_in line r.parts b.0.0 b.0.1 b.0.2) _ (pad_read line r.parts b.0.0 b.0.1 b.0.2) (λ enable there. record {
       within = record {
@@ -296,7 +292,7 @@ row_forms r section.InputEnables line w ws h =
       opened = tt;
     })))))
 row_forms r section.ColumnBuffers line w ws h =
-    bind Forms (two line (w ∷ ws)) _ (λ a e. bind Forms (two line a.1) _ (λ b f. bind Forms (ended line b.1) _ (λ u g.
+    bind Forms (two line (w ∷ ws)) _ (λ a e. bind Forms (two line a.1) _ (λ b f. bind Forms (no_word_left line b.1) _ (λ u g.
     bind_meeting Forms (IsPlace r.parts.width r.parts.height) (tile_in line r.parts a.0.0 a.0.1) _ (place_read line r.parts a.0.0 a.0.1) (λ source at.
     bind_meeting Forms (IsPlace r.parts.width r.parts.height) (tile_in line r.parts b.0.0 b.0.1) _ (place_read line r.parts b.0.0 b.0.1) (λ served there. record {
       within = record {
@@ -332,7 +328,7 @@ row_forms r (section.Names wire) line w ws h =
       opened = tt;
     })))
 row_forms r section.Switches line w ws h =
-    bind Forms (number line ws) _ (λ a e. bind Forms (ended line a.1) _ (λ u f. bind Forms (wire_in line r.parts a.0) _ (λ source g.
+    bind Forms (number line ws) _ (λ a e. bind Forms (no_word_left line a.1) _ (λ u f. bind Forms (wire_in line r.parts a.0) _ (λ source g.
     bind_meeting Forms (λ values. length values ≡ length r.group.bits) (values_at line (length r.group.bits) w) _ (values_read line (length r.group.bits) w)
     (λ values same. by values source same (nat_lt r.rows most_rows)))))
   where
@@ -350,7 +346,7 @@ row_forms r section.Switches line w ws h =
     }
 
 -- ---- lines
-line_forms : (r : Reading) → Forms r → (line : ℕ) (ws : List (List ℕ)) → IfOk (line_says r line ws) Forms
+line_forms : (r : Reading) → Forms r → (line : ℕ) (ws : List (List ℕ)) → IfOk (chip_line_says r line ws) Forms
 line_forms r h line [] = h
 line_forms r h line (w ∷ ws) = by (begins_with 46 w)
   where
@@ -358,9 +354,9 @@ line_forms r h line (w ∷ ws) = by (begins_with 46 w)
     by true = heading_forms (with_closed r) line (heading_of w) ws (close_forms r.open_section r h)
     by false = row_forms r r.open_section line w ws h
 
-lines_forms : (ls : List (ℕ × List (List ℕ))) (r : Reading) → Forms r → IfOk (lines_say r ls) Forms
+lines_forms : (ls : List (ℕ × List (List ℕ))) (r : Reading) → Forms r → IfOk (chip_lines_say r ls) Forms
 lines_forms [] r h = h
-lines_forms (l ∷ ls) r h = bind_meeting Forms Forms (line_says r l.0 l.1) _ (line_forms r h l.0 l.1) (λ more k. lines_forms ls more k)
+lines_forms (l ∷ ls) r h = bind_meeting Forms Forms (chip_line_says r l.0 l.1) _ (line_forms r h l.0 l.1) (λ more k. lines_forms ls more k)
 
 begun_forms : (line width height wires : ℕ) → width ≤ 256 → height ≤ 256 → Forms (begun line width height wires)
 begun_forms line width height wires narrow low = record {

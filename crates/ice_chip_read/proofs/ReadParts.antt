@@ -3,28 +3,24 @@ use Rattle.std.proofs.Common.{◌≡◌, ℕ, ◌+◌, ◌<◌, ◌≤◌, ◌==
 use Rattle.std.proofs.lemmas.List.{length-map}
 use Rattle.std.proofs.lemmas.List.Elements.{All-nil, All-push}
 use Rattle.std.specs.Map.{lookup}
-use Rattle.ice_base.specs.Comments.{begins_with}
+use Rattle.ice_base.specs.Text.{begins_with}
 use Rattle.ice_base.specs.declared.number.TileAt.{TileAt}
-use Rattle.ice_chip.specs.Database.{Parts, WireName, SwitchGroup, SwitchRow}
+use Rattle.ice_chip.specs.Database.{Parts, WireName, SwitchGroup, SwitchRow, most_wires, most_places, most_rows, columns, tile_known}
 use Rattle.ice_chip.specs.Functions.{is_read, is_foreign, function_line}
 use Rattle.ice_chip.specs.IsRead.{HasWiresBelow, AreNumbered, IsRead}
 use Rattle.ice_chip.specs.Lookups.{in_group, rows_of}
-use Rattle.ice_chip.specs.Places.{columns, tile_known}
 use Rattle.ice_chip.specs.declared.fault.ChipFault.TheVariants.{NoDevice, OutOfRange, TooMany}
 use Rattle.ice_chip.specs.declared.rows.TileKind.{TileKind}
-use Rattle.ice_chip.specs.declared.parts.TileLine.{TileLine}
+use Rattle.ice_chip.specs.declared.rows.TileLine.{TileLine}
 use Rattle.ice_chip_read.specs.declared.section.Section.{Section}
 use Rattle.ice_chip_read.specs.declared.section.Section.TheVariants as section
 use Rattle.ice_chip_read.specs.declared.section.Heading.{Heading}
 use Rattle.ice_chip_read.specs.declared.section.Heading.TheVariants as heading
 use Rattle.ice_chip_read.specs.Faults.{◌>>=◌}
-use Rattle.ice_chip_read.specs.ExtraBits.{padin_global}
-use Rattle.ice_chip_read.specs.Headings.{heading_of}
+use Rattle.ice_chip_read.specs.Words.{padin_global, number, two, three, no_word_left, heading_of}
 use Rattle.ice_chip_read.specs.Reading.{Reading, begun, closed}
-use Rattle.ice_base.specs.BitNames.{bits_named}
-use Rattle.ice_chip_read.specs.Words.{number, two, three, ended}
-use Rattle.ice_chip.specs.Limits.{most_wires, most_places, most_rows}
-use Rattle.ice_chip_read.specs.Lines.{tile_in, pad_in, wire_in, global_in, unseen, one_word, sizes_in, begun_within, device_first, new_tile, bits_at, group_bits, heading_says, kept_function, extra_row, values_at, with_row, row_says, with_closed, line_says, lines_say, first_says, plain_says}
+use Rattle.ice_base.specs.Places.{bits_named}
+use Rattle.ice_chip_read.specs.Lines.{tile_in, pad_in, wire_in, global_in, unseen, one_word, sizes_in, begun_within, device_first, new_tile, bits_at, group_bits, heading_says, kept_function, extra_row, values_at, with_row, row_says, with_closed, chip_line_says, chip_lines_say, first_says, plain_says}
 use Rattle.ice_chip_read.specs.Whole.{AreReadOfLines}
 use Rattle.ice_chip_read.proofs.Results.{bind, held}
 use Rattle.ice_chip_read.proofs.ReadForms.{AreWithin, plain_within}
@@ -107,13 +103,13 @@ close_holds section.Switches r h = record { sound = close_group r h; few = h.few
 heading_holds : (r : Reading) (line : ℕ) (h : Heading) (ws : List (List ℕ)) → Holds (record r { open_section = section.Rowless }) → IfOk (heading_says (record r { open_section = section.Rowless }) line h ws) Holds
 heading_holds r line heading.Device ws h = bind Holds (sizes_in line ws) _ (λ x e. tt)
 heading_holds r line heading.Pins ws h = bind Holds (one_word line ws) _ (λ x e. record { sound = h.sound; few = h.few; opened = h.opened })
-heading_holds r line heading.BufferInputs ws h = bind Holds (ended line ws) _ (λ x e. record { sound = h.sound; few = h.few; opened = h.opened })
-heading_holds r line heading.BufferPins ws h = bind Holds (ended line ws) _ (λ x e. record { sound = h.sound; few = h.few; opened = h.opened })
-heading_holds r line heading.ExtraBits ws h = bind Holds (ended line ws) _ (λ x e. record { sound = h.sound; few = h.few; opened = h.opened })
-heading_holds r line heading.InputEnables ws h = bind Holds (ended line ws) _ (λ x e. record { sound = h.sound; few = h.few; opened = h.opened })
-heading_holds r line heading.ColumnBuffers ws h = bind Holds (ended line ws) _ (λ x e. record { sound = h.sound; few = h.few; opened = h.opened })
+heading_holds r line heading.BufferInputs ws h = bind Holds (no_word_left line ws) _ (λ x e. record { sound = h.sound; few = h.few; opened = h.opened })
+heading_holds r line heading.BufferPins ws h = bind Holds (no_word_left line ws) _ (λ x e. record { sound = h.sound; few = h.few; opened = h.opened })
+heading_holds r line heading.ExtraBits ws h = bind Holds (no_word_left line ws) _ (λ x e. record { sound = h.sound; few = h.few; opened = h.opened })
+heading_holds r line heading.InputEnables ws h = bind Holds (no_word_left line ws) _ (λ x e. record { sound = h.sound; few = h.few; opened = h.opened })
+heading_holds r line heading.ColumnBuffers ws h = bind Holds (no_word_left line ws) _ (λ x e. record { sound = h.sound; few = h.few; opened = h.opened })
 heading_holds r line heading.Net ws h =
-    bind Holds (number line ws) _ (λ a e. bind Holds (ended line a.1) _ (λ u f. bind Holds (wire_in line r.parts a.0) _ (λ wire below.
+    bind Holds (number line ws) _ (λ a e. bind Holds (no_word_left line a.1) _ (λ u f. bind Holds (wire_in line r.parts a.0) _ (λ wire below.
     bind Holds (unseen line (lookup (nat_eq wire) r.nets)) _ (λ v g. record { sound = h.sound; few = h.few; opened = (wire_below line r.parts a.0 wire below, h.opened) }))))
 heading_holds r line heading.Switches ws h =
     bind Holds (three line ws) _ (λ a e. bind Holds (tile_in line r.parts a.0.0 a.0.1) _ (λ tile f. bind Holds (wire_in line r.parts a.0.2) _ (λ wire below.
@@ -124,13 +120,13 @@ heading_holds r line heading.Switches ws h =
     }))))
 heading_holds r line heading.Other ws h = record { sound = h.sound; few = h.few; opened = h.opened }
 heading_holds r line (heading.Tile kind) ws h =
-    bind Holds (two line ws) _ (λ a e. bind Holds (ended line a.1) _ (λ u f. bind Holds (tile_in line r.parts a.0.0 a.0.1) _ (λ tile g. by tile (tile_known r.parts.tiles tile))))
+    bind Holds (two line ws) _ (λ a e. bind Holds (no_word_left line a.1) _ (λ u f. bind Holds (tile_in line r.parts a.0.0 a.0.1) _ (λ tile g. by tile (tile_known r.parts.tiles tile))))
   where
     by : (tile : TileAt) (o : Option TileLine) → IfOk (new_tile (record r { open_section = section.Rowless }) line kind tile o) Holds
     by tile None = record { sound = h.sound; few = h.few; opened = h.opened }
     by tile (Some old) = tt
 heading_holds r line (heading.Bits kind) ws h =
-    bind Holds (two line ws) _ (λ a e. bind Holds (ended line a.1) _ (λ u f. by ((a.0.0 == columns kind) && (a.0.1 == 16))))
+    bind Holds (two line ws) _ (λ a e. bind Holds (no_word_left line a.1) _ (λ u f. by ((a.0.0 == columns kind) && (a.0.1 == 16))))
   where
     by : (b : Bool) → IfOk (if b then Ok (record r { open_section = section.Bits kind }) else Err (OutOfRange line)) Holds
     by true = record { sound = h.sound; few = h.few; opened = h.opened }
@@ -145,25 +141,25 @@ extra_holds : (r : Reading) (line : ℕ) (o : Option ℕ) (ws : List (List ℕ))
     → IfOk (extra_row (record r { open_section = section.ExtraBits }) line o ws) Holds
 extra_holds r line None ws h = h
 extra_holds r line (Some n) ws h =
-    bind Holds (three line ws) _ (λ a e. bind Holds (ended line a.1) _ (λ u f. bind Holds (global_in line n) _ (λ global g. record { sound = h.sound; few = h.few; opened = h.opened })))
+    bind Holds (three line ws) _ (λ a e. bind Holds (no_word_left line a.1) _ (λ u f. bind Holds (global_in line n) _ (λ global g. record { sound = h.sound; few = h.few; opened = h.opened })))
 
 row_holds : (r : Reading) (s : Section) (line : ℕ) (w : List ℕ) (ws : List (List ℕ)) → Holds (record r { open_section = s }) → IfOk (row_says (record r { open_section = s }) line s w ws) Holds
 row_holds r section.Rowless line w ws h = tt
 row_holds r section.ReadOver line w ws h = h
 row_holds r section.Pins line w ws h =
-    bind Holds (three line ws) _ (λ a e. bind Holds (ended line a.1) _ (λ u f. bind Holds (pad_in line r.parts a.0.0 a.0.1 a.0.2) _ (λ pad g. record { sound = h.sound; few = h.few; opened = h.opened })))
+    bind Holds (three line ws) _ (λ a e. bind Holds (no_word_left line a.1) _ (λ u f. bind Holds (pad_in line r.parts a.0.0 a.0.1 a.0.2) _ (λ pad g. record { sound = h.sound; few = h.few; opened = h.opened })))
 row_holds r section.BufferInputs line w ws h =
-    bind Holds (three line (w ∷ ws)) _ (λ a e. bind Holds (ended line a.1) _ (λ u f. bind Holds (tile_in line r.parts a.0.0 a.0.1) _ (λ tile g.
+    bind Holds (three line (w ∷ ws)) _ (λ a e. bind Holds (no_word_left line a.1) _ (λ u f. bind Holds (tile_in line r.parts a.0.0 a.0.1) _ (λ tile g.
     bind Holds (global_in line a.0.2) _ (λ global k. record { sound = h.sound; few = h.few; opened = h.opened }))))
 row_holds r section.BufferPins line w ws h =
-    bind Holds (three line (w ∷ ws)) _ (λ a e. bind Holds (number line a.1) _ (λ b f. bind Holds (ended line b.1) _ (λ u g.
+    bind Holds (three line (w ∷ ws)) _ (λ a e. bind Holds (number line a.1) _ (λ b f. bind Holds (no_word_left line b.1) _ (λ u g.
     bind Holds (pad_in line r.parts a.0.0 a.0.1 a.0.2) _ (λ pad k. bind Holds (global_in line b.0) _ (λ global m. record { sound = h.sound; few = h.few; opened = h.opened })))))
 row_holds r section.ExtraBits line w ws h = extra_holds r line (padin_global w) ws h
 row_holds r section.InputEnables line w ws h =
-    bind Holds (three line (w ∷ ws)) _ (λ a e. bind Holds (three line a.1) _ (λ b f. bind Holds (ended line b.1) _ (λ u g.
+    bind Holds (three line (w ∷ ws)) _ (λ a e. bind Holds (three line a.1) _ (λ b f. bind Holds (no_word_left line b.1) _ (λ u g.
     bind Holds (pad_in line r.parts a.0.0 a.0.1 a.0.2) _ (λ pad k. bind Holds (pad_in line r.parts b.0.0 b.0.1 b.0.2) _ (λ enable m. record { sound = h.sound; few = h.few; opened = h.opened })))))
 row_holds r section.ColumnBuffers line w ws h =
-    bind Holds (two line (w ∷ ws)) _ (λ a e. bind Holds (two line a.1) _ (λ b f. bind Holds (ended line b.1) _ (λ u g.
+    bind Holds (two line (w ∷ ws)) _ (λ a e. bind Holds (two line a.1) _ (λ b f. bind Holds (no_word_left line b.1) _ (λ u g.
     bind Holds (tile_in line r.parts a.0.0 a.0.1) _ (λ source k. bind Holds (tile_in line r.parts b.0.0 b.0.1) _ (λ served m. record { sound = h.sound; few = h.few; opened = h.opened })))))
 row_holds r (section.Bits kind) line w ws h = by (is_read kind w) (is_foreign kind w)
   where
@@ -184,7 +180,7 @@ row_holds r (section.Names wire) line w ws h =
       opened = h.opened;
     })))
 row_holds r section.Switches line w ws h =
-    bind Holds (number line ws) _ (λ a e. bind Holds (ended line a.1) _ (λ u f. bind Holds (wire_in line r.parts a.0) _ (λ source below.
+    bind Holds (number line ws) _ (λ a e. bind Holds (no_word_left line a.1) _ (λ u f. bind Holds (wire_in line r.parts a.0) _ (λ source below.
     bind Holds (values_at line (length r.group.bits) w) _ (λ values g. by values source (wire_below line r.parts a.0 source below) (nat_lt r.rows most_rows) refl))))
   where
     by : (values : List Bool) (source : ℕ) → source < r.parts.wires → (b : Bool) → nat_lt r.rows most_rows ≡ b
@@ -204,7 +200,7 @@ row_holds r section.Switches line w ws h =
         }
 
 -- ---- lines
-line_holds : (r : Reading) → Holds r → (line : ℕ) (ws : List (List ℕ)) → IfOk (line_says r line ws) Holds
+line_holds : (r : Reading) → Holds r → (line : ℕ) (ws : List (List ℕ)) → IfOk (chip_line_says r line ws) Holds
 line_holds r h line [] = h
 line_holds r h line (w ∷ ws) = by (begins_with 46 w)
   where
@@ -212,9 +208,9 @@ line_holds r h line (w ∷ ws) = by (begins_with 46 w)
     by true = heading_holds (with_closed r) line (heading_of w) ws (close_holds r.open_section r h)
     by false = row_holds r r.open_section line w ws h
 
-lines_hold : (ls : List (ℕ × List (List ℕ))) (r : Reading) → Holds r → IfOk (lines_say r ls) Holds
+lines_hold : (ls : List (ℕ × List (List ℕ))) (r : Reading) → Holds r → IfOk (chip_lines_say r ls) Holds
 lines_hold [] r h = h
-lines_hold (l ∷ ls) r h = bind Holds (line_says r l.0 l.1) _ (λ more e. lines_hold ls more (held Holds (line_says r l.0 l.1) more e (line_holds r h l.0 l.1)))
+lines_hold (l ∷ ls) r h = bind Holds (chip_line_says r l.0 l.1) _ (λ more e. lines_hold ls more (held Holds (chip_line_says r l.0 l.1) more e (line_holds r h l.0 l.1)))
 
 begun_holds : (line width height wires : ℕ) → wires ≤ most_wires → Holds (begun line width height wires)
 begun_holds line width height wires le = record {

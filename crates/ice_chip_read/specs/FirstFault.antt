@@ -1,12 +1,11 @@
 -- The same said line by line: which chip a text has, and which fault of it is the first.
 use Rattle.std.specs.Prelude.{◌≡◌, ◌⊎◌, ℕ, List, [], ◌∷◌, ◌++◌, Some, None, Ok, Err}
-use Rattle.ice_base.specs.Text.{lines, numbered}
+use Rattle.ice_base.specs.Text.{lines, numbered, plain_lines}
 use Rattle.ice_chip.specs.Database.{Parts}
 use Rattle.ice_chip.specs.Whole.{whole_fault}
 use Rattle.ice_chip.specs.declared.fault.ChipFault.{ChipFault}
 use Rattle.ice_chip.specs.declared.fault.ChipFault.TheVariants.{NoDevice, BadNumber, BadName, OutOfRange, Twice, BadBit, BadValues, SharedFunction, LacksFunction, SharedPin, TooMany, NoMemory}
-use Rattle.ice_chip_read.specs.Lines.{line_says, first_says}
-use Rattle.ice_base.specs.PlainLines.{plain_lines}
+use Rattle.ice_chip_read.specs.Lines.{chip_line_says, first_says}
 use Rattle.ice_chip_read.specs.Reading.{Reading, closed}
 
 -- the number and the words of a line that has words
@@ -16,7 +15,7 @@ WordLine = ℕ × List (List ℕ)
 -- no line has a fault: the rows that are read before these lines, and those behind them
 abbrev pub AreSound : Reading → List WordLine → Reading → Type 0
 AreSound before [] behind = before ≡ behind
-AreSound before (line ∷ others) behind = (next : Reading) × (line_says before line.0 line.1 ≡ Ok next) × AreSound next others behind
+AreSound before (line ∷ others) behind = (next : Reading) × (chip_line_says before line.0 line.1 ≡ Ok next) × AreSound next others behind
 
 -- the first line is that of a device, no line has a fault, and these are the rows of the lines
 pub record AreRows (ls : List WordLine) (parts : Parts) : Type 0 where
@@ -68,7 +67,7 @@ pub record IsFirstOfLines (ls : List WordLine) (fault : ChipFault) : Type 0 wher
   pub stands : ls ≡ first ∷ (before ++ line ∷ behind)
   pub device : first_says first.0 first.1 ≡ Ok begun
   pub sound : AreSound begun before reached
-  pub faulty : line_says reached line.0 line.1 ≡ Err fault
+  pub faulty : chip_line_says reached line.0 line.1 ≡ Err fault
   pub names : NamesLine line.0 fault
 
 -- no line has a fault, and this is the first fault of the whole

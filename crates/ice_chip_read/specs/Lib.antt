@@ -1,9 +1,7 @@
 pub mod Faults
 pub mod Whole
 pub mod Words
-pub mod Headings
 pub mod Reading
-pub mod ExtraBits
 pub mod Lines
 pub mod Stops
 pub mod Views

@@ -2,40 +2,34 @@
 use Rattle.std.specs.Prelude.{ℕ, ◌+◌, ◌==◌, ◌&&◌, Bool, Option, Some, None, List, [], ◌∷◌, ◌++◌, length, nat_eq, nat_lt, codes, bytes_eq, if◌then◌else◌, Result, Ok, Err}
 use Rattle.std.specs.Map.{lookup}
 use Rattle.indexmap.specs.IndexSet.{insert_key}
-use Rattle.ice_base.specs.Text.{lines, numbered}
-use Rattle.ice_base.specs.Comments.{begins_with}
+use Rattle.ice_base.specs.Text.{lines, numbered, begins_with, plain_lines}
 use Rattle.ice_base.specs.declared.number.TileAt.{TileAt}
 use Rattle.ice_base.specs.declared.number.BitAt.{BitAt}
-use Rattle.ice_chip.specs.Limits.{most_places, most_wires, most_rows}
-use Rattle.ice_chip.specs.Places.{same_pad, columns, tile_known}
-use Rattle.ice_chip.specs.Database.{Parts, PackageRows}
+use Rattle.ice_chip.specs.Database.{most_places, most_wires, most_rows, Parts, PackageRows, same_pad, columns, tile_known}
 use Rattle.ice_chip.specs.declared.rows.TileKind.{TileKind}
 use Rattle.ice_chip.specs.declared.rows.Pad.{Pad}
-use Rattle.ice_chip.specs.declared.parts.TileLine.{TileLine}
+use Rattle.ice_chip.specs.declared.rows.TileLine.{TileLine}
 use Rattle.ice_chip.specs.declared.fault.ChipFault.{ChipFault}
 use Rattle.ice_chip.specs.declared.fault.ChipFault.TheVariants.{NoDevice, BadNumber, BadName, OutOfRange, Twice, BadBit, BadValues, TooMany}
 use Rattle.ice_chip_read.specs.declared.section.Section.{Section}
 use Rattle.ice_chip_read.specs.declared.section.Section.TheVariants as section
 use Rattle.ice_chip_read.specs.declared.section.Heading.{Heading}
 use Rattle.ice_chip_read.specs.declared.section.Heading.TheVariants as heading
-use Rattle.ice_base.specs.PlainLines.{plain_lines}
 use Rattle.ice_chip_read.specs.Faults.{◌>>=◌}
-use Rattle.ice_chip_read.specs.Words.{number, two, three, ended}
-use Rattle.ice_base.specs.BitNames.{bits_named, values_in}
+use Rattle.ice_chip_read.specs.Words.{number, two, three, no_word_left, padin_global, heading_of}
+use Rattle.ice_base.specs.Places.{bits_named, values_in}
 use Rattle.ice_chip.specs.Functions.{is_read, is_foreign, function_line}
-use Rattle.ice_chip_read.specs.ExtraBits.{padin_global}
-use Rattle.ice_chip_read.specs.Headings.{heading_of}
 use Rattle.ice_chip_read.specs.Reading.{Reading, begun, closed, tile_at, no_group, no_package}
 
 -- ---- places, pads and wires in range
 abbrev pub tile_in : ℕ → Parts → ℕ → ℕ → Result TileAt ChipFault
 tile_in line parts x y = if nat_lt x parts.width && nat_lt y parts.height then Ok (tile_at x y) else Err (OutOfRange line)
 
-abbrev pub pad_of : TileAt → ℕ → Pad
-pad_of tile pio = record { tile = tile; pio = pio }
+abbrev pub tile_pad : TileAt → ℕ → Pad
+tile_pad tile pio = record { tile = tile; pio = pio }
 
 abbrev pub pad_in : ℕ → Parts → ℕ → ℕ → ℕ → Result Pad ChipFault
-pad_in line parts x y pio = tile_in line parts x y >>= (λ tile. if nat_lt pio 2 then Ok (pad_of tile pio) else Err (OutOfRange line))
+pad_in line parts x y pio = tile_in line parts x y >>= (λ tile. if nat_lt pio 2 then Ok (tile_pad tile pio) else Err (OutOfRange line))
 
 abbrev pub wire_in : ℕ → Parts → ℕ → Result ℕ ChipFault
 wire_in line parts wire = if nat_lt wire parts.wires then Ok wire else Err (OutOfRange line)
@@ -51,15 +45,15 @@ unseen line (Some other) = Err (Twice line other)
 -- the one word
 abbrev pub one_word : ℕ → List (List ℕ) → Result (List ℕ) ChipFault
 one_word line [] = Err (BadNumber line)
-one_word line (w ∷ ws) = ended line ws >>= (λ u. Ok w)
+one_word line (w ∷ ws) = no_word_left line ws >>= (λ u. Ok w)
 
 -- ---- `.device NAME WIDTH HEIGHT NUM_NETS`
-abbrev pub named : ℕ → List ℕ → ℕ × ℕ × ℕ → Result (ℕ × ℕ × ℕ) ChipFault
-named line name sizes = if bytes_eq name (codes "1k") then Ok sizes else Err (BadName line)
+abbrev pub device_named : ℕ → List ℕ → ℕ × ℕ × ℕ → Result (ℕ × ℕ × ℕ) ChipFault
+device_named line name sizes = if bytes_eq name (codes "1k") then Ok sizes else Err (BadName line)
 
 abbrev pub sizes_in : ℕ → List (List ℕ) → Result (ℕ × ℕ × ℕ) ChipFault
 sizes_in line [] = Err (BadNumber line)
-sizes_in line (name ∷ ws) = three line ws >>= (λ a. ended line a.1 >>= (λ u. named line name a.0))
+sizes_in line (name ∷ ws) = three line ws >>= (λ a. no_word_left line a.1 >>= (λ u. device_named line name a.0))
 
 -- a database of these sizes, within the limits
 abbrev pub begun_within : ℕ → ℕ × ℕ × ℕ → Result Reading ChipFault
@@ -81,26 +75,24 @@ pins_heading r line ws =
     one_word line ws >>= (λ name. Ok (record r { open_section = section.Pins; pins = record { name = name; pins = []; pads = [] } }))
 
 abbrev pub plain_heading : Reading → Section → ℕ → List (List ℕ) → Result Reading ChipFault
-plain_heading r open_section line ws = ended line ws >>= (λ u. Ok (record r { open_section = open_section }))
+plain_heading r open_section line ws = no_word_left line ws >>= (λ u. Ok (record r { open_section = open_section }))
 
 abbrev pub tile_line : TileKind → ℕ → TileLine
 tile_line kind line = record { kind = kind; line = line }
 
-abbrev pub with_tile : Reading → TileAt → TileLine → Reading
-with_tile r tile known = record r { open_section = section.Rowless; parts = record r.parts { tiles = r.parts.tiles ++ (tile, known) ∷ [] } }
-
 abbrev pub new_tile : Reading → ℕ → TileKind → TileAt → Option TileLine → Result Reading ChipFault
-new_tile r line kind tile None = Ok (with_tile r tile (tile_line kind line))
+new_tile r line kind tile None =
+    Ok (record r { open_section = section.Rowless; parts = record r.parts { tiles = r.parts.tiles ++ (tile, tile_line kind line) ∷ [] } })
 new_tile r line kind tile (Some old) = Err (Twice line old.line)
 
 abbrev pub tile_heading : Reading → ℕ → TileKind → List (List ℕ) → Result Reading ChipFault
 tile_heading r line kind ws =
-    two line ws >>= (λ a. ended line a.1 >>= (λ u. tile_in line r.parts a.0.0 a.0.1 >>= (λ tile.
+    two line ws >>= (λ a. no_word_left line a.1 >>= (λ u. tile_in line r.parts a.0.0 a.0.1 >>= (λ tile.
     new_tile r line kind tile (tile_known r.parts.tiles tile))))
 
 abbrev pub bits_heading : Reading → ℕ → TileKind → List (List ℕ) → Result Reading ChipFault
 bits_heading r line kind ws =
-    two line ws >>= (λ a. ended line a.1 >>= (λ u.
+    two line ws >>= (λ a. no_word_left line a.1 >>= (λ u.
     if (a.0.0 == columns kind) && (a.0.1 == 16) then Ok (record r { open_section = section.Bits kind }) else Err (OutOfRange line)))
 
 abbrev pub with_net : Reading → ℕ → ℕ → Reading
@@ -108,7 +100,7 @@ with_net r line wire = record r { open_section = section.Names wire; nets = r.ne
 
 abbrev pub net_heading : Reading → ℕ → List (List ℕ) → Result Reading ChipFault
 net_heading r line ws =
-    number line ws >>= (λ a. ended line a.1 >>= (λ u. wire_in line r.parts a.0 >>= (λ wire.
+    number line ws >>= (λ a. no_word_left line a.1 >>= (λ u. wire_in line r.parts a.0 >>= (λ wire.
     unseen line (lookup (nat_eq wire) r.nets) >>= (λ u. Ok (with_net r line wire)))))
 
 abbrev pub bits_at : ℕ → Option (List BitAt) → Result (List BitAt) ChipFault
@@ -150,22 +142,22 @@ with_pin held pin pad (Some old) = held
 
 abbrev pub pin_row : Reading → ℕ → List ℕ → List (List ℕ) → Result Reading ChipFault
 pin_row r line pin ws =
-    three line ws >>= (λ a. ended line a.1 >>= (λ u. pad_in line r.parts a.0.0 a.0.1 a.0.2 >>= (λ pad.
+    three line ws >>= (λ a. no_word_left line a.1 >>= (λ u. pad_in line r.parts a.0.0 a.0.1 a.0.2 >>= (λ pad.
     Ok (record r { pins = with_pin r.pins pin pad (lookup (bytes_eq pin) r.pins.pins) }))))
 
 abbrev pub buffer_input_row : Reading → ℕ → List (List ℕ) → Result Reading ChipFault
 buffer_input_row r line ws =
-    three line ws >>= (λ a. ended line a.1 >>= (λ u. tile_in line r.parts a.0.0 a.0.1 >>= (λ tile. global_in line a.0.2 >>= (λ global.
+    three line ws >>= (λ a. no_word_left line a.1 >>= (λ u. tile_in line r.parts a.0.0 a.0.1 >>= (λ tile. global_in line a.0.2 >>= (λ global.
     Ok (record r { parts = record r.parts { gbufin = r.parts.gbufin ++ (tile, global) ∷ [] } })))))
 
 abbrev pub buffer_pin_row : Reading → ℕ → List (List ℕ) → Result Reading ChipFault
 buffer_pin_row r line ws =
-    three line ws >>= (λ a. number line a.1 >>= (λ b. ended line b.1 >>= (λ u. pad_in line r.parts a.0.0 a.0.1 a.0.2 >>= (λ pad. global_in line b.0 >>= (λ global.
+    three line ws >>= (λ a. number line a.1 >>= (λ b. no_word_left line b.1 >>= (λ u. pad_in line r.parts a.0.0 a.0.1 a.0.2 >>= (λ pad. global_in line b.0 >>= (λ global.
     Ok (record r { parts = record r.parts { gbufpin = r.parts.gbufpin ++ (pad, global) ∷ [] } }))))))
 
 abbrev pub extra_bit_row : Reading → ℕ → ℕ → List (List ℕ) → Result Reading ChipFault
 extra_bit_row r line global ws =
-    three line ws >>= (λ a. ended line a.1 >>= (λ u. global_in line global >>= (λ n.
+    three line ws >>= (λ a. no_word_left line a.1 >>= (λ u. global_in line global >>= (λ n.
     Ok (record r { parts = record r.parts { padin = r.parts.padin ++ (n, a.0) ∷ [] } }))))
 
 -- rows of other extra bits are read over
@@ -175,22 +167,20 @@ extra_row r line (Some global) ws = extra_bit_row r line global ws
 
 abbrev pub input_enable_row : Reading → ℕ → List (List ℕ) → Result Reading ChipFault
 input_enable_row r line ws =
-    three line ws >>= (λ a. three line a.1 >>= (λ b. ended line b.1 >>= (λ u.
+    three line ws >>= (λ a. three line a.1 >>= (λ b. no_word_left line b.1 >>= (λ u.
     pad_in line r.parts a.0.0 a.0.1 a.0.2 >>= (λ pad. pad_in line r.parts b.0.0 b.0.1 b.0.2 >>= (λ enable.
     Ok (record r { parts = record r.parts { ieren = r.parts.ieren ++ (pad, enable) ∷ [] } }))))))
 
 abbrev pub column_buffer_row : Reading → ℕ → List (List ℕ) → Result Reading ChipFault
 column_buffer_row r line ws =
-    two line ws >>= (λ a. two line a.1 >>= (λ b. ended line b.1 >>= (λ u.
+    two line ws >>= (λ a. two line a.1 >>= (λ b. no_word_left line b.1 >>= (λ u.
     tile_in line r.parts a.0.0 a.0.1 >>= (λ source. tile_in line r.parts b.0.0 b.0.1 >>= (λ served.
     Ok (record r { parts = record r.parts { colbuf = r.parts.colbuf ++ (source, served) ∷ [] } }))))))
 
-abbrev pub with_function : Reading → ℕ → TileKind → List ℕ → List BitAt → Reading
-with_function r line kind name bits =
-    record r { parts = record r.parts { functions = r.parts.functions ++ record { kind = kind; name = name; bits = bits; line = line } ∷ [] } }
-
 abbrev pub kept_function : Reading → ℕ → TileKind → List ℕ → List (List ℕ) → Result Reading ChipFault
-kept_function r line kind name ws = bits_at line (bits_named (columns kind) ws) >>= (λ bits. Ok (with_function r line kind name bits))
+kept_function r line kind name ws =
+    bits_at line (bits_named (columns kind) ws) >>= (λ bits.
+    Ok (record r { parts = record r.parts { functions = r.parts.functions ++ record { kind = kind; name = name; bits = bits; line = line } ∷ [] } }))
 
 -- a read function stands once; rows of functions that are neither read nor kept are read over
 abbrev pub function_row : Reading → ℕ → TileKind → List ℕ → List (List ℕ) → Result Reading ChipFault
@@ -218,7 +208,7 @@ with_row r line values source =
 
 abbrev pub switch_row : Reading → ℕ → List ℕ → List (List ℕ) → Result Reading ChipFault
 switch_row r line digits ws =
-    number line ws >>= (λ a. ended line a.1 >>= (λ u. wire_in line r.parts a.0 >>= (λ source.
+    number line ws >>= (λ a. no_word_left line a.1 >>= (λ u. wire_in line r.parts a.0 >>= (λ source.
     values_at line (length r.group.bits) digits >>= (λ values.
     if nat_lt r.rows most_rows then Ok (with_row r line values source) else Err (TooMany most_rows)))))
 
@@ -242,15 +232,15 @@ abbrev pub with_closed : Reading → Reading
 with_closed r = record r { parts = closed r; open_section = section.Rowless; group = no_group; pins = no_package }
 
 -- a heading begins with a dot, 46, and any other line is a row
-abbrev pub line_says : Reading → ℕ → List (List ℕ) → Result Reading ChipFault
-line_says r line [] = Ok r
-line_says r line (w ∷ ws) =
+abbrev pub chip_line_says : Reading → ℕ → List (List ℕ) → Result Reading ChipFault
+chip_line_says r line [] = Ok r
+chip_line_says r line (w ∷ ws) =
     if begins_with 46 w then heading_says (with_closed r) line (heading_of w) ws
     else row_says r line r.open_section w ws
 
-abbrev pub lines_say : Reading → List (ℕ × List (List ℕ)) → Result Reading ChipFault
-lines_say r [] = Ok r
-lines_say r (line ∷ others) = line_says r line.0 line.1 >>= (λ more. lines_say more others)
+abbrev pub chip_lines_say : Reading → List (ℕ × List (List ℕ)) → Result Reading ChipFault
+chip_lines_say r [] = Ok r
+chip_lines_say r (line ∷ others) = chip_line_says r line.0 line.1 >>= (λ more. chip_lines_say more others)
 
 -- the first section is `.device`
 abbrev pub first_says : ℕ → List (List ℕ) → Result Reading ChipFault
@@ -259,8 +249,8 @@ first_says line (w ∷ ws) = if bytes_eq w (codes ".device") then device_first l
 
 abbrev pub plain_says : List (ℕ × List (List ℕ)) → Result Reading ChipFault
 plain_says [] = Err (NoDevice 0)
-plain_says (line ∷ others) = first_says line.0 line.1 >>= (λ r. lines_say r others)
+plain_says (line ∷ others) = first_says line.0 line.1 >>= (λ r. chip_lines_say r others)
 
 -- The rows of a chip text, or the first fault of its lines.
-abbrev pub text_says : List ℕ → Result Parts ChipFault
-text_says text = plain_says (plain_lines (numbered 1 (lines text))) >>= (λ r. Ok (closed r))
+abbrev pub chip_text_says : List ℕ → Result Parts ChipFault
+chip_text_says text = plain_says (plain_lines (numbered 1 (lines text))) >>= (λ r. Ok (closed r))

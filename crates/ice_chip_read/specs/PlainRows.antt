@@ -1,7 +1,7 @@
 -- A row of switches in the form in which databases have it: a digit for each bit of its group, a space and a number.
 use Rattle.std.specs.Prelude.{◌≡◌, ℕ, ◌<◌, List, ◌∷◌, ◌++◌, Bool, Some, length, nat_lt, if◌then◌else◌, Result, Ok, Err}
-use Rattle.ice_base.specs.Numbers.{number_in}
-use Rattle.ice_chip.specs.Limits.{most_rows}
+use Rattle.ice_base.specs.Text.{number_in}
+use Rattle.ice_chip.specs.Database.{most_rows}
 use Rattle.ice_chip.specs.declared.fault.ChipFault.{ChipFault}
 use Rattle.ice_chip.specs.declared.fault.ChipFault.TheVariants.{TooMany}
 use Rattle.ice_chip_read.specs.Faults.{◌>>=◌}

@@ -37,17 +37,9 @@ begun line width height wires = record {
 
 -- a group or package whose section ends joins the others
 abbrev pub parts_closed : Section → SwitchGroup → PackageRows → Parts → Parts
-parts_closed section.Rowless group pins parts = parts
-parts_closed section.ReadOver group pins parts = parts
 parts_closed section.Pins group pins parts = record parts { packages = parts.packages ++ pins ∷ [] }
-parts_closed section.BufferInputs group pins parts = parts
-parts_closed section.BufferPins group pins parts = parts
-parts_closed section.ExtraBits group pins parts = parts
-parts_closed section.InputEnables group pins parts = parts
-parts_closed section.ColumnBuffers group pins parts = parts
-parts_closed (section.Bits kind) group pins parts = parts
-parts_closed (section.Names wire) group pins parts = parts
 parts_closed section.Switches group pins parts = record parts { groups = parts.groups ++ group ∷ [] }
+parts_closed other group pins parts = parts
 
 -- the parts with the group or package that is open
 abbrev pub closed : Reading → Parts

@@ -4,12 +4,12 @@ use Rattle.ice_chip.specs.Answers.{chip_of}
 use Rattle.ice_chip.specs.Database.{Parts}
 use Rattle.ice_chip.specs.declared.fault.ChipFault.{ChipFault}
 use Rattle.ice_chip_read.specs.Faults.{◌>>=◌}
-use Rattle.ice_chip_read.specs.Lines.{plain_says, text_says}
+use Rattle.ice_chip_read.specs.Lines.{plain_says, chip_text_says}
 use Rattle.ice_chip_read.specs.Reading.{Reading}
 
 -- The rows of a chip text, or the first fault of its lines, or where these have none the first fault of the whole.
 abbrev pub chip_says : List ℕ → Result Parts ChipFault
-chip_says text = text_says text >>= chip_of
+chip_says text = chip_text_says text >>= chip_of
 
 -- some lines say these rows, and none of them has a fault
 abbrev pub AreReadOfLines : Reading → Type 0

@@ -1,9 +1,14 @@
--- Words of a heading or row that are numbers.
-use Rattle.std.specs.Prelude.{ℕ, Option, Some, None, List, [], ◌∷◌, Result, Ok, Err}
-use Rattle.ice_base.specs.Numbers.{number_in}
+-- What words write: numbers, the names of extra bits, and the first words of headings.
+use Rattle.std.specs.Prelude.{ℕ, Option, Some, None, List, [], ◌∷◌, Result, Ok, Err, ◌==◌, ◌||◌, codes, if◌then◌else◌, bytes_eq}
+use Rattle.ice_base.specs.Text.{number_in}
 use Rattle.ice_chip_read.specs.Faults.{◌>>=◌}
 use Rattle.ice_chip.specs.declared.fault.ChipFault.{ChipFault}
 use Rattle.ice_chip.specs.declared.fault.ChipFault.TheVariants.{BadNumber}
+use Rattle.std.specs.Option.{option_and_then}
+use Rattle.ice_chip.specs.Names.{behind}
+use Rattle.ice_chip.specs.declared.rows.TileKind.TheVariants.{Io, Logic, RamBottom, RamTop}
+use Rattle.ice_chip_read.specs.declared.section.Heading.{Heading}
+use Rattle.ice_chip_read.specs.declared.section.Heading.TheVariants.{Device, Pins, BufferInputs, BufferPins, ExtraBits, InputEnables, ColumnBuffers, Tile, Bits, Net, Switches, Other}
 
 abbrev pub known : ℕ → Option ℕ → List (List ℕ) → Result (ℕ × List (List ℕ)) ChipFault
 known line None ws = Err (BadNumber line)
@@ -23,6 +28,42 @@ abbrev pub three : ℕ → List (List ℕ) → Result ((ℕ × ℕ × ℕ) × Li
 three line ws = number line ws >>= (λ a. two line a.1 >>= (λ b. Ok ((a.0, b.0.0, b.0.1), b.1)))
 
 -- no word is left
-abbrev pub ended : ℕ → List (List ℕ) → Result Unit ChipFault
-ended line [] = Ok tt
-ended line (w ∷ ws) = Err (BadNumber line)
+abbrev pub no_word_left : ℕ → List (List ℕ) → Result Unit ChipFault
+no_word_left line [] = Ok tt
+no_word_left line (w ∷ ws) = Err (BadNumber line)
+
+-- the number behind a dot, 46, or an underscore, 95
+abbrev pub separated_number : List ℕ → Option ℕ
+separated_number [] = None
+separated_number (separator ∷ digits) = if (separator == 46) || (separator == 95) then number_in digits else None
+
+-- the number of the global that `padin_glb_netwk.N` or `padin_glb_netwk_N` names
+abbrev pub padin_global : List ℕ → Option ℕ
+padin_global name = option_and_then separated_number (behind (codes "padin_glb_netwk") name)
+
+-- the headings of tiles and of the functions of their kinds
+abbrev pub tile_heading_of : List ℕ → Heading
+tile_heading_of word =
+    if bytes_eq word (codes ".io_tile") then Tile Io
+    else (if bytes_eq word (codes ".logic_tile") then Tile Logic
+    else (if bytes_eq word (codes ".ramb_tile") then Tile RamBottom
+    else (if bytes_eq word (codes ".ramt_tile") then Tile RamTop
+    else (if bytes_eq word (codes ".io_tile_bits") then Bits Io
+    else (if bytes_eq word (codes ".logic_tile_bits") then Bits Logic
+    else (if bytes_eq word (codes ".ramb_tile_bits") then Bits RamBottom
+    else (if bytes_eq word (codes ".ramt_tile_bits") then Bits RamTop
+    else Other)))))))
+
+-- every heading; the sections of other headings are read over
+abbrev pub heading_of : List ℕ → Heading
+heading_of word =
+    if bytes_eq word (codes ".buffer") || bytes_eq word (codes ".routing") then Switches
+    else (if bytes_eq word (codes ".net") then Net
+    else (if bytes_eq word (codes ".device") then Device
+    else (if bytes_eq word (codes ".pins") then Pins
+    else (if bytes_eq word (codes ".gbufin") then BufferInputs
+    else (if bytes_eq word (codes ".gbufpin") then BufferPins
+    else (if bytes_eq word (codes ".extra_bits") then ExtraBits
+    else (if bytes_eq word (codes ".ieren") then InputEnables
+    else (if bytes_eq word (codes ".colbuf") then ColumnBuffers
+    else tile_heading_of word))))))))

@@ -1,5 +1,5 @@
 //! Names of configuration bits, and values of rows.
-ghost use Rattle.ice_base.specs.BitNames.{bits_named, values_in};
+ghost use Rattle.ice_base.specs.Places.{bits_named, values_in};
 ghost use Rattle.ice_chip_read.specs.Lines.{bits_at, group_bits, values_at, known_values};
 ghost use Rattle.ice_chip_read.specs.Views.{Gives};
 

@@ -1,7 +1,7 @@
 //! Rows of extra bits.
 ghost use Rattle.std.specs.Prelude.{◌≡◌, option_map};
-ghost use Rattle.ice_chip.specs.Digits.{behind};
-ghost use Rattle.ice_chip_read.specs.ExtraBits.{separated_number, padin_global};
+ghost use Rattle.ice_chip.specs.Names.{behind};
+ghost use Rattle.ice_chip_read.specs.Words.{separated_number, padin_global};
 ghost use Rattle.ice_chip_read.specs.Lines.{extra_bit_row, extra_row};
 ghost use Rattle.ice_chip_read.specs.Views.{Gives, reading_view};
 

@@ -2,7 +2,7 @@
 ghost use Rattle.std.specs.Prelude.{◌≡◌, ◌∷◌, IfOk, OnOk};
 ghost use Rattle.ice_chip.specs.Answers.{Answers, chip_of};
 ghost use Rattle.ice_chip.specs.Views.{parts_view};
-ghost use Rattle.ice_chip_read.specs.Lines.{line_says, lines_say, first_says, plain_says, with_closed};
+ghost use Rattle.ice_chip_read.specs.Lines.{chip_line_says, chip_lines_say, first_says, plain_says, with_closed};
 ghost use Rattle.ice_chip_read.specs.Reading.{closed};
 ghost use Rattle.ice_chip_read.specs.Whole.{chip_says, AreReadOfLines};
 ghost use Rattle.ice_chip_read.specs.Views.{Says, Gives, reading_view};
@@ -22,7 +22,7 @@ use std::alloc::Global;
 /// # Errors
 /// The line's fault, or want of memory.
 pub fn take_line(alloc: Global, reading: &mut Reading, line: PlainLine<'_>) -> Result<(), ChipStop>
-    ensures { Gives (λ _. reading_view reading.new) result (line_says (reading_view reading.old) line.entry.number (line.entry.first.now ∷ line.entry.others)) }
+    ensures { Gives (λ _. reading_view reading.new) result (chip_line_says (reading_view reading.old) line.entry.number (line.entry.first.now ∷ line.entry.others)) }
 {
     if begins_with(b'.', line.first) {
         close(alloc, reading)?;
@@ -52,7 +52,7 @@ pub fn take_first(alloc: Global, line: PlainLine<'_>) -> Result<Reading, ChipFau
 
 // All these lines more.
 fn take_lines(alloc: Global, reading: &mut Reading, lines: PlainLines<'_>) -> Result<(), ChipStop>
-    ensures { Gives (λ _. reading_view reading.new) result (lines_say (reading_view reading.old) lines.entry) }
+    ensures { Gives (λ _. reading_view reading.new) result (chip_lines_say (reading_view reading.old) lines.entry) }
 {
     for line in lines {
         take_line(alloc, reading, line)?;

@@ -1,6 +1,6 @@
 //! Headings and sections of a chip text.
 ghost use Rattle.std.specs.Prelude.{◌≡◌};
-ghost use Rattle.ice_chip_read.specs.Headings.{heading_of, tile_heading_of};
+ghost use Rattle.ice_chip_read.specs.Words.{heading_of, tile_heading_of};
 
 use ice_chip::TileKind;
 

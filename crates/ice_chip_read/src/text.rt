@@ -1,8 +1,7 @@
 //! A line by its bytes. More than half of a database's lines are rows of switches in one form, which are read in place.
 ghost use Rattle.std.specs.Prelude.{◌≡◌, IfSome};
-ghost use Rattle.ice_base.specs.Comments.{uncommented};
-ghost use Rattle.ice_base.specs.Text.{words};
-ghost use Rattle.ice_chip_read.specs.Lines.{line_says};
+ghost use Rattle.ice_base.specs.Text.{uncommented, words};
+ghost use Rattle.ice_chip_read.specs.Lines.{chip_line_says};
 ghost use Rattle.ice_chip_read.specs.PlainRows.{IsCutRow, row_comes};
 ghost use Rattle.ice_chip_read.specs.Views.{Gives, reading_view};
 ghost use Rattle.ice_chip_read.specs.declared.section.Section.TheVariants.{Switches};
@@ -40,7 +39,7 @@ fn take_words(
     number: u32,
     mut words: PlainWords<'_>,
 ) -> Result<(), ChipStop>
-    ensures { Gives (λ _. reading_view reading.new) result (line_says (reading_view reading.old) number words.entry) }
+    ensures { Gives (λ _. reading_view reading.new) result (chip_line_says (reading_view reading.old) number words.entry) }
 {
     let Some(first) = words.next() else {
         return Ok(());
@@ -69,7 +68,7 @@ fn take_values(
 // One line more, where a group is open.
 fn take_row(alloc: Global, reading: &mut Reading, number: u32, text: &[u8]) -> Result<(), ChipStop>
     requires { reading.old.section ≡ Switches }
-    ensures { Gives (λ _. reading_view reading.new) result (line_says (reading_view reading.old) number (uncommented (words text.now))) }
+    ensures { Gives (λ _. reading_view reading.new) result (chip_line_says (reading_view reading.old) number (uncommented (words text.now))) }
 {
     let Some((digits, source)) = cut_row(reading.group.bits.len(), text) else {
         return take_words(alloc, reading, number, plain_words_of(text));
@@ -91,7 +90,7 @@ pub fn take_text(
     number: u32,
     text: &[u8],
 ) -> Result<(), ChipStop>
-    ensures { Gives (λ _. reading_view reading.new) result (line_says (reading_view reading.old) number (uncommented (words text.now))) }
+    ensures { Gives (λ _. reading_view reading.new) result (chip_line_says (reading_view reading.old) number (uncommented (words text.now))) }
 {
     if let Section::Switches = reading.section {
         return take_row(alloc, reading, number, text);

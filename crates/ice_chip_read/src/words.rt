@@ -1,6 +1,6 @@
 //! Words of headings and rows that are numbers.
 ghost use Rattle.std.specs.Prelude.{◌≡◌, ◌∷◌};
-ghost use Rattle.ice_chip_read.specs.Words.{number, two, three, ended};
+ghost use Rattle.ice_chip_read.specs.Words.{number, two, three, no_word_left};
 ghost use Rattle.ice_chip_read.specs.Lines.{one_word};
 ghost use Rattle.ice_chip_read.specs.Views.{Says};
 
@@ -70,7 +70,7 @@ pub fn three_from(
 
 /// Refuses a line in which a word is left.
 pub fn ended(line: u32, mut words: PlainWords<'_>) -> Result<(), ChipFault>
-    ensures { Says (λ u. u) result (ended line words.entry) }
+    ensures { Says (λ u. u) result (no_word_left line words.entry) }
 {
     if words.next().is_some() {
         return Err(ChipFault::BadNumber { line });

@@ -1,18 +1,14 @@
 -- The words of the lines of a text are words.
 use Rattle.std.proofs.Common.{◌≡◌, ℕ, ◌<◌, Bool, true, false, cond, List, [], ◌∷◌, length, filter, refl, sym, subst, rules, tests}
 use Rattle.std.specs.List.{AllByRecursion}
-use Rattle.ice_base.specs.Comments.{begins_with, uncommented}
-use Rattle.ice_base.specs.PlainLines.{with_words, plain_lines}
-use Rattle.ice_base.specs.Text.{onto_first, pieces, words, ends_word, IsWord}
+use Rattle.ice_base.specs.Text.{onto_first, pieces, words, ends_word, IsWord, begins_with, uncommented, with_words, plain_lines}
 use Rattle.ice_base.proofs.Cuts.{some_bytes, piece_step, piece_end, no_pieces, words_are}
+use Rattle.ice_base.proofs.TextLaws.{GoesOn}
 
 abbrev pub AreWords : List (List ℕ) → Type 0
 AreWords ws = AllByRecursion (λ (w : List ℕ). IsWord w) ws
 
--- no byte ends a word
-abbrev GoesOn : List ℕ → Type 0
-GoesOn bytes = AllByRecursion (λ b. ends_word b ≡ false) bytes
-
+-- in none of them a byte ends a word
 abbrev AllGoOn : List (List ℕ) → Type 0
 AllGoOn ps = AllByRecursion GoesOn ps
 

@@ -4,33 +4,27 @@ use Rattle.std.specs.Prelude.{codes}
 use Rattle.std.specs.List.{AllByRecursion}
 use Rattle.std.specs.Map.{lookup}
 use Rattle.std.proofs.lemmas.List.Elements.{All-from_recursion}
-use Rattle.ice_base.specs.Comments.{begins_with}
-use Rattle.ice_base.specs.BitNames.{bits_named}
-use Rattle.ice_base.specs.Text.{lines, numbered, IsWord}
+use Rattle.ice_base.specs.Places.{bits_named}
+use Rattle.ice_base.specs.Text.{lines, numbered, IsWord, begins_with, plain_lines}
 use Rattle.ice_base_values.specs.Order.{Has}
 use Rattle.ice_base_values.proofs.Members.{Has_all}
 use Rattle.ice_chip.specs.Answers.{unless_fault, chip_of}
-use Rattle.ice_chip.specs.Database.{Parts, SwitchGroup, PackageRows}
+use Rattle.ice_chip.specs.Database.{Parts, SwitchGroup, PackageRows, most_places, most_wires, most_rows, columns, tile_known}
 use Rattle.ice_chip.specs.Functions.{is_read, is_foreign, function_line}
-use Rattle.ice_chip.specs.Limits.{most_places, most_wires, most_rows}
-use Rattle.ice_chip.specs.Places.{columns, tile_known}
 use Rattle.ice_chip.specs.Whole.{whole_fault}
 use Rattle.ice_chip.specs.declared.fault.ChipFault.{ChipFault}
 use Rattle.ice_chip.specs.declared.fault.ChipFault.TheVariants.{NoDevice, OutOfRange, TooMany}
-use Rattle.ice_chip.specs.declared.parts.TileLine.{TileLine}
+use Rattle.ice_chip.specs.declared.rows.TileLine.{TileLine}
 use Rattle.ice_chip.specs.declared.rows.Pad.{Pad}
 use Rattle.ice_chip.specs.declared.rows.TileKind.{TileKind}
 use Rattle.ice_chip_read.specs.declared.section.Section.{Section}
 use Rattle.ice_chip_read.specs.declared.section.Section.TheVariants as section
 use Rattle.ice_chip_read.specs.declared.section.Heading.{Heading}
 use Rattle.ice_chip_read.specs.declared.section.Heading.TheVariants as heading
-use Rattle.ice_base.specs.PlainLines.{plain_lines}
 use Rattle.ice_chip_read.specs.Faults.{◌>>=◌}
-use Rattle.ice_chip_read.specs.ExtraBits.{padin_global}
-use Rattle.ice_chip_read.specs.Headings.{heading_of}
-use Rattle.ice_chip_read.specs.Lines.{tile_in, pad_in, wire_in, global_in, unseen, one_word, sizes_in, begun_within, device_first, new_tile, bits_at, group_bits, heading_says, with_pin, kept_function, function_row, extra_row, values_at, with_row, row_says, with_closed, line_says, lines_say, first_says, plain_says, text_says}
+use Rattle.ice_chip_read.specs.Words.{padin_global, number, two, three, no_word_left, heading_of}
+use Rattle.ice_chip_read.specs.Lines.{tile_in, pad_in, wire_in, global_in, unseen, one_word, sizes_in, begun_within, device_first, new_tile, bits_at, group_bits, heading_says, with_pin, kept_function, function_row, extra_row, values_at, with_row, row_says, with_closed, chip_line_says, chip_lines_say, first_says, plain_says, chip_text_says}
 use Rattle.ice_chip_read.specs.Reading.{Reading, begun, parts_closed}
-use Rattle.ice_chip_read.specs.Words.{number, two, three, ended}
 use Rattle.ice_chip_read.specs.Whole.{chip_says}
 use Rattle.ice_chip_read_laws.specs.Pins.{PinsAreWords}
 use Rattle.ice_chip_read_laws.proofs.LineWords.{AreWords, AreLines, lines_good}
@@ -76,24 +70,24 @@ close_named section.Switches g p parts all here = all
 heading_named : (r : Reading) (line : ℕ) (h : Heading) (ws : List (List ℕ)) → Named r → IfOk (heading_says r line h ws) Named
 heading_named r line heading.Device ws is = bind Named (sizes_in line ws) _ (λ x. tt)
 heading_named r line heading.Pins ws is = bind Named (one_word line ws) _ (λ name. record { ended = is.ended; opened = tt })
-heading_named r line heading.BufferInputs ws is = bind Named (ended line ws) _ (λ x. record { ended = is.ended; opened = is.opened })
-heading_named r line heading.BufferPins ws is = bind Named (ended line ws) _ (λ x. record { ended = is.ended; opened = is.opened })
-heading_named r line heading.ExtraBits ws is = bind Named (ended line ws) _ (λ x. record { ended = is.ended; opened = is.opened })
-heading_named r line heading.InputEnables ws is = bind Named (ended line ws) _ (λ x. record { ended = is.ended; opened = is.opened })
-heading_named r line heading.ColumnBuffers ws is = bind Named (ended line ws) _ (λ x. record { ended = is.ended; opened = is.opened })
+heading_named r line heading.BufferInputs ws is = bind Named (no_word_left line ws) _ (λ x. record { ended = is.ended; opened = is.opened })
+heading_named r line heading.BufferPins ws is = bind Named (no_word_left line ws) _ (λ x. record { ended = is.ended; opened = is.opened })
+heading_named r line heading.ExtraBits ws is = bind Named (no_word_left line ws) _ (λ x. record { ended = is.ended; opened = is.opened })
+heading_named r line heading.InputEnables ws is = bind Named (no_word_left line ws) _ (λ x. record { ended = is.ended; opened = is.opened })
+heading_named r line heading.ColumnBuffers ws is = bind Named (no_word_left line ws) _ (λ x. record { ended = is.ended; opened = is.opened })
 heading_named r line (heading.Tile kind) ws is =
-    bind Named (two line ws) _ (λ a. bind Named (ended line a.1) _ (λ u. bind Named (tile_in line r.parts a.0.0 a.0.1) _ (λ tile. by tile (tile_known r.parts.tiles tile))))
+    bind Named (two line ws) _ (λ a. bind Named (no_word_left line a.1) _ (λ u. bind Named (tile_in line r.parts a.0.0 a.0.1) _ (λ tile. by tile (tile_known r.parts.tiles tile))))
   where
     by : (tile : _) (old : Option TileLine) → IfOk (new_tile r line kind tile old) Named
     by tile None = record { ended = is.ended; opened = is.opened }
     by tile (Some old) = tt
-heading_named r line (heading.Bits kind) ws is = bind Named (two line ws) _ (λ a. bind Named (ended line a.1) _ (λ u. by ((a.0.0 == columns kind) && (a.0.1 == 16))))
+heading_named r line (heading.Bits kind) ws is = bind Named (two line ws) _ (λ a. bind Named (no_word_left line a.1) _ (λ u. by ((a.0.0 == columns kind) && (a.0.1 == 16))))
   where
     by : (b : Bool) → IfOk (if b then Ok (record r { open_section = section.Bits kind }) else Err (OutOfRange line)) Named
     by true = record { ended = is.ended; opened = is.opened }
     by false = tt
 heading_named r line heading.Net ws is =
-    bind Named (number line ws) _ (λ a. bind Named (ended line a.1) _ (λ u. bind Named (wire_in line r.parts a.0) _ (λ wire.
+    bind Named (number line ws) _ (λ a. bind Named (no_word_left line a.1) _ (λ u. bind Named (wire_in line r.parts a.0) _ (λ wire.
     bind Named (unseen line (lookup (nat_eq wire) r.nets)) _ (λ v. record { ended = is.ended; opened = is.opened }))))
 heading_named r line heading.Switches ws is =
     bind Named (three line ws) _ (λ a. bind Named (tile_in line r.parts a.0.0 a.0.1) _ (λ tile. bind Named (wire_in line r.parts a.0.2) _ (λ wire.
@@ -119,32 +113,32 @@ function_named r line kind name ws is = by (is_read kind name) (is_foreign kind 
 extra_named : (r : Reading) (line : ℕ) (o : Option ℕ) (ws : List (List ℕ)) → Named r → IfOk (extra_row r line o ws) Named
 extra_named r line None ws is = is
 extra_named r line (Some n) ws is =
-    bind Named (three line ws) _ (λ a. bind Named (ended line a.1) _ (λ u. bind Named (global_in line n) _ (λ global. record { ended = is.ended; opened = is.opened })))
+    bind Named (three line ws) _ (λ a. bind Named (no_word_left line a.1) _ (λ u. bind Named (global_in line n) _ (λ global. record { ended = is.ended; opened = is.opened })))
 
 row_named : (r : Reading) (s : Section) (line : ℕ) (w : List ℕ) (ws : List (List ℕ)) → IsWord w → Named r → IfOk (row_says r line s w ws) Named
 row_named r section.Rowless line w ws word is = tt
 row_named r section.ReadOver line w ws word is = is
 row_named r section.Pins line w ws word is =
-    bind Named (three line ws) _ (λ a. bind Named (ended line a.1) _ (λ u. bind Named (pad_in line r.parts a.0.0 a.0.1 a.0.2) _ (λ pad.
+    bind Named (three line ws) _ (λ a. bind Named (no_word_left line a.1) _ (λ u. bind Named (pad_in line r.parts a.0.0 a.0.1 a.0.2) _ (λ pad.
     record { ended = is.ended; opened = pin_named r.pins w pad (lookup (bytes_eq w) r.pins.pins) is.opened word })))
 row_named r section.BufferInputs line w ws word is =
-    bind Named (three line (w ∷ ws)) _ (λ a. bind Named (ended line a.1) _ (λ u. bind Named (tile_in line r.parts a.0.0 a.0.1) _ (λ tile. bind Named (global_in line a.0.2) _ (λ global.
+    bind Named (three line (w ∷ ws)) _ (λ a. bind Named (no_word_left line a.1) _ (λ u. bind Named (tile_in line r.parts a.0.0 a.0.1) _ (λ tile. bind Named (global_in line a.0.2) _ (λ global.
     record { ended = is.ended; opened = is.opened }))))
 row_named r section.BufferPins line w ws word is =
-    bind Named (three line (w ∷ ws)) _ (λ a. bind Named (number line a.1) _ (λ b. bind Named (ended line b.1) _ (λ u. bind Named (pad_in line r.parts a.0.0 a.0.1 a.0.2) _ (λ pad. bind Named (global_in line b.0) _ (λ global.
+    bind Named (three line (w ∷ ws)) _ (λ a. bind Named (number line a.1) _ (λ b. bind Named (no_word_left line b.1) _ (λ u. bind Named (pad_in line r.parts a.0.0 a.0.1 a.0.2) _ (λ pad. bind Named (global_in line b.0) _ (λ global.
     record { ended = is.ended; opened = is.opened })))))
 row_named r section.ExtraBits line w ws word is = extra_named r line (padin_global w) ws is
 row_named r section.InputEnables line w ws word is =
-    bind Named (three line (w ∷ ws)) _ (λ a. bind Named (three line a.1) _ (λ b. bind Named (ended line b.1) _ (λ u.
+    bind Named (three line (w ∷ ws)) _ (λ a. bind Named (three line a.1) _ (λ b. bind Named (no_word_left line b.1) _ (λ u.
     bind Named (pad_in line r.parts a.0.0 a.0.1 a.0.2) _ (λ pad. bind Named (pad_in line r.parts b.0.0 b.0.1 b.0.2) _ (λ enable. record { ended = is.ended; opened = is.opened })))))
 row_named r section.ColumnBuffers line w ws word is =
-    bind Named (two line (w ∷ ws)) _ (λ a. bind Named (two line a.1) _ (λ b. bind Named (ended line b.1) _ (λ u.
+    bind Named (two line (w ∷ ws)) _ (λ a. bind Named (two line a.1) _ (λ b. bind Named (no_word_left line b.1) _ (λ u.
     bind Named (tile_in line r.parts a.0.0 a.0.1) _ (λ source. bind Named (tile_in line r.parts b.0.0 b.0.1) _ (λ served. record { ended = is.ended; opened = is.opened })))))
 row_named r (section.Bits kind) line w ws word is = function_named r line kind w ws is
 row_named r (section.Names wire) line w ws word is =
     bind Named (two line (w ∷ ws)) _ (λ a. bind Named (one_word line a.1) _ (λ name. bind Named (tile_in line r.parts a.0.0 a.0.1) _ (λ tile. record { ended = is.ended; opened = is.opened })))
 row_named r section.Switches line w ws word is =
-    bind Named (number line ws) _ (λ a. bind Named (ended line a.1) _ (λ u. bind Named (wire_in line r.parts a.0) _ (λ source.
+    bind Named (number line ws) _ (λ a. bind Named (no_word_left line a.1) _ (λ u. bind Named (wire_in line r.parts a.0) _ (λ source.
     bind Named (values_at line (length r.group.bits) w) _ (λ values. by values source (nat_lt r.rows most_rows)))))
   where
     by : (values : List Bool) (source : ℕ) (b : Bool) → IfOk (if b then Ok (with_row r line values source) else Err (TooMany most_rows)) Named
@@ -152,7 +146,7 @@ row_named r section.Switches line w ws word is =
     by values source false = tt
 
 -- ---- lines
-line_named : (r : Reading) → Named r → (line : ℕ) (ws : List (List ℕ)) → AreWords ws → IfOk (line_says r line ws) Named
+line_named : (r : Reading) → Named r → (line : ℕ) (ws : List (List ℕ)) → AreWords ws → IfOk (chip_line_says r line ws) Named
 line_named r is line [] good = is
 line_named r is line (w ∷ ws) good = by (begins_with 46 w)
   where
@@ -160,9 +154,9 @@ line_named r is line (w ∷ ws) good = by (begins_with 46 w)
     by true = heading_named (with_closed r) line (heading_of w) ws (record { ended = close_named r.open_section r.group r.pins r.parts is.ended is.opened; opened = tt })
     by false = row_named r r.open_section line w ws good.0 is
 
-lines_named : (ls : List (ℕ × List (List ℕ))) (r : Reading) → AreLines ls → Named r → IfOk (lines_say r ls) Named
+lines_named : (ls : List (ℕ × List (List ℕ))) (r : Reading) → AreLines ls → Named r → IfOk (chip_lines_say r ls) Named
 lines_named [] r good is = is
-lines_named (l ∷ ls) r good is = bind_meeting Named Named (line_says r l.0 l.1) _ (line_named r is l.0 l.1 good.0) (λ more next. lines_named ls more good.1 next)
+lines_named (l ∷ ls) r good is = bind_meeting Named Named (chip_line_says r l.0 l.1) _ (line_named r is l.0 l.1 good.0) (λ more next. lines_named ls more good.1 next)
 
 begun_named : (line : ℕ) (sizes : ℕ × ℕ × ℕ) → IfOk (begun_within line sizes) Named
 begun_named line (width, height, wires) = by (nat_lt most_wires wires) (nat_lt most_places width) (nat_lt most_places height)
@@ -189,7 +183,7 @@ plain_named (l ∷ ls) good = bind_meeting Named Named (first_says l.0 l.1) _ (f
 abbrev IsNamed : Parts → Type 0
 IsNamed parts = ArePackages parts.packages
 
-text_named : (text : List ℕ) → IfOk (text_says text) IsNamed
+text_named : (text : List ℕ) → IfOk (chip_text_says text) IsNamed
 text_named text =
     bind_meeting IsNamed Named (plain_says (plain_lines (numbered 1 (lines text)))) _ (plain_named (plain_lines (numbered 1 (lines text))) (lines_good (numbered 1 (lines text))))
     (λ r is. close_named r.open_section r.group r.pins r.parts is.ended is.opened)
@@ -199,7 +193,7 @@ whole_named parts None is = is
 whole_named parts (Some fault) is = tt
 
 chip_named : (text : List ℕ) → IfOk (chip_says text) IsNamed
-chip_named text = bind_meeting IsNamed IsNamed (text_says text) chip_of (text_named text) (λ parts is. whole_named parts (whole_fault parts) is)
+chip_named text = bind_meeting IsNamed IsNamed (chip_text_says text) chip_of (text_named text) (λ parts is. whole_named parts (whole_fault parts) is)
 
 one_of : (packages : List PackageRows) (rows : PackageRows) → ArePackages packages → Has packages rows → ArePins rows.pins
 one_of packages rows all has = Has_all (λ (r : PackageRows). ArePins r.pins) packages rows (All-from_recursion (λ (r : PackageRows). ArePins r.pins) packages all) has

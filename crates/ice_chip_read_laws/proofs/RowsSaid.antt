@@ -5,7 +5,7 @@ use Rattle.ice_chip.specs.Database.{Parts}
 use Rattle.ice_chip.specs.Whole.{whole_fault}
 use Rattle.ice_chip.specs.declared.fault.ChipFault.{ChipFault}
 use Rattle.ice_chip_read.specs.Faults.{◌>>=◌}
-use Rattle.ice_chip_read.specs.Lines.{text_says}
+use Rattle.ice_chip_read.specs.Lines.{chip_text_says}
 use Rattle.ice_chip_read.specs.Whole.{chip_says}
 
 same_rows : (rows parts : Parts) (fault : Option ChipFault) → unless_fault rows fault ≡ Ok parts → rows ≡ parts
@@ -16,5 +16,5 @@ of_lines : (said : Result Parts ChipFault) (parts : Parts) → said >>= chip_of 
 of_lines (Err fault) parts e = absurd (cc)
 of_lines (Ok rows) parts e = ap (λ (p : Parts). Ok p) (same_rows rows parts (whole_fault rows) e)
 
-pub rows_said : (text : List ℕ) (parts : Parts) → chip_says text ≡ Ok parts → text_says text ≡ Ok parts
-rows_said text parts e = of_lines (text_says text) parts e
+pub rows_said : (text : List ℕ) (parts : Parts) → chip_says text ≡ Ok parts → chip_text_says text ≡ Ok parts
+rows_said text parts e = of_lines (chip_text_says text) parts e

@@ -1,14 +1,12 @@
 -- What lines say, line after line.
 use Rattle.std.proofs.Common.{rules, ◌≡◌, ℕ, Option, None, Some, List, [], ◌∷◌, ◌++◌, Result, Ok, Err, refl, sym, ap, subst, ◌∙◌, append-nil}
-use Rattle.ice_base.specs.Comments.{uncommented}
-use Rattle.ice_base.specs.PlainLines.{with_words}
-use Rattle.ice_base.specs.Text.{words}
+use Rattle.ice_base.specs.Text.{words, uncommented, with_words}
 use Rattle.ice_chip.specs.Answers.{chip_of, StopsBy}
 use Rattle.ice_chip.specs.Database.{Parts}
 use Rattle.ice_chip.specs.declared.fault.ChipFault.{ChipFault}
 use Rattle.ice_chip.specs.declared.fault.ChipFault.TheVariants.{NoDevice}
 use Rattle.ice_chip_read.specs.Faults.{◌>>=◌}
-use Rattle.ice_chip_read.specs.Lines.{line_says, lines_say, first_says, plain_says}
+use Rattle.ice_chip_read.specs.Lines.{chip_line_says, chip_lines_say, first_says, plain_says}
 use Rattle.ice_chip_read.specs.Reading.{Reading, closed}
 use Rattle.ice_chip_read.specs.Stops.{fault_of}
 use Rattle.ice_chip_read.specs.Views.{Stops}
@@ -26,29 +24,29 @@ abbrev pub WordLine : Type 0
 WordLine = ℕ × List (List ℕ)
 
 -- ---- one line more
-no_more : (said : Result Reading ChipFault) → said >>= (λ r. lines_say r []) ≡ said
+no_more : (said : Result Reading ChipFault) → said >>= (λ r. chip_lines_say r []) ≡ said
 no_more (Ok r) = refl
 no_more (Err fault) = refl
 
-behind_step : (l : WordLine) (ls : List WordLine) (said : Result Reading ChipFault) → ((m : Reading) → lines_say m (ls ++ l ∷ []) ≡ lines_say m ls >>= (λ r. line_says r l.0 l.1))
-    → said >>= (λ m. lines_say m (ls ++ l ∷ [])) ≡ (said >>= (λ m. lines_say m ls)) >>= (λ r. line_says r l.0 l.1)
+behind_step : (l : WordLine) (ls : List WordLine) (said : Result Reading ChipFault) → ((m : Reading) → chip_lines_say m (ls ++ l ∷ []) ≡ chip_lines_say m ls >>= (λ r. chip_line_says r l.0 l.1))
+    → said >>= (λ m. chip_lines_say m (ls ++ l ∷ [])) ≡ (said >>= (λ m. chip_lines_say m ls)) >>= (λ r. chip_line_says r l.0 l.1)
 behind_step l ls (Ok m) more = more m
 behind_step l ls (Err fault) more = refl
 
-lines_append : (r : Reading) (ls : List WordLine) (l : WordLine) → lines_say r (ls ++ l ∷ []) ≡ lines_say r ls >>= (λ m. line_says m l.0 l.1)
-lines_append r [] l = no_more (line_says r l.0 l.1)
-lines_append r (k ∷ ls) l = behind_step l ls (line_says r k.0 k.1) (λ m. lines_append m ls l)
+lines_append : (r : Reading) (ls : List WordLine) (l : WordLine) → chip_lines_say r (ls ++ l ∷ []) ≡ chip_lines_say r ls >>= (λ m. chip_line_says m l.0 l.1)
+lines_append r [] l = no_more (chip_line_says r l.0 l.1)
+lines_append r (k ∷ ls) l = behind_step l ls (chip_line_says r k.0 k.1) (λ m. lines_append m ls l)
 
 some_rows : Reading → Result (Option Reading) ChipFault
 some_rows r = Ok (Some r)
 
-with_rows : (l : WordLine) (said : Result Reading ChipFault) → (said >>= (λ m. line_says m l.0 l.1)) >>= (λ r. Ok (Some r)) ≡ with_line (said >>= (λ r. Ok (Some r))) l
+with_rows : (l : WordLine) (said : Result Reading ChipFault) → (said >>= (λ m. chip_line_says m l.0 l.1)) >>= (λ r. Ok (Some r)) ≡ with_line (said >>= (λ r. Ok (Some r))) l
 with_rows l (Ok m) = refl
 with_rows l (Err fault) = refl
 
 behind_first : (l : WordLine) (ls : List WordLine) (said : Result Reading ChipFault)
-    → (said >>= (λ r. lines_say r (ls ++ l ∷ []))) >>= (λ r. Ok (Some r)) ≡ with_line ((said >>= (λ r. lines_say r ls)) >>= (λ r. Ok (Some r))) l
-behind_first l ls (Ok r) = ap (λ said. said >>= (λ m. Ok (Some m))) (lines_append r ls l) ∙ with_rows l (lines_say r ls)
+    → (said >>= (λ r. chip_lines_say r (ls ++ l ∷ []))) >>= (λ r. Ok (Some r)) ≡ with_line ((said >>= (λ r. chip_lines_say r ls)) >>= (λ r. Ok (Some r))) l
+behind_first l ls (Ok r) = ap (λ said. said >>= (λ m. Ok (Some m))) (lines_append r ls l) ∙ with_rows l (chip_lines_say r ls)
 behind_first l ls (Err fault) = refl
 
 line_behind : (ls : List WordLine) (l : WordLine) → so_far (ls ++ l ∷ []) ≡ with_line (so_far ls) l

@@ -1,7 +1,6 @@
 //! What lines of a chip text say so far.
 ghost use Rattle.std.specs.Prelude.{◌≡◌, ℕ, Option, None, Result, Ok, Err, List, ◌++◌};
-ghost use Rattle.ice_base.specs.Comments.{uncommented};
-ghost use Rattle.ice_base.specs.Text.{words};
+ghost use Rattle.ice_base.specs.Text.{uncommented, words};
 ghost use Rattle.ice_chip.specs.declared.fault.ChipFault.{ChipFault};
 ghost use Rattle.ice_chip_read.specs.Reading as lines;
 ghost use Rattle.ice_chip_read.specs.declared.fault.ChipStop.{ChipStop};

@@ -1,11 +1,10 @@
 -- The rule is kept by each step on a word.
-use Rattle.std.proofs.Common.{◌≡◌, ◌≢◌, ℕ, ◌+◌, ◌-◌, ◌%◌, ◌^◌, ◌≤◌, ◌<◌, List, [], ◌∷◌, length, set, cond, eqb, eq-eqb, ne_eqb, Bool, true, false, inl, inr, get_or-set_same, get_or-set_other, length-set, slice_index, slice_set, min, refl, sym, ap, subst, ◌∙◌, arith}
+use Rattle.std.proofs.Common.{◌≡◌, ◌≢◌, ℕ, ◌+◌, ◌-◌, ◌%◌, ◌^◌, ◌≤◌, ◌<◌, List, [], ◌∷◌, length, set, cond, eqb, eq-eqb, ne_eqb, false, inl, inr, get_or-set_same, get_or-set_other, length-set, slice_index, slice_set, min, refl, sym, ap, subst, ◌∙◌, arith}
 use mathlib.Core.Option.{some}
 use lib.ListN.{get_elem?}
 use prog.Atomic.{either}
 use Rattle.std.proofs.lemmas.Bool.{cases_eq, cases_lt}
 use Rattle.atomic_table.proofs.Lists.{set_again}
-use Rattle.std.proofs.Math.Nat.{mod-eq_of_lt}
 use Rattle.std.proofs.lemmas.List.Sums.{sum_by-cons}
 use Rattle.std.specs.List.{sum_by, AllByRecursion}
 use Rattle.atomic_table.specs.Table.{State}
@@ -13,7 +12,7 @@ use Rattle.ice_core.specs.Routes.{times, sum_below, wires_of}
 use Rattle.ice_core.proofs.Sums.{sum_set, sum_at, each_set, each_at, sum_at_most, below_ones, is_at, at_itself, at_other, times_cons}
 use Rattle.ice_words_hands.proofs.Lists.{set_same, one_of}
 use Rattle.ice_words_hands.proofs.Parts.{own_sum, own_at_most, own_length, own_total}
-use Rattle.ice_words_hands.proofs.Draws.{draws_next, draws_past, drawn_below, drawn_once}
+use Rattle.ice_words_hands.proofs.Draws.{draws_next, draws_past, drawn_below, drawn_once, next_number, one_end, clash}
 use Rattle.ice_words_hands.proofs.Seated.{seated_step, alone_in, few_in}
 use Rattle.ice_claim.specs.declared.view.ClaimPart.{ClaimPart}
 use Rattle.ice_claim.specs.declared.view.ClaimView.{ClaimView}
@@ -79,10 +78,6 @@ abbrev pub stepped_to : State ℕ ClaimView → ℕ → ℕ → ℕ → ClaimVie
 stepped_to s i m id w = record { words = slice_set s.words i m; homes = s.homes; views = slice_set s.views id w }
 
 -- ---- a net is drawn
-one_end : (b : Bool) → cond b 1 0 ≤ 1
-one_end true = omega arith
-one_end false = omega arith
-
 few_draws : (wires : ℕ) (lists : List (List ℕ)) (s : State ℕ ClaimView) → Holds wires lists s → slice_index s.words 0 ≤ 131072
 few_draws wires lists s h = omega (
   arith,
@@ -138,12 +133,6 @@ end_fits wires lists words p long once le going =
       taken = λ w lt. omega (arith, first_alone words w);
       once = λ w lt. omega (arith, first_alone words w, once w lt);
     }
-
-next_number : (n : ℕ) → n ≤ 131072 → (n + 1) % 2 ^ 64 ≡ n + 1
-next_number n le = let lt : n + 1 < 2 ^ 64 = omega arith in mod-eq_of_lt lt
-
-clash : (n a b : ℕ) → a ≡ b → n < b → a ≤ n → ⊥
-clash n a b e lt le = absurd (omega arith)
 
 pub claim_keeps : (wires : ℕ) (lists : List (List ℕ)) (s : State ℕ ClaimView) (id : ℕ) (v : ClaimView) → Holds wires lists s → get_elem? s.views id ≡ some v → 1 ≤ length v.parts → v.lists ≡ lists → (own v).ended ≡ false
     → (w : ClaimView) × Holds wires lists (stepped_to s 0 ((slice_index s.words 0 + 1) % 2 ^ 64) id w) × Draws v (slice_index s.words 0) w

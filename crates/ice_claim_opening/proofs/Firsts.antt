@@ -16,9 +16,10 @@ use Rattle.ice_negotiate_defs.specs.Rounds.{AreNets}
 use Rattle.ice_negotiate_defs.specs.Trees.{AreSinks, IsTree, AreOnce, AreReached, IsRooted, route_of}
 use Rattle.ice_negotiate_defs.specs.declared.kept.Kept.{Kept}
 use Rattle.ice_negotiate_defs.specs.declared.kept.Kept.TheVariants.{Whole, Lost, Cut}
+use Rattle.ice_negotiate_defs.proofs.Wires.{numbered, once_times}
 use Rattle.ice_claim_opening.specs.Opened.{IsAtOne}
 use Rattle.ice_claim_opening.specs.First.{AreFirst, IsFirst, wires_by_number}
-use Rattle.ice_claim_opening.proofs.Wires.{numbered, numbers_within, once_times, times_has}
+use Rattle.ice_claim_opening.proofs.Wires.{numbers_within, times_has}
 
 -- the tree in prices that are all 1
 pub at_one : (graph : Network) (net : Net) (prices : Prices) (tree : Tree) → ((w : ℕ) → price prices w ≡ 1) → IsTree graph.edges (price prices) net.root net.sinks.items (route_of tree) → AreReached graph.edges net.root net.sinks.items → IsAtOne graph net tree

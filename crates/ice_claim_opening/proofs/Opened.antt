@@ -21,12 +21,14 @@ use Rattle.ice_negotiate_defs.proofs.Joining.{joined_unique}
 use Rattle.ice_negotiate_defs.proofs.Leading.{trees_lead}
 use Rattle.ice_negotiate_defs.specs.declared.kept.Kept.{Kept}
 use Rattle.ice_negotiate_defs.specs.declared.kept.Kept.TheVariants.{Whole, Lost, Cut}
+use Rattle.ice_negotiate_defs.proofs.Wires.{numbered}
+use Rattle.ice_negotiate_defs.proofs.Listing.{there_at}
 use Rattle.ice_claim_opening.specs.declared.notes.Note.{Note}
 use Rattle.ice_claim_opening.specs.Opened.{AreKeptInTurn, IsAtOne, IsKept, IsLost, IsOpened}
 use Rattle.ice_claim_opening.specs.First.{AreFirst, IsFirst, wires_by_number}
 use Rattle.ice_claim_opening.specs.Notes.{kept_on, AreAllNotes, AreInTurn, IsLossNoted}
 use Rattle.ice_claim_opening.specs.Marks.{IsNotedLost, AreMarked}
-use Rattle.ice_claim_opening.proofs.Wires.{has_times, numbered}
+use Rattle.ice_claim_opening.proofs.Wires.{has_times}
 use Rattle.ice_claim_opening.proofs.Firsts.{first_are_lists, list_at, lists_long, map_length, tree_at}
 use Rattle.ice_claim_opening.proofs.Marking.{notes_below}
 use Rattle.ice_claim_opening.proofs.Noting.{get_of, not_some}
@@ -35,17 +37,6 @@ each_get : (P : Note → Type 0) (xs : List Note) (k : ℕ) (a : Note) → AllBy
 each_get P [] k a each at = absurd (cc)
 each_get P (x ∷ xs) zero a each at = subst P (same_Some x a at) each.0
 each_get P (x ∷ xs) (suc k) a each at = each_get P xs k a each.1 at
-
--- there is a net at a number that is low enough
-net_at : (nets : List Net) (n : ℕ) → n < length nets → (net : Net) × (slice_get nets n ≡ Some net)
-net_at [] n lt = absurd (omega arith)
-net_at (net ∷ nets) zero lt = (net, refl)
-net_at (net ∷ nets) (suc n) lt = net_at nets n (omega (arith, lt))
-
-kept_at : (kept : List Kept) (n : ℕ) → n < length kept → (one : Kept) × (slice_get kept n ≡ Some one)
-kept_at [] n lt = absurd (omega arith)
-kept_at (one ∷ kept) zero lt = (one, refl)
-kept_at (one ∷ kept) (suc n) lt = kept_at kept n (omega (arith, lt))
 
 -- no two variants are the same
 whole_not_lost : (tree : Tree) (wire : WireNo) → Whole tree ≡ Lost wire → ⊥
@@ -66,7 +57,7 @@ module _ (graph : Network) (nets : List Net) (workers : ℕ) (first : List Kept)
   has_tree n w some_of =
       let t = tree_at first n w some_of in
       let lt : n < length nets = omega (arith, slice_get_within first n (Whole t.0) t.1, firsts.long) in
-      let m = net_at nets n lt in
+      let m = there_at nets n lt in
       (m.0, t.0, m.1, t.1, (firsts.each n m.0 (Whole t.0) m.1 t.1).0, t.2)
 
   -- what a note of a loss says
@@ -158,7 +149,7 @@ module _ (graph : Network) (nets : List Net) (workers : ℕ) (first : List Kept)
       let h = turn.lost lost.place lost.note wire lost.at lost.lost in
       let its = has_tree h.place wire.0 h.listed in
       let lt : h.place < length kept = omega (arith, slice_get_within first h.place (Whole its.1) its.3, marked.long) in
-      let k = kept_at kept h.place lt in
+      let k = there_at kept h.place lt in
       (h.place, its.1, omega (arith, h.before, place), kept_still h.place its.1 k.0 its.3 k.1 (λ other. not_lost turn h.place h.note other h.at h.kept), its.5)
 
   -- the wire that a net lost is in each tree that it has at price 1
@@ -171,7 +162,7 @@ module _ (graph : Network) (nets : List Net) (workers : ℕ) (first : List Kept)
   in_turn : AreInTurn lists notes → AreKeptInTurn graph nets kept
   in_turn turn n net tree at is free =
       let lt : n < length kept = omega (arith, slice_get_within nets n net at, marked.long, firsts.long) in
-      let k = kept_at kept n lt in
+      let k = there_at kept n lt in
       by_kept k.0 k.1
     where
       by_first : (one : Kept) → IsFirst graph net one → slice_get kept n ≡ Some one → (its : Tree) × (slice_get kept n ≡ Some (Whole its))

@@ -15,8 +15,9 @@ use Rattle.ice_claim.specs.declared.view.ClaimView.{ClaimView}
 use Rattle.ice_claim.specs.Claims.{total, claims_on, pair_of, takes_on, takes_pair, no_part, taking, losing, giving, without, own, with_own}
 use Rattle.ice_claim.specs.Rule.{IsLone}
 use Rattle.ice_claim.proofs.Counting.{bit_of, on_of}
+use Rattle.ice_negotiate_defs.proofs.Wires.{numbered}
 use Rattle.ice_claim_opening.specs.Workers.{took, took_until}
-use Rattle.ice_claim_opening.proofs.Wires.{number_by_place, numbered}
+use Rattle.ice_claim_opening.proofs.Wires.{number_by_place}
 
 -- ---- what is counted of the part
 pub took_nets : (net : ℕ) (wires : List ℕ) (p : ClaimPart) → (took net wires p).nets ≡ p.nets

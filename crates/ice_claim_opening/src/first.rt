@@ -8,7 +8,7 @@ ghost use Rattle.ice_path.specs.Room.{IsFor};
 ghost use Rattle.ice_claim_opening.specs.First.{AreFirst, IsFirst, kept_wires, wires_by_number};
 
 use ice_base::{NoMemory, WireNo};
-use ice_core::{Net, Prices};
+use ice_core::{MOST_WIRES, Net, Prices};
 use ice_graph::Graph;
 use ice_negotiate_defs::{Kept, TreeStop, tree_of};
 use ice_path::Scratch;
@@ -17,7 +17,7 @@ use std::alloc::Global;
 // The prices of a first round in which nobody has a wire.
 #[tactic(auto, using(crate::proofs::Pricing::open_prices, crate::proofs::Pricing::each_costs_1))]
 fn first_prices(alloc: Global, wires: u32) -> Result<Prices, NoMemory>
-    requires { wires ≤ 1048576 }
+    requires { wires ≤ MOST_WIRES }
     ensures prices { IfOk result ArePrices }
     ensures wires { IfOk result (λ prices. length prices.history.items ≡ wires) }
     ensures one { IfOk result (λ prices. (w : ℕ) → price prices w ≡ 1) }
@@ -57,7 +57,7 @@ fn first_of(
 
 // The tree of each net at price 1 for every wire, or where it is cut.
 pub fn first_trees(alloc: Global, graph: &Graph, nets: &[Net]) -> Result<Vec<Kept>, NoMemory>
-    requires wires { graph.now.wires ≤ 1048576 }
+    requires wires { graph.now.wires ≤ MOST_WIRES }
     requires nets { AreNets graph.now nets.now }
     ensures { IfOk result (λ kept. AreFirst graph.now nets.now kept.items) }
 {

@@ -12,7 +12,7 @@ use crate::first::{first_lists, first_trees};
 use crate::notes::Note;
 use crate::workers::notes_by;
 use ice_base::NoMemory;
-use ice_core::Net;
+use ice_core::{MOST_NETS, MOST_WIRES, Net};
 use ice_desk::Gate;
 use ice_graph::Graph;
 use ice_negotiate_defs::Kept;
@@ -69,8 +69,8 @@ pub fn opening<G: Gate + Sync, R: Threads + Sync>(
     gate: &G,
 ) -> Result<Vec<Kept>, NoMemory>
     requires workers { (1 ≤ workers) × (workers ≤ 8) }
-    requires wires { graph.now.wires ≤ 1048576 }
-    requires few { length nets.now ≤ 65536 }
+    requires wires { graph.now.wires ≤ MOST_WIRES }
+    requires few { length nets.now ≤ MOST_NETS }
     requires nets { AreNets graph.now nets.now }
     ensures opened { IfOk result (λ kept. IsOpened graph.now nets.now workers kept.items) }
     ensures fits { IfOk result (λ kept. Fits graph.now nets.now kept.items) }

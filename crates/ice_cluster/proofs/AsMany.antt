@@ -16,6 +16,7 @@ use Rattle.ice_cells.specs.Clusters.{room, filled, left, runs_pieces, set_piece,
 use Rattle.ice_cells.specs.Pieces.{pieces_count, piece}
 use Rattle.ice_cells.specs.Sets.{FlopCell, sets_of, cells_with}
 use Rattle.ice_cluster.proofs.SetSums.{set_sum, same_in_order}
+use Rattle.ice_cluster.proofs.Tallies.{nothing_before}
 
 -- ---- what is measured of groups by how many cells they have
 abbrev measured : (ℕ → ℕ) → List TileCells → ℕ
@@ -27,9 +28,6 @@ counts_one n = 1
 
 abbrev counts_free : ℕ → ℕ
 counts_free n = 8 - n
-
-nothing_before : (n : ℕ) → n ≡ 0 + n
-nothing_before n = omega arith
 
 assoc : (a b c : ℕ) → a + (b + c) ≡ a + b + c
 assoc a b c = omega arith

@@ -6,6 +6,7 @@ mod copies;
 mod event;
 mod history;
 pub mod laws;
+mod limits;
 mod log;
 mod machine;
 mod net;
@@ -18,6 +19,9 @@ mod task;
 pub use copies::{old_routes, tree_routes};
 pub use event::Event;
 pub use history::raise;
+pub use limits::{
+    MOST_FACTOR, MOST_HISTORY, MOST_NETS, MOST_OTHERS, MOST_PRICE, MOST_STEPS, MOST_WIRES,
+};
 pub use log::RoundLog;
 pub use machine::Core;
 pub use net::Net;

@@ -2,6 +2,7 @@
 ghost use Rattle.std.specs.Prelude.{◌≡◌, ◌+◌, ◌-◌, ◌*◌, ◌<◌, ◌≤◌, ℕ, length, slice_index};
 ghost use Rattle.ice_core.specs.Congestion.{ArePrices, price};
 
+use crate::limits::{MOST_FACTOR, MOST_HISTORY, MOST_OTHERS, MOST_PRICE, MOST_WIRES};
 use ice_base::WireNo;
 
 /// What the wires cost one net in one round.
@@ -22,7 +23,7 @@ impl Prices {
         requires wire { wire.0 < length self.now.history.items }
         ensures price { result ≡ price self.now wire.0 }
         ensures positive { 1 ≤ result }
-        ensures bound { result ≤ 17046213234436 }
+        ensures bound { result ≤ MOST_PRICE }
     {
         price_at(self.round, &self.history, &self.others, wire.0 as usize)
     }
@@ -33,12 +34,12 @@ impl Prices {
 fn price_at(round: u32, history: &[u64], others: &[u32], wire: usize) -> u64
     requires round { (1 ≤ round) × (round ≤ 64) }
     requires lengths { length others.now ≡ length history.now }
-    requires wire { (wire < length history.now) × (length history.now ≤ 1048576) }
-    requires history { (w : ℕ) → slice_index history.now w ≤ 4128705 }
-    requires others { (w : ℕ) → slice_index others.now w ≤ 65535 }
+    requires wire { (wire < length history.now) × (length history.now ≤ MOST_WIRES) }
+    requires history { (w : ℕ) → slice_index history.now w ≤ MOST_HISTORY }
+    requires others { (w : ℕ) → slice_index others.now w ≤ MOST_OTHERS }
     ensures price { result ≡ (1 + slice_index history.now wire) * (1 + (round - 1) * slice_index others.now wire) }
     ensures positive { 1 ≤ result }
-    ensures bound { result ≤ 17046213234436 }
+    ensures bound { result ≤ MOST_PRICE }
 {
     let weight = (round - 1) as u64 * others[wire] as u64;
     product(1 + history[wire], 1 + weight)
@@ -47,11 +48,11 @@ fn price_at(round: u32, history: &[u64], others: &[u32], wire: usize) -> u64
 // The product of two numbers that are at most 4,128,706.
 #[tactic(auto, using(crate::proofs::Bounds::product_low, crate::proofs::Bounds::product_high))]
 fn product(one: u64, other: u64) -> u64
-    requires one { (1 ≤ one) × (one ≤ 4128706) }
-    requires other { (1 ≤ other) × (other ≤ 4128706) }
+    requires one { (1 ≤ one) × (one ≤ MOST_FACTOR) }
+    requires other { (1 ≤ other) × (other ≤ MOST_FACTOR) }
     ensures value { result ≡ one * other }
     ensures positive { 1 ≤ result }
-    ensures bound { result ≤ 17046213234436 }
+    ensures bound { result ≤ MOST_PRICE }
 {
     one * other
 }

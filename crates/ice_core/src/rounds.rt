@@ -4,6 +4,7 @@ ghost use Rattle.std.specs.List.{list_any};
 ghost use Rattle.ice_base.specs.declared.number.WireNo.{WireNo as Wire};
 ghost use Rattle.ice_core.specs.Moves.{IsOccupancy, AreBelow, AreWithin, leaves, leaves_at, movers_of, HaveCounted, AreCounted};
 
+use crate::limits::MOST_NETS;
 use ice_base::{NetNo, NoMemory, WireNo};
 use ice_graph::Tree;
 use std::alloc::Global;
@@ -37,7 +38,7 @@ fn moves(round: u32, counts: &[u32], seen: &[u32], wires: &[WireNo]) -> bool
 #[tactic(auto, using(crate::proofs::Moving::counted_again, crate::proofs::Moving::counted_new))]
 fn count_one(seen: &mut [u32], marks: &mut [u32], net: u32, wire: u32)
     requires lengths { (length marks.old ≡ length seen.old) × (wire < length seen.old) }
-    requires fits { (slice_index seen.old wire ≤ 65536) × (net < 65536) }
+    requires fits { (slice_index seen.old wire ≤ MOST_NETS) × (net < MOST_NETS) }
     ensures { (places : List ℕ) (wires : List Wire) (k : ℕ) (v : Wire) → slice_get wires k ≡ Some v → v.0 ≡ wire → HaveCounted places net wires k seen.old marks.old → HaveCounted places net wires (k + 1) seen.new marks.new }
 {
     let mark = net + 1;
@@ -53,7 +54,7 @@ fn count_one(seen: &mut [u32], marks: &mut [u32], net: u32, wire: u32)
 fn count(seen: &mut [u32], marks: &mut [u32], net: u32, wires: &[WireNo])
     requires lengths { length marks.old ≡ length seen.old }
     requires wires { AreBelow (length seen.old) wires.now }
-    requires net { net < 65536 }
+    requires net { net < MOST_NETS }
     requires places { (w : ℕ) → w < length seen.old → slice_index seen.old w ≤ net }
     requires low { (w : ℕ) → w < length seen.old → slice_index marks.old w ≤ net }
     ensures { HaveCounted seen.old net wires.now (length wires.now) seen.new marks.new }
@@ -76,7 +77,7 @@ fn add(nets: &mut Vec<NetNo>, net: NetNo, moves: bool) -> Result<(), NoMemory>
 /// How many of the trees hold each wire, for the wires below `wires`. There are at most 65,536 trees, and
 /// each of their wires is below `wires`. It answers `NoMemory` where it finds no memory for its lists.
 pub fn holders(alloc: Global, wires: usize, trees: &[Tree]) -> Result<Vec<u32>, NoMemory>
-    requires trees { length trees.now ≤ 65536 }
+    requires trees { length trees.now ≤ MOST_NETS }
     requires within { AreWithin wires trees.now }
     ensures long { IfOk result (λ counts. length counts.items ≡ wires) }
     ensures counts { IfOk result (λ counts. IsOccupancy counts.items trees.now) }
@@ -90,7 +91,7 @@ pub fn holders(alloc: Global, wires: usize, trees: &[Tree]) -> Result<Vec<u32>, 
 // Counts all nets on their wires, from counts of no net.
 #[tactic(auto, using(crate::proofs::Moving::counted_first, crate::proofs::Moving::counted_low))]
 fn count_all(trees: &[Tree], seen: &mut [u32], marks: &mut [u32])
-    requires trees { length trees.now ≤ 65536 }
+    requires trees { length trees.now ≤ MOST_NETS }
     requires within { AreWithin (length seen.old) trees.now }
     requires lengths { length marks.old ≡ length seen.old }
     requires seen { (w : ℕ) → slice_index seen.old w ≡ 0 }
@@ -116,7 +117,7 @@ pub fn movers(
     trees: &[Tree],
 ) -> Result<Vec<NetNo>, NoMemory>
     requires round { (1 ≤ round) × (round ≤ 64) }
-    requires trees { length trees.now ≤ 65536 }
+    requires trees { length trees.now ≤ MOST_NETS }
     requires counts { IsOccupancy counts.now trees.now }
     ensures { IfOk result (λ nets. nets.items ≡ movers_of round trees.now) }
 {
@@ -136,7 +137,7 @@ fn fill(
     marks: &mut [u32],
     nets: &mut Vec<NetNo>,
 ) -> Result<(), NoMemory>
-    requires trees { length trees.now ≤ 65536 }
+    requires trees { length trees.now ≤ MOST_NETS }
     requires counts { IsOccupancy counts.now trees.now }
     requires lengths { (length seen.old ≡ length counts.now) × (length marks.old ≡ length counts.now) }
     requires seen { (w : ℕ) → slice_index seen.old w ≡ 0 }
@@ -170,7 +171,7 @@ fn step(
 ) -> Result<(), NoMemory>
     requires lengths { (length seen.old ≡ length counts.now) × (length marks.old ≡ length counts.now) }
     requires wires { AreBelow (length counts.now) wires.now }
-    requires net { net < 65536 }
+    requires net { net < MOST_NETS }
     requires places { (w : ℕ) → w < length seen.old → slice_index seen.old w ≤ net }
     requires low { (w : ℕ) → w < length seen.old → slice_index marks.old w ≤ net }
     ensures counted { OnOk result (HaveCounted seen.old net wires.now (length wires.now) seen.new marks.new) }

@@ -2,8 +2,8 @@
 use Rattle.std.proofs.Common.{◌≡◌, ◌⊎◌, ℕ, ◌-◌, ◌<◌, ◌≤◌, Bool, true, false, cond, List, [], ◌∷◌, inl, inr, refl, eqb, leb, arith}
 use Rattle.std.specs.Prelude.{◌&&◌}
 use Rattle.std.proofs.lemmas.Bool.{leb-true}
-use Rattle.ice_chip.specs.PinNames.{cell_pin}
-use Rattle.ice_decode.specs.Roles.{number_at}
+use Rattle.ice_chip.specs.Names.{cell_pin}
+use Rattle.ice_decode.specs.Drivers.{number_at}
 
 -- a name of a cell's pin has a digit below eight
 pub digit_small : (name : List ℕ) → (number_at name 6 < 8) ⊎ (cell_pin name ≡ [])

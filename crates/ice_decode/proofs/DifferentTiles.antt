@@ -6,7 +6,7 @@ use Rattle.std.proofs.lemmas.Bool.{lt-ltb, cond-true}
 use Rattle.std.proofs.lemmas.Option.{same_Some}
 use Rattle.ice_base.specs.declared.number.TileAt.{TileAt}
 use Rattle.ice_base.proofs.Keys.{tile_same, tile_self}
-use Rattle.ice_chip.specs.Places.{same_tile}
+use Rattle.ice_chip.specs.Database.{same_tile}
 use Rattle.ice_base_values.specs.Order.{At, Has, StandOnce}
 use Rattle.ice_decode.specs.Different.{with_tile, different}
 use Rattle.ice_decode.proofs.Members.{Has_left, Has_right, Has_append_cases, Has_any, Has_none, once_push}

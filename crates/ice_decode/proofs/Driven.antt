@@ -11,7 +11,7 @@ use Rattle.std.proofs.lemmas.Option.{same_Some, slice_get-map}
 use Rattle.ice_base.specs.declared.number.RowNo.{RowNo}
 use Rattle.ice_chip.specs.Database.{Parts, SwitchGroup, SwitchRow}
 use Rattle.ice_bits.specs.Configuration.{Bits, Configuration, bits_of}
-use Rattle.ice_bits.specs.RowsOn.{values_of, number_with, row_on}
+use Rattle.ice_bits.specs.Settings.{values_of, number_with, row_on}
 use Rattle.ice_decode.specs.declared.driver.Switch.{Switch}
 use Rattle.ice_decode.specs.declared.driver.Driver.{Driver}
 use Rattle.ice_decode.specs.declared.driver.Driver.TheVariants.{Nothing, By, Several}

@@ -1,18 +1,18 @@
 -- The global whose name a wire has in a tile is found by looking up the eight names there.
 use Rattle.std.proofs.Common.{◌≡◌, ℕ, zero, suc, ◌+◌, ◌<◌, Bool, true, false, cond, Option, None, Some, List, [], ◌∷◌, refl, ap, sym, ◌∙◌, subst, eqb, arith}
-use Rattle.std.specs.Prelude.{◌&&◌, ◌||◌, codes}
+use Rattle.std.specs.Prelude.{◌&&◌, codes}
 use Rattle.std.specs.Option.{option_map_or}
-use Rattle.std.proofs.lemmas.Bool.{and_parts, and_from, eqb-true, eq-eqb}
+use Rattle.std.proofs.lemmas.Bool.{and_parts, and_from, eqb-true, eq-eqb, or_right}
 use Rattle.std.proofs.lemmas.Option.{same_Some}
 use Rattle.ice_base.specs.declared.number.TileAt.{TileAt}
-use Rattle.ice_chip.specs.Database.{Parts}
+use Rattle.ice_chip.specs.Database.{Parts, same_tile}
 use Rattle.ice_chip.specs.Lookups.{names_of, wire_named, placed_at}
-use Rattle.ice_chip.specs.PinNames.{is_global_name, is_output_of, is_input_name, is_output_name}
-use Rattle.ice_chip.specs.Places.{same_tile}
+use Rattle.ice_chip.specs.Names.{is_global_name, global_name}
+use Rattle.ice_chip.specs.PinNames.{is_output_of, is_input_name, is_output_name}
 use Rattle.ice_chip.specs.declared.rows.TileKind.{TileKind}
 use Rattle.ice_chip.specs.declared.rows.TileKind.TheVariants.{Io, Logic, RamBottom, RamTop}
 use Rattle.ice_chip.specs.declared.placed.PlacedName.{PlacedName}
-use Rattle.ice_chip.specs.WireNames.{global_name, tile_wire}
+use Rattle.ice_chip.specs.WireNames.{tile_wire}
 use Rattle.ice_chip.specs.declared.wire_names.TileWire.{TileWire}
 use Rattle.ice_chip.specs.declared.wire_names.TileWire.TheVariants.{Global}
 use Rattle.ice_chip.proofs.Prefixes.{set_number}
@@ -20,7 +20,7 @@ use Rattle.ice_chip_laws.specs.Laws.{IsLawful}
 use Rattle.ice_base_values.specs.Order.{Has}
 use Rattle.ice_chip_laws.specs.Names.{HasName}
 use Rattle.ice_chip_laws.specs.Pins.{is_pin_in, IsPinOf}
-use Rattle.ice_decode.specs.Roles.{number_at}
+use Rattle.ice_decode.specs.Drivers.{number_at}
 use Rattle.ice_decode.specs.Meaning.{global_at}
 use Rattle.ice_decode.specs.Faults.{or_else, first_of}
 use Rattle.ice_decode.specs.GlobalNames.{is_named, if_named, global_named}
@@ -42,10 +42,6 @@ name_is (suc (suc (suc (suc (suc (suc (suc (suc n)))))))) lt = absurd (omega ari
 -- a name of a global is one of the eight
 globals_name : (name : List ℕ) → is_global_name name ≡ true → (n : ℕ) × (n < 8) × (name ≡ global_name n)
 globals_name name e = set_number 8 (codes "glb_netwk_") name (omega arith) e
-
-or_right : (a b : Bool) → b ≡ true → (a || b) ≡ true
-or_right true b e = refl
-or_right false b e = e
 
 drives : (kind : TileKind) (n : ℕ) → is_output_of kind (Global n) ≡ true
 drives Io n = refl

@@ -9,17 +9,15 @@ use Rattle.ice_base.specs.declared.number.TileAt.{TileAt}
 use Rattle.ice_base.proofs.Keys.{tile_same}
 use Rattle.ice_base_values.specs.Order.{At}
 use Rattle.ice_base_values.proofs.ListPlaces.{zip_at}
-use Rattle.ice_chip.specs.Database.{Parts}
-use Rattle.ice_chip.specs.Places.{same_tile}
-use Rattle.ice_chip.specs.declared.parts.TileLine.{TileLine}
+use Rattle.ice_chip.specs.Database.{Parts, same_tile}
+use Rattle.ice_chip.specs.declared.rows.TileLine.{TileLine}
 use Rattle.ice_chip.specs.declared.rows.Pad.{Pad}
 use Rattle.ice_bits.specs.Configuration.{Bits}
 use Rattle.ice_net.specs.Meaning.{State}
 use Rattle.ice_decode.specs.declared.point.Point.{Point}
 use Rattle.ice_decode.specs.Cells.{cells, logic_tiles, tile_place}
-use Rattle.ice_decode.specs.Pads.{pads_in, is_io_tile, io_tiles, pads}
-use Rattle.ice_decode.specs.Registers.{Store, CellStore, InputStore, OutputStore, cell_store, pad_stores, stores, kept_at, register_at}
-use Rattle.ice_decode.specs.Meaning.{store_after, kept_after, clock_after, state_after}
+use Rattle.ice_decode.specs.Pads.{pads_in, is_io_tile, io_tiles, pads, Store, CellStore, InputStore, OutputStore, cell_store, pad_stores, stores, kept_at, register_at}
+use Rattle.ice_decode.specs.Meaning.{store_after, store_kept_after, clock_after, state_after}
 use Rattle.ice_decode.proofs.Members.{At_left, At_right, At_map}
 use Rattle.ice_decode.proofs.PointPlaces.{cell_at}
 
@@ -42,7 +40,7 @@ module _ (parts : Parts) (bits : Bits) (bonded : List Pad) (levels : List Bool) 
   pub kept_stepped : (kept : Bool) (clock : Option Bool) → At state.kept n kept → At state.clocks n clock
       → At (state_after parts bits bonded levels v state).kept n (store_after parts bits bonded levels v s kept clock)
   kept_stepped kept clock a b =
-      At_map (kept_after parts bits bonded levels v) (zip (stores parts) (zip state.kept state.clocks)) n (s, (kept, clock))
+      At_map (store_kept_after parts bits bonded levels v) (zip (stores parts) (zip state.kept state.clocks)) n (s, (kept, clock))
       (zip_at (stores parts) (zip state.kept state.clocks) n s (kept, clock) at (zip_at state.kept state.clocks n kept clock a b))
 
   -- and the level of its clock, where it is used

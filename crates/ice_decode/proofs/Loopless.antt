@@ -15,16 +15,16 @@ use Rattle.ice_decode.specs.declared.point.Point.{Point}
 use Rattle.ice_decode.specs.declared.point.Point.TheVariants.{Wire, Carry}
 use Rattle.ice_decode.specs.Cells.{logic_tiles}
 use Rattle.ice_decode.specs.Reads.{wire_point, count_points, depends_on}
-use Rattle.ice_decode.specs.Meaning.{system_of, point_level}
+use Rattle.ice_decode.specs.Meaning.{chip_system, point_level}
 use Rattle.ice_decode.specs.Faults.{HasNoLoop, IsOrderOf}
 use Rattle.ice_decode.proofs.PointPlaces.{wire_at}
 use Rattle.ice_decode.proofs.ReadPoints.{IsReadBy, is_read_by}
 use Rattle.ice_decode.proofs.Valued.{valued}
 
 module _ (parts : Parts) (bits : Bits) (extras : List (ℕ × ℕ × ℕ)) (read : IsRead parts) (bonded : List Pad) (levels kept : List Bool) (steps : ℕ)
-    (each : (w : ℕ) → w < parts.wires → (x : Bool) × (value (system_of parts bits extras bonded levels kept) steps (Wire (record { 0 = w })) ≡ Some x)) where
+    (each : (w : ℕ) → w < parts.wires → (x : Bool) × (value (chip_system parts bits extras bonded levels kept) steps (Wire (record { 0 = w })) ≡ Some x)) where
   abbrev system : System Point Bool
-  system = system_of parts bits extras bonded levels kept
+  system = chip_system parts bits extras bonded levels kept
 
   -- a wire of the chip has a value, and so has the carry of a cell, after all carries before it
   abbrev IsValued : ℕ → Point → Type 0

@@ -6,18 +6,17 @@ use Rattle.std.proofs.lemmas.Option.{same_Some, slice_get_within, slice_get-get_
 use Rattle.std.proofs.lemmas.List.{take_more, map_push, map-append}
 use Rattle.std.proofs.lemmas.List.Elements.{All-from_get_or}
 use Rattle.ice_base.specs.declared.number.TileAt.{TileAt}
-use Rattle.ice_base_values.specs.Inputs.{present}
+use Rattle.ice_base_values.specs.System.{present}
 use Rattle.ice_base_values.specs.Order.{At, Has, StandOnce}
 use Rattle.ice_base_values.proofs.Gaps.{present_more}
-use Rattle.ice_chip.specs.Database.{Parts}
+use Rattle.ice_chip.specs.Database.{Parts, same_tile}
 use Rattle.ice_chip.specs.IsRead.{IsRead}
-use Rattle.ice_chip.specs.Places.{same_tile}
 use Rattle.ice_bits.specs.Configuration.{Bits}
 use Rattle.ice_decode.specs.declared.point.Point.{Point}
 use Rattle.ice_decode.specs.declared.point.Point.TheVariants.{Wire, Carry}
 use Rattle.ice_decode.specs.Cells.{logic_tiles}
 use Rattle.ice_decode.specs.Different.{different}
-use Rattle.ice_decode.specs.Reads.{reads}
+use Rattle.ice_decode.specs.Reads.{reads_at}
 use Rattle.ice_decode.specs.Points.{HasWire, points_by, AreAllPoints, IsNumbered}
 use Rattle.ice_decode.proofs.DifferentTiles.{different_once, different_within, different_each, different_few, place_found}
 use Rattle.ice_decode.proofs.PointPlaces.{StandsAs, carry_at, point_cases, points_once, points_within, points_long}
@@ -117,14 +116,14 @@ present_has (Some q ∷ inputs) zero p at = (0, same_Some (Some q) (Some p) at)
 present_has (Some q ∷ inputs) (suc k) p at = let rest = present_has inputs k p at in (suc rest.0, rest.1)
 
 pub reads_numbered : (parts : Parts) (bits : Bits) (extras : List (ℕ × ℕ × ℕ)) → IsRead parts → (list items : List Point) → AreAllPoints parts list → items ≡ list
-    → (i : ℕ) (d : Point) → i < length items → All (IsNumbered list) (reads parts bits extras (get_or items i d))
+    → (i : ℕ) (d : Point) → i < length items → All (IsNumbered list) (reads_at parts bits extras (get_or items i d))
 reads_numbered parts bits extras read list items all e i d lt =
-    All-from_get_or (IsNumbered list) (reads parts bits extras (get_or items i d)) None
-    (λ k below. by (get_or (reads parts bits extras (get_or items i d)) k None) k (slice_get-get_or (reads parts bits extras (get_or items i d)) k None below))
+    All-from_get_or (IsNumbered list) (reads_at parts bits extras (get_or items i d)) None
+    (λ k below. by (get_or (reads_at parts bits extras (get_or items i d)) k None) k (slice_get-get_or (reads_at parts bits extras (get_or items i d)) k None below))
   where
     there : Has list (get_or items i d)
     there = subst (λ (l : List Point). Has l (get_or items i d)) e (i, slice_get-get_or items i d lt)
 
-    by : (o : Option Point) (k : ℕ) → At (reads parts bits extras (get_or items i d)) k o → IsNumbered list o
+    by : (o : Option Point) (k : ℕ) → At (reads_at parts bits extras (get_or items i d)) k o → IsNumbered list o
     by None k at = tt
-    by (Some q) k at = all.each q (read_there parts bits extras read (get_or items i d) q (all.within (get_or items i d) there) (present_has (reads parts bits extras (get_or items i d)) k q at))
+    by (Some q) k at = all.each q (read_there parts bits extras read (get_or items i d) q (all.within (get_or items i d) there) (present_has (reads_at parts bits extras (get_or items i d)) k q at))

@@ -8,7 +8,7 @@ use Rattle.ice_base.proofs.Keys.{bytes_same}
 use Rattle.ice_base_values.proofs.Members.{Has_all, find_Has}
 use Rattle.ice_net.specs.Meaning.{number_of}
 use Rattle.ice_chip.specs.Database.{Parts, FunctionRow}
-use Rattle.ice_chip.specs.FunctionNames.{pin_type_function}
+use Rattle.ice_chip.specs.Names.{pin_type_function}
 use Rattle.ice_chip.specs.Functions.{is_read, is_foreign, same_kind}
 use Rattle.ice_chip.specs.IsRead.{IsRead}
 use Rattle.ice_chip.specs.Lookups.{kind_at, is_function, function_of}

@@ -9,10 +9,10 @@ use Rattle.ice_base.proofs.Keys.{nat_same, bytes_same}
 use Rattle.ice_base_values.specs.Order.{Has}
 use Rattle.ice_base_values.proofs.Together.{Has_head, Has_tail}
 use Rattle.ice_chip.specs.Database.{Parts}
-use Rattle.ice_chip.specs.Digits.{digit}
+use Rattle.ice_chip.specs.Names.{digit, is_global_name, cell_pin, global_name, in_out_enable_name}
+use Rattle.ice_chip.specs.PinNames.{is_output_of, is_input_name, is_output_name}
 use Rattle.ice_chip.specs.Lookups.{kind_at, names_of, wire_named, placed_at}
-use Rattle.ice_chip.specs.PinNames.{is_global_name, cell_pin, is_output_of, is_input_name, is_output_name}
-use Rattle.ice_chip.specs.WireNames.{global_name, in_out_enable_name, cell_wire, tile_wire}
+use Rattle.ice_chip.specs.WireNames.{cell_wire, tile_wire}
 use Rattle.ice_chip.specs.declared.rows.TileKind.{TileKind}
 use Rattle.ice_chip.specs.declared.rows.TileKind.TheVariants.{Io, Logic, RamBottom, RamTop}
 use Rattle.ice_chip.specs.declared.placed.PlacedName.{PlacedName}
@@ -25,7 +25,7 @@ use Rattle.ice_chip_laws.specs.Pins.{HasPins, AreOnePin, is_pin_in, is_pin_name}
 use Rattle.ice_decode.specs.declared.role.Role.{Role}
 use Rattle.ice_decode.specs.declared.role.Role.TheVariants.{Plain, Output, LookUp, CarryOut, PadInput, Global, CarryIn, ClockEnable}
 use Rattle.ice_decode.proofs.GlobalsNamed.{global_pin}
-use Rattle.ice_decode.specs.Roles.{number_at, global_role, output_role, or_global, role_in, role_or, first_role, role_of}
+use Rattle.ice_decode.specs.Drivers.{number_at, global_role, output_role, or_global, role_in, role_or, first_role, role_of}
 
 -- ---- the first role of names
 -- names of which each has this role or none

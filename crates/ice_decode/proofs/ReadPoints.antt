@@ -12,7 +12,7 @@ use Rattle.ice_chip.specs.Lookups.{wire_named, placed_at, placed_wire, placed_na
 use Rattle.ice_chip.specs.WholeFaults.{same_placed}
 use Rattle.ice_chip.specs.declared.placed.PlacedName.{PlacedName}
 use Rattle.ice_bits.specs.Configuration.{Bits}
-use Rattle.ice_base_values.specs.Inputs.{present}
+use Rattle.ice_base_values.specs.System.{present}
 use Rattle.ice_base_values.specs.Order.{At, Has}
 use Rattle.ice_decode.specs.declared.point.Point.{Point}
 use Rattle.ice_decode.specs.declared.point.Point.TheVariants.{Wire, Carry}
@@ -20,12 +20,11 @@ use Rattle.ice_decode.specs.declared.driver.Driver.{Driver}
 use Rattle.ice_decode.specs.declared.driver.Driver.TheVariants.{Nothing, By, Several}
 use Rattle.ice_decode.specs.declared.role.Role.{Role}
 use Rattle.ice_decode.specs.declared.role.Role.TheVariants.{Plain, Output, LookUp, CarryOut, PadInput, Global, CarryIn, ClockEnable}
-use Rattle.ice_chip.specs.WireNames.{input_name}
+use Rattle.ice_chip.specs.Names.{input_name}
 use Rattle.ice_decode.specs.Cells.{has_carry, has_flop, logic_tiles}
 use Rattle.ice_decode.specs.Direct.{takes_pad}
-use Rattle.ice_decode.specs.Drivers.{driver}
-use Rattle.ice_decode.specs.Roles.{role_of}
-use Rattle.ice_decode.specs.Reads.{wire_point, points, at_pin, at_pin_of, global_feed, cell_inputs, carry_inputs, role_reads, driven_reads, reads, depends_on}
+use Rattle.ice_decode.specs.Drivers.{driver, role_of}
+use Rattle.ice_decode.specs.Reads.{wire_point, points, at_pin, at_pin_of, global_feed, cell_inputs, carry_inputs, role_reads, driven_reads, reads_at, depends_on}
 use Rattle.ice_decode.proofs.PointPlaces.{StandsAs, wire_at, carry_at, point_cases}
 use Rattle.ice_decode.proofs.RolePlaces.{IsCell, Fits, role_fits, cell_there}
 use Rattle.ice_decode.proofs.Switches.{driver_between}
@@ -95,13 +94,13 @@ driven_read parts bits extras read w Nothing e = role_read parts bits extras rea
 driven_read parts bits extras read w (By s) e = ((driver_between parts bits w s read e).source, tt)
 driven_read parts bits extras read w (Several first second) e = tt
 
-reads_read : (parts : Parts) (bits : Bits) (extras : List (ℕ × ℕ × ℕ)) → IsRead parts → (p : Point) → AllRead (IsReadBy parts p) (reads parts bits extras p)
+reads_read : (parts : Parts) (bits : Bits) (extras : List (ℕ × ℕ × ℕ)) → IsRead parts → (p : Point) → AllRead (IsReadBy parts p) (reads_at parts bits extras p)
 reads_read parts bits extras read (Wire w) = driven_read parts bits extras read w.0 (driver parts bits w.0) refl
 reads_read parts bits extras read (Carry t i) =
     cond_both (has_carry parts bits t i) (carry_inputs parts t i) [] (AllRead (IsReadBy parts (Carry t i))) (λ e. carry_inputs_read parts read t i) (λ e. tt)
 
 pub is_read_by : (parts : Parts) (bits : Bits) (extras : List (ℕ × ℕ × ℕ)) → IsRead parts → (p q : Point) → Has (depends_on parts bits extras p) q → IsReadBy parts p q
-is_read_by parts bits extras read p q has = read_has (IsReadBy parts p) (reads parts bits extras p) (reads_read parts bits extras read p) q has
+is_read_by parts bits extras read p q has = read_has (IsReadBy parts p) (reads_at parts bits extras p) (reads_read parts bits extras read p) q has
 
 -- what a point of the chip reads is one too
 pub read_there : (parts : Parts) (bits : Bits) (extras : List (ℕ × ℕ × ℕ)) → IsRead parts → (p q : Point) → Has (points parts) p → Has (depends_on parts bits extras p) q → Has (points parts) q

@@ -5,12 +5,10 @@ use Rattle.std.specs.Map.{lookup}
 use Rattle.std.proofs.lemmas.Bool.{cond_both}
 use Rattle.std.proofs.lemmas.Option.{same_Some}
 use Rattle.ice_base.specs.declared.number.TileAt.{TileAt}
-use Rattle.ice_chip.specs.Database.{Parts}
+use Rattle.ice_chip.specs.Database.{Parts, same_tile, tile_known}
 use Rattle.ice_chip.specs.Lookups.{kind_at, names_of}
-use Rattle.ice_chip.specs.Places.{same_tile, tile_known}
-use Rattle.ice_chip.specs.PinNames.{cell_pin, is_global_name}
-use Rattle.ice_chip.specs.WireNames.{in_out_enable_name}
-use Rattle.ice_chip.specs.declared.parts.TileLine.{TileLine}
+use Rattle.ice_chip.specs.Names.{cell_pin, is_global_name, in_out_enable_name}
+use Rattle.ice_chip.specs.declared.rows.TileLine.{TileLine}
 use Rattle.ice_chip.specs.declared.rows.TileKind.{TileKind}
 use Rattle.ice_chip.specs.declared.rows.TileKind.TheVariants.{Io, Logic, RamBottom, RamTop}
 use Rattle.ice_chip.specs.declared.placed.PlacedName.{PlacedName}
@@ -20,7 +18,7 @@ use Rattle.ice_decode.specs.declared.role.Role.{Role}
 use Rattle.ice_decode.specs.declared.role.Role.TheVariants.{Plain, Output, LookUp, CarryOut, PadInput, Global, CarryIn, ClockEnable}
 use Rattle.ice_decode.specs.Cells.{is_logic, is_logic_tile, logic_tiles}
 use Rattle.ice_decode.specs.Reads.{points}
-use Rattle.ice_decode.specs.Roles.{number_at, global_role, output_role, or_global, logic_role, io_role, role_in, role_or, first_role, role_of}
+use Rattle.ice_decode.specs.Drivers.{number_at, global_role, output_role, or_global, logic_role, io_role, role_in, role_or, first_role, role_of}
 use Rattle.ice_decode.proofs.Members.{Has_filter, Has_map}
 use Rattle.ice_base.proofs.Keys.{tile_same}
 use Rattle.ice_base.proofs.Options.{option_map_some}

@@ -10,7 +10,7 @@ use Rattle.ice_chip.specs.Views.{row_view, group_view}
 use Rattle.ice_chip.specs.declared.rows.Row.{Row}
 use Rattle.ice_chip.specs.declared.rows.Group.{Group}
 use Rattle.ice_bits.specs.Configuration.{Bits, Configuration, bit_at, bits_of, rows_at}
-use Rattle.ice_bits.specs.RowsOn.{number_with, row_on}
+use Rattle.ice_bits.specs.Settings.{number_with, row_on}
 use Rattle.ice_decode.specs.Drivers.{switch, switch_at, switch_on}
 use Rattle.ice_decode.proofs.RowValues.{none_on}
 

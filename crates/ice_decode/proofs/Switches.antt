@@ -8,12 +8,12 @@ use Rattle.ice_base.proofs.Options.{option_map_some, and_then_some}
 use Rattle.ice_chip.specs.Database.{Parts, SwitchGroup, SwitchRow}
 use Rattle.ice_chip.specs.IsRead.{HasWiresBelow, IsRead}
 use Rattle.ice_bits.specs.Configuration.{Bits}
-use Rattle.ice_bits.specs.RowsOn.{row_on}
+use Rattle.ice_bits.specs.Settings.{row_on}
 use Rattle.ice_decode.specs.declared.driver.Switch.{Switch}
 use Rattle.ice_decode.specs.declared.driver.Driver.{Driver}
-use Rattle.ice_decode.specs.declared.driver.Driver.TheVariants.{By}
+use Rattle.ice_decode.specs.declared.driver.Driver.TheVariants.{Nothing, By, Several}
 use Rattle.ice_decode.specs.Drivers.{switch, switch_at, switch_on, switches_on, into, driver_among, driver}
-use Rattle.ice_decode.specs.Tables.{IsBetween, drivers_of}
+use Rattle.ice_decode.specs.Tables.{IsBetween, ComesFrom, drivers_of}
 use Rattle.ice_decode.specs.Refusals.{AreDrivers}
 
 all_chosen : {X Y : Type 0} (P : X → Type 0) (Q : Y → Type 0) (h : X → Option Y) → ((x : X) (y : Y) → P x → h x ≡ Some y → Q y)
@@ -48,6 +48,11 @@ pub driver_between : (parts : Parts) (bits : Bits) (w : ℕ) (s : Switch) → Is
 driver_between parts bits w s read e =
     among_between parts.wires (into w (switches_on bits parts.groups)) s
     (All-filter _ (IsBetween parts.wires) (switches_on bits parts.groups) (on_all_between parts.wires bits parts.groups read.group_wires)) e
+
+pub comes_from : (parts : Parts) (bits : Bits) (w : ℕ) (d : Driver) → IsRead parts → d ≡ driver parts bits w → ComesFrom parts.wires d
+comes_from parts bits w Nothing read e = tt
+comes_from parts bits w (By s) read e = let between = driver_between parts bits w s read (sym e) in between.source
+comes_from parts bits w (Several first second) read e = tt
 
 -- ---- the list of all rows that are on
 pub all_between : (parts : Parts) (bits : Bits) (wires : ℕ) (list : List Switch) → IsRead parts → wires ≡ parts.wires → list ≡ switches_on bits parts.groups → All (IsBetween wires) list

@@ -2,8 +2,7 @@
 use Rattle.std.proofs.Common.{◌≡◌, ◌≢◌, ℕ, ◌+◌, ◌*◌, ◌<◌, Bool, false, Some, List, refl, ap, sym, ◌∙◌, subst, length, map, arith}
 use Rattle.std.specs.Prelude.{unwrap_or}
 use Rattle.std.proofs.lemmas.Option.{slice_get_within}
-use Rattle.ice_base_values.specs.System.{value}
-use Rattle.ice_base_values.specs.Inputs.{reading}
+use Rattle.ice_base_values.specs.System.{value, reading}
 use Rattle.ice_base_values.specs.Order.{At, Has}
 use Rattle.ice_base_values.proofs.Values.{value_there, value_ranked}
 use Rattle.ice_base_values.proofs.Gaps.{local_gapped}
@@ -15,8 +14,8 @@ use Rattle.ice_decode.specs.declared.point.Point.{Point}
 use Rattle.ice_decode.specs.declared.fault.DecodeFault.{DecodeFault}
 use Rattle.ice_decode.specs.declared.fault.DecodeFault.TheVariants.{Contention, ForeignSource, ForeignFunction, ForeignExtra, ChipLoop, PinType, NoMemory}
 use Rattle.ice_decode.specs.Cells.{logic_tiles}
-use Rattle.ice_decode.specs.Reads.{points, count_points, reads}
-use Rattle.ice_decode.specs.Meaning.{makes, system_of, point_level}
+use Rattle.ice_decode.specs.Reads.{points, count_points, reads_at}
+use Rattle.ice_decode.specs.Meaning.{makes_at, chip_system, point_level}
 use Rattle.ice_decode.specs.Faults.{IsOrderOf}
 use Rattle.ice_decode.specs.Refusals.{CircuitData, IsCircuitOf, IsFaultless, IsFaultOf}
 use Rattle.ice_decode.specs.declared.point.Point.TheVariants.{Wire}
@@ -37,28 +36,28 @@ place_below parts bits extras order o i p at =
     omega arith
 
 pub valued : (parts : Parts) (bits : Bits) (extras : List (ℕ × ℕ × ℕ)) (order : List Point) → IsOrderOf parts bits extras order → (bonded : List Pad) (levels kept : List Bool) (p : Point) → Has (points parts) p
-    → value (system_of parts bits extras bonded levels kept) (count_points parts + 1) p ≡ Some (point_level parts bits extras bonded levels kept p)
+    → value (chip_system parts bits extras bonded levels kept) (count_points parts + 1) p ≡ Some (point_level parts bits extras bonded levels kept p)
 valued parts bits extras order o bonded levels kept p has =
     let there = o.each p has in
-    let found = value_there (system_of parts bits extras bonded levels kept) (At order) o.after (count_points parts + 1) there.0 p there.1 (place_below parts bits extras order o there.0 p there.1) in
+    let found = value_there (chip_system parts bits extras bonded levels kept) (At order) o.after (count_points parts + 1) there.0 p there.1 (place_below parts bits extras order o there.0 p there.1) in
     found.1 ∙ ap (λ (x : Bool). Some x) (sym (ap (λ x. unwrap_or x false) found.1))
 
 pub unique : (parts : Parts) (bits : Bits) (extras : List (ℕ × ℕ × ℕ)) (order : List Point) → IsOrderOf parts bits extras order → (bonded : List Pad) (levels kept : List Bool) (v : Point → Bool)
-    → ((p : Point) → Has (points parts) p → v p ≡ makes parts bits extras bonded levels kept p (map (reading false v) (reads parts bits extras p)))
+    → ((p : Point) → Has (points parts) p → v p ≡ makes_at parts bits extras bonded levels kept p (map (reading false v) (reads_at parts bits extras p)))
     → (p : Point) → Has (points parts) p → point_level parts bits extras bonded levels kept p ≡ v p
 unique parts bits extras order o bonded levels kept v meets p has =
     let there = o.each p has in
     ap (λ x. unwrap_or x false)
-    (value_ranked (system_of parts bits extras bonded levels kept) (At order) v o.after
-    (λ i q at. meets q (o.within q (i, at)) ∙ sym (local_gapped (reads parts bits extras) false (makes parts bits extras bonded levels kept) v q))
+    (value_ranked (chip_system parts bits extras bonded levels kept) (At order) v o.after
+    (λ i q at. meets q (o.within q (i, at)) ∙ sym (local_gapped (reads_at parts bits extras) false (makes_at parts bits extras bonded levels kept) v q))
     (count_points parts + 1) there.0 p there.1 (place_below parts bits extras order o there.0 p there.1))
 
 -- without a fault no order is needed: a loop alone could leave a point without a value
 pub faultless_valued : (parts : Parts) (bits : Bits) (extras : List (ℕ × ℕ × ℕ)) → IsRead parts → IsFaultless parts bits extras
     → (bonded : List Pad) (levels kept : List Bool) (p : Point) → Has (points parts) p
-    → value (system_of parts bits extras bonded levels kept) (count_points parts + 1) p ≡ Some (point_level parts bits extras bonded levels kept p)
+    → value (chip_system parts bits extras bonded levels kept) (count_points parts + 1) p ≡ Some (point_level parts bits extras bonded levels kept p)
 faultless_valued parts bits extras read faultless bonded levels kept p has =
-    let system = system_of parts bits extras bonded levels kept in
+    let system = chip_system parts bits extras bonded levels kept in
     let found = all_valued system (points parts) (Wire (record { 0 = 0 })) (read_there parts bits extras read) faultless.loopless.none p has in
     let long : length (points parts) ≡ count_points parts = points_long parts.wires (logic_tiles parts) ∙ sym (counted parts) in
     let enough : value system (count_points parts + 1) p ≡ Some found.0 = subst (λ n. value system (n + 1) p ≡ Some found.0) long found.1 in

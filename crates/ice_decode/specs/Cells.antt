@@ -3,24 +3,21 @@ use Rattle.std.specs.Prelude.{ℕ, Bool, true, false, Option, None, Some, List, 
 use Rattle.std.specs.List.{flat_map}
 use Rattle.std.proofs.Common.{suc}
 use Rattle.ice_base.specs.declared.number.TileAt.{TileAt}
-use Rattle.ice_chip.specs.Database.{Parts}
-use Rattle.ice_chip.specs.Places.{same_tile}
-use Rattle.ice_chip.specs.declared.parts.TileLine.{TileLine}
+use Rattle.ice_chip.specs.Database.{Parts, same_tile}
+use Rattle.ice_chip.specs.declared.rows.TileLine.{TileLine}
 use Rattle.ice_chip.specs.declared.rows.TileKind.{TileKind}
-use Rattle.ice_chip.specs.declared.rows.TileKind.TheVariants.{Io, Logic, RamBottom, RamTop}
+use Rattle.ice_chip.specs.declared.rows.TileKind.TheVariants.{Logic}
 use Rattle.ice_bits.specs.Configuration.{Bits}
 use Rattle.ice_bits.specs.Settings.{set_at}
 use Rattle.ice_net.specs.declared.kind.Reset.{Reset}
 use Rattle.ice_net.specs.declared.kind.Reset.TheVariants.{SyncReset, AsyncReset, SyncSet, AsyncSet}
 use Rattle.ice_net.specs.Meaning.{number_of}
-use Rattle.ice_chip.specs.FunctionNames.{cell_function}
+use Rattle.ice_chip.specs.Names.{cell_function}
 
 -- ---- the cells of a chip
 abbrev pub is_logic : TileKind → Bool
-is_logic Io = false
 is_logic Logic = true
-is_logic RamBottom = false
-is_logic RamTop = false
+is_logic kind = false
 
 abbrev pub is_logic_tile : TileAt × TileLine → Bool
 is_logic_tile tile = is_logic tile.1.kind

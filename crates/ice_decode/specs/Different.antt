@@ -2,7 +2,7 @@
 use Rattle.std.specs.Prelude.{List, [], ◌∷◌, ◌++◌, if◌then◌else◌}
 use Rattle.std.specs.List.{list_any}
 use Rattle.ice_base.specs.declared.number.TileAt.{TileAt}
-use Rattle.ice_chip.specs.Places.{same_tile}
+use Rattle.ice_chip.specs.Database.{same_tile}
 
 -- a tile behind the others, where it isn't among them
 abbrev pub with_tile : List TileAt → TileAt → List TileAt

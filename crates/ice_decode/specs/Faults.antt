@@ -7,7 +7,7 @@ use Rattle.ice_chip.specs.Database.{Parts, FunctionRow}
 use Rattle.ice_chip.specs.Functions.{is_foreign, same_kind}
 use Rattle.ice_chip.specs.Lookups.{names_of, wire_named}
 use Rattle.ice_chip.specs.declared.rows.Pad.{Pad}
-use Rattle.ice_chip.specs.declared.parts.TileLine.{TileLine}
+use Rattle.ice_chip.specs.declared.rows.TileLine.{TileLine}
 use Rattle.ice_bits.specs.Configuration.{Bits}
 use Rattle.ice_base_values.specs.Order.{Has, IsCycle, StandOnce, StandsAfter}
 use Rattle.ice_decode.specs.declared.point.Point.{Point}
@@ -15,11 +15,9 @@ use Rattle.ice_decode.specs.declared.point.Point.TheVariants.{Wire, Carry}
 use Rattle.ice_decode.specs.declared.driver.Switch.{Switch}
 use Rattle.ice_decode.specs.declared.driver.Driver.{Driver}
 use Rattle.ice_decode.specs.declared.driver.Driver.TheVariants.{Nothing, By, Several}
-use Rattle.ice_chip.specs.WireNames.{pad_input_name}
-use Rattle.ice_chip.specs.FunctionNames.{falling_clock_function}
+use Rattle.ice_chip.specs.Names.{pad_input_name, falling_clock_function}
 use Rattle.ice_decode.specs.Drivers.{switches_on, driver}
-use Rattle.ice_decode.specs.Pads.{pads_in, pads, pin_type}
-use Rattle.ice_decode.specs.Registers.{has_input_register, has_output_register}
+use Rattle.ice_decode.specs.Pads.{pads_in, pads, pin_type, has_input_register, has_output_register}
 use Rattle.ice_decode.specs.Reads.{points, depends_on}
 
 abbrev pub or_else : {A : Type 0} → Option A → Option A → Option A
@@ -56,13 +54,13 @@ foreign_source parts bits = option_map (λ (s : Switch). s.source.0) (find (λ (
 
 -- ---- what is read of pads
 -- a row that is on reads the wire
-abbrev pub is_read : Parts → Bits → Option ℕ → Bool
-is_read parts bits None = false
-is_read parts bits (Some w) = list_any (λ (s : Switch). s.source.0 == w) (switches_on bits parts.groups)
+abbrev pub is_wire_read : Parts → Bits → Option ℕ → Bool
+is_wire_read parts bits None = false
+is_wire_read parts bits (Some w) = list_any (λ (s : Switch). s.source.0 == w) (switches_on bits parts.groups)
 
 -- the input of a pad is read
 abbrev pub is_input_read : Parts → Bits → Pad → Bool
-is_input_read parts bits pad = is_read parts bits (wire_named parts pad.tile (pad_input_name pad.pio))
+is_input_read parts bits pad = is_wire_read parts bits (wire_named parts pad.tile (pad_input_name pad.pio))
 
 -- a register of the pad is in use
 abbrev pub uses_register : Parts → Bits → Pad → Bool

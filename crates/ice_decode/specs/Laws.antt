@@ -1,22 +1,21 @@
 -- The laws of the meaning of bits, each as one sentence.
 use Rattle.std.specs.Prelude.{◌≡◌, ◌≢◌, ◌↔◌, ℕ, ◌+◌, ◌*◌, ◌<◌, All, Bool, false, Option, None, Some, List, length, map}
 use Rattle.ice_base.specs.declared.number.RowNo.{RowNo}
-use Rattle.ice_base_values.specs.System.{value}
-use Rattle.ice_base_values.specs.Inputs.{reading}
+use Rattle.ice_base_values.specs.System.{value, reading}
 use Rattle.ice_base_values.specs.Order.{Has}
 use Rattle.ice_chip.specs.Database.{Parts, SwitchGroup}
 use Rattle.ice_chip.specs.IsRead.{IsRead}
 use Rattle.ice_chip.specs.declared.rows.Pad.{Pad}
 use Rattle.ice_bits.specs.Configuration.{Bits, Configuration, bits_of}
-use Rattle.ice_bits.specs.RowsOn.{row_on}
+use Rattle.ice_bits.specs.Settings.{row_on}
 use Rattle.ice_decode.specs.declared.point.Point.{Point}
 use Rattle.ice_decode.specs.declared.driver.Driver.TheVariants.{Nothing, Several}
 use Rattle.ice_decode.specs.declared.fault.DecodeFault.{DecodeFault}
 use Rattle.ice_decode.specs.declared.fault.DecodeFault.TheVariants.{NoMemory}
 use Rattle.ice_decode.specs.Cells.{logic_tiles}
 use Rattle.ice_decode.specs.Drivers.{driver, row_of}
-use Rattle.ice_decode.specs.Reads.{points, count_points, reads}
-use Rattle.ice_decode.specs.Meaning.{makes, system_of, point_level}
+use Rattle.ice_decode.specs.Reads.{points, count_points, reads_at}
+use Rattle.ice_decode.specs.Meaning.{makes_at, chip_system, point_level}
 use Rattle.ice_decode.specs.Faults.{IsOrderOf}
 use Rattle.ice_decode.specs.Refusals.{CircuitData, IsCircuitOf, IsFaultless, IsFaultOf}
 
@@ -28,20 +27,20 @@ PointsAreCounted = (parts : Parts) → count_points parts ≡ parts.wires + 8 * 
 abbrev pub PointsHaveValues : Type 0
 PointsHaveValues = (parts : Parts) (bits : Bits) (extras : List (ℕ × ℕ × ℕ)) (order : List Point) → IsOrderOf parts bits extras order
     → (bonded : List Pad) (levels kept : List Bool) (p : Point) → Has (points parts) p
-    → value (system_of parts bits extras bonded levels kept) (count_points parts + 1) p ≡ Some (point_level parts bits extras bonded levels kept p)
+    → value (chip_system parts bits extras bonded levels kept) (count_points parts + 1) p ≡ Some (point_level parts bits extras bonded levels kept p)
 
 -- then levels of which each is what the point makes of those that it reads are the values
 abbrev pub PointLevelsAreUnique : Type 0
 PointLevelsAreUnique = (parts : Parts) (bits : Bits) (extras : List (ℕ × ℕ × ℕ)) (order : List Point) → IsOrderOf parts bits extras order
     → (bonded : List Pad) (levels kept : List Bool) (v : Point → Bool)
-    → ((p : Point) → Has (points parts) p → v p ≡ makes parts bits extras bonded levels kept p (map (reading false v) (reads parts bits extras p)))
+    → ((p : Point) → Has (points parts) p → v p ≡ makes_at parts bits extras bonded levels kept p (map (reading false v) (reads_at parts bits extras p)))
     → (p : Point) → Has (points parts) p → point_level parts bits extras bonded levels kept p ≡ v p
 
 -- what a chip shows is defined: where bits have no fault each point has a value at each moment, so no default stands in for one
 abbrev pub FaultlessPointsHaveValues : Type 0
 FaultlessPointsHaveValues = (parts : Parts) (bits : Bits) (extras : List (ℕ × ℕ × ℕ)) → IsRead parts → IsFaultless parts bits extras
     → (bonded : List Pad) (levels kept : List Bool) (p : Point) → Has (points parts) p
-    → value (system_of parts bits extras bonded levels kept) (count_points parts + 1) p ≡ Some (point_level parts bits extras bonded levels kept p)
+    → value (chip_system parts bits extras bonded levels kept) (count_points parts + 1) p ≡ Some (point_level parts bits extras bonded levels kept p)
 
 -- where bits have no fault no wire is contended
 abbrev pub FaultlessWiresAreUncontended : Type 0

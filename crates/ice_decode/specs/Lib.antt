@@ -1,11 +1,9 @@
 pub mod Names
-pub mod Roles
 pub mod Drivers
 pub mod Cells
 pub mod Direct
 pub mod Reads
 pub mod Pads
-pub mod Registers
 pub mod Meaning
 pub mod Faults
 pub mod Refusals

@@ -2,20 +2,17 @@
 use Rattle.std.specs.Prelude.{ℕ, ◌+◌, ◌/◌, ◌&&◌, Bool, true, false, Option, None, Some, List, [], ◌∷◌, map, if◌then◌else◌, codes, slice_index_or, unwrap_or}
 use Rattle.std.specs.List.{zip}
 use Rattle.ice_base.specs.declared.number.TileAt.{TileAt}
-use Rattle.ice_base_values.specs.System.{System, value}
-use Rattle.ice_base_values.specs.Inputs.{gapped, reading}
-use Rattle.ice_base_values.specs.Machine as machine
-use Rattle.ice_chip.specs.Database.{Parts}
-use Rattle.ice_chip.specs.Places.{same_tile}
+use Rattle.ice_base_values.specs.System.{System, value, gapped, reading, machine_shows}
+use Rattle.ice_chip.specs.Database.{Parts, same_tile}
 use Rattle.ice_chip.specs.Lookups.{colbuf_of, names_of, gbufpin_of}
-use Rattle.ice_chip.specs.PinNames.{is_global_name}
+use Rattle.ice_chip.specs.Names.{is_global_name, input_clock_name, output_clock_name, in_out_enable_name, pad_output_name, output_enable_name, column_buffer_function}
 use Rattle.ice_chip.specs.declared.rows.Pad.{Pad}
 use Rattle.ice_chip.specs.declared.placed.PlacedName.{PlacedName}
 use Rattle.ice_bits.specs.Configuration.{Bits}
 use Rattle.ice_bits.specs.Settings.{set_at}
-use Rattle.ice_net.specs.declared.drive.Drive.{Drive}
+use Rattle.ice_net.specs.declared.driver.Drive.{Drive}
 use Rattle.ice_net.specs.declared.kind.Reset.TheVariants.{Nothing as NeitherWay}
-use Rattle.ice_net.specs.Flops.{is_edge, fired}
+use Rattle.ice_net.specs.Kinds.{is_edge, fired}
 use Rattle.ice_net.specs.Meaning.{State, majority}
 use Rattle.ice_decode.specs.declared.point.Point.{Point}
 use Rattle.ice_decode.specs.declared.point.Point.TheVariants.{Wire, Carry}
@@ -24,17 +21,13 @@ use Rattle.ice_decode.specs.declared.driver.Driver.{Driver}
 use Rattle.ice_decode.specs.declared.driver.Driver.TheVariants.{Nothing, By, Several}
 use Rattle.ice_decode.specs.declared.role.Role.{Role}
 use Rattle.ice_decode.specs.declared.role.Role.TheVariants.{Plain, Output, LookUp, CarryOut, PadInput, Global, CarryIn, ClockEnable}
-use Rattle.ice_chip.specs.WireNames.{input_clock_name, output_clock_name, in_out_enable_name, pad_output_name, output_enable_name}
-use Rattle.ice_chip.specs.FunctionNames.{column_buffer_function}
-use Rattle.ice_decode.specs.Roles.{role_of, number_at}
-use Rattle.ice_decode.specs.Drivers.{driver}
+use Rattle.ice_decode.specs.Drivers.{role_of, number_at, driver}
 pub use Rattle.ice_decode.specs.Cells.{tile_place}
 use Rattle.ice_decode.specs.Cells.{has_flop, reset_of, looked_up}
 use Rattle.ice_decode.specs.Direct.{takes_pad}
-pub use Rattle.ice_decode.specs.Registers.{kept_at}
-use Rattle.ice_decode.specs.Registers.{Store, CellStore, InputStore, OutputStore, stores, input_kept, output_kept, has_input_register, has_output_register}
-use Rattle.ice_decode.specs.Reads.{reads, cell_inputs, count_points}
-use Rattle.ice_decode.specs.Pads.{pad_gives, pin_type, pin_level, part_drive}
+pub use Rattle.ice_decode.specs.Pads.{kept_at}
+use Rattle.ice_decode.specs.Pads.{Store, CellStore, InputStore, OutputStore, stores, input_kept, output_kept, has_input_register, has_output_register, pad_gives, pin_type, pin_level, part_drive}
+use Rattle.ice_decode.specs.Reads.{reads_at, cell_inputs, count_points}
 
 -- ---- column buffers
 -- the number of the global whose name stands among these at a place
@@ -85,17 +78,17 @@ driven_makes parts bits extras bonded levels kept role (Several first second) xs
 
 -- What a point makes of what it reads: `levels` has the levels of the package's pads, `bonded`, in order, and `kept` those of all stores. A carry is the majority of
 -- its three inputs, and 0 where it isn't enabled, since it reads nothing then.
-abbrev pub makes : Parts → Bits → List (ℕ × ℕ × ℕ) → List Pad → List Bool → List Bool → Point → List Bool → Bool
-makes parts bits extras bonded levels kept (Wire w) xs = driven_makes parts bits extras bonded levels kept (role_of parts w.0) (driver parts bits w.0) xs
-makes parts bits extras bonded levels kept (Carry t i) xs = majority (slice_index_or xs 0 false) (slice_index_or xs 1 false) (slice_index_or xs 2 false)
+abbrev pub makes_at : Parts → Bits → List (ℕ × ℕ × ℕ) → List Pad → List Bool → List Bool → Point → List Bool → Bool
+makes_at parts bits extras bonded levels kept (Wire w) xs = driven_makes parts bits extras bonded levels kept (role_of parts w.0) (driver parts bits w.0) xs
+makes_at parts bits extras bonded levels kept (Carry t i) xs = majority (slice_index_or xs 0 false) (slice_index_or xs 1 false) (slice_index_or xs 2 false)
 
 -- the configured chip as a system of points at one moment. An input that has no wire reads 0.
-abbrev pub system_of : Parts → Bits → List (ℕ × ℕ × ℕ) → List Pad → List Bool → List Bool → System Point Bool
-system_of parts bits extras bonded levels kept = gapped (reads parts bits extras) false (makes parts bits extras bonded levels kept)
+abbrev pub chip_system : Parts → Bits → List (ℕ × ℕ × ℕ) → List Pad → List Bool → List Bool → System Point Bool
+chip_system parts bits extras bonded levels kept = gapped (reads_at parts bits extras) false (makes_at parts bits extras bonded levels kept)
 
 -- the level of a point. As many steps back as there are points, and one more, are enough where there is no loop.
 abbrev pub point_level : Parts → Bits → List (ℕ × ℕ × ℕ) → List Pad → List Bool → List Bool → Point → Bool
-point_level parts bits extras bonded levels kept p = unwrap_or (value (system_of parts bits extras bonded levels kept) (count_points parts + 1) p) false
+point_level parts bits extras bonded levels kept p = unwrap_or (value (chip_system parts bits extras bonded levels kept) (count_points parts + 1) p) false
 
 -- ---- one step
 -- what the table of a cell gives, by the levels of points
@@ -128,8 +121,8 @@ store_after parts bits bonded levels v (InputStore pad) kept clock =
 store_after parts bits bonded levels v (OutputStore pad) kept clock =
     has_output_register parts bits pad && register_after parts v pad.tile output_clock_name (pin_level false parts v pad.tile (pad_output_name pad.pio)) kept clock
 
-abbrev pub kept_after : Parts → Bits → List Pad → List Bool → (Point → Bool) → Store × (Bool × Option Bool) → Bool
-kept_after parts bits bonded levels v x = store_after parts bits bonded levels v x.0 x.1.0 x.1.1
+abbrev pub store_kept_after : Parts → Bits → List Pad → List Bool → (Point → Bool) → Store × (Bool × Option Bool) → Bool
+store_kept_after parts bits bonded levels v x = store_after parts bits bonded levels v x.0 x.1.0 x.1.1
 
 -- the clock's level of a store that the bits use
 abbrev pub clock_after : Parts → Bits → (Point → Bool) → Store → Option Bool
@@ -140,7 +133,7 @@ clock_after parts bits v (OutputStore pad) = if has_output_register parts bits p
 -- what the stores keep after a step
 abbrev pub state_after : Parts → Bits → List Pad → List Bool → (Point → Bool) → State → State
 state_after parts bits bonded levels v state = record {
-  kept = map (kept_after parts bits bonded levels v) (zip (stores parts) (zip state.kept state.clocks));
+  kept = map (store_kept_after parts bits bonded levels v) (zip (stores parts) (zip state.kept state.clocks));
   clocks = map (clock_after parts bits v) (stores parts);
 }
 
@@ -151,16 +144,16 @@ drive_at parts bits kept v pad =
 
 -- One step: all levels are taken with what was kept before it. `bonded` are the pads of the package, which have the levels, and `shown`
 -- those whose drives are told.
-abbrev pub step : Parts → Bits → List (ℕ × ℕ × ℕ) → List Pad → List Pad → State → List Bool → State × List Drive
-step parts bits extras bonded shown state levels = (
+abbrev pub chip_step : Parts → Bits → List (ℕ × ℕ × ℕ) → List Pad → List Pad → State → List Bool → State × List Drive
+chip_step parts bits extras bonded shown state levels = (
   state_after parts bits bonded levels (point_level parts bits extras bonded levels state.kept) state,
   map (drive_at parts bits state.kept (point_level parts bits extras bonded levels state.kept)) shown,
 )
 
 -- at the start all stores are 0, and no clock has been seen
-abbrev pub start : Parts → State
-start parts = record { kept = map (λ (s : Store). false) (stores parts); clocks = map (λ (s : Store). None) (stores parts) }
+abbrev pub chip_start : Parts → State
+chip_start parts = record { kept = map (λ (s : Store). false) (stores parts); clocks = map (λ (s : Store). None) (stores parts) }
 
 -- what the chip drives at the pads `shown`, step by step, for a list of levels of the pads of the package
-abbrev pub shows : Parts → Bits → List (ℕ × ℕ × ℕ) → List Pad → List Pad → List (List Bool) → List (List Drive)
-shows parts bits extras bonded shown levels = machine.shows (step parts bits extras bonded shown) (start parts) levels
+abbrev pub bits_show : Parts → Bits → List (ℕ × ℕ × ℕ) → List Pad → List Pad → List (List Bool) → List (List Drive)
+bits_show parts bits extras bonded shown levels = machine_shows (chip_step parts bits extras bonded shown) (chip_start parts) levels

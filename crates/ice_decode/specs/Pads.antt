@@ -1,22 +1,23 @@
--- The pads of a chip: their levels, what they give to the chip, and how they are driven.
-use Rattle.std.specs.Prelude.{ℕ, ◌==◌, ◌&&◌, not, Bool, true, false, Option, None, Some, List, [], ◌∷◌, map, filter, if◌then◌else◌}
+-- The pads of a chip: their levels, what they give to the chip, how they are driven, and what their registers and the cells' flip-flops keep.
+use Rattle.std.specs.Prelude.{ℕ, ◌==◌, ◌&&◌, not, Bool, true, false, Option, None, Some, List, [], ◌∷◌, map, filter, if◌then◌else◌, ◌+◌, ◌*◌, ◌/◌, ◌%◌, ◌++◌, length, option_map, slice_index_or}
 use Rattle.std.specs.List.{flat_map}
 use Rattle.ice_base.specs.declared.number.TileAt.{TileAt}
-use Rattle.ice_chip.specs.Database.{Parts}
+use Rattle.ice_chip.specs.Database.{Parts, same_pad}
 use Rattle.ice_chip.specs.Lookups.{ieren_of, is_io_kind}
-use Rattle.ice_chip.specs.Places.{same_pad}
 use Rattle.ice_chip.specs.declared.rows.Pad.{Pad}
-use Rattle.ice_chip.specs.declared.parts.TileLine.{TileLine}
+use Rattle.ice_chip.specs.declared.rows.TileLine.{TileLine}
 use Rattle.ice_bits.specs.Configuration.{Bits}
 use Rattle.ice_bits.specs.Settings.{set_at}
-use Rattle.ice_base_values.specs.Inputs.{reading}
-use Rattle.ice_net.specs.declared.drive.Drive.{Drive}
-use Rattle.ice_net.specs.declared.drive.Drive.TheVariants.{Off}
+use Rattle.ice_base_values.specs.System.{reading}
+use Rattle.ice_net.specs.declared.driver.Drive.{Drive}
+use Rattle.ice_net.specs.declared.driver.Drive.TheVariants.{Off}
 use Rattle.ice_net.specs.Drives.{level_drive}
 use Rattle.ice_net.specs.Meaning.{number_of}
 use Rattle.ice_decode.specs.declared.point.Point.{Point}
-use Rattle.ice_chip.specs.FunctionNames.{pin_type_function, input_enable_function}
+use Rattle.ice_chip.specs.Names.{pin_type_function, input_enable_function}
 use Rattle.ice_decode.specs.Reads.{at_pin}
+use Rattle.std.specs.Option.{option_map_or}
+use Rattle.ice_decode.specs.Cells.{cells, logic_tiles, tile_place}
 
 -- ---- the pads of a chip
 abbrev pub pads_in : TileAt → List Pad
@@ -36,9 +37,8 @@ pads parts = flat_map (λ (tile : TileAt × TileLine). pads_in tile.0) (filter i
 -- ---- levels
 -- The level of a pad in a step, whose levels are those of the package's pads in order. A pad outside the package has the level 0.
 abbrev pub level_of : List Pad → List Bool → Pad → Bool
-level_of [] levels pad = false
-level_of (p ∷ bonded) [] pad = false
 level_of (p ∷ bonded) (x ∷ levels) pad = if same_pad p pad then x else level_of bonded levels pad
+level_of bonded levels pad = false
 
 -- the input buffer of a pad is enabled: by a bit that is 0, in the tile that the database names, or always where it names none
 abbrev pub is_enabled_by : Parts → Bits → Option Pad → Bool
@@ -72,3 +72,49 @@ abbrev pub part_drive : ℕ → Bool → Bool → Bool → Drive
 part_drive part level enable kept =
     if part == 5 then level_drive kept
     else (if part == 6 then level_drive level else (if part == 10 then (if enable then level_drive level else Off) else Off))
+
+-- ---- stores
+-- the flip-flop of a cell, the register that takes what a pad gives, and the one that a pad is driven with
+pub data Store : Type 0 where
+  CellStore : TileAt → ℕ → Store
+  InputStore : Pad → Store
+  OutputStore : Pad → Store
+
+abbrev pub cell_store : TileAt × ℕ → Store
+cell_store c = CellStore c.0 c.1
+
+abbrev pub pad_stores : Pad → List Store
+pad_stores pad = InputStore pad ∷ OutputStore pad ∷ []
+
+-- those of all logic cells, and behind them those of all pads
+abbrev pub stores : Parts → List Store
+stores parts = map cell_store (cells parts) ++ flat_map pad_stores (pads parts)
+
+-- ---- what is kept, where `kept` has the levels of all stores in order
+-- the level that the flip-flop of a cell keeps
+abbrev pub kept_at : Parts → List Bool → TileAt → ℕ → Bool
+kept_at parts kept t i = option_map_or (λ k. slice_index_or kept (8 * k + i) false) (tile_place t (logic_tiles parts)) false
+
+-- the place of the first register of a pad; that of the second is the next
+abbrev pub register_place : Parts → Pad → Option ℕ
+register_place parts pad = option_map (λ k. length (cells parts) + (4 * k + 2 * pad.pio)) (tile_place pad.tile (io_tiles parts))
+
+abbrev pub register_at : Parts → List Bool → Pad → ℕ → Bool
+register_at parts kept pad which = option_map_or (λ k. slice_index_or kept (k + which) false) (register_place parts pad) false
+
+-- the level that the register keeps which takes what a pad gives
+abbrev pub input_kept : Parts → List Bool → Pad → Bool
+input_kept parts kept pad = register_at parts kept pad 0
+
+-- the level that the register keeps which a pad is driven with
+abbrev pub output_kept : Parts → List Bool → Pad → Bool
+output_kept parts kept pad = register_at parts kept pad 1
+
+-- ---- which registers there are
+-- what a pad gives goes through a register, by the lower two digits of its type
+abbrev pub has_input_register : Parts → Bits → Pad → Bool
+has_input_register parts bits pad = pin_type parts bits pad % 4 == 0
+
+-- a pad drives what a register keeps, by the upper four digits of its type: 0101
+abbrev pub has_output_register : Parts → Bits → Pad → Bool
+has_output_register parts bits pad = pin_type parts bits pad / 4 == 5

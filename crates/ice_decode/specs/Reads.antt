@@ -6,16 +6,15 @@ use Rattle.ice_base.specs.declared.number.TileAt.{TileAt}
 use Rattle.ice_chip.specs.Database.{Parts}
 use Rattle.ice_chip.specs.Lookups.{wire_named, global_of}
 use Rattle.ice_bits.specs.Configuration.{Bits}
-use Rattle.ice_base_values.specs.Inputs.{present}
+use Rattle.ice_base_values.specs.System.{present}
 use Rattle.ice_decode.specs.declared.point.Point.{Point}
 use Rattle.ice_decode.specs.declared.point.Point.TheVariants.{Wire, Carry}
 use Rattle.ice_decode.specs.declared.driver.Driver.{Driver}
 use Rattle.ice_decode.specs.declared.driver.Driver.TheVariants.{Nothing, By, Several}
 use Rattle.ice_decode.specs.declared.role.Role.{Role}
-use Rattle.ice_decode.specs.declared.role.Role.TheVariants.{Plain, Output, LookUp, CarryOut, PadInput, Global, CarryIn, ClockEnable}
-use Rattle.ice_chip.specs.WireNames.{input_name}
-use Rattle.ice_decode.specs.Roles.{role_of}
-use Rattle.ice_decode.specs.Drivers.{driver}
+use Rattle.ice_decode.specs.declared.role.Role.TheVariants.{Output, LookUp, CarryOut, Global}
+use Rattle.ice_chip.specs.Names.{input_name}
+use Rattle.ice_decode.specs.Drivers.{role_of, driver}
 use Rattle.ice_decode.specs.Cells.{cells, has_carry, has_flop}
 use Rattle.ice_decode.specs.Direct.{takes_pad}
 
@@ -64,14 +63,11 @@ global_feed parts n = at_pin_of parts (global_of parts n) (codes "fabout")
 
 -- what a wire without a row that is on reads, by its role; `extras` has the extra bits that are set
 abbrev pub role_reads : Parts → Bits → List (ℕ × ℕ × ℕ) → Role → List (Option Point)
-role_reads parts bits extras Plain = []
 role_reads parts bits extras (Output t i) = if has_flop parts bits t i then [] else cell_inputs parts t i
 role_reads parts bits extras (LookUp t i) = cell_inputs parts t i
 role_reads parts bits extras (CarryOut t i) = Some (Carry t i) ∷ []
-role_reads parts bits extras (PadInput pad) = []
 role_reads parts bits extras (Global n) = if takes_pad parts extras n then [] else global_feed parts n ∷ []
-role_reads parts bits extras (CarryIn t) = []
-role_reads parts bits extras ClockEnable = []
+role_reads parts bits extras role = []
 
 -- what a wire reads, by what drives it
 abbrev pub driven_reads : Parts → Bits → List (ℕ × ℕ × ℕ) → Role → Driver → List (Option Point)
@@ -80,10 +76,10 @@ driven_reads parts bits extras role (By s) = Some (Wire s.source) ∷ []
 driven_reads parts bits extras role (Several first second) = []
 
 -- What a point reads. A carry that isn't enabled reads nothing.
-abbrev pub reads : Parts → Bits → List (ℕ × ℕ × ℕ) → Point → List (Option Point)
-reads parts bits extras (Wire w) = driven_reads parts bits extras (role_of parts w.0) (driver parts bits w.0)
-reads parts bits extras (Carry t i) = if has_carry parts bits t i then carry_inputs parts t i else []
+abbrev pub reads_at : Parts → Bits → List (ℕ × ℕ × ℕ) → Point → List (Option Point)
+reads_at parts bits extras (Wire w) = driven_reads parts bits extras (role_of parts w.0) (driver parts bits w.0)
+reads_at parts bits extras (Carry t i) = if has_carry parts bits t i then carry_inputs parts t i else []
 
 -- the points that a point depends on
 abbrev pub depends_on : Parts → Bits → List (ℕ × ℕ × ℕ) → Point → List Point
-depends_on parts bits extras p = present (reads parts bits extras p)
+depends_on parts bits extras p = present (reads_at parts bits extras p)

@@ -13,6 +13,12 @@ pub record IsBetween (wires : ℕ) (s : Switch) : Type 0 where
   pub source : s.source.0 < wires
   pub target : s.target.0 < wires
 
+-- a row that drives a wire leads from one of so many wires
+abbrev pub ComesFrom : ℕ → Driver → Type 0
+ComesFrom wires Nothing = Unit {0}
+ComesFrom wires (By s) = s.source.0 < wires
+ComesFrom wires (Several first second) = Unit {0}
+
 -- what drives a wire, with one row into it more that is on
 abbrev pub joined : Driver → Switch → Driver
 joined Nothing s = By s

@@ -35,6 +35,6 @@ pub use pads::{has_input_register, has_output_register, is_enabled, pin_type};
 pub use point::Point;
 pub use reads::{add_reads, at_pin};
 pub use role::{Role, role_of};
-pub use settings::{cell_bit, has_carry, has_flop, setting};
+pub use settings::{cell_bit, has_carry, has_flop, reset_by, setting};
 pub use tiles::logic_tiles;
 pub use wires::Wires;

@@ -1,8 +1,7 @@
 //! The pads of a chip.
 ghost use Rattle.std.specs.Prelude.{◌≡◌, ◌<◌, ◌≤◌, ◌+◌, ◌*◌, not, if◌then◌else◌};
 ghost use Rattle.ice_bits.specs.Configuration.{bits_of};
-ghost use Rattle.ice_decode.specs.Pads.{is_enabled, pin_type_digit, pin_type};
-ghost use Rattle.ice_decode.specs.Registers.{has_input_register, has_output_register};
+ghost use Rattle.ice_decode.specs.Pads.{is_enabled, pin_type_digit, pin_type, has_input_register, has_output_register};
 
 use crate::settings::setting;
 use ice_bits::Bits;

@@ -7,11 +7,6 @@ use ice_base::{TileAt, WireNo};
 pub enum Point {
     /// A wire.
     Wire(WireNo),
-    /// The carry out of a logic cell.
-    Carry {
-        /// The cell's tile.
-        tile: TileAt,
-        /// The cell's number in its tile, from 0 to 7.
-        cell: u8,
-    },
+    /// The carry out of a logic cell, which is told by its tile and its number there, from 0 to 7.
+    Carry { tile: TileAt, cell: u8 },
 }

@@ -1,12 +1,11 @@
 //! What the points of a chip read.
 ghost use Rattle.std.specs.Prelude.{◌≡◌, ◌<◌, ◌++◌, ◌∷◌, [], length, OnOk, if◌then◌else◌};
 ghost use Rattle.ice_bits.specs.Configuration.{bits_of};
-ghost use Rattle.ice_chip.specs.WireNames.{input_name};
-ghost use Rattle.ice_decode.specs.Drivers.{driver};
-ghost use Rattle.ice_decode.specs.Roles.{role_of};
+ghost use Rattle.ice_chip.specs.Names.{input_name};
+ghost use Rattle.ice_decode.specs.Drivers.{driver, role_of};
 ghost use Rattle.ice_decode.specs.Cells.{has_flop};
 ghost use Rattle.ice_decode.specs.Direct.{takes_pad, AreDirect};
-ghost use Rattle.ice_decode.specs.Reads.{at_pin, cell_inputs, carry_into, carry_inputs, global_feed, role_reads, driven_reads, reads};
+ghost use Rattle.ice_decode.specs.Reads.{at_pin, cell_inputs, carry_into, carry_inputs, global_feed, role_reads, driven_reads, reads_at};
 ghost use Rattle.ice_decode.specs.Refusals.{AreDrivers};
 ghost use Rattle.ice_decode.specs.Points.{HasWire};
 
@@ -200,7 +199,7 @@ pub fn add_reads(
     requires direct { AreDirect chip.now bits.now.extras direct.now }
     requires point { HasWire chip.now point }
     ensures { OnOk result (inputs.new.items
-        ≡ inputs.old.items ++ reads chip.now (bits_of bits.now) bits.now.extras point) }
+        ≡ inputs.old.items ++ reads_at chip.now (bits_of bits.now) bits.now.extras point) }
 {
     match point {
         Point::Wire(wire) => {

@@ -1,37 +1,22 @@
 //! What wires are at the cells and pads of tiles.
 ghost use Rattle.std.specs.Prelude.{◌≡◌, ◌<◌};
-ghost use Rattle.ice_decode.specs.Roles.{number_at, global_role, output_role, or_global, logic_role, io_role, role_in, role_of};
+ghost use Rattle.ice_decode.specs.Drivers.{number_at, global_role, output_role, or_global, logic_role, io_role, role_in, role_of};
 
 use ice_base::{TileAt, WireNo};
 use ice_chip::{Chip, Pad, TileKind, cell_pin, in_out_enable_name, is_global_name};
 
-/// What a wire is at a tile's cells or pads, by its name there, where no row of switches leads into it. Cells are numbered from 0
-/// to 7 in their tile.
+/// What a wire is at a tile's cells or pads, by its name there, where no row of switches leads into it. A cell is told by
+/// its tile and its number there, from 0 to 7.
 #[derive(Clone, Copy)]
 pub enum Role {
     /// Nothing that gives it a level: it is undriven.
     Plain,
     /// The output of a cell, `lutff_I/out`.
-    Output {
-        /// The cell's tile.
-        tile: TileAt,
-        /// The cell.
-        cell: u8,
-    },
+    Output { tile: TileAt, cell: u8 },
     /// The look-up table of a cell, `lutff_I/lout`.
-    LookUp {
-        /// The cell's tile.
-        tile: TileAt,
-        /// The cell.
-        cell: u8,
-    },
+    LookUp { tile: TileAt, cell: u8 },
     /// The carry out of a cell, `lutff_I/cout`.
-    CarryOut {
-        /// The cell's tile.
-        tile: TileAt,
-        /// The cell.
-        cell: u8,
-    },
+    CarryOut { tile: TileAt, cell: u8 },
     /// The input of a pad, `io_P/D_IN_0`.
     PadInput(Pad),
     /// A global, `glb_netwk_N`.

@@ -3,10 +3,10 @@ ghost use Rattle.std.specs.Prelude.{◌≡◌, ◌<◌, ◌≤◌, ◌+◌, ◌+
 ghost use Rattle.std.specs.Bool.{beq};
 ghost use Rattle.std.specs.List.{list_any};
 ghost use Rattle.std.specs.Cmp.Lexicographic.{pointwise};
-ghost use Rattle.ice_chip.specs.Limits.{most_rows};
+ghost use Rattle.ice_chip.specs.Database.{most_rows};
 ghost use Rattle.ice_chip.specs.Views.{group_view};
 ghost use Rattle.ice_bits.specs.Configuration.{bits_of, bit_in};
-ghost use Rattle.ice_bits.specs.RowsOn.{number_with, row_on};
+ghost use Rattle.ice_bits.specs.Settings.{number_with, row_on};
 ghost use Rattle.ice_decode.specs.Drivers.{switch_on, switches_on};
 
 use crate::Switch;

@@ -2,11 +2,12 @@
 ghost use Rattle.std.specs.Prelude.{◌≡◌};
 ghost use Rattle.ice_bits.specs.Configuration.{bits_of};
 ghost use Rattle.ice_bits.specs.Settings.{set_at};
-ghost use Rattle.ice_decode.specs.Cells.{cell_bit, has_carry, has_flop};
+ghost use Rattle.ice_decode.specs.Cells.{cell_bit, has_carry, has_flop, reset_by};
 
 use ice_base::TileAt;
 use ice_bits::Bits;
 use ice_chip::{Chip, cell_function};
+use ice_net::Reset;
 
 /// The bit of this number of a function in a tile; 0 where no tile stands there, or its kind lacks the function or the bit. It takes
 /// no memory.
@@ -44,4 +45,16 @@ pub fn has_flop(chip: &Chip, bits: &Bits, tile: TileAt, cell: u8) -> bool
     ensures { result ≡ has_flop chip.now (bits_of bits.now) tile cell }
 {
     cell_bit(chip, bits, tile, cell, 9)
+}
+
+/// Which way a flip-flop is set or reset.
+pub fn reset_by(set: bool, at_once: bool) -> Reset
+    ensures { result ≡ reset_by set at_once }
+{
+    match (set, at_once) {
+        (false, false) => Reset::SyncReset,
+        (false, true) => Reset::AsyncReset,
+        (true, false) => Reset::SyncSet,
+        (true, true) => Reset::AsyncSet,
+    }
 }

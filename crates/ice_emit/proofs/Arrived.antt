@@ -7,7 +7,7 @@ use Rattle.ice_cells.specs.declared.root.Root.{Root}
 use Rattle.ice_place_defs.specs.Loads.{Pin, Input}
 use Rattle.ice_emit_nets.specs.Ends.{wire_no, pin_wire}
 use Rattle.ice_emit_nets.specs.Nets.{root_wire}
-use Rattle.ice_emit_nets.specs.Plans.{plan_in}
+use Rattle.ice_place_defs.specs.Plan.{plan_in}
 use Rattle.ice_emit_defs.specs.Arrivals.{holds, arrival}
 use Rattle.ice_emit.specs.Owners.{tree_no, is_in, first_in}
 use Rattle.ice_emit.specs.Routed.{IsRouted, held_in, routes_in}

@@ -6,17 +6,15 @@ use Rattle.std.specs.Map.{lookup}
 use Rattle.ice_base.specs.declared.number.BitAt.{BitAt}
 use Rattle.ice_base.specs.declared.number.RowNo.{RowNo}
 use Rattle.ice_base.specs.declared.number.TileAt.{TileAt}
-use Rattle.ice_chip.specs.Database.{Parts, SwitchGroup, SwitchRow}
+use Rattle.ice_chip.specs.Database.{Parts, SwitchGroup, SwitchRow, same_tile, columns}
 use Rattle.ice_chip.specs.Lookups.{rows_of}
-use Rattle.ice_chip.specs.Places.{same_tile, columns}
-use Rattle.ice_chip.specs.declared.parts.TileLine.{TileLine}
+use Rattle.ice_chip.specs.declared.rows.TileLine.{TileLine}
 use Rattle.ice_bits.specs.Configuration.{Configuration, IsOf, bits_of, bit_at, blank, blank_rows, blank_tile}
 use Rattle.ice_cells.specs.Tables.{table}
 use Rattle.ice_cluster.specs.Slots.{CellsStandInOneSlot}
 use Rattle.ice_graph.specs.Leading.{route_of}
-use Rattle.ice_emit_nets.specs.Plans.{plan_in}
 use Rattle.ice_emit_nets.specs.Rooted.{wires_in, root_wires}
-use Rattle.ice_place_defs.specs.Plan.{Plan, listed}
+use Rattle.ice_place_defs.specs.Plan.{Plan, listed, plan_in}
 use Rattle.ice_emit_rows_laws.specs.Settings.{function_bits}
 use Rattle.ice_emit_rows_laws.specs.Wanted.{sets_of, sets_switch}
 use Rattle.ice_emit_bits.specs.Adds.{Adds}
@@ -107,11 +105,11 @@ are_written parts plan pullups trees rows made k wanted all are = record {
 
 -- the same, where chip, plan, pull-ups and lists come under other names
 pub written_for : (parts q : Parts) (plan p : Plan) (pullups u : List Bool) (trees : List Tree) (rows r s : List RowNo) (made m : List Setting) (k : Configuration)
-    → q ≡ parts → p ≡ plan → u ≡ pullups → r ≡ rows → s ≡ rows → m ≡ made → switches q rows ≡ wanted_rows q p (map route_of trees)
+    → q ≡ parts → p ≡ plan → u ≡ pullups → r ≡ rows → s ≡ rows → m ≡ made → switches parts rows ≡ wanted_rows parts p (map route_of trees)
     → views made ≡ settings q p u (held_by q p (map route_of trees)) (switches q r) → AreBitsWith parts s m (plan_extras parts plan) k → IsWritten parts plan pullups (map route_of trees) k
 written_for parts q plan p pullups u trees rows r s made m k eq ep eu er es em wanted all are =
     are_written parts plan pullups trees rows made k
-    (subst (λ x. switches x rows ≡ wanted_rows x plan (map route_of trees)) eq (subst (λ y. switches q rows ≡ wanted_rows q y (map route_of trees)) ep wanted))
+    (subst (λ y. switches parts rows ≡ wanted_rows parts y (map route_of trees)) ep wanted)
     (subst (λ x. views made ≡ settings x plan pullups (held_by x plan (map route_of trees)) (switches x rows)) eq
     (subst (λ y. views made ≡ settings q y pullups (held_by q y (map route_of trees)) (switches q rows)) ep
     (subst (λ z. views made ≡ settings q p z (held_by q p (map route_of trees)) (switches q rows)) eu

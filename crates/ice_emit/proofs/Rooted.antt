@@ -10,10 +10,9 @@ use Rattle.ice_cells.specs.Tables.{table}
 use Rattle.ice_cells.proofs.TableLaws.{length-table, get_or-table}
 use Rattle.ice_chip.specs.Database.{Parts}
 use Rattle.ice_pads.specs.Globals.{global_wire}
-use Rattle.ice_place_defs.specs.Plan.{Plan}
+use Rattle.ice_place_defs.specs.Plan.{Plan, plan_in}
 use Rattle.ice_emit_nets.specs.Ends.{wire_no}
 use Rattle.ice_emit_nets.specs.Nets.{root_wire, pad_wire, slot_wire, pad_root, cell_root, global_root}
-use Rattle.ice_emit_nets.specs.Plans.{plan_in}
 use Rattle.ice_emit_nets.specs.Rooted.{root_no}
 use Rattle.ice_emit.specs.Routed.{IsRouted}
 use Rattle.ice_emit.specs.declared.routed.Routed.{Routed}

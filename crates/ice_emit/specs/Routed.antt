@@ -6,8 +6,7 @@ use Rattle.ice_base_values.specs.Order.{At, Has}
 use Rattle.ice_cells.specs.declared.cluster.Cluster.{Cluster}
 use Rattle.ice_cells.specs.Tables.{table}
 use Rattle.ice_graph.specs.Leading.{Route, route_of}
-use Rattle.ice_place_defs.specs.Plan.{slot_of}
-use Rattle.ice_emit_nets.specs.Plans.{plan_in}
+use Rattle.ice_place_defs.specs.Plan.{slot_of, plan_in}
 use Rattle.ice_emit_nets.specs.Rooted.{wires_in, root_wires}
 use Rattle.ice_emit_rows_laws.specs.Settings.{Setting}
 use Rattle.ice_emit_defs.specs.Arrivals.{Held, holds}

@@ -4,7 +4,7 @@ ghost use Rattle.ice_base.specs.declared.number.WireNo.{WireNo};
 ghost use Rattle.ice_place_defs.specs.Loads.{Input};
 ghost use Rattle.ice_emit_nets.specs.Ends.{wire_no, pin_wire};
 ghost use Rattle.ice_emit_nets.specs.Nets.{root_wire};
-ghost use Rattle.ice_emit_nets.specs.Plans.{plan_in};
+ghost use Rattle.ice_place_defs.specs.Plan.{plan_in};
 ghost use Rattle.ice_emit_defs.specs.Arrivals.{arrival, input_from, written_table};
 ghost use Rattle.ice_emit_defs.specs.Written.{starts_at};
 ghost use Rattle.ice_emit.specs.Owners.{begins_at, tree_no, is_in, first_in};

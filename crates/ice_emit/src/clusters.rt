@@ -1,7 +1,7 @@
 //! The settings of clusters.
 ghost use Rattle.std.specs.Prelude.{◌≡◌, ◌++◌, [], Some, slice_get, OnOk};
 ghost use Rattle.std.specs.Option.{option_map_or};
-ghost use Rattle.ice_chip.specs.FunctionNames.{cell_function};
+ghost use Rattle.ice_chip.specs.Names.{cell_function};
 ghost use Rattle.ice_place_defs.specs.Loads.{slot_gives, slots_give};
 ghost use Rattle.ice_emit_defs.specs.Functions.{cell_settings, is_set, edge_settings, carry_settings, cluster_settings, clusters_settings};
 ghost use Rattle.ice_emit.specs.Routed.{IsRouted, held_in, cluster_gives};

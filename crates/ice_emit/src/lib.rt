@@ -11,4 +11,4 @@ mod rows;
 mod writing;
 
 pub use ice_emit_nets::nets_of;
-pub use writing::{emit, indexed_emit};
+pub use writing::{emit, emit_by};

@@ -3,9 +3,8 @@ ghost use Rattle.std.specs.Prelude.{◌≡◌, ◌++◌, [], Some, option_map, s
 ghost use Rattle.std.specs.Option.{option_map_or, option_and_then};
 ghost use Rattle.ice_base.specs.declared.number.WireNo.{WireNo};
 ghost use Rattle.ice_chip.specs.Lookups.{wire_named};
-ghost use Rattle.ice_chip.specs.WireNames.{input_name, carry_out_name};
+ghost use Rattle.ice_chip.specs.Names.{input_name, carry_out_name};
 ghost use Rattle.ice_place_defs.specs.Loads.{slot_gives, slots_give};
-ghost use Rattle.ice_bits_rows.specs.Index.{IsIndexOf};
 ghost use Rattle.ice_emit_defs.specs.Links.{tree_switch, link_into, carry_source, cell_links, chunk_links, cluster_links, all_links};
 ghost use Rattle.ice_emit.specs.Links.{number, cluster_link};
 ghost use Rattle.ice_emit_settings.specs.Views.{switches};
@@ -19,18 +18,12 @@ use ice_chip::{Chip, carry_in_name, carry_out_name, first_carry_name, input_name
 
 // The first sound row from the one wire to the other, if there are both.
 #[tactic(auto, using(crate::proofs::Listed::link_is, crate::proofs::Listed::no_source, crate::proofs::Listed::no_target))]
-fn link(
-    chip: &Chip,
-    index: &Index<'_>,
-    source: Option<WireNo>,
-    target: Option<WireNo>,
-) -> Option<RowNo>
-    requires { IsIndexOf chip.now index.now }
-    ensures { option_and_then (tree_switch chip.now) result ≡ option_and_then (link_into chip.now (option_map number source)) (option_map number target) }
+fn link(index: &Index<'_>, source: Option<WireNo>, target: Option<WireNo>) -> Option<RowNo>
+    ensures { option_and_then (tree_switch index.now.chip.now) result ≡ option_and_then (link_into index.now.chip.now (option_map number source)) (option_map number target) }
 {
     let source = source?;
     let target = target?;
-    first_sound(chip, index, source, target)
+    first_sound(index, source, target)
 }
 
 // The wire of the carry out of a cell; the name has the last digit of its number alone.
@@ -61,23 +54,20 @@ fn last_input(chip: &Chip, tile: TileAt, i: usize) -> Option<WireNo>
 #[tactic(auto, using(crate::proofs::Listed::link_added))]
 fn push_cell_link(
     rows: &mut Vec<RowNo>,
-    chip: &Chip,
     index: &Index<'_>,
     tile: TileAt,
     i: usize,
     cell: &LogicCell,
 ) -> Result<(), NoMemory>
-    requires { IsIndexOf chip.now index.now }
-    ensures { OnOk result (switches chip.now rows.new.items ≡ switches chip.now rows.old.items ++ cell_links chip.now tile i cell.now) }
+    ensures { OnOk result (switches index.now.chip.now rows.new.items ≡ switches index.now.chip.now rows.old.items ++ cell_links index.now.chip.now tile i cell.now) }
 {
     if !cell.carry_to_in3 {
         return Ok(());
     }
     let row = link(
-        chip,
         index,
-        carry_source(chip, tile, i),
-        last_input(chip, tile, i),
+        carry_source(index.chip, tile, i),
+        last_input(index.chip, tile, i),
     );
     push_row(rows, row)?;
     Ok(())
@@ -93,55 +83,49 @@ fn cell_at(cells: &[LogicCell], c: u32) -> Option<LogicCell>
 // Adds the row of the cell of a number.
 fn push_numbered(
     rows: &mut Vec<RowNo>,
-    chip: &Chip,
     index: &Index<'_>,
     cells: &[LogicCell],
     tile: TileAt,
     i: usize,
     c: u32,
 ) -> Result<(), NoMemory>
-    requires { IsIndexOf chip.now index.now }
-    ensures { OnOk result (switches chip.now rows.new.items ≡ switches chip.now rows.old.items ++ slot_gives (cell_links chip.now) cells.now tile i (Some c)) }
+    ensures { OnOk result (switches index.now.chip.now rows.new.items ≡ switches index.now.chip.now rows.old.items ++ slot_gives (cell_links index.now.chip.now) cells.now tile i (Some c)) }
 {
     match cell_at(cells, c) {
         None => Ok(()),
-        Some(cell) => push_cell_link(rows, chip, index, tile, i, &cell),
+        Some(cell) => push_cell_link(rows, index, tile, i, &cell),
     }
 }
 
 // Adds the row of the cell of a slot.
 fn push_slot(
     rows: &mut Vec<RowNo>,
-    chip: &Chip,
     index: &Index<'_>,
     cells: &[LogicCell],
     tile: TileAt,
     i: usize,
     slot: Option<u32>,
 ) -> Result<(), NoMemory>
-    requires { IsIndexOf chip.now index.now }
-    ensures { OnOk result (switches chip.now rows.new.items ≡ switches chip.now rows.old.items ++ slot_gives (cell_links chip.now) cells.now tile i slot) }
+    ensures { OnOk result (switches index.now.chip.now rows.new.items ≡ switches index.now.chip.now rows.old.items ++ slot_gives (cell_links index.now.chip.now) cells.now tile i slot) }
 {
     match slot {
         None => Ok(()),
-        Some(c) => push_numbered(rows, chip, index, cells, tile, i, c),
+        Some(c) => push_numbered(rows, index, cells, tile, i, c),
     }
 }
 
 // Adds the rows of the cells of a tile.
 fn push_slots(
     rows: &mut Vec<RowNo>,
-    chip: &Chip,
     index: &Index<'_>,
     cells: &[LogicCell],
     tile: TileAt,
     slots: &[Option<u32>],
 ) -> Result<(), NoMemory>
-    requires { IsIndexOf chip.now index.now }
-    ensures { OnOk result (switches chip.now rows.new.items ≡ switches chip.now rows.old.items ++ slots_give (cell_links chip.now) cells.now tile 0 slots.now) }
+    ensures { OnOk result (switches index.now.chip.now rows.new.items ≡ switches index.now.chip.now rows.old.items ++ slots_give (cell_links index.now.chip.now) cells.now tile 0 slots.now) }
 {
     for (i, slot) in slots.iter().enumerate() {
-        push_slot(rows, chip, index, cells, tile, i, *slot)?;
+        push_slot(rows, index, cells, tile, i, *slot)?;
     }
     Ok(())
 }
@@ -149,13 +133,11 @@ fn push_slots(
 // Adds the row that takes the carry of the tile below into a tile, if it has a later chunk of a run.
 fn push_entry(
     rows: &mut Vec<RowNo>,
-    chip: &Chip,
     index: &Index<'_>,
     tile: TileAt,
     chunk: Option<(u32, u32)>,
 ) -> Result<(), NoMemory>
-    requires { IsIndexOf chip.now index.now }
-    ensures { OnOk result (switches chip.now rows.new.items ≡ switches chip.now rows.old.items ++ chunk_links chip.now tile chunk) }
+    ensures { OnOk result (switches index.now.chip.now rows.new.items ≡ switches index.now.chip.now rows.old.items ++ chunk_links index.now.chip.now tile chunk) }
 {
     let Some((_, k)) = chunk else {
         return Ok(());
@@ -164,10 +146,9 @@ fn push_entry(
         return Ok(());
     }
     let row = link(
-        chip,
         index,
-        chip.wire_named(tile, &carry_in_name()),
-        chip.wire_named(tile, &first_carry_name()),
+        index.chip.wire_named(tile, &carry_in_name()),
+        index.chip.wire_named(tile, &first_carry_name()),
     );
     push_row(rows, row)?;
     Ok(())
@@ -176,52 +157,46 @@ fn push_entry(
 // Adds the rows of a cluster.
 fn push_cluster(
     rows: &mut Vec<RowNo>,
-    chip: &Chip,
     index: &Index<'_>,
     cells: &[LogicCell],
     cluster: &Cluster,
     tile: TileAt,
 ) -> Result<(), NoMemory>
-    requires { IsIndexOf chip.now index.now }
-    ensures { OnOk result (switches chip.now rows.new.items ≡ switches chip.now rows.old.items ++ cluster_link chip.now cells.now cluster.now tile) }
+    ensures { OnOk result (switches index.now.chip.now rows.new.items ≡ switches index.now.chip.now rows.old.items ++ cluster_link index.now.chip.now cells.now cluster.now tile) }
 {
-    push_slots(rows, chip, index, cells, tile, cluster.cells.as_slice())?;
-    push_entry(rows, chip, index, tile, cluster.run)?;
+    push_slots(rows, index, cells, tile, cluster.cells.as_slice())?;
+    push_entry(rows, index, tile, cluster.run)?;
     Ok(())
 }
 
 // The same, if there is a tile for it.
 fn push_cluster_at(
     rows: &mut Vec<RowNo>,
-    chip: &Chip,
     index: &Index<'_>,
     cells: &[LogicCell],
     cluster: &Cluster,
     tile: Option<TileAt>,
 ) -> Result<(), NoMemory>
-    requires { IsIndexOf chip.now index.now }
-    ensures { OnOk result (switches chip.now rows.new.items ≡ switches chip.now rows.old.items ++ option_map_or (cluster_link chip.now cells.now cluster.now) tile []) }
+    ensures { OnOk result (switches index.now.chip.now rows.new.items ≡ switches index.now.chip.now rows.old.items ++ option_map_or (cluster_link index.now.chip.now cells.now cluster.now) tile []) }
 {
     match tile {
         None => Ok(()),
-        Some(tile) => push_cluster(rows, chip, index, cells, cluster, tile),
+        Some(tile) => push_cluster(rows, index, cells, cluster, tile),
     }
 }
 
 /// Adds the rows that carry runs into last inputs and across tiles, of clusters in these tiles.
 pub fn push_links(
     rows: &mut Vec<RowNo>,
-    chip: &Chip,
     index: &Index<'_>,
     cells: &[LogicCell],
     tiles: &[TileAt],
     clusters: &[Cluster],
 ) -> Result<(), NoMemory>
-    requires { IsIndexOf chip.now index.now }
-    ensures { OnOk result (switches chip.now rows.new.items ≡ switches chip.now rows.old.items ++ all_links chip.now cells.now tiles.now clusters.now) }
+    ensures { OnOk result (switches index.now.chip.now rows.new.items ≡ switches index.now.chip.now rows.old.items ++ all_links index.now.chip.now cells.now tiles.now clusters.now) }
 {
     for (k, cluster) in clusters.iter().enumerate() {
-        push_cluster_at(rows, chip, index, cells, cluster, tile_at(tiles, k))?;
+        push_cluster_at(rows, index, cells, cluster, tile_at(tiles, k))?;
     }
     Ok(())
 }

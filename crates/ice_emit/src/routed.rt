@@ -2,8 +2,9 @@
 ghost use Rattle.std.specs.Prelude.{◌≡◌, slice_get};
 
 use ice_base::TileAt;
-use ice_emit_nets::{Placed, Wires};
+use ice_emit_nets::DrivenWires;
 use ice_graph::Tree;
+use ice_place_defs::Placed;
 
 /// A placed and routed design.
 #[derive(Clone, Copy)]
@@ -11,7 +12,7 @@ pub struct Routed<'a> {
     /// The placed design.
     pub placed: Placed<'a>,
     /// The wires of its roots.
-    pub wires: &'a Wires,
+    pub wires: &'a DrivenWires,
     /// The trees of its nets.
     pub trees: &'a [Tree],
     /// The number of the tree that holds each wire.

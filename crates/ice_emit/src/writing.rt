@@ -3,11 +3,11 @@ ghost use Rattle.std.specs.Prelude.{◌≡◌, map, IfOk};
 ghost use Rattle.ice_bits.specs.Configuration.{bits_of};
 ghost use Rattle.ice_decode.specs.Faults.{HasNoLoop};
 ghost use Rattle.ice_graph.specs.Leading.{route_of};
-ghost use Rattle.ice_emit_nets.specs.Plans.{plan_in, plan_of};
+ghost use Rattle.ice_emit_nets.specs.Plans.{plan_of};
+ghost use Rattle.ice_place_defs.specs.Plan.{plan_in};
 ghost use Rattle.ice_pads.specs.Globals.{numbers};
 ghost use Rattle.ice_emit_defs.specs.Functions.{settings};
 ghost use Rattle.ice_emit_meaning_laws.specs.Feeds.{FaultsAreRings, IsRingless};
-ghost use Rattle.ice_bits_rows.specs.Index.{IsIndexOf};
 ghost use Rattle.ice_emit_rows_laws.specs.Wanted.{IsWired};
 ghost use Rattle.ice_emit_defs.specs.Realised.{Realises};
 ghost use Rattle.ice_emit_defs.specs.Routed.{AreTrees};
@@ -25,7 +25,7 @@ use crate::routed::Routed;
 use crate::rows::push_trees;
 use ice_base::{NoMemory, RowNo};
 use ice_bits::{Bits, blank};
-use ice_bits_rows::{Index, index_of};
+use ice_bits_rows::Index;
 use ice_cells::{Clusters, Design};
 use ice_chip::Chip;
 use ice_cluster::laws::cells_stand_in_one_slot;
@@ -34,30 +34,29 @@ use ice_emit_led_laws::laws::roots_are_led_to_pins;
 use ice_emit_meaning_laws::laws::{
     bits_have_no_loop, bits_realise_their_design, faulty_bits_have_a_ring,
 };
-use ice_emit_nets::{Placed, placed_of, wires_of};
+use ice_emit_nets::{placed_of, wires_of};
 use ice_emit_rows_laws::laws::wanted_rows_drive;
 use ice_emit_set_laws::laws::designs_are_set;
 use ice_emit_settings::{push_buffers, push_enables, push_ports};
 use ice_graph::Tree;
 use ice_pads::Pads;
 use ice_place::Placement;
+use ice_place_defs::Placed;
 use std::alloc::Global;
 
-// The rows that are wanted: those of the trees, and those that carry runs.
+// The rows of an indexed chip that are wanted: those of the trees, and those that carry runs.
 fn rows_of(
     alloc: Global,
-    placed: &Placed<'_>,
     index: &Index<'_>,
+    placed: &Placed<'_>,
     trees: &[Tree],
 ) -> Result<Vec<RowNo>, NoMemory>
-    requires { IsIndexOf placed.now.chip.now index.now }
-    ensures { IfOk result (λ rows. switches placed.now.chip.now rows.items ≡ wanted_rows placed.now.chip.now (plan_in placed.now) (map route_of trees.now)) }
+    ensures { IfOk result (λ rows. switches index.now.chip.now rows.items ≡ wanted_rows index.now.chip.now (plan_in placed.now) (map route_of trees.now)) }
 {
     let mut rows = Vec::new(alloc);
     push_trees(&mut rows, trees)?;
     push_links(
         &mut rows,
-        placed.chip,
         index,
         placed.design.cells(),
         placed.tiles,
@@ -128,13 +127,12 @@ fn bits_with(
     Ok(bits)
 }
 
-/// The bits of a placed and routed design, as [`emit`] makes them, by the index of the chip's groups.
+/// The bits of a placed and routed design on an indexed chip, as [`emit`] makes them.
 ///
 /// # Errors
 /// Want of memory alone; more than 4,294,967,295 trees count as such.
-pub fn indexed_emit(
+pub fn emit_by(
     alloc: Global,
-    chip: &Chip,
     index: &Index<'_>,
     design: &Design,
     clusters: &Clusters,
@@ -142,25 +140,24 @@ pub fn indexed_emit(
     pads: &Pads,
     trees: &[Tree],
 ) -> Result<Bits, NoMemory>
-    requires index { IsIndexOf chip.now index.now }
-    requires placed { IsPlacedOn chip.now (plan_of design.now clusters.now placement.now pads.now) pads.now.pullups }
-    requires trees { AreTrees chip.now (plan_of design.now clusters.now placement.now pads.now) (map route_of trees.now) }
-    ensures written { IfOk result (IsWritten chip.now (plan_of design.now clusters.now placement.now pads.now) pads.now.pullups (map route_of trees.now)) }
-    ensures driven { IfOk result (λ bits. IsWired chip.now (bits_of bits) (wanted_rows chip.now (plan_of design.now clusters.now placement.now pads.now) (map route_of trees.now))) }
-    ensures loopless { IfOk result (λ bits. IsRingless chip.now → HasNoLoop chip.now (bits_of bits) bits.extras) }
-    ensures ring { IfOk result (λ bits. FaultsAreRings chip.now (bits_of bits) bits.extras) }
-    ensures realised { IfOk result (λ bits. HasNoLoop chip.now (bits_of bits) bits.extras → Realises chip.now (plan_of design.now clusters.now placement.now pads.now) (wanted_rows chip.now (plan_of design.now clusters.now placement.now pads.now) (map route_of trees.now)) (bits_of bits) bits.extras) }
+    requires placed { IsPlacedOn index.now.chip.now (plan_of design.now clusters.now placement.now pads.now) pads.now.pullups }
+    requires trees { AreTrees index.now.chip.now (plan_of design.now clusters.now placement.now pads.now) (map route_of trees.now) }
+    ensures written { IfOk result (IsWritten index.now.chip.now (plan_of design.now clusters.now placement.now pads.now) pads.now.pullups (map route_of trees.now)) }
+    ensures driven { IfOk result (λ bits. IsWired index.now.chip.now (bits_of bits) (wanted_rows index.now.chip.now (plan_of design.now clusters.now placement.now pads.now) (map route_of trees.now))) }
+    ensures loopless { IfOk result (λ bits. IsRingless index.now.chip.now → HasNoLoop index.now.chip.now (bits_of bits) bits.extras) }
+    ensures ring { IfOk result (λ bits. FaultsAreRings index.now.chip.now (bits_of bits) bits.extras) }
+    ensures realised { IfOk result (λ bits. HasNoLoop index.now.chip.now (bits_of bits) bits.extras → Realises index.now.chip.now (plan_of design.now clusters.now placement.now pads.now) (wanted_rows index.now.chip.now (plan_of design.now clusters.now placement.now pads.now) (map route_of trees.now)) (bits_of bits) bits.extras) }
 {
-    roots_are_led_to_pins(chip);
-    designs_are_set(chip);
-    wanted_rows_drive(chip);
-    bits_have_no_loop(chip);
-    faulty_bits_have_a_ring(chip);
-    bits_realise_their_design(chip);
-    let placed = placed_of(chip, design, clusters, placement, pads);
-    let rows = rows_of(alloc, &placed, index, trees)?;
+    roots_are_led_to_pins(index.chip);
+    designs_are_set(index.chip);
+    wanted_rows_drive(index.chip);
+    bits_have_no_loop(index.chip);
+    faulty_bits_have_a_ring(index.chip);
+    bits_realise_their_design(index.chip);
+    let placed = placed_of(index.chip, design, clusters, placement, pads);
+    let rows = rows_of(alloc, index, &placed, trees)?;
     let made = settings_in(alloc, &placed, pads.pullups(), trees, rows.as_slice())?;
-    let bits = bits_with(alloc, chip, rows.as_slice(), made.as_slice(), pads)?;
+    let bits = bits_with(alloc, index.chip, rows.as_slice(), made.as_slice(), pads)?;
     Ok(bits)
 }
 
@@ -192,8 +189,6 @@ pub fn emit(
     ensures ring { IfOk result (λ bits. FaultsAreRings chip.now (bits_of bits) bits.extras) }
     ensures realised { IfOk result (λ bits. HasNoLoop chip.now (bits_of bits) bits.extras → Realises chip.now (plan_of design.now clusters.now placement.now pads.now) (wanted_rows chip.now (plan_of design.now clusters.now placement.now pads.now) (map route_of trees.now)) (bits_of bits) bits.extras) }
 {
-    let index = index_of(alloc, chip)?;
-    indexed_emit(
-        alloc, chip, &index, design, clusters, placement, pads, trees,
-    )
+    let index = Index::new(alloc, chip)?;
+    emit_by(alloc, &index, design, clusters, placement, pads, trees)
 }

@@ -8,11 +8,10 @@ use Rattle.ice_base.specs.declared.number.TileAt.{TileAt}
 use Rattle.ice_base.proofs.Keys.{place_same, place_self, tile_same}
 use Rattle.ice_base_values.specs.Order.{Has}
 use Rattle.ice_base_values.proofs.Members.{find_Has, Has_all}
-use Rattle.ice_chip.specs.Database.{Parts, FunctionRow, SwitchGroup, SwitchRow}
+use Rattle.ice_chip.specs.Database.{Parts, FunctionRow, SwitchGroup, SwitchRow, same_tile, columns}
 use Rattle.ice_chip.specs.Functions.{same_kind}
 use Rattle.ice_chip.specs.IsRead.{IsChip}
 use Rattle.ice_chip.specs.Lookups.{kind_at, function_of, is_function, rows_of}
-use Rattle.ice_chip.specs.Places.{same_tile, columns}
 use Rattle.ice_chip.specs.Within.{IsBit, IsKept}
 use Rattle.ice_chip.specs.declared.rows.TileKind.{TileKind}
 use Rattle.ice_chip.specs.declared.rows.TileKind.TheVariants.{Io, Logic, RamBottom, RamTop}

@@ -3,7 +3,7 @@ use Rattle.std.specs.Prelude.{◌≡◌, ℕ, zero, ◌<◌, Bool, true, false, 
 use Rattle.ice_base.specs.declared.number.TileAt.{TileAt}
 use Rattle.ice_base_values.specs.Order.{At, Has}
 use Rattle.ice_chip.specs.Database.{Parts}
-use Rattle.ice_chip.specs.FunctionNames.{falling_clock_function, carry_set_function, input_enable_function}
+use Rattle.ice_chip.specs.Names.{falling_clock_function, carry_set_function, input_enable_function}
 use Rattle.ice_chip.specs.Indices.{enables_of}
 use Rattle.ice_chip.specs.declared.rows.Pad.{Pad}
 use Rattle.ice_bits.specs.Configuration.{Bits}

@@ -9,7 +9,8 @@ use Rattle.ice_base_values.specs.Order.{Has}
 use Rattle.ice_base_values.proofs.Members.{any_Has, Has_any}
 use Rattle.ice_chip.specs.Database.{Parts}
 use Rattle.ice_chip.specs.Lookups.{kind_at, names_of, placed_at}
-use Rattle.ice_chip.specs.PinNames.{is_global_name, is_input_of, is_output_of, is_input_name, is_output_name}
+use Rattle.ice_chip.specs.Names.{is_global_name}
+use Rattle.ice_chip.specs.PinNames.{is_input_of, is_output_of, is_input_name, is_output_name}
 use Rattle.ice_chip.specs.WireNames.{IsNamedWire, IsTileWire, WireNamesAreRead, tile_wire, wire_name}
 use Rattle.ice_chip.specs.declared.rows.TileKind.{TileKind}
 use Rattle.ice_chip.specs.declared.rows.TileKind.TheVariants.{Io, Logic, RamBottom, RamTop}

@@ -12,9 +12,8 @@ use Rattle.ice_base.proofs.Booleans.{or_false}
 use Rattle.ice_base_values.specs.Order.{At}
 use Rattle.ice_base_values.proofs.Members.{Has_all, any_Has, map_Has}
 use Rattle.ice_base_values.proofs.Places.{At_same}
-use Rattle.ice_chip.specs.Database.{Parts, PackageRows}
+use Rattle.ice_chip.specs.Database.{Parts, PackageRows, same_pad}
 use Rattle.ice_chip.specs.Lookups.{kind_at}
-use Rattle.ice_chip.specs.Places.{same_pad}
 use Rattle.ice_chip.specs.Within.{IsPad, IsPackage}
 use Rattle.ice_chip.specs.declared.rows.Pad.{Pad}
 use Rattle.ice_chip.specs.declared.rows.TileKind.{TileKind}

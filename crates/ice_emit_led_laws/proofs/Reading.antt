@@ -7,7 +7,7 @@ use Rattle.ice_base_values.specs.Order.{At, Has}
 use Rattle.ice_base_values.proofs.Members.{Has_any}
 use Rattle.ice_chip.specs.Database.{Parts, PackageRows}
 use Rattle.ice_chip.specs.Lookups.{kind_at, wire_named}
-use Rattle.ice_chip.specs.WireNames.{fabout_name, pad_output_name, output_enable_name}
+use Rattle.ice_chip.specs.Names.{fabout_name, pad_output_name, output_enable_name}
 use Rattle.ice_chip.specs.declared.rows.TileKind.TheVariants.{Io, Logic}
 use Rattle.ice_net.specs.declared.kind.Reset.{Reset}
 use Rattle.ice_decode.proofs.Members.{Has_left, Has_right}
@@ -31,6 +31,17 @@ use Rattle.ice_emit_led_laws.proofs.Places.{logic_tile, slot_below, pio_below}
 use Rattle.ice_emit_led_laws.proofs.Controls.{control_told}
 use Rattle.ice_emit_led_laws.proofs.Ends.{each_end}
 use Rattle.ice_emit_led_laws.proofs.Roots.{root_self, io_wire}
+
+-- ---- pads that are driven
+pub drive_type : (port : DesignPad) (root : Root) → IsPad port → port.drive ≡ Some root → (port.pin_type ≡ 25) ⊎ (port.pin_type ≡ 41)
+drive_type port root (inl one) e = absurd (none-some root (sym one.1 ∙ e))
+drive_type port root (inr (inl two)) e = inl two.0
+drive_type port root (inr (inr three)) e = inr three
+
+pub enable_type : (port : DesignPad) (root : Root) → IsPad port → port.enable ≡ Some root → port.pin_type ≡ 41
+enable_type port root (inl one) e = absurd (none-some root (sym one.2 ∙ e))
+enable_type port root (inr (inl two)) e = absurd (none-some root (sym two.1 ∙ e))
+enable_type port root (inr (inr three)) e = three
 
 module _ (parts : Parts) (rows : PackageRows) (plan : Plan) (pullups : List Bool) (on : IsOnChip parts rows plan pullups) where
   -- ---- what is read
@@ -86,16 +97,6 @@ module _ (parts : Parts) (rows : PackageRows) (plan : Plan) (pullups : List Bool
   end_read e has = let is = each_end parts plan e has in reads_read is.tile is.pin e.0 is.reads
 
   -- ---- the wires of pins that read
-  drive_type : (port : DesignPad) (root : Root) → IsPad port → port.drive ≡ Some root → (port.pin_type ≡ 25) ⊎ (port.pin_type ≡ 41)
-  drive_type port root (inl one) e = absurd (none-some root (sym one.1 ∙ e))
-  drive_type port root (inr (inl two)) e = inl two.0
-  drive_type port root (inr (inr three)) e = inr three
-
-  enable_type : (port : DesignPad) (root : Root) → IsPad port → port.enable ≡ Some root → port.pin_type ≡ 41
-  enable_type port root (inl one) e = absurd (none-some root (sym one.2 ∙ e))
-  enable_type port root (inr (inl two)) e = absurd (none-some root (sym two.1 ∙ e))
-  enable_type port root (inr (inr three)) e = three
-
   pub reads_input : (t : TileAt) (pin : Pin) (root : Root) (w : ℕ) → Reads parts plan t pin root → wire_named parts t (pin_name pin) ≡ Some w → IsInput parts t (wire_of pin) w
   reads_input t pin root w (AtDrive k pad port r at at_port e) found =
       let io = io_wire parts pad.tile (pad_output_name pad.pio) ((on.placed.pads.wires k port pad at_port at).output (drive_type port r (on.placed.formed.pads k port at_port) e)) in

@@ -13,8 +13,9 @@ use Rattle.ice_base_values.specs.Order.{At, Has}
 use Rattle.ice_base_values.proofs.Members.{any_Has}
 use Rattle.ice_chip.specs.Database.{Parts, PackageRows}
 use Rattle.ice_chip.specs.Lookups.{kind_at, names_of, wire_named, placed_at}
-use Rattle.ice_chip.specs.PinNames.{is_global_name, is_output_of}
-use Rattle.ice_chip.specs.WireNames.{input_name, output_name, pad_input_name, global_name, wire_name}
+use Rattle.ice_chip.specs.Names.{is_global_name, input_name, output_name, pad_input_name, global_name}
+use Rattle.ice_chip.specs.PinNames.{is_output_of}
+use Rattle.ice_chip.specs.WireNames.{wire_name}
 use Rattle.ice_chip.specs.declared.rows.Pad.{Pad}
 use Rattle.ice_chip.specs.declared.rows.TileKind.{TileKind}
 use Rattle.ice_chip.specs.declared.rows.TileKind.TheVariants.{Io, Logic, RamBottom, RamTop}
@@ -32,7 +33,7 @@ use Rattle.ice_cells.specs.declared.root.Root.{Root}
 use Rattle.ice_cells.specs.declared.root.Root.TheVariants.{PadIn, CellOut, GlobalOut, CarryOut}
 use Rattle.ice_pads.specs.Globals.{has_name, global_wire}
 use Rattle.ice_pads.specs.PadWires.{is_io_tile, has_io_wire}
-use Rattle.ice_pads.specs.Passing.{first_passing}
+use Rattle.ice_pads.specs.Constraints.{first_passing}
 use Rattle.ice_bits_rows.specs.WireNames.{has_output_name}
 use Rattle.ice_pads.proofs.IoKinds.{io_kind}
 use Rattle.ice_sites.specs.Site.{has_wire, has_cell}

@@ -12,7 +12,7 @@ use Rattle.ice_base_values.specs.Order.{At, Has}
 use Rattle.ice_base_values.proofs.Members.{Has_none, Has_cases, any_Has, Has_any}
 use Rattle.ice_chip.specs.Database.{Parts}
 use Rattle.ice_chip.specs.Lookups.{wire_named}
-use Rattle.ice_chip.specs.WireNames.{input_name}
+use Rattle.ice_chip.specs.Names.{input_name}
 use Rattle.ice_place_defs.specs.Loads.{Pin, Input, pin_name}
 use Rattle.ice_emit_nets.specs.Ends.{wire_no, pin_wire, pin_wires, inputs_of}
 use Rattle.ice_emit_rows_laws.proofs.Mapped.{Has_mapped_by, mapped_by_Has}

@@ -6,10 +6,10 @@ use Rattle.std.proofs.lemmas.Option.{same_Some, none-some, get_or_from_slice_get
 use Rattle.ice_base.specs.declared.number.TileAt.{TileAt}
 use Rattle.ice_base.proofs.Keys.{nat_same, nat_self}
 use Rattle.ice_base_values.specs.Order.{At, Has}
-use Rattle.ice_base_values.specs.Inputs.{reading}
+use Rattle.ice_base_values.specs.System.{reading}
 use Rattle.ice_base_values.proofs.Members.{At_map}
 use Rattle.ice_chip.specs.Lookups.{gbufpin_of, kind_at, wire_named}
-use Rattle.ice_chip.specs.WireNames.{input_name, pad_input_name, fabout_name, global_name}
+use Rattle.ice_chip.specs.Names.{input_name, pad_input_name, fabout_name, global_name}
 use Rattle.ice_chip.specs.declared.rows.Pad.{Pad}
 use Rattle.ice_chip.specs.declared.rows.TileKind.TheVariants.{Io}
 use Rattle.ice_net.specs.declared.kind.Reset.{Reset}
@@ -20,10 +20,9 @@ use Rattle.ice_decode.specs.declared.role.Role.TheVariants.{Plain, Output, PadIn
 use Rattle.ice_decode.specs.declared.driver.Driver.TheVariants.{Nothing}
 use Rattle.ice_decode.specs.Cells.{has_flop, looked_up}
 use Rattle.ice_decode.specs.Meaning.{kept_at, global_gives}
-use Rattle.ice_decode.specs.Pads.{level_of, pad_gives, pin_type}
+use Rattle.ice_decode.specs.Pads.{level_of, pad_gives, pin_type, has_input_register, input_kept}
 use Rattle.ice_decode.specs.Reads.{wire_point, at_pin, at_pin_of, global_feed, carry_into, cell_inputs}
-use Rattle.ice_decode.specs.Registers.{has_input_register, input_kept}
-use Rattle.ice_decode.specs.Roles.{role_of}
+use Rattle.ice_decode.specs.Drivers.{role_of}
 use Rattle.ice_lut.specs.Tables.{level_at, levels_from, rewired}
 use Rattle.ice_lut.proofs.TableLaws.{rewired_gives}
 use Rattle.ice_cells.specs.declared.cell.Control.{Control}
@@ -40,7 +39,7 @@ use Rattle.ice_cells.specs.Meaning.{input, last_input, node_reads, node_makes, n
 use Rattle.ice_cells.proofs.NodeLevels.{level_meets, level_rank, level_falls}
 use Rattle.ice_emit_nets.specs.Ends.{wire_no, is_free}
 use Rattle.ice_pads.specs.Globals.{has_name}
-use Rattle.ice_pads.specs.Passing.{first_passing}
+use Rattle.ice_pads.specs.Constraints.{first_passing}
 use Rattle.ice_place_defs.specs.Plan.{is_direct}
 use Rattle.ice_emit_defs.specs.Arrivals.{arrival, input_from}
 use Rattle.ice_emit_defs.specs.Led.{IsLed, IsFixedLed, IsFreeLed}

@@ -8,11 +8,10 @@ use Rattle.ice_base.proofs.Booleans.{not_true}
 use Rattle.ice_base_values.specs.Order.{At, Has}
 use Rattle.ice_base_values.proofs.Members.{Has_any, any_Has}
 use Rattle.ice_base_values.proofs.Together.{Has_head, Has_tail}
-use Rattle.ice_chip.specs.Database.{SwitchGroup, SwitchRow}
+use Rattle.ice_chip.specs.Database.{SwitchGroup, SwitchRow, same_pad, same_tile}
 use Rattle.ice_chip.specs.Lookups.{names_of, wire_named}
-use Rattle.ice_chip.specs.Places.{same_pad, same_tile}
 use Rattle.ice_chip.specs.PinNames.{is_memory_name}
-use Rattle.ice_chip.specs.WireNames.{pad_input_name}
+use Rattle.ice_chip.specs.Names.{pad_input_name}
 use Rattle.ice_chip.specs.declared.rows.Pad.{Pad}
 use Rattle.ice_chip.specs.declared.placed.PlacedName.{PlacedName}
 use Rattle.ice_chip.proofs.Keys.{pad_same}
@@ -20,7 +19,7 @@ use Rattle.ice_base.proofs.Keys.{tile_self, nat_self}
 use Rattle.ice_decode.specs.declared.driver.Switch.{Switch}
 use Rattle.ice_decode.specs.Direct.{is_padin}
 use Rattle.ice_decode.specs.Drivers.{driver, switches_on}
-use Rattle.ice_decode.specs.Faults.{or_else, first_of, contended_by, contention, is_memory_output, is_foreign_wire, foreign_source, is_output_part, is_input_type, is_read, is_input_read, has_wrong_type, wrong_pad, HasNoLoop}
+use Rattle.ice_decode.specs.Faults.{or_else, first_of, contended_by, contention, is_memory_output, is_foreign_wire, foreign_source, is_output_part, is_input_type, is_wire_read, is_input_read, has_wrong_type, wrong_pad, HasNoLoop}
 use Rattle.ice_decode.specs.Pads.{pads, pin_type}
 use Rattle.ice_decode.specs.Refusals.{IsFaultless, IsFaultOf, IsOfChip}
 use Rattle.ice_decode.specs.declared.fault.DecodeFault.{DecodeFault}
@@ -118,7 +117,7 @@ module _ (g : Premises) where
   unread : (pad : Pad) → Has (pads g.parts) pad → (Has g.plan.ports pad → ⊥) → is_input_read g.parts g.bits pad ≡ false
   unread pad there none = by (wire_named g.parts pad.tile (pad_input_name pad.pio)) refl
     where
-      by : (o : Option ℕ) → wire_named g.parts pad.tile (pad_input_name pad.pio) ≡ o → is_read g.parts g.bits o ≡ false
+      by : (o : Option ℕ) → wire_named g.parts pad.tile (pad_input_name pad.pio) ≡ o → is_wire_read g.parts g.bits o ≡ false
       by None e = refl
       by (Some w) e =
           false_from_ne_true (list_any (λ (s : Switch). s.source.0 == w) (switches_on g.bits g.parts.groups))

@@ -14,13 +14,13 @@ use Rattle.ice_base_values.proofs.Members.{Has_all}
 use Rattle.ice_chip.specs.Database.{Parts}
 use Rattle.ice_chip.specs.IsRead.{IsRead}
 use Rattle.ice_chip.specs.Lookups.{global_of, wire_named}
-use Rattle.ice_chip.specs.WireNames.{fabout_name}
+use Rattle.ice_chip.specs.Names.{fabout_name}
 use Rattle.ice_chip.specs.Within.{FeedsGlobal}
 use Rattle.ice_chip_laws.specs.Laws.{IsLawful}
 use Rattle.ice_decode.specs.declared.role.Role.{Role}
 use Rattle.ice_decode.specs.declared.role.Role.TheVariants.{Plain, Output, LookUp, CarryOut, PadInput, Global, CarryIn, ClockEnable}
 use Rattle.ice_decode.specs.Reads.{global_feed, wire_point, at_pin_of}
-use Rattle.ice_decode.specs.Roles.{role_of}
+use Rattle.ice_decode.specs.Drivers.{role_of}
 use Rattle.ice_emit_meaning_laws.specs.Feeds.{FeedsNoGlobal, HasGlobalRing, IsRingless, feeders, global_numbers, feed_of, is_fed_by_global, is_global, some_fed_below}
 use Rattle.ice_emit_meaning_laws.proofs.IoFeeds.{number}
 

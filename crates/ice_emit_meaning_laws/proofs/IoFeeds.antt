@@ -4,13 +4,13 @@ use Rattle.ice_base.specs.declared.number.TileAt.{TileAt}
 use Rattle.ice_base.proofs.Options.{option_map_some}
 use Rattle.ice_chip.specs.Database.{Parts}
 use Rattle.ice_chip.specs.Lookups.{global_of, wire_named}
-use Rattle.ice_chip.specs.WireNames.{fabout_name}
+use Rattle.ice_chip.specs.Names.{fabout_name}
 use Rattle.ice_chip_laws.specs.Laws.{IsLawful}
 use Rattle.ice_decode.specs.declared.point.Point.{Point}
 use Rattle.ice_decode.specs.declared.point.Point.TheVariants.{Wire, Carry}
 use Rattle.ice_decode.specs.declared.role.Role.TheVariants.{Plain, Global}
 use Rattle.ice_decode.specs.Reads.{wire_point, at_pin_of}
-use Rattle.ice_decode.specs.Roles.{role_of}
+use Rattle.ice_decode.specs.Drivers.{role_of}
 use Rattle.ice_emit_meaning_laws.specs.Feeds.{FeedsNoGlobal, AreFedByIo}
 use Rattle.ice_emit_meaning_laws.proofs.Pins.{fabout_plain}
 

@@ -7,7 +7,7 @@ use Rattle.ice_base.specs.declared.number.TileAt.{TileAt}
 use Rattle.ice_base.proofs.Keys.{nat_same, nat_self}
 use Rattle.ice_base_values.specs.Order.{Has}
 use Rattle.ice_chip.specs.Lookups.{kind_at, wire_named}
-use Rattle.ice_chip.specs.WireNames.{input_name, carry_out_name}
+use Rattle.ice_chip.specs.Names.{input_name, carry_out_name}
 use Rattle.ice_chip.specs.declared.rows.Pad.{Pad}
 use Rattle.ice_chip.specs.declared.rows.TileKind.TheVariants.{Logic}
 use Rattle.ice_decode.specs.declared.point.Point.{Point}
@@ -19,7 +19,7 @@ use Rattle.ice_decode.specs.declared.driver.Switch.{Switch}
 use Rattle.ice_decode.specs.Cells.{has_flop, logic_tiles}
 use Rattle.ice_decode.specs.Meaning.{kept_at, tile_place, role_makes}
 use Rattle.ice_decode.specs.Reads.{wire_point, at_pin, cell_inputs, role_reads}
-use Rattle.ice_decode.specs.Roles.{role_of}
+use Rattle.ice_decode.specs.Drivers.{role_of}
 use Rattle.ice_decode.proofs.RolePlaces.{IsCell}
 use Rattle.ice_cells.specs.declared.cell.LogicCell.{LogicCell}
 use Rattle.ice_cells.specs.declared.root.Root.TheVariants as root

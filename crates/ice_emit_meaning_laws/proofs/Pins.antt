@@ -6,8 +6,7 @@ use Rattle.ice_base.proofs.Keys.{bytes_same}
 use Rattle.ice_base_values.proofs.Members.{any_Has}
 use Rattle.ice_chip.specs.Database.{Parts}
 use Rattle.ice_chip.specs.Lookups.{kind_at, names_of, wire_named}
-use Rattle.ice_chip.specs.PinNames.{is_global_name}
-use Rattle.ice_chip.specs.WireNames.{input_name, output_name, carry_out_name, clock_name, clock_enable_name, set_reset_name, first_carry_name, pad_input_name, pad_output_name, output_enable_name, fabout_name, global_name}
+use Rattle.ice_chip.specs.Names.{is_global_name, input_name, output_name, carry_out_name, clock_name, clock_enable_name, set_reset_name, first_carry_name, pad_input_name, pad_output_name, output_enable_name, fabout_name, global_name}
 use Rattle.ice_chip.specs.declared.rows.TileKind.{TileKind}
 use Rattle.ice_chip.specs.declared.rows.TileKind.TheVariants.{Io, Logic}
 use Rattle.ice_chip.specs.declared.placed.PlacedName.{PlacedName}
@@ -15,7 +14,7 @@ use Rattle.ice_chip_laws.specs.Laws.{IsLawful}
 use Rattle.ice_chip_laws.specs.Pins.{is_pin_in}
 use Rattle.ice_decode.specs.declared.role.Role.{Role}
 use Rattle.ice_decode.specs.declared.role.Role.TheVariants.{Plain, Output, CarryOut, PadInput, Global, CarryIn, ClockEnable}
-use Rattle.ice_decode.specs.Roles.{number_at, role_in, role_or, role_of}
+use Rattle.ice_decode.specs.Drivers.{number_at, role_in, role_or, role_of}
 use Rattle.ice_decode.proofs.GlobalsNamed.{global_pin}
 use Rattle.ice_decode.proofs.PinRoles.{pin_role, global_any}
 use Rattle.ice_decode.proofs.OtherTypes.{each_two}

@@ -8,9 +8,8 @@ use Rattle.indexmap.specs.IndexSet.{insert_key, insert_all}
 use Rattle.ice_base.specs.declared.number.TileAt.{TileAt}
 use Rattle.ice_base_values.specs.Order.{At, Has}
 use Rattle.ice_base_values.proofs.Members.{Has_any, any_Has, Has_all, map_Has}
-use Rattle.ice_chip.specs.Database.{Parts}
+use Rattle.ice_chip.specs.Database.{Parts, same_pad}
 use Rattle.ice_chip.specs.Lookups.{kind_at, wire_named}
-use Rattle.ice_chip.specs.Places.{same_pad}
 use Rattle.ice_chip.specs.Within.{IsPad, IsPackage}
 use Rattle.ice_chip.proofs.Keys.{pad_same}
 use Rattle.ice_chip.specs.declared.rows.Pad.{Pad}

@@ -4,9 +4,8 @@ use Rattle.std.specs.Option.{option_map_or}
 use Rattle.std.proofs.lemmas.List.{length-map}
 use Rattle.std.proofs.lemmas.Option.{same_Some, slice_get_within, slice_get-get_or}
 use Rattle.ice_base.specs.declared.number.TileAt.{TileAt}
-use Rattle.ice_base_values.specs.Inputs.{present}
 use Rattle.ice_base_values.specs.Order.{At, Has, IsCycle}
-use Rattle.ice_base_values.specs.System.{System}
+use Rattle.ice_base_values.specs.System.{System, present}
 use Rattle.ice_base_values.proofs.Cycles.{value_in_cycle}
 use Rattle.ice_base_values.proofs.Members.{map_At}
 use Rattle.ice_chip.specs.Database.{Parts}
@@ -16,9 +15,9 @@ use Rattle.ice_decode.specs.declared.role.Role.{Role}
 use Rattle.ice_decode.specs.declared.driver.Driver.{Driver}
 use Rattle.ice_decode.specs.Direct.{takes_pad}
 use Rattle.ice_decode.specs.Faults.{HasNoLoop}
-use Rattle.ice_decode.specs.Meaning.{system_of}
+use Rattle.ice_decode.specs.Meaning.{chip_system}
 use Rattle.ice_decode.specs.Reads.{depends_on, driven_reads, global_feed, role_reads, wire_point}
-use Rattle.ice_decode.specs.Roles.{role_of}
+use Rattle.ice_decode.specs.Drivers.{role_of}
 use Rattle.ice_decode.proofs.ReadPoints.{IsReadBy, is_read_by}
 use Rattle.ice_emit_meaning_laws.specs.Feeds.{HasGlobalRing, IsRingless, feeders, global_number, global_numbers}
 use Rattle.ice_emit_meaning_laws.proofs.Feeding.{found_feed}
@@ -82,7 +81,7 @@ number_in parts (Carry t i) = 0
 
 module _ (g : Premises) (cycle : List Point) (c : IsCycle (depends_on g.parts g.bits g.extras) cycle) where
   abbrev system : System Point Bool
-  system = system_of g.parts g.bits g.extras [] [] []
+  system = chip_system g.parts g.bits g.extras [] [] []
 
   abbrev IsLevelled : Point → Type 0
   IsLevelled p = IsValued g [] [] [] [] (λ t i c cell s. nothing_kept g t i) p

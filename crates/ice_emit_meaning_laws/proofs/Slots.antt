@@ -9,10 +9,9 @@ use Rattle.ice_base.proofs.Keys.{tile_same, tile_self}
 use Rattle.ice_base_values.specs.Order.{At}
 use Rattle.ice_base_values.proofs.Members.{At_within}
 use Rattle.ice_base_values.proofs.Places.{At_same}
-use Rattle.ice_chip.specs.Database.{Parts}
+use Rattle.ice_chip.specs.Database.{Parts, same_tile}
 use Rattle.ice_chip.specs.Lookups.{kind_at, wire_named}
-use Rattle.ice_chip.specs.Places.{same_tile}
-use Rattle.ice_chip.specs.WireNames.{first_carry_name, input_name}
+use Rattle.ice_chip.specs.Names.{first_carry_name, input_name}
 use Rattle.ice_chip.specs.declared.rows.TileKind.{TileKind}
 use Rattle.ice_chip.specs.declared.rows.TileKind.TheVariants.{Io, Logic, RamBottom, RamTop}
 use Rattle.ice_cells.specs.declared.cell.LogicCell.{LogicCell}

@@ -8,7 +8,7 @@ use Rattle.ice_base.proofs.Options.{and_then_some}
 use Rattle.ice_base_values.specs.Order.{At, Has}
 use Rattle.ice_base_values.proofs.Places.{At_same}
 use Rattle.ice_chip.specs.Lookups.{wire_named}
-use Rattle.ice_chip.specs.WireNames.{output_name, carry_out_name, first_carry_name, pad_input_name}
+use Rattle.ice_chip.specs.Names.{output_name, carry_out_name, first_carry_name, pad_input_name}
 use Rattle.ice_chip.specs.declared.rows.Pad.{Pad}
 use Rattle.ice_decode.specs.declared.driver.Switch.{Switch}
 use Rattle.ice_decode.specs.declared.driver.Driver.TheVariants.{Nothing}

@@ -7,26 +7,22 @@ use Rattle.ice_base.specs.declared.number.TileAt.{TileAt}
 use Rattle.ice_base.specs.declared.number.WireNo.{WireNo}
 use Rattle.ice_base.proofs.Keys.{tile_self}
 use Rattle.ice_base_values.specs.Order.{At, Has}
-use Rattle.ice_base_values.specs.Inputs.{reading}
-use Rattle.ice_base_values.specs.System.{value}
-use Rattle.ice_base_values.specs.Machine as machine
-use Rattle.ice_base_values.specs.Machine.{Simulates}
+use Rattle.ice_base_values.specs.System.{value, reading, Simulates, machine_shows}
 use Rattle.ice_base_values.proofs.Machines.{shows_always_alike}
 use Rattle.ice_base_values.proofs.Members.{At_map, At_within}
 use Rattle.ice_base_values.proofs.Values.{value_at_more}
 use Rattle.ice_base_values.proofs.ListPlaces.{all_alike}
 use Rattle.ice_chip.specs.Lookups.{kind_at, wire_named}
-use Rattle.ice_chip.specs.Places.{same_tile}
-use Rattle.ice_chip.specs.WireNames.{input_name, clock_name, clock_enable_name, set_reset_name, pad_output_name, output_enable_name}
-use Rattle.ice_chip.specs.FunctionNames.{falling_clock_function}
+use Rattle.ice_chip.specs.Database.{same_tile}
+use Rattle.ice_chip.specs.Names.{input_name, clock_name, clock_enable_name, set_reset_name, pad_output_name, output_enable_name, falling_clock_function}
 use Rattle.ice_chip.specs.declared.rows.Pad.{Pad}
 use Rattle.ice_chip.specs.declared.rows.TileKind.TheVariants.{Io, Logic}
 use Rattle.ice_bits.specs.Settings.{set_at}
-use Rattle.ice_net.specs.declared.drive.Drive.TheVariants.{Off}
+use Rattle.ice_net.specs.declared.driver.Drive.TheVariants.{Off}
 use Rattle.ice_net.specs.declared.kind.Reset.{Reset}
 use Rattle.ice_net.specs.declared.kind.Reset.TheVariants as reset
 use Rattle.ice_net.specs.Drives.{pad_drive}
-use Rattle.ice_net.specs.Flops.{is_edge, fired}
+use Rattle.ice_net.specs.Kinds.{is_edge, fired}
 use Rattle.ice_net.specs.Meaning.{State}
 use Rattle.ice_decode.specs.declared.point.Point.{Point}
 use Rattle.ice_decode.specs.declared.point.Point.TheVariants.{Wire, Carry}
@@ -35,11 +31,10 @@ use Rattle.ice_decode.specs.declared.driver.Driver.TheVariants.{Nothing}
 use Rattle.ice_decode.specs.Cells.{logic_tiles, has_flop, reset_of, looked_up}
 use Rattle.ice_decode.specs.Faults.{HasNoLoop}
 use Rattle.ice_decode.specs.Meaning as chip
-use Rattle.ice_decode.specs.Meaning.{tile_place, kept_at, store_after, clock_after, point_level, system_of, drive_at}
-use Rattle.ice_decode.specs.Pads.{pads, pin_level, part_drive}
+use Rattle.ice_decode.specs.Meaning.{tile_place, kept_at, store_after, clock_after, point_level, chip_system, drive_at}
+use Rattle.ice_decode.specs.Pads.{pads, pin_level, part_drive, Store, CellStore, stores, output_kept}
 use Rattle.ice_decode.specs.Reads.{wire_point, at_pin, cell_inputs, count_points}
-use Rattle.ice_decode.specs.Registers.{Store, CellStore, stores, output_kept}
-use Rattle.ice_decode.specs.Roles.{role_of}
+use Rattle.ice_decode.specs.Drivers.{role_of}
 use Rattle.ice_decode.proofs.KeptLevels.{kept_stepped, clock_stepped, cell_stands}
 use Rattle.ice_decode.proofs.PointPlaces.{wire_at}
 use Rattle.ice_decode.proofs.RolePlaces as places
@@ -85,11 +80,11 @@ maps_alike f h (x ∷ xs) (y ∷ ys) long same =
     λ i. one i ∷ rest i
 
 -- what a machine shows for levels that are made of others
-shows_over : {S L M O : Type 0} (step : S → M → S × O) (f : L → M) (s : S) (ls : List L) → machine.shows step s (map f ls) ≡ machine.shows (λ t l. step t (f l)) s ls
+shows_over : {S L M O : Type 0} (step : S → M → S × O) (f : L → M) (s : S) (ls : List L) → machine_shows step s (map f ls) ≡ machine_shows (λ t l. step t (f l)) s ls
 shows_over step f s [] = refl
 shows_over step f s (l ∷ ls) = ap (λ os. (step s (f l)).1 ∷ os) (shows_over step f (step s (f l)).0 ls)
 
-shows_one : {S L O : Type 0} (step : S → L → S × O) (o : O) → ((s : S) (l : L) → (step s l).1 ≡ o) → (s : S) (ls : List L) → machine.shows step s ls ≡ replicate (length ls) o
+shows_one : {S L O : Type 0} (step : S → L → S × O) (o : O) → ((s : S) (l : L) → (step s l).1 ≡ o) → (s : S) (ls : List L) → machine_shows step s ls ≡ replicate (length ls) o
 shows_one step o same s [] = refl
 shows_one step o same s (l ∷ ls) =
     let one = same s l in
@@ -164,7 +159,7 @@ module _ (g : Premises) (loopless : HasNoLoop g.parts g.bits g.extras) where
 
     level_now : (w : WireNo) (x : Bool) → w.0 < g.parts.wires → HasLevel g.parts g.bits g.extras bonded levels s.kept (Wire w) x → now (Wire w) ≡ x
     level_now w x lt (k, e) =
-        let system = system_of g.parts g.bits g.extras bonded levels s.kept in
+        let system = chip_system g.parts g.bits g.extras bonded levels s.kept in
         let is : value system (count_points g.parts + 1) (Wire w) ≡ Some (now (Wire w)) =
         faultless_valued g.parts g.bits g.extras g.chip_read (faultless g loopless) bonded levels s.kept (Wire w) (w.0, wire_at g.parts.wires (logic_tiles g.parts) w.0 lt) in
         let one = value_at_more system (count_points g.parts + 1) (k + (count_points g.parts + 1)) (Wire w) (now (Wire w)) (omega arith) is in
@@ -353,7 +348,7 @@ module _ (g : Premises) (loopless : HasNoLoop g.parts g.bits g.extras) where
     drives_now = maps_alike (drive_at g.parts g.bits s.kept now) (pad_drives node_now) g.plan.ports d.pads g.placed.pads.ports drive_now
 
   -- ---- all steps
-  alike_start : Alike (chip.start g.parts) (design.start d)
+  alike_start : Alike (chip.chip_start g.parts) (design.start d)
   alike_start = record {
     kept = λ u i c cell stands k found. At_map (λ (x : Store). false) (stores g.parts) (8 * k + i) (CellStore u i) (cell_stands g.parts u i k found (below g u i c cell stands))
         ∙ ap (λ (x : Bool). Some x) (sym (all_alike false d.cells c));
@@ -362,18 +357,18 @@ module _ (g : Premises) (loopless : HasNoLoop g.parts g.bits g.extras) where
   }
 
   module _ (bonded : List Pad) where
-    simulates : Simulates (chip.step g.parts g.bits g.extras bonded g.plan.ports) (λ t levels. design.step d t (port_levels bonded g.plan.ports levels)) Alike (λ levels. Unit {0})
+    simulates : Simulates (chip.chip_step g.parts g.bits g.extras bonded g.plan.ports) (λ t levels. design.step d t (port_levels bonded g.plan.ports levels)) Alike (λ levels. Unit {0})
     simulates s t levels allowed alike = (alike_then bonded levels s t alike, drives_now bonded levels s t alike)
 
-    pub shows_same : (steps : List (List Bool)) → chip.shows g.parts g.bits g.extras bonded g.plan.ports steps ≡ design.shows d (map (port_levels bonded g.plan.ports) steps)
+    pub shows_same : (steps : List (List Bool)) → chip.bits_show g.parts g.bits g.extras bonded g.plan.ports steps ≡ design.shows d (map (port_levels bonded g.plan.ports) steps)
     shows_same steps =
-        shows_always_alike (chip.step g.parts g.bits g.extras bonded g.plan.ports) (λ t levels. design.step d t (port_levels bonded g.plan.ports levels)) Alike simulates (chip.start g.parts) (design.start d) alike_start steps
+        shows_always_alike (chip.chip_step g.parts g.bits g.extras bonded g.plan.ports) (λ t levels. design.step d t (port_levels bonded g.plan.ports levels)) Alike simulates (chip.chip_start g.parts) (design.start d) alike_start steps
         ∙ sym (shows_over (design.step d) (port_levels bonded g.plan.ports) (design.start d) steps)
 
     -- every other pad is off
-    pub off_elsewhere : (steps : List (List Bool)) (pad : Pad) → Has (pads g.parts) pad → (Has g.plan.ports pad → ⊥) → chip.shows g.parts g.bits g.extras bonded (pad ∷ []) steps ≡ replicate (length steps) (Off ∷ [])
+    pub off_elsewhere : (steps : List (List Bool)) (pad : Pad) → Has (pads g.parts) pad → (Has g.plan.ports pad → ⊥) → chip.bits_show g.parts g.bits g.extras bonded (pad ∷ []) steps ≡ replicate (length steps) (Off ∷ [])
     off_elsewhere steps pad there none =
-        shows_one (chip.step g.parts g.bits g.extras bonded (pad ∷ [])) (Off ∷ [])
+        shows_one (chip.chip_step g.parts g.bits g.extras bonded (pad ∷ [])) (Off ∷ [])
         (λ s levels. ap (λ n. part_drive (n / 4) (pin_level false g.parts (point_level g.parts g.bits g.extras bonded levels s.kept) pad.tile (pad_output_name pad.pio))
         (pin_level false g.parts (point_level g.parts g.bits g.extras bonded levels s.kept) pad.tile (output_enable_name pad.pio)) (output_kept g.parts s.kept pad) ∷ []) (g.are_set.untyped pad there none))
-        (chip.start g.parts) steps
+        (chip.chip_start g.parts) steps

@@ -18,20 +18,18 @@ use Rattle.ice_decode.specs.declared.driver.Driver.{Driver}
 use Rattle.ice_decode.specs.declared.driver.Driver.TheVariants.{Nothing, By}
 use Rattle.ice_decode.specs.declared.driver.Switch.{Switch}
 use Rattle.ice_decode.specs.Cells.{has_carry}
-use Rattle.ice_decode.specs.Drivers.{driver}
-use Rattle.ice_decode.specs.Meaning as chip
-use Rattle.ice_decode.specs.Meaning.{passes, driven_makes, makes}
-use Rattle.ice_decode.specs.Reads.{carry_inputs, driven_reads, reads, wire_point}
-use Rattle.ice_decode.specs.Roles.{role_of}
+use Rattle.ice_decode.specs.Drivers.{driver, role_of}
+use Rattle.ice_decode.specs.Meaning.{passes, driven_makes, makes_at, chip_system}
+use Rattle.ice_decode.specs.Reads.{carry_inputs, driven_reads, reads_at, wire_point}
 use Rattle.ice_emit_rows_laws.specs.Wanted.{IsWired}
 use Rattle.ice_emit_defs.specs.Led.{LeadFrom, Here, ByRow}
 
 module _ (parts : Parts) (bits : Bits) (extras : List (ℕ × ℕ × ℕ)) (bonded : List Pad) (levels kept : List Bool) where
   abbrev pub HasLevel : Point → Bool → Type 0
-  HasLevel p x = HasValue (chip.system_of parts bits extras bonded levels kept) p x
+  HasLevel p x = HasValue (chip_system parts bits extras bonded levels kept) p x
 
   abbrev pub HaveLevels : List (Option Point) → List Bool → Type 0
-  HaveLevels ps xs = HaveValues (chip.system_of parts bits extras bonded levels kept) false ps xs
+  HaveLevels ps xs = HaveValues (chip_system parts bits extras bonded levels kept) false ps xs
 
   -- an input reads the level; one that has no wire reads 0
   abbrev pub Reads : Option Point → Bool → Type 0
@@ -46,19 +44,19 @@ module _ (parts : Parts) (bits : Bits) (extras : List (ℕ × ℕ × ℕ)) (bond
   pub wire_made : (w : ℕ) (d : Driver) (r : Role) (xs : List Bool) (x : Bool) → driver parts bits w ≡ d → role_of parts w ≡ r → HaveLevels (driven_reads parts bits extras r d) xs
       → driven_makes parts bits extras bonded levels kept r d xs ≡ x → HasLevel (wire_point w) x
   wire_made w d r xs x ed er all made =
-      value_made (reads parts bits extras) false (makes parts bits extras bonded levels kept) (wire_point w) xs x
+      value_made (reads_at parts bits extras) false (makes_at parts bits extras bonded levels kept) (wire_point w) xs x
       (subst (λ (e : Driver). HaveLevels (driven_reads parts bits extras (role_of parts w) e) xs) (sym ed) (subst (λ (s : Role). HaveLevels (driven_reads parts bits extras s d) xs) (sym er) all))
       (ap (λ e. driven_makes parts bits extras bonded levels kept (role_of parts w) e xs) ed ∙ ap (λ s. driven_makes parts bits extras bonded levels kept s d xs) er ∙ made)
 
   -- what a carry makes, where it is enabled, and where it is not
   pub carry_made : (t : TileAt) (i : ℕ) (x y z m : Bool) → has_carry parts bits t i ≡ true → HaveLevels (carry_inputs parts t i) (x ∷ y ∷ z ∷ []) → majority x y z ≡ m → HasLevel (Carry t i) m
   carry_made t i x y z m on all made =
-      value_made (reads parts bits extras) false (makes parts bits extras bonded levels kept) (Carry t i) (x ∷ y ∷ z ∷ []) m
+      value_made (reads_at parts bits extras) false (makes_at parts bits extras bonded levels kept) (Carry t i) (x ∷ y ∷ z ∷ []) m
       (subst (λ (ps : List (Option Point)). HaveLevels ps (x ∷ y ∷ z ∷ [])) (sym (ap (λ b. cond b (carry_inputs parts t i) []) on)) all) made
 
   pub carry_off : (t : TileAt) (i : ℕ) → has_carry parts bits t i ≡ false → HasLevel (Carry t i) false
   carry_off t i off =
-      value_made (reads parts bits extras) false (makes parts bits extras bonded levels kept) (Carry t i) [] false
+      value_made (reads_at parts bits extras) false (makes_at parts bits extras bonded levels kept) (Carry t i) [] false
       (subst (λ (ps : List (Option Point)). HaveLevels ps []) (sym (ap (λ b. cond b (carry_inputs parts t i) []) off)) tt) refl
 
   -- the wire of a carry has its level

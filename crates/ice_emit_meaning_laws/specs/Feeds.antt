@@ -5,7 +5,7 @@ use Rattle.ice_base.specs.declared.number.TileAt.{TileAt}
 use Rattle.ice_base_values.specs.Order.{IsCycle}
 use Rattle.ice_chip.specs.Database.{Parts}
 use Rattle.ice_chip.specs.Lookups.{global_of, kind_at, wire_named}
-use Rattle.ice_chip.specs.WireNames.{fabout_name}
+use Rattle.ice_chip.specs.Names.{fabout_name}
 use Rattle.ice_chip.specs.declared.rows.TileKind.TheVariants.{Io}
 use Rattle.ice_decode.specs.declared.role.Role.{Role}
 use Rattle.ice_decode.specs.declared.role.Role.TheVariants.{Plain, Output, LookUp, CarryOut, PadInput, Global, CarryIn, ClockEnable}
@@ -14,7 +14,7 @@ use Rattle.ice_decode.specs.declared.fault.DecodeFault.{DecodeFault}
 use Rattle.ice_decode.specs.declared.fault.DecodeFault.TheVariants.{NoMemory}
 use Rattle.ice_decode.specs.Refusals.{IsFaultOf}
 use Rattle.ice_decode.specs.Reads.{global_feed, wire_point}
-use Rattle.ice_decode.specs.Roles.{role_of}
+use Rattle.ice_decode.specs.Drivers.{role_of}
 
 -- No wire that feeds a global is a global itself.
 pub record FeedsNoGlobal (parts : Parts) : Type 0 where

@@ -6,7 +6,7 @@ use Rattle.ice_chip.specs.Database.{Parts}
 use Rattle.ice_cells.specs.Tables.{table}
 use Rattle.ice_cells.specs.declared.root.Root.{Root}
 use Rattle.ice_place_defs.specs.Plan.{Plan, Slot}
-use Rattle.ice_emit_nets.specs.declared.wires.Wires.{Wires}
+use Rattle.ice_emit_nets.specs.declared.wires.DrivenWires.{DrivenWires}
 use Rattle.ice_emit_nets.specs.Ends.{wire_no}
 use Rattle.ice_emit_nets.specs.Nets.{slot_wire, pad_root, cell_root, global_root, root_wire}
 
@@ -16,7 +16,7 @@ pub record RootWires : Type 0 where
   pub cells : List (Option WireNo)
   pub globals : List (Option WireNo)
 
-abbrev pub wires_in : Wires → RootWires
+abbrev pub wires_in : DrivenWires → RootWires
 wires_in wires = record { pads = wires.pads.items; cells = wires.cells.items; globals = wires.globals.items }
 
 abbrev pub slot_no : Parts → Option Slot → Option WireNo

@@ -4,14 +4,15 @@ ghost use Rattle.std.specs.Option.{option_map_or};
 ghost use Rattle.ice_place_defs.specs.Loads.{clusters_give};
 ghost use Rattle.ice_emit_nets.specs.Ends.{cell_ends, control_ends, ends};
 ghost use Rattle.ice_emit_nets.specs.Given.{cluster_ends};
-ghost use Rattle.ice_emit_nets.specs.Plans.{plan_in};
+ghost use Rattle.ice_place_defs.specs.Plan.{plan_in};
 
 use crate::cells::{push_control, push_slots};
 use crate::pads::{push_globals, push_pads};
-use crate::placed::{Placed, tile_at};
+use crate::placed::tile_at;
 use ice_base::{NoMemory, Sink, TileAt};
 use ice_cells::{Cluster, LogicCell, Root};
 use ice_chip::Chip;
+use ice_place_defs::Placed;
 use std::alloc::Global;
 
 // Adds the sinks of a cluster: those of its cells, and then those of what they share.

@@ -5,7 +5,7 @@ ghost use Rattle.ice_emit_nets.specs.Rooted.{wires_in};
 ghost use Rattle.ice_emit_nets.specs.Sorted.{sorted_in};
 
 use crate::lists::Lists;
-use crate::wires::Wires;
+use crate::wires::DrivenWires;
 use ice_base::{NetNo, NoMemory, Sink, WireNo, to_u32};
 use ice_cells::Items;
 use ice_core::Net;
@@ -62,7 +62,7 @@ fn push_nets(
 }
 
 /// The nets of all roots that have a wire and sinks: of pads, of cells and of global buffers, numbered in order.
-pub fn collect(alloc: Global, wires: &Wires, lists: Lists) -> Result<Vec<Net>, NoMemory>
+pub fn collect(alloc: Global, wires: &DrivenWires, lists: Lists) -> Result<Vec<Net>, NoMemory>
     ensures nets { IfOk result (λ nets. bare_nets nets.items ≡ all_nets (wires_in wires.now) (sorted_in lists)) }
     ensures numbers { IfOk result (λ nets. AreNumbered nets.items) }
 {

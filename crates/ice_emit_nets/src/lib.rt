@@ -18,5 +18,4 @@ mod wires;
 pub use cells::is_free;
 pub use making::{nets_of, placed_of};
 pub use pins::{TilePin, pin_wire};
-pub use placed::Placed;
-pub use wires::{Wires, wires_of};
+pub use wires::{DrivenWires, wires_of};

@@ -2,12 +2,12 @@
 ghost use Rattle.std.specs.Prelude.{◌≡◌, map, length, IfOk};
 ghost use Rattle.std.specs.List.{range_with_len};
 ghost use Rattle.ice_emit_nets.specs.Nets.{nets_of, bare_net, net_number};
-ghost use Rattle.ice_emit_nets.specs.Plans.{plan_in, plan_of};
+ghost use Rattle.ice_emit_nets.specs.Plans.{plan_of};
+ghost use Rattle.ice_place_defs.specs.Plan.{plan_in};
 
 use crate::clusters::ends_of;
 use crate::collecting::collect;
 use crate::lists::lists_of;
-use crate::placed::Placed;
 use crate::wires::wires_of;
 use ice_base::NoMemory;
 use ice_cells::{Clusters, Design};
@@ -15,6 +15,7 @@ use ice_chip::Chip;
 use ice_core::Net;
 use ice_pads::Pads;
 use ice_place::Placement;
+use ice_place_defs::Placed;
 use std::alloc::Global;
 
 // The nets of a placed design.

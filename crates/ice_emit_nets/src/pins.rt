@@ -2,7 +2,7 @@
 ghost use Rattle.std.specs.Prelude.{◌≡◌, ◌++◌, ◌∷◌, [], map, option_map, IfOk, OnOk};
 ghost use Rattle.std.specs.List.{cons_option};
 ghost use Rattle.ice_chip.specs.Lookups.{wire_named};
-ghost use Rattle.ice_chip.specs.WireNames.{input_name};
+ghost use Rattle.ice_chip.specs.Names.{input_name};
 ghost use Rattle.ice_place_defs.specs.Loads.{load_at};
 ghost use Rattle.ice_emit_nets.specs.Ends.{wire_no, pin_wire, pin_wires, load_end};
 ghost use Rattle.ice_emit_nets.specs.Pins.{pin_in};

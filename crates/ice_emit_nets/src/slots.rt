@@ -2,14 +2,14 @@
 ghost use Rattle.std.specs.Prelude.{◌≡◌, None, Some, [], length, replicate, IfOk};
 ghost use Rattle.std.specs.Option.{option_map_or};
 ghost use Rattle.ice_cells.specs.Tables.{keep, put_at, table};
-ghost use Rattle.ice_place_defs.specs.Plan.{slot_of};
-ghost use Rattle.ice_emit_nets.specs.Plans.{plan_in};
+ghost use Rattle.ice_place_defs.specs.Plan.{slot_of, plan_in};
 ghost use Rattle.ice_emit_nets.specs.Sides.{sides};
 ghost use Rattle.ice_emit_nets.specs.Slots.{held, held_slot, noted, tile_slots, cluster_slots};
 
-use crate::placed::{Placed, tile_at};
+use crate::placed::tile_at;
 use ice_base::{NoMemory, TileAt};
 use ice_cells::Cluster;
+use ice_place_defs::Placed;
 use std::alloc::Global;
 
 // What is known of the slot of a cell stays, and where nothing is known it is this one.

@@ -1,26 +1,25 @@
 //! The wires that roots drive.
 ghost use Rattle.std.specs.Prelude.{◌≡◌, map, length, option_map, IfOk};
 ghost use Rattle.ice_chip.specs.Lookups.{wire_named};
-ghost use Rattle.ice_chip.specs.WireNames.{output_name};
+ghost use Rattle.ice_chip.specs.Names.{output_name};
 ghost use Rattle.ice_cells.specs.Tables.{table};
 ghost use Rattle.ice_pads.specs.Globals.{global_wire};
-ghost use Rattle.ice_place_defs.specs.Plan.{slot_of};
+ghost use Rattle.ice_place_defs.specs.Plan.{slot_of, plan_in};
 ghost use Rattle.ice_emit_nets.specs.Ends.{wire_no};
 ghost use Rattle.ice_emit_nets.specs.Nets.{pad_wire};
-ghost use Rattle.ice_emit_nets.specs.Plans.{plan_in};
 ghost use Rattle.ice_emit_nets.specs.Rooted.{slot_no, wires_in, root_wires};
 
 use crate::globals::global_no;
 use crate::pins::named;
-use crate::placed::Placed;
 use crate::slots::slots_of;
 use ice_base::{NoMemory, TileAt, WireNo};
 use ice_chip::{Chip, Pad, output_name, pad_input_name};
+use ice_place_defs::Placed;
 use std::alloc::Global;
 
 /// The wire that each pad, each cell and each global buffer drives, if there is one, by their numbers.
 #[derive(Drop)]
-pub struct Wires {
+pub struct DrivenWires {
     /// The input of the pad of each port.
     pub pads: Vec<Option<WireNo>>,
     /// The output of each cell.
@@ -103,13 +102,13 @@ fn global_wires(alloc: Global, chip: &Chip, globals: &[u8]) -> Result<Vec<Option
 ///
 /// # Errors
 /// Want of memory alone.
-pub fn wires_of(alloc: Global, placed: &Placed<'_>) -> Result<Wires, NoMemory>
+pub fn wires_of(alloc: Global, placed: &Placed<'_>) -> Result<DrivenWires, NoMemory>
     ensures { IfOk result (λ wires. wires_in wires ≡ root_wires placed.now.chip.now (plan_in placed.now)) }
 {
     let pads = pad_wires(alloc, placed.chip, placed.ports)?;
     let cells = cell_wires(alloc, placed)?;
     let globals = global_wires(alloc, placed.chip, placed.globals)?;
-    Ok(Wires {
+    Ok(DrivenWires {
         pads,
         cells,
         globals,

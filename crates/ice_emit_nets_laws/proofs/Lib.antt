@@ -1,3 +1,5 @@
 mod Routing
 mod Targets
 mod Routable
+mod Once
+mod Few

@@ -1,21 +1,19 @@
 -- Each sink of a placed design has a target, and its targets are wires of the chip.
-use Rattle.std.proofs.Common.{◌≡◌, ◌⊎◌, ℕ, zero, suc, ◌+◌, ◌<◌, Bool, true, false, cond, Option, None, Some, List, [], ◌∷◌, ◌++◌, inl, inr, refl, sym, ap, ◌∙◌, subst, arith}
+use Rattle.std.proofs.Common.{◌≡◌, ℕ, zero, suc, ◌+◌, ◌<◌, Bool, true, false, cond, Option, None, Some, List, [], ◌∷◌, ◌++◌, inl, inr, refl, sym, ap, ◌∙◌, subst, arith}
 use Rattle.std.specs.Prelude.{◌&&◌, map, option_map, slice_index_or}
 use Rattle.std.proofs.lemmas.Bool.{and_parts}
-use Rattle.std.proofs.lemmas.Option.{none-some, same_Some}
+use Rattle.std.proofs.lemmas.Option.{same_Some}
 use Rattle.ice_base.specs.declared.number.TileAt.{TileAt}
 use Rattle.ice_base.specs.declared.number.WireNo.{WireNo}
 use Rattle.ice_base_values.specs.Order.{Has}
 use Rattle.ice_base_values.proofs.Members.{Has_none, map_Has}
 use Rattle.ice_chip.specs.Database.{Parts, PackageRows}
 use Rattle.ice_chip.specs.Lookups.{wire_named, placed_at}
-use Rattle.ice_chip.specs.WireNames.{input_name, output_name, clock_name, clock_enable_name, set_reset_name, fabout_name, pad_output_name, output_enable_name}
+use Rattle.ice_chip.specs.Names.{input_name, output_name, clock_name, clock_enable_name, set_reset_name, fabout_name, pad_output_name, output_enable_name}
 use Rattle.ice_decode.proofs.Members.{Has_append_cases}
-use Rattle.ice_cells.specs.Formed.{IsPad}
 use Rattle.ice_cells.specs.declared.cell.Control.{Control}
 use Rattle.ice_cells.specs.declared.cell.LogicCell.{LogicCell}
 use Rattle.ice_cells.specs.declared.cluster.Cluster.{Cluster}
-use Rattle.ice_cells.specs.declared.design.DesignPad.{DesignPad}
 use Rattle.ice_cells.specs.declared.root.Root.{Root}
 use Rattle.ice_sites.specs.Site.{has_wire, has_cell}
 use Rattle.ice_place_defs.specs.Plan.{Plan}
@@ -28,17 +26,7 @@ use Rattle.ice_emit_led_laws.specs.Trees.{IsOnChip}
 use Rattle.ice_emit_led_laws.proofs.Ends.{slot_given, cluster_given, load_given, pad_given, global_given, free_given, each_end}
 use Rattle.ice_emit_led_laws.proofs.Places.{on_site, slot_below, some_of}
 use Rattle.ice_emit_led_laws.proofs.Roots.{io_wire}
-
--- ---- pads that are driven
-drive_type : (port : DesignPad) (root : Root) → IsPad port → port.drive ≡ Some root → (port.pin_type ≡ 25) ⊎ (port.pin_type ≡ 41)
-drive_type port root (inl one) e = absurd (none-some root (sym one.1 ∙ e))
-drive_type port root (inr (inl two)) e = inl two.0
-drive_type port root (inr (inr three)) e = inr three
-
-enable_type : (port : DesignPad) (root : Root) → IsPad port → port.enable ≡ Some root → port.pin_type ≡ 41
-enable_type port root (inl one) e = absurd (none-some root (sym one.2 ∙ e))
-enable_type port root (inr (inl two)) e = absurd (none-some root (sym two.1 ∙ e))
-enable_type port root (inr (inr three)) e = three
+use Rattle.ice_emit_led_laws.proofs.Reading.{drive_type, enable_type}
 
 module _ (parts : Parts) (rows : PackageRows) (plan : Plan) (pullups : List Bool) (on : IsOnChip parts rows plan pullups) where
   pub named_below : (t : TileAt) (name : List ℕ) (w : ℕ) → wire_named parts t name ≡ Some w → w < parts.wires

@@ -1,4 +1,5 @@
-//! The law of nets of placed designs. The function does nothing: its contract is the law.
+//! The laws of nets of placed designs. The functions do nothing: their contracts are the laws.
+ghost use Rattle.ice_emit_nets_laws.specs.Few.{PlacedNetsAreFew};
 ghost use Rattle.ice_emit_nets_laws.specs.Routing.{RoutedNetsAreTrees};
 ghost use Rattle.ice_emit_nets_laws.specs.Routable.{PlacedNetsAreRoutable};
 
@@ -16,6 +17,17 @@ pub fn routed_nets_are_trees()
 /// target, since each pin that reads a root stands at a pad, a site or a global with the wire.
 pub fn placed_nets_are_routable()
     ensures { PlacedNetsAreRoutable }
+{
+    wire_names_are_read();
+    lookups_are_lawful();
+    cells_stand_in_one_slot();
+    runs_stand_in_chunks();
+}
+
+/// A placed design has no more nets than a list has roots in which all that the design reads stand: each net has a root of its own,
+/// which something reads.
+pub fn placed_nets_are_few()
+    ensures { PlacedNetsAreFew }
 {
     wire_names_are_read();
     lookups_are_lawful();

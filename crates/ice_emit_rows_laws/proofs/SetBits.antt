@@ -6,10 +6,9 @@ use Rattle.std.proofs.lemmas.Bool.{and_parts}
 use Rattle.ice_base.specs.declared.number.TileAt.{TileAt}
 use Rattle.ice_base.specs.declared.number.BitAt.{BitAt}
 use Rattle.ice_base_values.specs.Order.{Has}
-use Rattle.ice_chip.specs.Database.{Parts}
+use Rattle.ice_chip.specs.Database.{Parts, same_tile}
 use Rattle.ice_chip.specs.Functions.{is_read}
 use Rattle.ice_chip.specs.Lookups.{kind_at, function_of}
-use Rattle.ice_chip.specs.Places.{same_tile}
 use Rattle.ice_chip.specs.declared.rows.TileKind.{TileKind}
 use Rattle.ice_chip_laws.specs.Bits.{function_place, HasOwnBits}
 use Rattle.ice_bits.specs.Configuration.{same_place}

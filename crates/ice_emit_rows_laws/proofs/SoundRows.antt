@@ -9,12 +9,11 @@ use Rattle.std.proofs.lemmas.Option.{same_Some}
 use Rattle.ice_base.specs.declared.number.TileAt.{TileAt}
 use Rattle.ice_base.specs.declared.number.BitAt.{BitAt}
 use Rattle.ice_base_values.specs.Order.{At, Has}
-use Rattle.ice_chip.specs.Database.{Parts, SwitchGroup, SwitchRow}
+use Rattle.ice_chip.specs.Database.{Parts, SwitchGroup, SwitchRow, same_tile}
 use Rattle.ice_chip.specs.Lookups.{rows_of}
-use Rattle.ice_chip.specs.Places.{same_tile}
 use Rattle.ice_chip_laws.specs.Groups.{HasRows}
 use Rattle.ice_bits.specs.Configuration.{Bits, same_place}
-use Rattle.ice_bits.specs.RowsOn.{values_of, number_with, row_on, rows_on}
+use Rattle.ice_bits.specs.Settings.{values_of, number_with, row_on, rows_on}
 use Rattle.ice_bits_rows.specs.Bundles.{groups_into, bundle, has_bit, is_of_other, is_shared, shares_bit, is_private}
 use Rattle.ice_bits_rows.specs.Sound.{value_at, sets, is_one, is_alone}
 use Rattle.ice_base_values.proofs.Together.{Has_head, Has_tail}

@@ -13,7 +13,7 @@ use Rattle.ice_chip.specs.IsRead.{AreNumbered}
 use Rattle.ice_chip.specs.Lookups.{rows_of}
 use Rattle.ice_chip_laws.specs.Groups.{HasRows}
 use Rattle.ice_bits.specs.Configuration.{Bits}
-use Rattle.ice_bits.specs.RowsOn.{row_on}
+use Rattle.ice_bits.specs.Settings.{row_on}
 use Rattle.ice_decode.specs.declared.driver.Switch.{Switch}
 use Rattle.ice_decode.specs.Drivers.{switch, switch_at, switch_on, switches_on, into, driver_among}
 use Rattle.ice_bits_rows.specs.Bundles.{is_private}

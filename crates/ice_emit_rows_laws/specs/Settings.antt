@@ -5,10 +5,9 @@ use Rattle.std.specs.Option.{option_map_or}
 use Rattle.ice_base.specs.declared.number.TileAt.{TileAt}
 use Rattle.ice_base.specs.declared.number.BitAt.{BitAt}
 use Rattle.ice_base_values.specs.Order.{Has}
-use Rattle.ice_chip.specs.Database.{Parts}
+use Rattle.ice_chip.specs.Database.{Parts, same_tile}
 use Rattle.ice_chip.specs.Functions.{is_read}
 use Rattle.ice_chip.specs.Lookups.{kind_at}
-use Rattle.ice_chip.specs.Places.{same_tile}
 use Rattle.ice_chip.specs.declared.rows.TileKind.{TileKind}
 use Rattle.ice_bits.specs.Configuration.{Bits, same_place}
 use Rattle.ice_bits.specs.Settings.{function_bit}

@@ -13,7 +13,7 @@ use Rattle.ice_base_values.proofs.Places.{At_same}
 use Rattle.ice_net.specs.Meaning.{number_of}
 use Rattle.ice_lut.specs.Tables.{table_places}
 use Rattle.ice_lut.proofs.TableLaws.{number_bound}
-use Rattle.ice_chip.specs.FunctionNames.{cell_function, falling_clock_function, carry_set_function}
+use Rattle.ice_chip.specs.Names.{cell_function, falling_clock_function, carry_set_function}
 use Rattle.ice_chip.specs.Lookups.{kind_at, function_of}
 use Rattle.ice_chip.specs.declared.function_names.TileFunction.TheVariants.{Cell, FallingClock, CarrySet}
 use Rattle.ice_chip.specs.declared.rows.TileKind.{TileKind}

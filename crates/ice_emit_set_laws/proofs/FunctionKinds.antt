@@ -3,7 +3,8 @@ use Rattle.std.proofs.Common.{◌≡◌, ℕ, ◌<◌, true, false, Some, List, 
 use Rattle.std.specs.Prelude.{is_some}
 use Rattle.ice_base.specs.declared.number.TileAt.{TileAt}
 use Rattle.ice_chip.specs.Database.{Parts}
-use Rattle.ice_chip.specs.FunctionNames.{function_name, cell_function, pin_type_function, column_buffer_function}
+use Rattle.ice_chip.specs.FunctionNames.{function_name}
+use Rattle.ice_chip.specs.Names.{cell_function, pin_type_function, column_buffer_function}
 use Rattle.ice_chip.specs.Functions.{is_foreign, is_logic_cell, is_first_pin_type, is_second_pin_type, is_column_buffer}
 use Rattle.ice_chip.specs.Lookups.{kind_at}
 use Rattle.ice_chip.specs.declared.function_names.TileFunction.{TileFunction}

@@ -13,12 +13,12 @@ use Rattle.ice_base_values.proofs.Members.{At_within, Has_cases, Has_any, filter
 use Rattle.ice_base_values.proofs.Places.{At_same}
 use Rattle.ice_base_values.proofs.Together.{Has_tail}
 use Rattle.ice_net.specs.Meaning.{number_of, table_bit}
-use Rattle.ice_chip.specs.FunctionNames.{pin_type_function, input_enable_function}
+use Rattle.ice_chip.specs.Names.{pin_type_function, input_enable_function}
 use Rattle.ice_chip.specs.Indices.{enables_of}
 use Rattle.ice_chip.specs.Lookups.{kind_at, function_of, ieren_of, is_io_kind}
-use Rattle.ice_chip.specs.Places.{same_tile, same_pad}
+use Rattle.ice_chip.specs.Database.{same_tile, same_pad}
 use Rattle.ice_chip.specs.declared.function_names.TileFunction.TheVariants.{PinType, InputEnable}
-use Rattle.ice_chip.specs.declared.parts.TileLine.{TileLine}
+use Rattle.ice_chip.specs.declared.rows.TileLine.{TileLine}
 use Rattle.ice_chip.specs.declared.rows.Pad.{Pad}
 use Rattle.ice_chip.specs.declared.rows.TileKind.{TileKind}
 use Rattle.ice_chip.specs.declared.rows.TileKind.TheVariants.{Io, Logic, RamBottom, RamTop}

@@ -11,13 +11,12 @@ use Rattle.ice_base.specs.declared.number.TileAt.{TileAt}
 use Rattle.ice_base.proofs.Booleans.{not_true}
 use Rattle.ice_base_values.specs.Order.{At, Has}
 use Rattle.ice_base_values.proofs.Members.{At_within, Has_none, Has_all, Has_any, any_Has, map_Has, filter_Has}
-use Rattle.ice_chip.specs.Database.{Parts, PackageRows}
-use Rattle.ice_chip.specs.FunctionNames.{function_name, tile_function, IsTileFunction, FunctionNamesAreRead, pin_type_function, input_enable_function, falling_clock_function, carry_set_function, pull_up_function, column_buffer_function}
+use Rattle.ice_chip.specs.Database.{Parts, PackageRows, same_tile, same_pad}
+use Rattle.ice_chip.specs.FunctionNames.{function_name, tile_function, IsTileFunction, FunctionNamesAreRead}
+use Rattle.ice_chip.specs.Names.{pin_type_function, input_enable_function, falling_clock_function, carry_set_function, pull_up_function, column_buffer_function, is_global_name}
 use Rattle.ice_chip.specs.Indices.{put_first, with_first, firsts, enables_of}
 use Rattle.ice_chip.specs.IsRead.{IsChip}
 use Rattle.ice_chip.specs.Lookups.{kind_at, ieren_of, colbuf_of, names_of, enable_counts}
-use Rattle.ice_chip.specs.PinNames.{is_global_name}
-use Rattle.ice_chip.specs.Places.{same_tile, same_pad}
 use Rattle.ice_chip.specs.Within.{IsPad, ArePads, IsPackage}
 use Rattle.ice_chip.specs.declared.function_names.TileFunction.{TileFunction}
 use Rattle.ice_chip.specs.declared.function_names.TileFunction.TheVariants.{Cell, FallingClock, CarrySet, PinType, InputEnable, PullUp, ColumnBuffer}
@@ -29,7 +28,7 @@ use Rattle.ice_chip.proofs.Prefixes.{set_number}
 use Rattle.ice_chip_laws.specs.Laws.{IsLawful}
 use Rattle.ice_decode.specs.declared.driver.Switch.{Switch}
 use Rattle.ice_decode.specs.Meaning.{global_at}
-use Rattle.ice_decode.specs.Roles.{number_at}
+use Rattle.ice_decode.specs.Drivers.{number_at}
 use Rattle.ice_decode.proofs.Members.{Has_left, Has_right, Has_append_cases}
 use Rattle.ice_net.specs.Meaning.{table_bit}
 use Rattle.ice_cells.specs.declared.cell.Control.{Control}

@@ -7,13 +7,12 @@ use Rattle.std.proofs.lemmas.List.Concat.{flat_map-append}
 use Rattle.std.proofs.lemmas.Option.{slice_get_past}
 use Rattle.ice_base.specs.declared.number.RowNo.{RowNo}
 use Rattle.ice_base.specs.declared.number.TileAt.{TileAt}
-use Rattle.ice_chip.specs.Database.{Parts, SwitchGroup, SwitchRow}
+use Rattle.ice_chip.specs.Database.{Parts, SwitchGroup, SwitchRow, same_tile}
 use Rattle.ice_chip.specs.Lookups.{rows_of, names_of}
-use Rattle.ice_chip.specs.PinNames.{is_global_name}
-use Rattle.ice_chip.specs.Places.{same_tile}
+use Rattle.ice_chip.specs.Names.{is_global_name}
 use Rattle.ice_chip.specs.declared.placed.PlacedName.{PlacedName}
 use Rattle.ice_decode.specs.Meaning.{global_at}
-use Rattle.ice_decode.specs.Roles.{number_at}
+use Rattle.ice_decode.specs.Drivers.{number_at}
 use Rattle.ice_emit_rows_laws.specs.Settings.{Setting}
 use Rattle.ice_emit_defs.specs.Functions.{global_settings, buffer_settings}
 use Rattle.ice_emit_defs.specs.Links.{tree_switch, listed, switch_of_row}

@@ -4,7 +4,7 @@ use Rattle.std.specs.List.{list_any, range_with_len}
 use Rattle.ice_base.specs.declared.number.RowNo.{RowNo}
 use Rattle.ice_chip.specs.Database.{Parts}
 use Rattle.ice_chip.specs.Lookups.{names_of}
-use Rattle.ice_chip.specs.PinNames.{is_global_name}
+use Rattle.ice_chip.specs.Names.{is_global_name}
 use Rattle.ice_emit_rows_laws.specs.Settings.{Setting}
 use Rattle.ice_emit_defs.specs.Functions.{buffer_settings}
 use Rattle.ice_emit_defs.specs.Links.{tree_switch, listed}

@@ -1,8 +1,8 @@
 -- Which pads are read, and where their inputs are enabled, as they are gathered.
 use Rattle.std.specs.Prelude.{not, List, [], ◌∷◌, flat_map, if◌then◌else◌}
 use Rattle.std.specs.List.{list_any}
-use Rattle.ice_chip.specs.FunctionNames.{input_enable_function}
-use Rattle.ice_chip.specs.Places.{same_pad}
+use Rattle.ice_chip.specs.Names.{input_enable_function}
+use Rattle.ice_chip.specs.Database.{same_pad}
 use Rattle.ice_chip.specs.declared.rows.Pad.{Pad}
 use Rattle.ice_cells.specs.declared.design.DesignPad.{DesignPad}
 use Rattle.ice_emit_rows_laws.specs.Settings.{Setting}

@@ -1,7 +1,7 @@
 -- The settings of ports, each beside its pad.
 use Rattle.std.specs.Prelude.{ℕ, Bool, Option, None, Some, List, slice_get}
 use Rattle.ice_chip.specs.Database.{Parts}
-use Rattle.ice_chip.specs.FunctionNames.{pin_type_function}
+use Rattle.ice_chip.specs.Names.{pin_type_function}
 use Rattle.ice_chip.specs.declared.rows.Pad.{Pad}
 use Rattle.ice_net.specs.Meaning.{table_bit}
 use Rattle.ice_cells.specs.declared.design.DesignPad.{DesignPad}

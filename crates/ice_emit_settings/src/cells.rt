@@ -1,6 +1,6 @@
 //! The settings of cells.
 ghost use Rattle.std.specs.Prelude.{◌≡◌, ◌<◌, ◌++◌, slice_index_or, OnOk};
-ghost use Rattle.ice_chip.specs.FunctionNames.{cell_function};
+ghost use Rattle.ice_chip.specs.Names.{cell_function};
 ghost use Rattle.ice_lut.specs.Tables.{table_places};
 ghost use Rattle.ice_net.specs.Meaning.{table_bit};
 ghost use Rattle.ice_emit_defs.specs.Functions.{setting_if, table_settings, reset_settings, flop_settings};

@@ -4,7 +4,7 @@ ghost use Rattle.std.specs.Option.{option_map_or};
 ghost use Rattle.std.specs.List.{list_any};
 ghost use Rattle.indexmap.specs.IndexSet.{insert_key, insert_all};
 ghost use Rattle.ice_chip.specs.Indices.{enables_of};
-ghost use Rattle.ice_chip.specs.Places.{same_pad};
+ghost use Rattle.ice_chip.specs.Database.{same_pad};
 ghost use Rattle.ice_emit_defs.specs.Functions.{read_pads, enable_settings};
 ghost use Rattle.ice_emit_settings.specs.Enables.{read_pads_at, one_needed, needed_places, disabled_unless, disabled_by};
 ghost use Rattle.ice_emit_settings.specs.Views.{views};

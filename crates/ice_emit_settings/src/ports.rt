@@ -1,7 +1,7 @@
 //! The settings of the pads of ports.
 ghost use Rattle.std.specs.Prelude.{◌≡◌, ◌<◌, ◌++◌, [], OnOk};
 ghost use Rattle.std.specs.Option.{option_map_or};
-ghost use Rattle.ice_chip.specs.FunctionNames.{pin_type_function};
+ghost use Rattle.ice_chip.specs.Names.{pin_type_function};
 ghost use Rattle.ice_chip.specs.Lookups.{ieren_of};
 ghost use Rattle.ice_net.specs.Meaning.{table_bit};
 ghost use Rattle.ice_emit_defs.specs.Functions.{setting_if, type_settings, off_setting, pull_up_settings, port_settings, ports_settings};

@@ -3,4 +3,4 @@
 
 mod usable;
 
-pub use usable::{fabric, indexed_fabric};
+pub use usable::{fabric, fabric_by};

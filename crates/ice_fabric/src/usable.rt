@@ -2,15 +2,14 @@
 ghost use Rattle.std.specs.Prelude.{◌≡◌, ◌<◌, ◌≤◌, ◌+◌, ◌++◌, [], ◌∷◌, List, length, IfOk, OnOk, if◌then◌else◌};
 ghost use Rattle.std.specs.List.{Contains};
 ghost use Rattle.ice_chip.specs.IsRead.{HasWiresBelow};
-ghost use Rattle.ice_chip.specs.Limits.{most_rows};
+ghost use Rattle.ice_chip.specs.Database.{most_rows};
 ghost use Rattle.ice_chip.specs.Views.{row_view, group_view};
-ghost use Rattle.ice_bits_rows.specs.Index.{IsIndexOf};
-ghost use Rattle.ice_bits_rows.specs.Sources.{AreSources};
+ghost use Rattle.ice_bits_rows.specs.Uses.{AreUses};
 ghost use Rattle.ice_graph.specs.Network.{ArePlaces};
 ghost use Rattle.ice_fabric.specs.Edges.{edges_of, places_of, usable_places, usable_rows};
 
 use ice_base::{NoMemory, RowNo, TileAt};
-use ice_bits_rows::{Index, index_of, is_open, is_plain, is_taken, sources_of};
+use ice_bits_rows::{Index, WireUse, is_open, is_plain, is_taken, uses_of};
 use ice_chip::{Chip, Group};
 use ice_graph::{Edge, Graph};
 use std::alloc::Global;
@@ -35,29 +34,27 @@ fn add_row(
 
 // Adds the usable rows of a group to the edges, and its tile to the places for each.
 fn add_group(
-    chip: &Chip,
     index: &Index,
-    sources: &[bool],
+    uses: &[WireUse],
     group: &Group,
     edges: &mut Vec<Edge>,
     places: &mut Vec<TileAt>,
 ) -> Result<(), NoMemory>
-    requires index { IsIndexOf chip.now index.now }
-    requires sources { AreSources chip.now sources.now }
-    requires wires { HasWiresBelow chip.now.wires (group_view group.now) }
+    requires uses { AreUses index.now.chip.now uses.now }
+    requires wires { HasWiresBelow index.now.chip.now.wires (group_view group.now) }
     requires few { group.now.first.0 + length group.now.rows.items ≤ most_rows }
-    requires member { Contains chip.now.groups (group_view group.now) }
-    ensures edges { OnOk result (edges.new.items ≡ edges.old.items ++ edges_of chip.now (group_view group.now) group.now.first.0 (group_view group.now).rows) }
-    ensures places { OnOk result (places.new.items ≡ places.old.items ++ places_of chip.now (group_view group.now) group.now.first.0 (group_view group.now).rows) }
+    requires member { Contains index.now.chip.now.groups (group_view group.now) }
+    ensures edges { OnOk result (edges.new.items ≡ edges.old.items ++ edges_of index.now.chip.now (group_view group.now) group.now.first.0 (group_view group.now).rows) }
+    ensures places { OnOk result (places.new.items ≡ places.old.items ++ places_of index.now.chip.now (group_view group.now) group.now.first.0 (group_view group.now).rows) }
 {
-    if !is_open(chip, index, group) {
+    if !is_open(index, uses, group) {
         return Ok(());
     }
-    let plain = is_plain(chip, index, group);
+    let plain = is_plain(index, group);
     for k in 0..group.rows.len() {
         let row = &group.rows[k];
         let number = group.first.0 + k as u32;
-        let taken = is_taken(chip, index, sources, group, plain, number, row);
+        let taken = is_taken(index, uses, group, plain, number, row);
         let edge = Edge {
             row: RowNo(number),
             from: row.source,
@@ -71,35 +68,32 @@ fn add_group(
 // The usable rows, in row order, and the tile of the group of each.
 fn usable_rows(
     alloc: Global,
-    chip: &Chip,
     index: &Index,
-    sources: &[bool],
+    uses: &[WireUse],
 ) -> Result<(Vec<Edge>, Vec<TileAt>), NoMemory>
-    requires index { IsIndexOf chip.now index.now }
-    requires sources { AreSources chip.now sources.now }
-    ensures edges { IfOk result (λ r. r.0.items ≡ usable_rows chip.now) }
-    ensures places { IfOk result (λ r. r.1.items ≡ usable_places chip.now) }
+    requires uses { AreUses index.now.chip.now uses.now }
+    ensures edges { IfOk result (λ r. r.0.items ≡ usable_rows index.now.chip.now) }
+    ensures places { IfOk result (λ r. r.1.items ≡ usable_places index.now.chip.now) }
 {
-    let _wires = chip.wires();
-    let most = chip.rows() as usize;
+    index.chip.is_chip();
+    let most = index.chip.rows() as usize;
     let mut edges = Vec::with_capacity(alloc, most)?;
     let mut places = Vec::with_capacity(alloc, most)?;
-    for group in chip.groups() {
-        add_group(chip, index, sources, group, &mut edges, &mut places)?;
+    for group in index.chip.groups() {
+        add_group(index, uses, group, &mut edges, &mut places)?;
     }
     Ok((edges, places))
 }
 
-/// The graph of the rows that a route may use, as `fabric` makes it, by the index of the chip's groups.
-pub fn indexed_fabric(alloc: Global, chip: &Chip, index: &Index) -> Result<Graph, NoMemory>
-    requires { IsIndexOf chip.now index.now }
-    ensures wires { IfOk result (λ graph. graph.wires ≡ chip.now.wires) }
-    ensures edges { IfOk result (λ graph. graph.edges ≡ usable_rows chip.now) }
-    ensures places { IfOk result (λ graph. ArePlaces graph (usable_places chip.now)) }
+/// The graph of the rows of an indexed chip that a route may use, as [`fabric`] makes it.
+pub fn fabric_by(alloc: Global, index: &Index) -> Result<Graph, NoMemory>
+    ensures wires { IfOk result (λ graph. graph.wires ≡ index.now.chip.now.wires) }
+    ensures edges { IfOk result (λ graph. graph.edges ≡ usable_rows index.now.chip.now) }
+    ensures places { IfOk result (λ graph. ArePlaces graph (usable_places index.now.chip.now)) }
 {
-    let wires = chip.wires();
-    let sources = sources_of(alloc, chip)?;
-    let (edges, places) = usable_rows(alloc, chip, index, &sources)?;
+    let wires = index.chip.wires();
+    let uses = uses_of(alloc, index.chip)?;
+    let (edges, places) = usable_rows(alloc, index, &uses)?;
     Graph::placed(alloc, wires, edges, places)
 }
 
@@ -118,6 +112,7 @@ pub fn fabric(alloc: Global, chip: &Chip) -> Result<Graph, NoMemory>
     ensures edges { IfOk result (λ graph. graph.edges ≡ usable_rows chip.now) }
     ensures places { IfOk result (λ graph. ArePlaces graph (usable_places chip.now)) }
 {
-    let index = index_of(alloc, chip)?;
-    indexed_fabric(alloc, chip, &index)
+    let index = Index::new(alloc, chip)?;
+    let graph = fabric_by(alloc, &index)?;
+    Ok(graph)
 }

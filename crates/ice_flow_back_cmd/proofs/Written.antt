@@ -3,14 +3,14 @@ use Rattle.std.proofs.Common.{◌≡◌, ◌≢◌, ◌∙◌, ℕ, zero, suc, B
 use Rattle.std.specs.List.{AllByRecursion}
 use Rattle.std.specs.Prelude.{All, codes, slice_index_or}
 use Rattle.std.proofs.lemmas.List.Elements.{All-from_recursion}
-use Rattle.ice_base.specs.Comments.{begins_with}
+use Rattle.ice_base.specs.Text.{begins_with}
 use Rattle.ice_base.specs.declared.number.SignalNo.{SignalNo}
 use Rattle.ice_base_values.specs.Order.{Has}
 use Rattle.ice_base_values.proofs.Together.{Has_head, Has_tail}
 use Rattle.ice_chip.specs.Database.{Parts, PackageRows}
 use Rattle.ice_chip.specs.IsRead.{IsRead}
 use Rattle.ice_bits.specs.Configuration.{Configuration, bits_of}
-use Rattle.ice_decode.specs.Meaning as chip
+use Rattle.ice_decode.specs.Meaning.{bits_show}
 use Rattle.ice_net.specs.Meaning as net
 use Rattle.ice_net.specs.NetlistData.{NetlistData}
 use Rattle.ice_net.specs.declared.cell.Cell.{Cell}
@@ -83,7 +83,7 @@ module _ (parts : Parts) (k : Configuration) (rows : PackageRows) (read : IsRead
 
   -- a text that says the same says the bits
   pub says_bits : (n : NetlistData) (text : List ℕ) → n ≡ whole
-      → ((levels : List (List Bool)) → net.shows n levels ≡ chip.shows parts (bits_of k) k.extras rows.pads rows.pads levels) → SaysTheSame text n → SaysBits parts k rows text
+      → ((levels : List (List Bool)) → net.shows n levels ≡ bits_show parts (bits_of k) k.extras rows.pads rows.pads levels) → SaysTheSame text n → SaysBits parts k rows text
   says_bits n text e shows is = record {
     netlist = is.said;
     is_said = is.is_said;

@@ -4,7 +4,7 @@ use Rattle.ice_chip.specs.Database.{Parts, PackageRows}
 use Rattle.ice_chip.specs.Lookups.{first_pin}
 use Rattle.ice_chip.specs.declared.rows.Pad.{Pad}
 use Rattle.ice_bits.specs.Configuration.{Configuration, bits_of}
-use Rattle.ice_decode.specs.Meaning as chip
+use Rattle.ice_decode.specs.Meaning.{bits_show}
 use Rattle.ice_net.specs.Meaning as net
 use Rattle.ice_net.specs.NetlistData.{NetlistData}
 use Rattle.ice_net.specs.declared.port.Way.{Way}
@@ -25,7 +25,7 @@ pub record SaysBits (parts : Parts) (configuration : Configuration) (bonded : Pa
   pub is_said : HasNetlist text netlist
   pub is_sound : IsSound netlist
   pub ports_are_pads : map (named_port netlist.names) netlist.ports ≡ map (port_of_pad bonded) bonded.pads
-  pub shows_same : (levels : List (List Bool)) → net.shows netlist levels ≡ chip.shows parts (bits_of configuration) configuration.extras bonded.pads bonded.pads levels
+  pub shows_same : (levels : List (List Bool)) → net.shows netlist levels ≡ bits_show parts (bits_of configuration) configuration.extras bonded.pads bonded.pads levels
 
 -- The first text says a chip, which has the package of this name, and the second says bits of the chip, which have no fault. What was
 -- written says these bits.

@@ -27,7 +27,7 @@ fn text_of(alloc: Global, netlist: &Netlist) -> Result<Vec<u8>, NoMemory>
     ensures says { IfOk result (λ text. IsSound netlist.now → IsWritable netlist.now → SaysTheSame (blif_text netlist.now) netlist.now) }
 {
     written_shows_the_same();
-    let _ports = netlist.ports();
+    netlist.is_formed();
     let mut text = Vec::new(alloc);
     write_blif(netlist, &mut text)?;
     Ok(text)

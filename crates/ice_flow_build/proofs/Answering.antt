@@ -20,7 +20,7 @@ use Rattle.ice_sites.specs.Legal.{IsLegal}
 use Rattle.ice_sites.specs.Stretches.{stretches_of}
 use Rattle.ice_emit_defs.specs.Routed.{AreTrees}
 use Rattle.ice_emit_defs.specs.Written.{IsWritten}
-use Rattle.ice_flow_build.specs.Answers.{IsBuilt, IsFault, IsComplete, IsRouted, net_count, pins_said, places_said, routes_in}
+use Rattle.ice_flow_build.specs.Answers.{IsBuilt, IsFault, IsComplete, IsRouted, net_count, pins_said, places_said, routes_in, IsPlaceable}
 use Rattle.ice_flow_build.specs.Laid.{Task, IsLaidOut, IsOnSites, IsSettled, StandsOn, plan_in}
 use Rattle.ice_flow_build.specs.Shown.{RealisesNetlist}
 use Rattle.ice_flow_build.specs.Stages.{IsPlaceFault, IsLayFault, IsRouteFault, IsFinished, IsEndFault, IsBitsFault, unrouted}
@@ -128,6 +128,9 @@ pins_good task layout laid = subst (λ (d : Design). assign_of task.parts task.n
 
 pub places_good : (task : Task) (layout : Layout) (laid : IsLaidOut task layout) → places_said task ≡ Ok laid.placed.first
 places_good task layout laid = subst (λ (d : Design). place_of (stretches_of task.parts) (clusters_of d) d ≡ Ok laid.placed.first) laid.design laid.placed.is_first
+
+pub laid_placeable : (task : Task) (layout : Layout) → IsLaidOut task layout → IsPlaceable task
+laid_placeable task layout laid = (layout.pads, laid.placed.first, pins_good task layout laid, places_good task layout laid)
 
 -- what building answers is right
 abbrev pub IsAnswer : Task → Effort → Result Built BuildFault → Type 0

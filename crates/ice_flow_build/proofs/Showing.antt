@@ -1,16 +1,15 @@
 -- The bits of a placed and routed design show what its netlist shows.
-use Rattle.std.proofs.Common.{◌≡◌, ℕ, suc, ◌+◌, List, [], ◌∷◌, length, map, refl, ap, ◌∙◌}
+use Rattle.std.proofs.Common.{◌≡◌, ℕ, List, length, map, ap, ◌∙◌}
 use Rattle.std.proofs.lemmas.List.{length-map}
 use Rattle.ice_net.specs.NetlistData.{NetlistData}
-use Rattle.ice_net.specs.declared.cell.Cell.{Cell}
-use Rattle.ice_net.specs.declared.port.Port.{Port}
 use Rattle.ice_pcf.specs.declared.constraint.Constraint.{Constraint}
 use Rattle.ice_chip.specs.Database.{Parts}
 use Rattle.ice_bits.specs.Configuration.{Configuration, bits_of}
 use Rattle.ice_cells.specs.Meaning as design
-use Rattle.ice_cells.specs.Packed.{Plan, plan_of, packed, pads_from, unread_by, read_pad}
+use Rattle.ice_cells.specs.Packed.{plan_of, packed, unread_by, read_pad}
 use Rattle.ice_cells.specs.Runs.{design_of, renamed_pad, moved_numbers, fed_numbers}
 use Rattle.ice_cells.specs.declared.design.Design.{Design}
+use Rattle.ice_pack.proofs.Padding.{pads_long}
 use Rattle.ice_negotiate_defs.specs.Trees.{Route}
 use Rattle.ice_carry_form_laws.specs.FormLaws.{DesignsShowTheSame}
 use Rattle.ice_pack_laws.specs.PackLaws.{IsSoundInOrder}
@@ -19,11 +18,6 @@ use Rattle.ice_emit_defs.specs.Written.{IsWritten, wanted_rows}
 use Rattle.ice_flow_build.specs.Laid.{IsLaidOut, StandsOn, plan_in, task_of}
 use Rattle.ice_flow_build.specs.Shown.{RealisesNetlist}
 use Rattle.ice_flow_build.specs.declared.answer.Layout.{Layout}
-
--- the design has a pad for each port
-pads_long : (p : Plan) (cells : List Cell) (k : ℕ) (ports : List Port) → length (pads_from p cells k ports) ≡ length ports
-pads_long p cells k [] = refl
-pads_long p cells k (port ∷ ports) = ap suc (pads_long p cells (k + 1) ports)
 
 design_long : (n : NetlistData) → length (design_of n).pads ≡ length n.ports
 design_long n =

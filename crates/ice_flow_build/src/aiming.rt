@@ -1,13 +1,11 @@
 //! The graph of a build, which knows of each wire how many rows lead from it at least to the sinks of the nets.
 ghost use Rattle.std.specs.Prelude.{◌≡◌, length, IfOk};
 ghost use Rattle.ice_fabric.specs.Edges.{usable_rows};
-ghost use Rattle.ice_bits_rows.specs.Index.{IsIndexOf};
 
 use ice_base::{NoMemory, TileAt, WireNo};
 use ice_bits_rows::Index;
-use ice_chip::Chip;
 use ice_core::Net;
-use ice_fabric::indexed_fabric;
+use ice_fabric::fabric_by;
 use ice_graph::Graph;
 use std::alloc::Global;
 
@@ -67,8 +65,11 @@ fn join(
     Ok(())
 }
 
-// Has the graph know how many rows lead at least to the sinks of the nets, those of one tile as a set, where there are many.
-fn aim(alloc: Global, graph: &mut Graph, nets: &[Net]) -> Result<(), NoMemory>
+/// Has the graph know how many rows lead at least to the sinks of the nets, those of one tile as a set, where there are many.
+///
+/// # Errors
+/// Want of memory alone.
+pub fn aim(alloc: Global, graph: &mut Graph, nets: &[Net]) -> Result<(), NoMemory>
     ensures { graph.new ≡ graph.old }
 {
     if sinks_of(nets) < graph.edges().len() / ROWS_OF_SINK {
@@ -85,21 +86,15 @@ fn aim(alloc: Global, graph: &mut Graph, nets: &[Net]) -> Result<(), NoMemory>
     graph.aim(alloc, sets, count)
 }
 
-/// The graph of the chip's usable rows, which knows how far the sinks of the nets are.
+/// The graph of the usable rows of an indexed chip, which knows how far the sinks of the nets are.
 ///
 /// # Errors
 /// Want of memory alone.
-pub fn aimed_fabric(
-    alloc: Global,
-    chip: &Chip,
-    index: &Index<'_>,
-    nets: &[Net],
-) -> Result<Graph, NoMemory>
-    requires index { IsIndexOf chip.now index.now }
-    ensures wires { IfOk result (λ graph. graph.wires ≡ chip.now.wires) }
-    ensures edges { IfOk result (λ graph. graph.edges ≡ usable_rows chip.now) }
+pub fn aimed_fabric(alloc: Global, index: &Index<'_>, nets: &[Net]) -> Result<Graph, NoMemory>
+    ensures wires { IfOk result (λ graph. graph.wires ≡ index.now.chip.now.wires) }
+    ensures edges { IfOk result (λ graph. graph.edges ≡ usable_rows index.now.chip.now) }
 {
-    let mut graph = indexed_fabric(alloc, chip, index)?;
+    let mut graph = fabric_by(alloc, index)?;
     aim(alloc, &mut graph, nets)?;
     Ok(graph)
 }

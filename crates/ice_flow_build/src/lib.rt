@@ -9,7 +9,8 @@ pub mod laws;
 mod laying;
 mod routing;
 
+pub use aiming::aim;
 pub use answer::{BuildFault, Built, Effort, Layout, RoutedLayout, arrangement_of, tallies_of};
 pub use building::build;
-pub use laying::{design_of, indexed_lay_out, lay_out};
-pub use routing::{indexed_route, nets_in, route, route_layout};
+pub use laying::{design_of, lay_out};
+pub use routing::{nets_in, route, route_layout};

@@ -1,12 +1,11 @@
 //! The trees and the bits of a placed design.
-ghost use Rattle.std.specs.Prelude.{◌≡◌, ◌≤◌, length, IfOk, IfErr};
+ghost use Rattle.std.specs.Prelude.{◌≡◌, ◌+◌, ◌≤◌, length, IfOk, IfErr};
 ghost use Rattle.std.specs.Bool.{OnTrue};
 ghost use Rattle.ice_bits.specs.Configuration.{bits_of};
 ghost use Rattle.ice_decode.specs.Faults.{HasNoLoop};
 ghost use Rattle.ice_emit.specs.Placed.{IsPlacedOn};
 ghost use Rattle.ice_emit_meaning_laws.specs.Feeds.{FaultsAreRings, IsRingless};
 ghost use Rattle.ice_emit_nets_laws.specs.Routing.{AreNetsOf};
-ghost use Rattle.ice_bits_rows.specs.Index.{IsIndexOf};
 ghost use Rattle.ice_emit_defs.specs.Realised.{Realises};
 ghost use Rattle.ice_emit_defs.specs.Routed.{AreTrees};
 ghost use Rattle.ice_emit_defs.specs.Written.{IsWritten, wanted_rows};
@@ -22,32 +21,29 @@ ghost use Rattle.ice_flow_build.specs.declared.answer.BuildFault.TheVariants.{No
 use crate::aiming::aimed_fabric;
 use crate::answer::{BuildFault, Built, Effort, Layout, RoutedLayout};
 use ice_base::NoMemory;
-use ice_bits_rows::{Index, index_of};
+use ice_bits_rows::Index;
 use ice_chip::Chip;
 use ice_claim_opening::opening;
 use ice_core::Net;
 use ice_desk::Gate;
-use ice_emit::indexed_emit;
+use ice_emit::emit_by;
 use ice_emit_nets::nets_of;
 use ice_emit_nets_laws::laws::{placed_nets_are_routable, routed_nets_are_trees};
 use ice_graph::Graph;
 use ice_negotiate::{negotiate, negotiate_from};
 use ice_negotiate_defs::{Kept, RouteFault, Routed};
+use ice_net::MOST_SIGNALS;
 use std::alloc::Global;
 use std::thread::Threads;
 
 // As many nets can be counted on a wire.
 const MOST_NETS: usize = 65_536;
 
-/// The nets of a placed design.
-///
-/// # Errors
-/// Want of memory alone; more than 65,536 nets count as such.
+// All nets of a placed design.
 #[tactic(auto, using(crate::proofs::Counting::nets_counted))]
-pub fn nets_in(alloc: Global, chip: &Chip, layout: &Layout) -> Result<Vec<Net>, NoMemory>
+fn all_nets_in(alloc: Global, chip: &Chip, layout: &Layout) -> Result<Vec<Net>, NoMemory>
     ensures nets { IfOk result (λ nets. AreNetsOf chip.now (plan_in layout.now) nets.items) }
     ensures count { IfOk result (λ nets. length nets.items ≡ net_count chip.now (plan_in layout.now)) }
-    ensures few { IfOk result (λ nets. length nets.items ≤ 65536) }
 {
     let nets = nets_of(
         alloc,
@@ -57,9 +53,43 @@ pub fn nets_in(alloc: Global, chip: &Chip, layout: &Layout) -> Result<Vec<Net>, 
         &layout.placement,
         &layout.pads,
     )?;
+    Ok(nets)
+}
+
+/// The nets of a placed design.
+///
+/// # Errors
+/// Want of memory alone; more than 65,536 nets count as such, which no placed design of a netlist of at most 65,534 signals has.
+pub fn nets_in(alloc: Global, chip: &Chip, layout: &Layout) -> Result<Vec<Net>, NoMemory>
+    ensures nets { IfOk result (λ nets. AreNetsOf chip.now (plan_in layout.now) nets.items) }
+    ensures count { IfOk result (λ nets. length nets.items ≡ net_count chip.now (plan_in layout.now)) }
+    ensures few { IfOk result (λ nets. length nets.items ≤ 65536) }
+{
+    let nets = all_nets_in(alloc, chip, layout)?;
     if nets.len() > MOST_NETS {
         return Err(NoMemory);
     }
+    Ok(nets)
+}
+
+/// The nets of a placed design that has at most two nets more than its netlist has signals.
+///
+/// # Errors
+/// Want of memory alone; only of a netlist of more than 65,534 signals, more than 65,536 nets count as such.
+pub fn nets_by_signals(
+    alloc: Global,
+    chip: &Chip,
+    layout: &Layout,
+    signals: u32,
+) -> Result<Vec<Net>, NoMemory>
+    requires { net_count chip.now (plan_in layout.now) ≤ signals + 2 }
+    ensures nets { IfOk result (λ nets. AreNetsOf chip.now (plan_in layout.now) nets.items) }
+    ensures few { IfOk result (λ nets. length nets.items ≤ 65536) }
+{
+    if signals > MOST_SIGNALS {
+        return nets_in(alloc, chip, layout);
+    }
+    let nets = all_nets_in(alloc, chip, layout)?;
     Ok(nets)
 }
 
@@ -118,15 +148,15 @@ fn route_from<G: Gate + Sync, R: Threads + Sync>(
     negotiate(rt, alloc, graph, nets, rounds, workers, gate)
 }
 
-/// The trees of the nets of a placed design, as [`route`] makes them, by the index of the chip's groups; and in `kept`, which is empty, what the opening
-/// left of the nets.
+/// The trees of the nets of a placed design on an indexed chip, in at most so many rounds, from 1 to 64, by 1 to 8 workers, each in a
+/// thread, on whom nothing depends without the opening; and in `kept`, which is empty, what the opening left of the nets. No bits are
+/// set.
 ///
 /// # Errors
 /// The first sink to which no walk leads; permitted rounds that all end with an overused wire; want of memory.
-pub fn indexed_route<G: Gate + Sync, R: Threads + Sync>(
+pub fn route<G: Gate + Sync, R: Threads + Sync>(
     rt: &R,
     alloc: Global,
-    chip: &Chip,
     index: &Index<'_>,
     layout: &Layout,
     nets: &[Net],
@@ -134,50 +164,20 @@ pub fn indexed_route<G: Gate + Sync, R: Threads + Sync>(
     kept: &mut Vec<Kept>,
     gate: &G,
 ) -> Result<Routed, RouteFault>
-    requires index { IsIndexOf chip.now index.now }
-    requires placed { IsPlacedOn chip.now (plan_in layout.now) layout.now.pads.pullups }
-    requires nets { AreNetsOf chip.now (plan_in layout.now) nets.now }
+    requires placed { IsPlacedOn index.now.chip.now (plan_in layout.now) layout.now.pads.pullups }
+    requires nets { AreNetsOf index.now.chip.now (plan_in layout.now) nets.now }
     requires few { length nets.now ≤ 65536 }
     requires effort { IsPermitted effort }
-    ensures routed { IfOk result (IsRouted chip.now (plan_in layout.now) effort kept.new.items) }
-    ensures trees { IfOk result (λ routed. AreTrees chip.now (plan_in layout.now) (routes_in routed)) }
-    ensures fault { IfErr result (IsRouteFault chip.now (plan_in layout.now) effort kept.new.items) }
+    ensures routed { IfOk result (IsRouted index.now.chip.now (plan_in layout.now) effort kept.new.items) }
+    ensures trees { IfOk result (λ routed. AreTrees index.now.chip.now (plan_in layout.now) (routes_in routed)) }
+    ensures fault { IfErr result (IsRouteFault index.now.chip.now (plan_in layout.now) effort kept.new.items) }
 {
-    let _wires = chip.wires();
+    let _wires = index.chip.wires();
     placed_nets_are_routable();
     routed_nets_are_trees();
-    let graph = aimed_fabric(alloc, chip, index, nets)?;
+    let graph = aimed_fabric(alloc, index, nets)?;
     *kept = open(rt, alloc, &graph, nets, effort, gate)?;
     route_from(rt, alloc, &graph, nets, kept, effort, gate)
-}
-
-/// The trees of the nets of a placed design, in at most so many rounds, from 1 to 64, by 1 to 8 workers, each in a thread, on whom
-/// nothing depends without the opening. No bits are set.
-///
-/// # Errors
-/// The first sink to which no walk leads; permitted rounds that all end with an overused wire; want of memory.
-pub fn route<G: Gate + Sync, R: Threads + Sync>(
-    rt: &R,
-    alloc: Global,
-    chip: &Chip,
-    layout: &Layout,
-    nets: &[Net],
-    effort: Effort,
-    kept: &mut Vec<Kept>,
-    gate: &G,
-) -> Result<Routed, RouteFault>
-    requires placed { IsPlacedOn chip.now (plan_in layout.now) layout.now.pads.pullups }
-    requires nets { AreNetsOf chip.now (plan_in layout.now) nets.now }
-    requires few { length nets.now ≤ 65536 }
-    requires effort { IsPermitted effort }
-    ensures routed { IfOk result (IsRouted chip.now (plan_in layout.now) effort kept.new.items) }
-    ensures trees { IfOk result (λ routed. AreTrees chip.now (plan_in layout.now) (routes_in routed)) }
-    ensures fault { IfErr result (IsRouteFault chip.now (plan_in layout.now) effort kept.new.items) }
-{
-    match index_of(alloc, chip) {
-        Ok(index) => indexed_route(rt, alloc, chip, &index, layout, nets, effort, kept, gate),
-        Err(NoMemory) => Err(RouteFault::NoMemory),
-    }
 }
 
 // Why nothing is built of a placed design with so many nets that is not routed.
@@ -198,22 +198,16 @@ fn unrouted(layout: Layout, nets: u32, kept: Vec<Kept>, fault: RouteFault) -> Bu
 }
 
 // The bits of a placed and routed design.
-fn write(
-    alloc: Global,
-    chip: &Chip,
-    index: &Index<'_>,
-    made: RoutedLayout,
-) -> Result<Built, BuildFault>
-    requires index { IsIndexOf chip.now index.now }
-    requires placed { IsPlacedOn chip.now (plan_in made.layout) made.layout.pads.pullups }
-    requires trees { AreTrees chip.now (plan_in made.layout) (routes_in made.routed) }
+fn write(alloc: Global, index: &Index<'_>, made: RoutedLayout) -> Result<Built, BuildFault>
+    requires placed { IsPlacedOn index.now.chip.now (plan_in made.layout) made.layout.pads.pullups }
+    requires trees { AreTrees index.now.chip.now (plan_in made.layout) (routes_in made.routed) }
     ensures layout { IfOk result (λ built. built.layout ≡ made.layout) }
     ensures kept { IfOk result (λ built. built.kept ≡ made.kept) }
     ensures routed { IfOk result (λ built. built.routed ≡ made.routed) }
-    ensures written { IfOk result (λ built. IsWritten chip.now (plan_in made.layout) made.layout.pads.pullups (routes_in made.routed) built.bits) }
-    ensures loopless { IfOk result (λ built. IsRingless chip.now → HasNoLoop chip.now (bits_of built.bits) built.bits.extras) }
-    ensures ring { IfOk result (λ built. FaultsAreRings chip.now (bits_of built.bits) built.bits.extras) }
-    ensures realised { IfOk result (λ built. HasNoLoop chip.now (bits_of built.bits) built.bits.extras → Realises chip.now (plan_in made.layout) (wanted_rows chip.now (plan_in made.layout) (routes_in built.routed)) (bits_of built.bits) built.bits.extras) }
+    ensures written { IfOk result (λ built. IsWritten index.now.chip.now (plan_in made.layout) made.layout.pads.pullups (routes_in made.routed) built.bits) }
+    ensures loopless { IfOk result (λ built. IsRingless index.now.chip.now → HasNoLoop index.now.chip.now (bits_of built.bits) built.bits.extras) }
+    ensures ring { IfOk result (λ built. FaultsAreRings index.now.chip.now (bits_of built.bits) built.bits.extras) }
+    ensures realised { IfOk result (λ built. HasNoLoop index.now.chip.now (bits_of built.bits) built.bits.extras → Realises index.now.chip.now (plan_in made.layout) (wanted_rows index.now.chip.now (plan_in made.layout) (routes_in built.routed)) (bits_of built.bits) built.bits.extras) }
     ensures stop { IfErr result (λ fault. fault ≡ out_of_memory) }
 {
     let RoutedLayout {
@@ -223,9 +217,8 @@ fn write(
         routed,
     } = made;
     drop(nets);
-    match indexed_emit(
+    match emit_by(
         alloc,
-        chip,
         index,
         &layout.design,
         &layout.clusters,
@@ -246,31 +239,29 @@ fn write(
     }
 }
 
-/// A placed design with its nets, routed within the permitted rounds.
-///
-/// # Errors
-/// A sink that can't be reached, or permitted rounds that all end with an overused wire, with the placed design; want of memory.
-pub fn route_layout<G: Gate + Sync, R: Threads + Sync>(
+// A placed design on an indexed chip with these nets, which are its own and at most 65,536, routed within the permitted rounds; and in
+// `kept`, which is empty, what the opening left of them.
+#[tactic(auto, using(crate::proofs::Counting::nets_counted))]
+fn route_nets<G: Gate + Sync, R: Threads + Sync>(
     rt: &R,
     alloc: Global,
-    chip: &Chip,
     index: &Index<'_>,
     layout: Layout,
+    nets: Vec<Net>,
+    mut kept: Vec<Kept>,
     effort: Effort,
     gate: &G,
 ) -> Result<RoutedLayout, BuildFault>
-    requires index { IsIndexOf chip.now index.now }
-    requires placed { IsPlacedOn chip.now (plan_in layout) layout.pads.pullups }
+    requires placed { IsPlacedOn index.now.chip.now (plan_in layout) layout.pads.pullups }
+    requires nets { AreNetsOf index.now.chip.now (plan_in layout) nets.items }
+    requires few { length nets.items ≤ 65536 }
     requires effort { IsPermitted effort }
-    ensures routed { IfOk result (IsRoutedLayout chip.now effort layout) }
-    ensures fault { IfErr result (IsEndFault chip.now effort layout) }
+    ensures routed { IfOk result (IsRoutedLayout index.now.chip.now effort layout) }
+    ensures fault { IfErr result (IsEndFault index.now.chip.now effort layout) }
 {
-    let mut kept = Vec::new(alloc);
-    let nets = nets_in(alloc, chip, &layout)?;
-    match indexed_route(
+    match route(
         rt,
         alloc,
-        chip,
         index,
         &layout,
         nets.as_slice(),
@@ -288,30 +279,56 @@ pub fn route_layout<G: Gate + Sync, R: Threads + Sync>(
     }
 }
 
-/// The bits of a placed design, routed within the permitted rounds.
+/// A placed design on an indexed chip with its nets, routed within the permitted rounds.
 ///
 /// # Errors
-/// Those of [`route_layout`].
-pub fn finish<G: Gate + Sync, R: Threads + Sync>(
+/// A sink that can't be reached, or permitted rounds that all end with an overused wire, with the placed design; want of memory, as
+/// which more than 65,536 nets count.
+pub fn route_layout<G: Gate + Sync, R: Threads + Sync>(
     rt: &R,
     alloc: Global,
-    chip: &Chip,
     index: &Index<'_>,
     layout: Layout,
     effort: Effort,
     gate: &G,
-) -> Result<Built, BuildFault>
-    requires index { IsIndexOf chip.now index.now }
-    requires placed { IsPlacedOn chip.now (plan_in layout) layout.pads.pullups }
+) -> Result<RoutedLayout, BuildFault>
+    requires placed { IsPlacedOn index.now.chip.now (plan_in layout) layout.pads.pullups }
     requires effort { IsPermitted effort }
-    ensures finished { IfOk result (IsFinished chip.now effort layout) }
-    ensures loopless { IfOk result (λ built. IsRingless chip.now → HasNoLoop chip.now (bits_of built.bits) built.bits.extras) }
-    ensures ring { IfOk result (λ built. FaultsAreRings chip.now (bits_of built.bits) built.bits.extras) }
-    ensures realised { IfOk result (λ built. HasNoLoop chip.now (bits_of built.bits) built.bits.extras → Realises chip.now (plan_in layout) (wanted_rows chip.now (plan_in layout) (routes_in built.routed)) (bits_of built.bits) built.bits.extras) }
-    ensures fault { IfErr result (IsEndFault chip.now effort layout) }
+    ensures routed { IfOk result (IsRoutedLayout index.now.chip.now effort layout) }
+    ensures fault { IfErr result (IsEndFault index.now.chip.now effort layout) }
 {
-    match route_layout(rt, alloc, chip, index, layout, effort, gate) {
-        Ok(made) => write(alloc, chip, index, made),
+    let kept = Vec::new(alloc);
+    let nets = nets_in(alloc, index.chip, &layout)?;
+    route_nets(rt, alloc, index, layout, nets, kept, effort, gate)
+}
+
+/// The bits of a placed design on an indexed chip with these nets, which are its own and at most 65,536, routed within the permitted
+/// rounds.
+///
+/// # Errors
+/// A sink that can't be reached, or permitted rounds that all end with an overused wire, with the placed design; want of memory.
+pub fn finish<G: Gate + Sync, R: Threads + Sync>(
+    rt: &R,
+    alloc: Global,
+    index: &Index<'_>,
+    layout: Layout,
+    nets: Vec<Net>,
+    effort: Effort,
+    gate: &G,
+) -> Result<Built, BuildFault>
+    requires placed { IsPlacedOn index.now.chip.now (plan_in layout) layout.pads.pullups }
+    requires nets { AreNetsOf index.now.chip.now (plan_in layout) nets.items }
+    requires few { length nets.items ≤ 65536 }
+    requires effort { IsPermitted effort }
+    ensures finished { IfOk result (IsFinished index.now.chip.now effort layout) }
+    ensures loopless { IfOk result (λ built. IsRingless index.now.chip.now → HasNoLoop index.now.chip.now (bits_of built.bits) built.bits.extras) }
+    ensures ring { IfOk result (λ built. FaultsAreRings index.now.chip.now (bits_of built.bits) built.bits.extras) }
+    ensures realised { IfOk result (λ built. HasNoLoop index.now.chip.now (bits_of built.bits) built.bits.extras → Realises index.now.chip.now (plan_in layout) (wanted_rows index.now.chip.now (plan_in layout) (routes_in built.routed)) (bits_of built.bits) built.bits.extras) }
+    ensures fault { IfErr result (IsEndFault index.now.chip.now effort layout) }
+{
+    let kept = Vec::new(alloc);
+    match route_nets(rt, alloc, index, layout, nets, kept, effort, gate) {
+        Ok(made) => write(alloc, index, made),
         Err(fault) => Err(fault),
     }
 }

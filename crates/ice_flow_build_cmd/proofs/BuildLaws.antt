@@ -16,7 +16,7 @@ use Rattle.ice_check.specs.declared.fault.NetFault.TheVariants as net_fault
 use Rattle.ice_chip.specs.Database.{Parts}
 use Rattle.ice_chip_read.specs.Whole.{chip_says}
 use Rattle.ice_core.specs.declared.log.RoundLog.{RoundLog}
-use Rattle.ice_pcf.specs.Grammar.{text_says}
+use Rattle.ice_pcf.specs.Grammar.{pin_text_says}
 use Rattle.ice_pcf.specs.declared.constraint.Constraint.{Constraint}
 use Rattle.ice_report.specs.PinReport.{pin_text}
 use Rattle.ice_flow_build.specs.declared.answer.Effort.{Effort}
@@ -24,9 +24,8 @@ use Rattle.ice_flow_frame.specs.Told.{Told as ToldOf, telling}
 use Rattle.ice_negotiate_defs.specs.declared.kept.Kept.{Kept}
 use Rattle.ice_words.specs.Grips.{Shut}
 use Rattle.ice_flow_build.specs.Answers.{pins_said, places_said, HasBadBits, HasPlaceFault, IsPlaceable}
-use Rattle.ice_flow_build.specs.Laid.{Task, IsLaidOut}
-use Rattle.ice_flow_build.specs.declared.answer.Layout.{Layout}
-use Rattle.ice_flow_build.proofs.Answering.{pins_good, places_good}
+use Rattle.ice_flow_build.specs.Laid.{Task}
+use Rattle.ice_flow_build.proofs.Answering.{pins_good, places_good, laid_placeable}
 use Rattle.ice_flow_frame.specs.declared.cause.Cause.{Cause}
 use Rattle.ice_flow_frame.specs.declared.cause.Cause.TheVariants.{Good, Usage, BadBlif, BadPcf, BadChip, BadNet, BadPin, Overfull, Unreachable, GaveUp, BadBits}
 use Rattle.ice_flow_frame.specs.declared.cause.Done.{Done}
@@ -46,7 +45,7 @@ use Rattle.ice_flow_frame.proofs.Ended.{end_is_in_files}
 use Rattle.ice_flow_frame.proofs.Standings.{fault_alone, of_done}
 use Rattle.ice_flow_frame.proofs.TextFacts.{at_files, of_weaker, holds_read}
 use Rattle.ice_flow_build_cmd.specs.Asked.{Build, files_of, file_asked, outputs_of, parting_of, IsAsked, Asks, effort_of}
-use Rattle.ice_flow_build_cmd.specs.BuildRows.{ChipRow, HasChipFault, PcfRow, HasPcfFault, BlifRow, HasBlifFault, SaysNetlist, NetRow, PinRow, PlaceRow, IsTried, TriedRow, BuiltRow, UnreachableRow, GaveUpRow, BitsRow, IsWritten, WrittenRow, HoldsReport, ReportedRow, IsBuildAnswer}
+use Rattle.ice_flow_build_cmd.specs.BuildRows.{ChipRow, PcfRow, HasPcfFault, BlifRow, HasBlifFault, SaysNetlist, NetRow, PinRow, PlaceRow, IsTried, TriedRow, BuiltRow, UnreachableRow, GaveUpRow, BitsRow, IsWritten, WrittenRow, HoldsReport, ReportedRow, IsBuildAnswer}
 use Rattle.ice_flow_build_cmd.specs.Command.{build_files}
 use Rattle.ice_flow_build_cmd.specs.Headline.{HeadlineRow}
 use Rattle.ice_flow_build_cmd.specs.Made.{IsMadeByBuild, IsBuiltOn, IsToldOn, IsStuckOn, IsGivenUpOn}
@@ -56,7 +55,9 @@ use Rattle.ice_flow_build_cmd.proofs.Excluding.{built_not_stuck, built_not_given
 use Rattle.ice_flow_build_cmd.proofs.Holding.{held_bits, held_pins, held_report}
 use Rattle.ice_flow_build_cmd.proofs.Shown.{made_shown}
 use Rattle.ice_flow_build_cmd.proofs.Standing.{pcf_stands, blif_stands, net_stands, task_stands, places_stand, end_stands, end_so, one_task}
-use Rattle.ice_flow_build_cmd.proofs.Telling.{of_end, of_tried, of_about, Told, told}
+use Rattle.ice_flow_frame.proofs.Tells.{of_about}
+use Rattle.ice_flow_chip_frame.specs.Standing.{HasChipFault}
+use Rattle.ice_flow_build_cmd.proofs.Telling.{of_end, of_tried, Told, told}
 
 done_end : (task : Task) (effort : Effort) (cause : Cause) → IsDone cause → IsEnd task effort cause
 done_end task effort cause done = of_done (IsEnd task effort) (λ arrangement tallies kept. tt) (λ role put. tt) cause done
@@ -89,7 +90,7 @@ pcf_row : (b : Build) (old new : Meaning) (cause : Cause) → IsTrueOf (build_fi
 pcf_row b old new cause is fault =
     comes (build_files b) old new cause (λ c. c ≡ BadPcf fault) (HasPcfFault fault) (lawful b) is
     (λ e. told_of b old new cause (BadPcf fault) (HasPcfFault fault) is e (λ i. i.0) (λ t h. h))
-    (λ t h m. fault_alone (text_says (text_at t 2)) BadPcf (BlifStands b.package_name (effort_of b) (text_at t 3) h.0) fault cause h.2
+    (λ t h m. fault_alone (pin_text_says (text_at t 2)) BadPcf (BlifStands b.package_name (effort_of b) (text_at t 3) h.0) fault cause h.2
     (pcf_stands b.package_name (effort_of b) t h.0 cause h.1 m))
 
 blif_row : (b : Build) (old new : Meaning) (cause : Cause) → IsTrueOf (build_files b) old new cause → BlifRow b old cause
@@ -139,9 +140,6 @@ place_row b old new cause is fault =
     (places_stand b.package_name (effort_of b) t h.task h.is_so.0 cause h.is_asked h.is_so.1 m))
 
 -- ---- what is built
-laid_placeable : (task : Task) (layout : Layout) → IsLaidOut task layout → IsPlaceable task
-laid_placeable task layout laid = (layout.pads, laid.placed.first, pins_good task layout laid, places_good task layout laid)
-
 asks_weaker : (name : List ℕ) (P Q : Task → Type 0) (t : List (List ℕ)) → ((task : Task) → P task → Q task) → Asks name P t → Asks name Q t
 asks_weaker name P Q t weaker h = record { task = h.task; is_asked = h.is_asked; is_so = weaker h.task h.is_so }
 

@@ -28,7 +28,7 @@ use Rattle.ice_decode.specs.declared.fault.DecodeFault.{DecodeFault}
 use Rattle.ice_negotiate_defs.specs.Trees.{route_of}
 use Rattle.ice_pads.specs.Assign.{assign_of}
 use Rattle.ice_pads.specs.declared.fault.PinFault.{PinFault}
-use Rattle.ice_pcf.specs.Grammar.{text_says}
+use Rattle.ice_pcf.specs.Grammar.{pin_text_says}
 use Rattle.ice_pcf.specs.declared.constraint.Constraint.{Constraint}
 use Rattle.ice_pcf.specs.declared.fault.PcfFault.{PcfFault}
 use Rattle.ice_pcf.specs.declared.fault.PcfFault.TheVariants as pcf_fault
@@ -135,13 +135,13 @@ chip_unread b t fault cause said is =
     )
 
 pub pcf_unread : (b : Build) (t : List (List ℕ)) (parts : Parts) (fault : PcfFault) (cause : Cause) → chip_says (text_at t 1) ≡ Ok parts
-    → (fault ≢ pcf_fault.NoMemory → text_says (text_at t 2) ≡ Err fault) → IsPcfRefusal fault cause → IsReadRefusal b t cause
+    → (fault ≢ pcf_fault.NoMemory → pin_text_says (text_at t 2) ≡ Err fault) → IsPcfRefusal fault cause → IsReadRefusal b t cause
 pcf_unread b t parts fault cause chip said is =
     let name = b.package_name in
     let effort = effort_of b in (
       pcf_refused (StandsForBuild name effort t) fault cause
           (λ known. behind (chip_says (text_at t 1)) BadChip (PcfStands name effort (text_at t 2) (text_at t 3)) parts (BadPcf fault) chip
-          (at_fault (text_says (text_at t 2)) BadPcf (BlifStands name effort (text_at t 3) parts) fault (said known))) is,
+          (at_fault (pin_text_says (text_at t 2)) BadPcf (BlifStands name effort (text_at t 3) parts) fault (said known))) is,
       pcf_alone fault cause is,
     )
 

@@ -5,11 +5,10 @@ use Rattle.std.proofs.lemmas.List.{length-map}
 use Rattle.ice_base_values.specs.Order.{At, Has}
 use Rattle.ice_net.specs.NetlistData.{NetlistData}
 use Rattle.ice_net.specs.Meaning as net
-use Rattle.ice_net.specs.declared.drive.Drive.TheVariants.{Off}
+use Rattle.ice_net.specs.declared.driver.Drive.TheVariants.{Off}
 use Rattle.ice_chip.proofs.Keys.{pad_same, pad_self}
-use Rattle.ice_chip.specs.Database.{Parts, PackageRows}
+use Rattle.ice_chip.specs.Database.{Parts, PackageRows, same_pad}
 use Rattle.ice_chip.specs.Lookups.{package_of}
-use Rattle.ice_chip.specs.Places.{same_pad}
 use Rattle.ice_chip.specs.declared.rows.Pad.{Pad}
 use Rattle.ice_chip_read_laws.proofs.RowsSaid.{rows_said}
 use Rattle.ice_bits.specs.Configuration.{Configuration, bits_of}
@@ -19,7 +18,7 @@ use Rattle.ice_decode.specs.Pads.{pads, level_of}
 use Rattle.ice_decode_laws.proofs.NoneFound.{no_fault}
 use Rattle.ice_cells.specs.Runs.{design_of}
 use Rattle.ice_pads.specs.Assign.{PadsData}
-use Rattle.ice_pads.specs.HavePads.{HavePads}
+use Rattle.ice_pads.specs.Constraints.{HavePads}
 use Rattle.ice_pads.proofs.HavingPads.{ports_have_pads}
 use Rattle.ice_place.specs.declared.arrangement.Arrangement.{Arrangement}
 use Rattle.ice_emit_defs.specs.Realised.{port_levels}
@@ -30,6 +29,7 @@ use Rattle.ice_flow_frame.specs.Texts.{text_at}
 use Rattle.ice_flow_frame.specs.Told.{Told}
 use Rattle.ice_flow_build_cmd.specs.Asked.{Build}
 use Rattle.ice_flow_build_cmd.specs.Headline.{driven_at, IsShown}
+use Rattle.ice_flow_build_cmd.specs.ExactlyShown.{IsShownExactly}
 use Rattle.ice_flow_build_cmd.specs.Made.{IsMadeByBuild}
 
 -- ---- levels by pads
@@ -106,4 +106,21 @@ module _ (b : Build) (t made : List (List ℕ)) (on : Arrangement) (told : Told)
     have_pads = have_pads;
     at_ports = ports_driven g.is_asked.circuit ports g.task.parts g.built.bits bonded g.is_shown have_pads.of_package;
     elsewhere = others_off g.is_asked.circuit ports g.task.parts g.built.bits bonded g.is_shown;
+  }
+
+  -- and with the pads that are chosen
+  pub made_shown_exactly : IsShownExactly b.package_name t (asc_text g.task.parts g.built.bits)
+  made_shown_exactly = record {
+    parts = g.task.parts;
+    constraints = g.task.constraints;
+    circuit = g.is_asked.circuit;
+    pads = given;
+    configuration = g.built.bits;
+    is_chip = g.is_asked.is_chip;
+    are_constraints = g.is_asked.are_constraints;
+    is_circuit = g.is_asked.is_circuit;
+    is_sound = g.is_asked.is_sound;
+    are_pads = g.are_pads.1;
+    decodes = g.is_read_back;
+    shows = g.is_shown;
   }

@@ -1,5 +1,5 @@
 -- How the texts of `build` stand, by what was read of them.
-use Rattle.std.proofs.Common.{◌≡◌, ◌∙◌, ℕ, List, Result, Ok, inl, inr, sym, ap, subst}
+use Rattle.std.proofs.Common.{◌≡◌, ◌∙◌, ℕ, List, Ok, inl, inr, sym, ap, subst}
 use Rattle.ice_base.specs.declared.number.TileAt.{TileAt}
 use Rattle.ice_net.specs.NetlistData.{NetlistData}
 use Rattle.ice_blif.specs.Grammar.{netlist_of}
@@ -8,7 +8,7 @@ use Rattle.ice_check.proofs.Faulty.{faulty}
 use Rattle.ice_chip.specs.Database.{Parts}
 use Rattle.ice_chip_read.specs.Whole.{chip_says}
 use Rattle.ice_pads.specs.Assign.{PadsData}
-use Rattle.ice_pcf.specs.Grammar.{text_says}
+use Rattle.ice_pcf.specs.Grammar.{pin_text_says}
 use Rattle.ice_pcf.specs.declared.constraint.Constraint.{Constraint}
 use Rattle.ice_flow_prepare.specs.Prepared.{prepared_on}
 use Rattle.ice_flow_build.specs.Answers.{pins_said, places_said}
@@ -17,7 +17,7 @@ use Rattle.ice_flow_build.specs.declared.answer.Effort.{Effort}
 use Rattle.ice_flow_frame.specs.declared.cause.Cause.{Cause}
 use Rattle.ice_flow_frame.specs.declared.cause.Cause.TheVariants.{BadBlif, BadPcf, BadChip, BadPin, Overfull}
 use Rattle.ice_flow_frame.specs.Texts.{text_at}
-use Rattle.ice_flow_frame.proofs.Standings.{behind, then_stands}
+use Rattle.ice_flow_frame.proofs.Standings.{behind, then_stands, one_value}
 use Rattle.ice_flow_build_cmd.specs.Asked.{IsAsked}
 use Rattle.ice_flow_build_cmd.specs.BuildRows.{IsRead}
 use Rattle.ice_flow_build_cmd.specs.Standing.{IsEnd, PlacesStand, TaskStands, NetStands, BlifStands, PcfStands, StandsForBuild}
@@ -30,7 +30,7 @@ pcf_stands name effort t parts cause e m = then_stands (chip_says (text_at t 1))
 pub blif_stands : (name : List ℕ) (effort : Effort) (t : List (List ℕ)) (parts : Parts) (constraints : List Constraint) (cause : Cause) → IsRead t parts constraints → StandsForBuild name effort t cause
     → BlifStands name effort (text_at t 3) parts constraints cause
 blif_stands name effort t parts constraints cause read m =
-    then_stands (text_says (text_at t 2)) BadPcf (BlifStands name effort (text_at t 3) parts) constraints cause read.are_constraints (pcf_stands name effort t parts cause read.is_chip m)
+    then_stands (pin_text_says (text_at t 2)) BadPcf (BlifStands name effort (text_at t 3) parts) constraints cause read.are_constraints (pcf_stands name effort t parts cause read.is_chip m)
 
 pub net_stands : (name : List ℕ) (effort : Effort) (t : List (List ℕ)) (parts : Parts) (constraints : List Constraint) (circuit : NetlistData) (cause : Cause) → IsRead t parts constraints
     → netlist_of (text_at t 3) ≡ Ok circuit → StandsForBuild name effort t cause → NetStands name effort parts constraints circuit cause
@@ -68,7 +68,7 @@ pub read_so : (name : List ℕ) (effort : Effort) (t : List (List ℕ)) (parts :
     → BlifStands name effort (text_at t 3) parts constraints cause → StandsForBuild name effort t cause
 read_so name effort t parts constraints cause read m =
     behind (chip_says (text_at t 1)) BadChip (PcfStands name effort (text_at t 2) (text_at t 3)) parts cause read.is_chip
-    (behind (text_says (text_at t 2)) BadPcf (BlifStands name effort (text_at t 3) parts) constraints cause read.are_constraints m)
+    (behind (pin_text_says (text_at t 2)) BadPcf (BlifStands name effort (text_at t 3) parts) constraints cause read.are_constraints m)
 
 pub net_so : (name : List ℕ) (effort : Effort) (t : List (List ℕ)) (parts : Parts) (constraints : List Constraint) (circuit : NetlistData) (cause : Cause) → IsRead t parts constraints
     → netlist_of (text_at t 3) ≡ Ok circuit → NetStands name effort parts constraints circuit cause → StandsForBuild name effort t cause
@@ -90,13 +90,10 @@ end_so name effort t task pads first cause asked pins places m =
     pins_so name effort t task pads cause asked pins (behind (places_said task) Overfull (λ found. IsEnd task effort) first cause places m)
 
 -- ---- texts say one task
-one_value : {A E : Type 0} (said : Result A E) (value other : A) → said ≡ Ok value → said ≡ Ok other → value ≡ other
-one_value said value other a b = cc
-
 pub one_task : (name : List ℕ) (t : List (List ℕ)) (a b : Task) → IsAsked name t a → IsAsked name t b → a ≡ b
 one_task name t a b one other =
     let parts = one_value (chip_says (text_at t 1)) a.parts b.parts one.is_chip other.is_chip in
-    let constraints = one_value (text_says (text_at t 2)) a.constraints b.constraints one.are_constraints other.are_constraints in
+    let constraints = one_value (pin_text_says (text_at t 2)) a.constraints b.constraints one.are_constraints other.are_constraints in
     let read = one_value (netlist_of (text_at t 3)) one.circuit other.circuit one.is_circuit other.is_circuit in
     let circuit = one.is_prepared ∙ prepared_same a.parts b.parts one.circuit other.circuit parts read ∙ sym other.is_prepared in
     same a.parts b.parts a.name b.name a.constraints b.constraints a.circuit b.circuit parts (let named : name ≡ b.name = sym other.is_name in rw one.is_name named) constraints circuit

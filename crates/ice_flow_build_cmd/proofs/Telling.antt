@@ -17,7 +17,7 @@ use Rattle.ice_core.specs.declared.log.RoundLog.{RoundLog}
 use Rattle.ice_decode.specs.declared.fault.DecodeFault.{DecodeFault}
 use Rattle.ice_pads.specs.Assign.{PadsData}
 use Rattle.ice_pads.specs.declared.fault.PinFault.{PinFault}
-use Rattle.ice_pcf.specs.Grammar.{text_says}
+use Rattle.ice_pcf.specs.Grammar.{pin_text_says}
 use Rattle.ice_pcf.specs.declared.constraint.Constraint.{Constraint}
 use Rattle.ice_pcf.specs.declared.fault.PcfFault.{PcfFault}
 use Rattle.ice_place.specs.declared.fault.PlaceFault.{PlaceFault}
@@ -27,14 +27,14 @@ use Rattle.ice_negotiate_defs.specs.declared.kept.Kept.{Kept}
 use Rattle.ice_words.specs.Grips.{Shut}
 use Rattle.ice_flow_build.specs.Answers.{pins_said, places_said, HasBadBits, HasPlaceFault}
 use Rattle.ice_flow_build.specs.Laid.{Task, task_of}
-use Rattle.ice_flow_frame.specs.Tells.{IsAbout}
 use Rattle.ice_flow_frame.specs.declared.cause.Cause.{Cause}
 use Rattle.ice_flow_frame.specs.declared.cause.Cause.TheVariants.{Good, Usage, BadBlif, BadPcf, BadChip, BadNet, BadPin, Overfull, Unreachable, GaveUp, ReadFault, WriteFault, NoMemory, BadAsc, BadBits, TooLong, BadLevels, BadDelays}
 use Rattle.ice_flow_frame.specs.declared.cause.FileRole.{FileRole}
 use Rattle.ice_flow_frame.specs.Texts.{text_at}
 use Rattle.ice_flow_frame.proofs.Standings.{fault_alone, then_stands}
+use Rattle.ice_flow_chip_frame.specs.Standing.{HasChipFault}
 use Rattle.ice_flow_build_cmd.specs.Asked.{IsAsked, Asks}
-use Rattle.ice_flow_build_cmd.specs.BuildRows.{HasChipFault, HasPcfFault, HasBlifFault, IsRead, SaysNetlist, IsTried}
+use Rattle.ice_flow_build_cmd.specs.BuildRows.{HasPcfFault, HasBlifFault, IsRead, SaysNetlist, IsTried}
 use Rattle.ice_flow_build_cmd.specs.Made.{IsStuckOn, IsGivenUpOn}
 use Rattle.ice_flow_build_cmd.specs.Standing.{IsEnd, PlacesStand, TaskStands, NetStands, BlifStands, PcfStands, StandsForBuild}
 
@@ -86,28 +86,6 @@ of_tried P good cut stuck gave bits (TooLong role limit) is = absurd is
 of_tried P good cut stuck gave bits (BadLevels line) is = absurd is
 of_tried P good cut stuck gave bits (BadDelays line) is = absurd is
 
--- what is true of each answer that tells an arrangement
-pub of_about : (P : Cause → Type 0) (arrangement : Arrangement) → ((tallies : Vec Shut) (kept : Vec Kept) → P (Good arrangement tallies kept)) → ((net : NetNo) (sink : WireNo) → P (Unreachable arrangement net sink))
-    → ((logs : Vec RoundLog) (tallies : Vec Shut) (kept : Vec Kept) → P (GaveUp arrangement logs tallies kept)) → (cause : Cause) → IsAbout arrangement cause → P cause
-of_about P arrangement good stuck gave (Good told tallies kept) is = subst (λ (x : Arrangement). P (Good x tallies kept)) (sym is) (good tallies kept)
-of_about P arrangement good stuck gave Usage is = absurd is
-of_about P arrangement good stuck gave (BadBlif fault) is = absurd is
-of_about P arrangement good stuck gave (BadPcf fault) is = absurd is
-of_about P arrangement good stuck gave (BadChip fault) is = absurd is
-of_about P arrangement good stuck gave (BadNet fault) is = absurd is
-of_about P arrangement good stuck gave (BadPin fault) is = absurd is
-of_about P arrangement good stuck gave (Overfull fault) is = absurd is
-of_about P arrangement good stuck gave (Unreachable told net sink) is = subst (λ (x : Arrangement). P (Unreachable x net sink)) (sym is) (stuck net sink)
-of_about P arrangement good stuck gave (GaveUp told logs tallies kept) is = subst (λ (x : Arrangement). P (GaveUp x logs tallies kept)) (sym is) (gave logs tallies kept)
-of_about P arrangement good stuck gave (ReadFault role) is = absurd is
-of_about P arrangement good stuck gave (WriteFault role put) is = absurd is
-of_about P arrangement good stuck gave NoMemory is = absurd is
-of_about P arrangement good stuck gave (BadAsc fault) is = absurd is
-of_about P arrangement good stuck gave (BadBits fault) is = absurd is
-of_about P arrangement good stuck gave (TooLong role limit) is = absurd is
-of_about P arrangement good stuck gave (BadLevels line) is = absurd is
-of_about P arrangement good stuck gave (BadDelays line) is = absurd is
-
 -- ---- what is told
 abbrev pub Told : List ℕ → Effort → List (List ℕ) → Cause → Type 0
 Told name effort t (Good arrangement tallies kept) = Unit {0}
@@ -158,18 +136,18 @@ told_blif name effort t parts constraints (Ok circuit) cause read is m =
     told_net name effort t parts constraints circuit cause read is (then_stands (netlist_of (text_at t 3)) BadBlif (NetStands name effort parts constraints) circuit cause is m)
 
 told_pcf : (name : List ℕ) (effort : Effort) (t : List (List ℕ)) (parts : Parts) (said : Result (List Constraint) PcfFault) (cause : Cause) → chip_says (text_at t 1) ≡ Ok parts
-    → text_says (text_at t 2) ≡ said → PcfStands name effort (text_at t 2) (text_at t 3) parts cause → Told name effort t cause
+    → pin_text_says (text_at t 2) ≡ said → PcfStands name effort (text_at t 2) (text_at t 3) parts cause → Told name effort t cause
 told_pcf name effort t parts (Err fault) cause chip is m =
-    subst (Told name effort t) (sym (fault_alone (text_says (text_at t 2)) BadPcf (BlifStands name effort (text_at t 3) parts) fault cause is m)) (parts, chip, is)
+    subst (Told name effort t) (sym (fault_alone (pin_text_says (text_at t 2)) BadPcf (BlifStands name effort (text_at t 3) parts) fault cause is m)) (parts, chip, is)
 told_pcf name effort t parts (Ok constraints) cause chip is m =
     told_blif name effort t parts constraints (netlist_of (text_at t 3)) cause (record { is_chip = chip; are_constraints = is }) refl
-    (then_stands (text_says (text_at t 2)) BadPcf (BlifStands name effort (text_at t 3) parts) constraints cause is m)
+    (then_stands (pin_text_says (text_at t 2)) BadPcf (BlifStands name effort (text_at t 3) parts) constraints cause is m)
 
 told_chip : (name : List ℕ) (effort : Effort) (t : List (List ℕ)) (said : Result Parts ChipFault) (cause : Cause) → chip_says (text_at t 1) ≡ said → StandsForBuild name effort t cause → Told name effort t cause
 told_chip name effort t (Err fault) cause is m =
     subst (Told name effort t) (sym (fault_alone (chip_says (text_at t 1)) BadChip (PcfStands name effort (text_at t 2) (text_at t 3)) fault cause is m)) is
 told_chip name effort t (Ok parts) cause is m =
-    told_pcf name effort t parts (text_says (text_at t 2)) cause is refl (then_stands (chip_says (text_at t 1)) BadChip (PcfStands name effort (text_at t 2) (text_at t 3)) parts cause is m)
+    told_pcf name effort t parts (pin_text_says (text_at t 2)) cause is refl (then_stands (chip_says (text_at t 1)) BadChip (PcfStands name effort (text_at t 2) (text_at t 3)) parts cause is m)
 
 pub told : (name : List ℕ) (effort : Effort) (t : List (List ℕ)) (cause : Cause) → StandsForBuild name effort t cause → Told name effort t cause
 told name effort t cause m = told_chip name effort t (chip_says (text_at t 1)) cause refl m

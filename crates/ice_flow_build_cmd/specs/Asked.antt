@@ -5,7 +5,7 @@ use Rattle.ice_net.specs.NetlistData.{NetlistData}
 use Rattle.ice_blif.specs.Grammar.{netlist_of}
 use Rattle.ice_check.specs.Sound.{IsSound}
 use Rattle.ice_chip_read.specs.Whole.{chip_says}
-use Rattle.ice_pcf.specs.Grammar.{text_says}
+use Rattle.ice_pcf.specs.Grammar.{pin_text_says}
 use Rattle.ice_flow_prepare.specs.Prepared.{most_cells, prepared_on}
 use Rattle.ice_flow_build.specs.Laid.{Task}
 use Rattle.ice_flow_build.specs.declared.answer.Effort.{Effort}
@@ -51,7 +51,7 @@ pub record IsAsked (name : List ℕ) (texts : List (List ℕ)) (task : Task) : T
   pub circuit : NetlistData
   pub is_chip : chip_says (text_at texts 1) ≡ Ok task.parts
   pub is_name : task.name ≡ name
-  pub are_constraints : text_says (text_at texts 2) ≡ Ok task.constraints
+  pub are_constraints : pin_text_says (text_at texts 2) ≡ Ok task.constraints
   pub is_circuit : netlist_of (text_at texts 3) ≡ Ok circuit
   pub is_sound : IsSound circuit
   pub is_prepared : task.circuit ≡ prepared_on task.parts circuit

@@ -19,7 +19,7 @@ use Rattle.ice_chip_read.specs.Whole.{chip_says}
 use Rattle.ice_core.specs.declared.log.RoundLog.{RoundLog}
 use Rattle.ice_decode.specs.declared.fault.DecodeFault.{DecodeFault}
 use Rattle.ice_pads.specs.declared.fault.PinFault.{PinFault}
-use Rattle.ice_pcf.specs.Grammar.{text_says}
+use Rattle.ice_pcf.specs.Grammar.{pin_text_says}
 use Rattle.ice_pcf.specs.declared.constraint.Constraint.{Constraint}
 use Rattle.ice_pcf.specs.declared.fault.PcfFault.{PcfFault}
 use Rattle.ice_place.specs.declared.fault.PlaceFault.{PlaceFault}
@@ -35,6 +35,7 @@ use Rattle.ice_flow_frame.specs.Rows.{ComesExactly, ReadFaultRow, WriteFaultRow,
 use Rattle.ice_flow_frame.specs.Tells.{IsAbout, TellsNetFault, TellsGood, TellsUnreachable, TellsGivenUp}
 use Rattle.ice_flow_frame.specs.Told.{Told, telling}
 use Rattle.ice_flow_frame.specs.Texts.{OfTexts, HoldsTexts, text_at}
+use Rattle.ice_flow_chip_frame.specs.Standing.{HasChipFault}
 use Rattle.ice_flow_build_cmd.specs.Asked.{Build, files_of, Asks, effort_of}
 use Rattle.ice_flow_build_cmd.specs.Command.{build_files}
 use Rattle.ice_flow_build_cmd.specs.Headline.{IsApart}
@@ -42,17 +43,13 @@ use Rattle.ice_flow_build_cmd.specs.Made.{IsMadeByBuild, IsBuiltOn, IsToldOn, Is
 use Rattle.ice_flow_build_cmd.specs.Reports.{routes_text}
 
 -- ---- the texts
--- the chip text has this first fault
-abbrev pub HasChipFault : ChipFault → List (List ℕ) → Type 0
-HasChipFault fault texts = chip_says (text_at texts 1) ≡ Err fault
-
 -- status 5: exactly where the chip text has a fault, with the first one
 abbrev pub ChipRow : Build → Meaning → Cause → Type 0
 ChipRow b old cause = (fault : ChipFault) → ComesExactly (build_files b) old (λ c. c ≡ BadChip fault) (HasChipFault fault) cause
 
 -- the chip text says a chip, and the text of the pins has this first fault
 abbrev pub HasPcfFault : PcfFault → List (List ℕ) → Type 0
-HasPcfFault fault texts = (parts : Parts) × (chip_says (text_at texts 1) ≡ Ok parts) × (text_says (text_at texts 2) ≡ Err fault)
+HasPcfFault fault texts = (parts : Parts) × (chip_says (text_at texts 1) ≡ Ok parts) × (pin_text_says (text_at texts 2) ≡ Err fault)
 
 -- status 4: exactly where there is a chip and the text of the pins has a fault, with the first one
 abbrev pub PcfRow : Build → Meaning → Cause → Type 0
@@ -61,7 +58,7 @@ PcfRow b old cause = (fault : PcfFault) → ComesExactly (build_files b) old (λ
 -- the first text says this chip, and the second these constraints
 pub record IsRead (texts : List (List ℕ)) (parts : Parts) (constraints : List Constraint) : Type 0 where
   pub is_chip : chip_says (text_at texts 1) ≡ Ok parts
-  pub are_constraints : text_says (text_at texts 2) ≡ Ok constraints
+  pub are_constraints : pin_text_says (text_at texts 2) ≡ Ok constraints
 
 -- they say a chip and constraints, and the netlist's text has this first fault
 abbrev pub HasBlifFault : BlifFault → List (List ℕ) → Type 0

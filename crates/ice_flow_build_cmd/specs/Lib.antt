@@ -2,6 +2,7 @@ pub mod Asked
 pub mod Reports
 pub mod Made
 pub mod Headline
+pub mod ExactlyShown
 pub mod Ending
 pub mod Standing
 pub mod Parting

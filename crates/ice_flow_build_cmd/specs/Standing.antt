@@ -5,7 +5,7 @@ use Rattle.ice_blif.specs.Grammar.{netlist_of}
 use Rattle.ice_check.specs.Sound.{IsSound}
 use Rattle.ice_chip.specs.Database.{Parts}
 use Rattle.ice_chip_read.specs.Whole.{chip_says}
-use Rattle.ice_pcf.specs.Grammar.{text_says}
+use Rattle.ice_pcf.specs.Grammar.{pin_text_says}
 use Rattle.ice_pcf.specs.declared.constraint.Constraint.{Constraint}
 use Rattle.ice_flow_prepare.specs.Prepared.{prepared_on}
 use Rattle.ice_flow_build.specs.Answers.{pins_said, places_said, HasBadBits}
@@ -46,7 +46,7 @@ BlifStands name effort blif_text parts constraints = stands_by (netlist_of blif_
 
 -- the text of the pins, for a chip that was read
 abbrev pub PcfStands : List ℕ → Effort → List ℕ → List ℕ → Parts → Cause → Type 0
-PcfStands name effort pcf_text blif_text parts = stands_by (text_says pcf_text) BadPcf (BlifStands name effort blif_text parts)
+PcfStands name effort pcf_text blif_text parts = stands_by (pin_text_says pcf_text) BadPcf (BlifStands name effort blif_text parts)
 
 -- First the chip text is looked at, then the text of the pins, the netlist's text, the netlist, the pins, the places, and then what is
 -- built.

@@ -4,6 +4,7 @@
 mod building;
 mod ending;
 mod files;
+pub mod laws;
 mod texts;
 
 pub use building::build_files;

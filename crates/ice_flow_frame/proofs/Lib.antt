@@ -6,3 +6,4 @@ pub mod Ended
 pub mod Standings
 pub mod CommandRows
 mod PieceTexts
+pub mod Tells

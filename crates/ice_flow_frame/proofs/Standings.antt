@@ -34,6 +34,10 @@ use Rattle.ice_words.specs.Grips.{Shut}
 pub at_fault : {V F : Type 0} (said : Result V F) (tell : F → Cause) (then : V → Cause → Type 0) (fault : F) → said ≡ Err fault → stands_by said tell then (tell fault)
 at_fault said tell then fault e = rw e refl
 
+-- what is said has one value
+pub one_value : {A E : Type 0} (said : Result A E) (value other : A) → said ≡ Ok value → said ≡ Ok other → value ≡ other
+one_value said value other a b = cc
+
 -- behind what is there it stands as what follows
 pub behind : {V F : Type 0} (said : Result V F) (tell : F → Cause) (then : V → Cause → Type 0) (value : V) (cause : Cause) → said ≡ Ok value → then value cause → stands_by said tell then cause
 behind said tell then value cause e is = rw e is

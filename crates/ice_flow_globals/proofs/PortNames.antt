@@ -9,8 +9,7 @@ use Rattle.ice_base_values.proofs.Members.{Has_all}
 use Rattle.ice_net.specs.declared.port.Port.{Port}
 use Rattle.ice_net.specs.Formed.{IsPortBelow, IsFormed}
 use Rattle.ice_net.specs.NetlistData.{NetlistData, is_at}
-use Rattle.ice_pads.specs.Passing.{first_passing}
-use Rattle.ice_pads.specs.Constraints.{is_of_signal, port_place, port_named, name_at, port_name}
+use Rattle.ice_pads.specs.Constraints.{is_of_signal, place_of_port, port_named, name_at, port_name, first_passing}
 
 -- ---- places in two lists
 place_left : {X : Type 0} (p : X → Bool) (xs ys : List X) → position_or_len p xs < length xs → position_or_len p (xs ++ ys) ≡ position_or_len p xs
@@ -52,27 +51,27 @@ place_in name names = position_or_len (bytes_eq name) names
 -- a name leads to the same port with names behind those of the netlist
 pub same_port : (n m : NetlistData) (more : List (List ℕ)) (name : List ℕ) → IsFormed n → m.ports ≡ n.ports → m.names ≡ n.names ++ more → port_named m name ≡ port_named n name
 same_port n m more name formed ports names =
-    ap (λ ps. option_and_then (port_place ps) (position (bytes_eq name) m.names)) ports
-    ∙ ap (λ ns. option_and_then (port_place n.ports) (position (bytes_eq name) ns)) names
+    ap (λ ps. option_and_then (place_of_port ps) (position (bytes_eq name) m.names)) ports
+    ∙ ap (λ ns. option_and_then (place_of_port n.ports) (position (bytes_eq name) ns)) names
     ∙ by (nat_lt (place_in name n.names) (length n.names)) refl
   where
-    behind : (b : Bool) → length n.names ≤ place_in name (n.names ++ more) → option_and_then (port_place n.ports) (if b then Some (place_in name (n.names ++ more)) else None) ≡ None
+    behind : (b : Bool) → length n.names ≤ place_in name (n.names ++ more) → option_and_then (place_of_port n.ports) (if b then Some (place_in name (n.names ++ more)) else None) ≡ None
     behind true le = no_port (length n.names) (place_in name (n.names ++ more)) n.ports formed.ports le 0 (length n.ports)
     behind false le = refl
 
-    by : (b : Bool) → nat_lt (place_in name n.names) (length n.names) ≡ b → option_and_then (port_place n.ports) (position (bytes_eq name) (n.names ++ more)) ≡ option_and_then (port_place n.ports) (position (bytes_eq name) n.names)
+    by : (b : Bool) → nat_lt (place_in name n.names) (length n.names) ≡ b → option_and_then (place_of_port n.ports) (position (bytes_eq name) (n.names ++ more)) ≡ option_and_then (place_of_port n.ports) (position (bytes_eq name) n.names)
     by true e =
         let lt : place_in name n.names < length n.names = search (rules, tests) in
         let same : place_in name (n.names ++ more) ≡ place_in name n.names = place_left (bytes_eq name) n.names more lt in
         let long = length-append n.names more in
         let also : nat_lt (place_in name (n.names ++ more)) (length (n.names ++ more)) ≡ true = (let less : place_in name (n.names ++ more) < length (n.names ++ more) = omega (arith, same, lt, long) in search (rules, tests)) in
-        ap (λ b. option_and_then (port_place n.ports) (if b then Some (place_in name (n.names ++ more)) else None)) also
-        ∙ ap (λ k. option_and_then (port_place n.ports) (Some k)) same
-        ∙ ap (λ b. option_and_then (port_place n.ports) (if b then Some (place_in name n.names) else None)) (sym e)
+        ap (λ b. option_and_then (place_of_port n.ports) (if b then Some (place_in name (n.names ++ more)) else None)) also
+        ∙ ap (λ k. option_and_then (place_of_port n.ports) (Some k)) same
+        ∙ ap (λ b. option_and_then (place_of_port n.ports) (if b then Some (place_in name n.names) else None)) (sym e)
     by false e =
         let le : length n.names ≤ place_in name n.names = search (rules, tests) in
         behind (nat_lt (place_in name (n.names ++ more)) (length (n.names ++ more))) (place_right (bytes_eq name) n.names more le)
-        ∙ ap (λ b. option_and_then (port_place n.ports) (if b then Some (place_in name n.names) else None)) (sym e)
+        ∙ ap (λ b. option_and_then (place_of_port n.ports) (if b then Some (place_in name n.names) else None)) (sym e)
 
 -- a signal of the netlist keeps its name
 pub same_name : (n m : NetlistData) (more : List (List ℕ)) (s : ℕ) → s < length n.names → m.names ≡ n.names ++ more → slice_index_or m.names s [] ≡ slice_index_or n.names s []

@@ -4,7 +4,7 @@ use Rattle.std.specs.Prelude.{◌≡◌, ℕ, Bool, List, [], ◌∷◌, length,
 use Rattle.ice_place.specs.declared.arrangement.Arrangement.{Arrangement}
 use Rattle.ice_chip.specs.Database.{Parts, PackageRows}
 use Rattle.ice_bits.specs.Configuration.{Configuration, bits_of}
-use Rattle.ice_decode.specs.Meaning.{shows}
+use Rattle.ice_decode.specs.Meaning.{bits_show}
 use Rattle.ice_sim_levels.specs.LevelTexts.{levels_of}
 use Rattle.ice_sim_levels.specs.DriveTexts.{drives_text}
 use Rattle.ice_flow_frame.specs.declared.cause.Cause.{Cause}
@@ -49,7 +49,7 @@ pub record IsPlayed (name : List ℕ) (texts : List (List ℕ)) (text : List ℕ
   pub levels : List (List Bool)
   pub is_configured : IsConfigured name texts parts configuration bonded
   pub levels_are : levels_of (length bonded.pads) (text_at texts 3) ≡ Ok levels
-  pub is_text : text ≡ drives_text (shows parts (bits_of configuration) configuration.extras bonded.pads bonded.pads levels)
+  pub is_text : text ≡ drives_text (bits_show parts (bits_of configuration) configuration.extras bonded.pads bonded.pads levels)
 
 -- what is made of the texts; nothing is placed or routed
 abbrev pub IsMadeByPlayBits : List ℕ → List (List ℕ) → List (List ℕ) → Arrangement → Told → Type 0

@@ -1,7 +1,9 @@
 -- Both rewritings, one behind the other.
-use Rattle.std.proofs.Common.{◌≡◌, ℕ, ◌<◌, List, [], ◌++◌, length, map, Ok, refl, sym, ◌∙◌, append_assoc, arith}
+use Rattle.std.proofs.Common.{◌≡◌, ℕ, ◌+◌, ◌<◌, ◌≤◌, List, [], ◌++◌, length, length-append, length-take, map, take, Ok, refl, sym, ap, ◌∙◌, append_assoc, arith}
 use Rattle.std.specs.Prelude.{slice_index_or}
+use Rattle.std.proofs.lemmas.List.{length-map}
 use Rattle.ice_net.specs.Formed.{IsFormed}
+use Rattle.ice_net.specs.Limits.{most_signals}
 use Rattle.ice_net.specs.NetlistData.{NetlistData}
 use Rattle.ice_chip.specs.Database.{Parts, PackageRows}
 use Rattle.ice_chip.specs.declared.rows.Pad.{Pad}
@@ -13,11 +15,13 @@ use Rattle.ice_pads.specs.Assign.{PadsData, assign_of}
 use Rattle.ice_pcf.specs.declared.constraint.Constraint.{Constraint}
 use Rattle.ice_check_promote.specs.Promoted.{buffered_name, promoted_clocks}
 use Rattle.ice_check_promote.specs.PromotionLaws.{PromotedAreFormed}
+use Rattle.ice_check_promote.proofs.Clocks.{few_clocks}
 use Rattle.ice_pads.specs.Assign.{IsGivenAlike}
 use Rattle.ice_pads_promote_laws.specs.PadLaws.{PadsAreGivenAlike}
 use Rattle.ice_report.specs.PinReport.{pin_text}
-use Rattle.ice_carry_tails.specs.Ends.{tables_of}
-use Rattle.ice_carry_tails.specs.Tails.{tail_names}
+use Rattle.ice_carry_tails.specs.Ends.{tables_of, tailed}
+use Rattle.ice_carry_tails.specs.Tails.{tail_name, tail_names}
+use Rattle.ice_carry_tails.proofs.Ended.{can_take}
 use Rattle.ice_pads_tails_laws.specs.PadLaws.{TailedPadsAreGivenAlike}
 use Rattle.ice_flow_prepare.specs.Prepared.{prepared_on}
 use Rattle.ice_flow_prepare.proofs.Names.{few_cells}
@@ -38,6 +42,25 @@ pins parts n name constraints d formed = same_pins_by n (prepared_on parts n) (m
 
 pub reports : (parts : Parts) (n : NetlistData) (bonded : PackageRows) (pads : List Pad) → IsFormed n → pin_text (prepared_on parts n) bonded pads ≡ pin_text n bonded pads
 reports parts n bonded pads formed = same_report_by n (prepared_on parts n) (more_names parts n) bonded pads formed refl (names_are parts n)
+
+-- ---- how many they are
+promoted_few : (parts : Parts) (n : NetlistData) → length n.names ≤ most_signals → length (promoted_on parts n).names ≤ most_signals
+promoted_few parts n le =
+    let whole : length (promoted_on parts n).names ≡ length n.names + length (promoted_clocks n (free_globals parts n)) =
+    length-append n.names (buffer_names parts n) ∙ ap (λ k. length n.names + k) (length-map (promoted_clocks n (free_globals parts n)) (λ clock. buffered_name (slice_index_or n.names clock []))) in
+    let room = few_clocks n (free_globals parts n) in
+    omega (arith, le, room, whole)
+
+tailed_few : (n : NetlistData) → length n.names ≤ most_signals → length (tailed n).names ≤ most_signals
+tailed_few n le =
+    let whole : length (tailed n).names ≡ length n.names + length (take (length (tables_of n)) n.names) =
+    length-append n.names (tail_names n.names (length (tables_of n))) ∙ ap (λ k. length n.names + k) (length-map (take (length (tables_of n)) n.names) tail_name) in
+    let count = length-take (length (tables_of n)) n.names in
+    let room = (can_take n).room in
+    omega (arith, le, room, count, whole)
+
+pub few : (parts : Parts) (n : NetlistData) → length n.names ≤ most_signals → length (prepared_on parts n).names ≤ most_signals
+few parts n le = tailed_few (promoted_on parts n) (promoted_few parts n le)
 
 -- ---- pads
 -- the netlist with promoted clocks has the ports of the netlist

@@ -1,6 +1,7 @@
 -- The laws of prepared netlists.
-use Rattle.std.specs.Prelude.{◌≡◌, ℕ, ◌<◌, Bool, List, length, Ok}
+use Rattle.std.specs.Prelude.{◌≡◌, ℕ, ◌<◌, ◌≤◌, Bool, List, length, Ok}
 use Rattle.ice_net.specs.Formed.{IsFormed}
+use Rattle.ice_net.specs.Limits.{most_signals}
 use Rattle.ice_net.specs.Meaning.{shows}
 use Rattle.ice_net.specs.NetlistData.{NetlistData}
 use Rattle.ice_chip.specs.Database.{Parts, PackageRows}
@@ -30,3 +31,7 @@ PreparedReportsStay = (parts : Parts) (n : NetlistData) (bonded : PackageRows) (
 abbrev pub PreparedAreGivenAlike : Type 0
 PreparedAreGivenAlike = (parts : Parts) (n : NetlistData) (name : List ℕ) (constraints : List Constraint) (pads : PadsData) → IsFormed n → length n.cells < most_cells
     → assign_of parts name constraints n (design_of (prepared_on parts n)) ≡ Ok pads → IsGivenAlike parts name constraints n pads
+
+-- it has no more signals than may be placed, where the netlist has not
+abbrev pub PreparedAreFew : Type 0
+PreparedAreFew = (parts : Parts) (n : NetlistData) → length n.names ≤ most_signals → length (prepared_on parts n).names ≤ most_signals

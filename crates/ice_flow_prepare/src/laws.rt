@@ -1,5 +1,5 @@
 //! The laws of prepared netlists, each as the contract of a function that does nothing.
-ghost use Rattle.ice_flow_prepare.specs.PreparedLaws.{PreparedAreGivenAlike, PreparedPinsStay, PreparedReportsStay, PreparedShowTheSame};
+ghost use Rattle.ice_flow_prepare.specs.PreparedLaws.{PreparedAreFew, PreparedAreGivenAlike, PreparedPinsStay, PreparedReportsStay, PreparedShowTheSame};
 
 use ice_carry_tails::laws::tailed_show_the_same;
 use ice_check_promote::laws::{promoted_are_formed, promoted_show_the_same};
@@ -31,3 +31,8 @@ pub fn prepared_are_given_alike()
     ice_pads_promote_laws::laws::pads_are_given_alike();
     ice_pads_tails_laws::laws::pads_are_given_alike();
 }
+
+/// A prepared netlist has at most 65,534 signals, where the netlist has no more.
+pub fn prepared_are_few()
+    ensures { PreparedAreFew }
+{}

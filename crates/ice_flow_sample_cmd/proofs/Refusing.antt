@@ -27,7 +27,7 @@ use Rattle.ice_flow_sample_cmd.specs.Standing.{IsEnd, PlacesStand, TaskStands}
 use Rattle.ice_flow_sample_cmd.proofs.Standing.{end_so}
 
 -- ---- a refusal of what was read behind others
-refusal_behind : (Before Behind : Cause → Type 0) (cause : Cause) → ((c : Cause) → Behind c → Before c) → IsRefusal Behind cause → IsRefusal Before cause
+pub refusal_behind : (Before Behind : Cause → Type 0) (cause : Cause) → ((c : Cause) → Behind c → Before c) → IsRefusal Behind cause → IsRefusal Before cause
 refusal_behind Before Behind (Good arrangement tallies kept) so is = absurd is
 refusal_behind Before Behind Usage so is = (so Usage is.0, is.1)
 refusal_behind Before Behind (BadBlif fault) so is = (so (BadBlif fault) is.0, is.1)

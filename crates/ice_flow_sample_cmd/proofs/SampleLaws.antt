@@ -20,12 +20,11 @@ use Rattle.ice_base.specs.declared.number.NetNo.{NetNo}
 use Rattle.ice_place.specs.declared.arrangement.Arrangement.{Arrangement}
 use Rattle.ice_base.specs.declared.number.WireNo.{WireNo}
 use Rattle.ice_blif.specs.Grammar.{netlist_of}
-use Rattle.ice_flow_build.proofs.Answering.{pins_good, places_good}
+use Rattle.ice_flow_build.proofs.Answering.{pins_good, places_good, laid_placeable}
 use Rattle.ice_flow_build.proofs.Excluding.{routed_not_stuck_on, routed_not_given_up_on, given_up_not_stuck_on, stuck_on_one}
 use Rattle.ice_flow_build.specs.Answers.{pins_said, places_said, HasPlaceFault, IsPlaceable}
-use Rattle.ice_flow_build.specs.Laid.{Task, IsLaidOut}
+use Rattle.ice_flow_build.specs.Laid.{Task}
 use Rattle.ice_flow_build.specs.Placements.{IsRoutedOn, IsStuckOn, IsGivenUpOn}
-use Rattle.ice_flow_build.specs.declared.answer.Layout.{Layout}
 use Rattle.ice_check.proofs.Faulty.{faulty}
 use Rattle.ice_check.specs.Refusals.{IsFaultOf}
 use Rattle.ice_check.specs.Sound.{IsSound}
@@ -41,7 +40,8 @@ use Rattle.ice_flow_sample_cmd.specs.SampleRows.{Comes, ChipRow, BlifRow, HasBli
 use Rattle.ice_flow_sample_cmd.specs.Samples.{Sample, chip_text, net_text, sample_effort, IsAsked, Asks}
 use Rattle.ice_flow_sample_cmd.specs.Standing.{IsEnd, PlacesStand, NetStands, BlifStands, StandsForSample}
 use Rattle.ice_flow_sample_cmd.proofs.Standing.{blif_stands, net_stands, task_stands, places_stand, end_stands, end_so, task_so, one_task}
-use Rattle.ice_flow_sample_cmd.proofs.Telling.{of_end, of_tried, of_about, Told, told, told_sample}
+use Rattle.ice_flow_frame.proofs.Tells.{of_about}
+use Rattle.ice_flow_sample_cmd.proofs.Telling.{of_end, of_tried, Told, told, told_sample}
 use Rattle.ice_flow_frame.specs.Told.{Told as ToldOf, telling, told_in}
 use Rattle.ice_negotiate_defs.specs.declared.kept.Kept.{Kept}
 use Rattle.ice_words.specs.Grips.{Shut}
@@ -142,9 +142,6 @@ module _ (s : Sample) (old new : Meaning) (cause : Cause) (is : IsTrueOf (sample
       (λ h m. fault_alone (places_said h.task) Overfull (λ first. IsEnd h.task) fault cause h.is_so.2 (places_stand s.number h.task h.is_so.0 cause h.is_asked h.is_so.1 m))
 
   -- ---- what is routed
-  laid_placeable : (task : Task) (layout : Layout) → IsLaidOut task layout → IsPlaceable task
-  laid_placeable task layout laid = (layout.pads, laid.placed.first, pins_good task layout laid, places_good task layout laid)
-
   asks_weaker : (P Q : Task → Type 0) → ((task : Task) → P task → Q task) → Asks s.number P → Asks s.number Q
   asks_weaker P Q weaker h = record { task = h.task; is_asked = h.is_asked; is_so = weaker h.task h.is_so }
 

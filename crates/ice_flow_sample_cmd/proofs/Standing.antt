@@ -1,6 +1,6 @@
 -- How the sample texts of a number stand, by what was read of them.
-use Rattle.std.proofs.Common.{◌≡◌, ◌∙◌, ℕ, List, [], Result, Ok, inl, inr, sym, ap, subst}
-use Rattle.ice_flow_frame.proofs.Standings.{behind, then_stands}
+use Rattle.std.proofs.Common.{◌≡◌, ◌∙◌, ℕ, List, [], Ok, inl, inr, sym, ap, subst}
+use Rattle.ice_flow_frame.proofs.Standings.{behind, then_stands, one_value}
 use Rattle.ice_flow_frame.specs.declared.cause.Cause.{Cause}
 use Rattle.ice_flow_frame.specs.declared.cause.Cause.TheVariants.{BadBlif, BadChip, BadPin, Overfull}
 use Rattle.ice_base.specs.declared.number.TileAt.{TileAt}
@@ -66,9 +66,6 @@ task_so number task cause asked m =
     (net_so number task.parts task.circuit cause asked.is_circuit asked.is_sound (subst (λ (x : Task). TaskStands x cause) (sym (parts_of number task asked)) m))
 
 -- ---- the texts say one task
-pub one_value : {A E : Type 0} (said : Result A E) (value other : A) → said ≡ Ok value → said ≡ Ok other → value ≡ other
-one_value said value other a b = cc
-
 pub one_task : (number : ℕ) (a b : Task) → IsAsked number a → IsAsked number b → a ≡ b
 one_task number a b one other =
     same a.parts b.parts a.name b.name a.constraints b.constraints a.circuit b.circuit (one_value (chip_says chip_text) a.parts b.parts one.is_chip other.is_chip) (one.is_name ∙ sym other.is_name)

@@ -1,6 +1,5 @@
 //! The sample netlist placed and routed on the sample chip.
 ghost use Rattle.std.specs.Prelude.{◌≡◌, [], length, IfOk, IfErr};
-ghost use Rattle.ice_bits_rows.specs.Index.{IsIndexOf};
 ghost use Rattle.ice_flow_frame.specs.Told.{telling, told_in};
 ghost use Rattle.ice_flow_frame.specs.Commands.{IsRefusal};
 ghost use Rattle.ice_flow_frame.specs.Texts.{text_at};
@@ -13,14 +12,15 @@ ghost use Rattle.ice_flow_sample_cmd.specs.Samples.{IsAsked, IsManned, package_n
 ghost use Rattle.ice_flow_sample_cmd.specs.Standing.{TaskStands};
 
 use crate::summing::summary_text;
+use crate::texts::SampleTask;
 use ice_base::NoMemory;
-use ice_bits_rows::{Index, index_of};
+use ice_bits_rows::Index;
 use ice_check::Sound;
 use ice_chip::Chip;
 use ice_desk::Gate;
 use ice_flow_build::laws::layouts_stand_on_their_chip;
 use ice_flow_build::{
-    Effort, Layout, RoutedLayout, arrangement_of, indexed_lay_out, route_layout, tallies_of,
+    Effort, Layout, RoutedLayout, arrangement_of, lay_out, route_layout, tallies_of,
 };
 use ice_flow_build_frame::cause_of;
 use ice_flow_frame::{Cause, Made, one_text};
@@ -94,97 +94,73 @@ fn route_placed<G: Gate + Sync, R: Threads + Sync>(
     alloc: Global,
     gate: &G,
     request: &SampleRequest,
-    chip: &Chip,
     index: &Index<'_>,
     sound: &Sound,
     layout: Layout,
 ) -> Result<Made, Cause>
-    requires index { IsIndexOf chip.now index.now }
     requires workers { IsManned request.now.workers }
-    requires asked { IsAsked request.now.number (task_of chip.now package_name [] sound.now) }
-    requires laid { IsLaidOut (task_of chip.now package_name [] sound.now) layout }
+    requires asked { IsAsked request.now.number (task_of index.now.chip.now package_name [] sound.now) }
+    requires laid { IsLaidOut (task_of index.now.chip.now package_name [] sound.now) layout }
     ensures made { IfOk result (λ made. IsSampled request.now.number (text_at made.texts 1) made.arrangement (told_in made)) }
-    ensures refused { IfErr result (λ cause. IsRefusal (TaskStands (task_of chip.now package_name [] sound.now)) cause) }
+    ensures refused { IfErr result (λ cause. IsRefusal (TaskStands (task_of index.now.chip.now package_name [] sound.now)) cause) }
 {
-    layouts_stand_on_their_chip(chip, sound);
+    layouts_stand_on_their_chip(index.chip, sound);
     let effort = Effort {
         seed: 1,
         rounds: 64,
         workers: request.workers,
         opening: false,
     };
-    match route_layout(rt, alloc, chip, index, layout, effort, gate) {
-        Ok(made) => sum_up(alloc, chip, request.number, made),
+    match route_layout(rt, alloc, index, layout, effort, gate) {
+        Ok(made) => sum_up(alloc, index.chip, request.number, made),
         Err(fault) => Err(cause_of(fault)),
     }
 }
 
-// What is made of a netlist whose ports these constraints, of which there are none, leave free.
-fn route_free<G: Gate + Sync, R: Threads + Sync>(
-    rt: &R,
-    alloc: Global,
-    gate: &G,
-    request: &SampleRequest,
-    chip: &Chip,
-    index: &Index<'_>,
-    pcf: &Pcf,
-    sound: &Sound,
-) -> Result<Made, Cause>
-    requires index { IsIndexOf chip.now index.now }
-    requires workers { IsManned request.now.workers }
-    requires free { pcf.now ≡ [] }
-    requires asked { IsAsked request.now.number (task_of chip.now package_name [] sound.now) }
-    ensures made { IfOk result (λ made. IsSampled request.now.number (text_at made.texts 1) made.arrangement (told_in made)) }
-    ensures refused { IfErr result (λ cause. IsRefusal (TaskStands (task_of chip.now package_name [] sound.now)) cause) }
-{
-    match indexed_lay_out(alloc, chip, index, b"sample", pcf, sound, 1) {
-        Ok(layout) => route_placed(rt, alloc, gate, request, chip, index, sound, layout),
-        Err(fault) => Err(cause_of(fault)),
-    }
-}
-
-// What is made of a netlist, by the index of the chip's groups.
+// What is made of a netlist on an indexed chip: nothing constrains its ports.
 fn route_by<G: Gate + Sync, R: Threads + Sync>(
     rt: &R,
     alloc: Global,
     gate: &G,
     request: &SampleRequest,
-    chip: &Chip,
     index: &Index<'_>,
     sound: &Sound,
 ) -> Result<Made, Cause>
-    requires index { IsIndexOf chip.now index.now }
     requires workers { IsManned request.now.workers }
-    requires asked { IsAsked request.now.number (task_of chip.now package_name [] sound.now) }
+    requires asked { IsAsked request.now.number (task_of index.now.chip.now package_name [] sound.now) }
     ensures made { IfOk result (λ made. IsSampled request.now.number (text_at made.texts 1) made.arrangement (told_in made)) }
-    ensures refused { IfErr result (λ cause. IsRefusal (TaskStands (task_of chip.now package_name [] sound.now)) cause) }
+    ensures refused { IfErr result (λ cause. IsRefusal (TaskStands (task_of index.now.chip.now package_name [] sound.now)) cause) }
 {
-    match no_constraints(alloc) {
-        Ok(pcf) => route_free(rt, alloc, gate, request, chip, index, &pcf, sound),
-        Err(NoMemory) => Err(Cause::NoMemory),
+    let pcf = match no_constraints(alloc) {
+        Ok(pcf) => pcf,
+        Err(NoMemory) => return Err(Cause::NoMemory),
+    };
+    match lay_out(alloc, index, b"sample", &pcf, sound, 1) {
+        Ok(layout) => route_placed(rt, alloc, gate, request, index, sound, layout),
+        Err(fault) => Err(cause_of(fault)),
     }
 }
 
-/// What is made of a sound netlist that a sample text says, on the sample chip: the summary of its placement and routes.
+/// What is made of what the sample texts say: the summary of its placement and routes.
 ///
 /// # Errors
 /// The fault of the pins, then that of the places; the first sink to which no walk leads, or permitted rounds that all end with an
 /// overused wire, each with the arrangement of which it is true; want of memory.
-pub fn route_sound<G: Gate + Sync, R: Threads + Sync>(
+pub fn route_task<G: Gate + Sync, R: Threads + Sync>(
     rt: &R,
     alloc: Global,
     gate: &G,
     request: &SampleRequest,
-    chip: &Chip,
-    sound: &Sound,
+    task: &SampleTask,
 ) -> Result<Made, Cause>
     requires workers { IsManned request.now.workers }
-    requires asked { IsAsked request.now.number (task_of chip.now package_name [] sound.now) }
+    requires asked { IsAsked request.now.number (task_of task.now.chip package_name [] task.now.sound) }
     ensures made { IfOk result (λ made. IsSampled request.now.number (text_at made.texts 1) made.arrangement (told_in made)) }
-    ensures refused { IfErr result (λ cause. IsRefusal (TaskStands (task_of chip.now package_name [] sound.now)) cause) }
+    ensures refused { IfErr result (λ cause. IsRefusal (TaskStands (task_of task.now.chip package_name [] task.now.sound)) cause) }
 {
-    match index_of(alloc, chip) {
-        Ok(index) => route_by(rt, alloc, gate, request, chip, &index, sound),
+    let SampleTask { chip, sound } = task;
+    match Index::new(alloc, chip) {
+        Ok(index) => route_by(rt, alloc, gate, request, &index, sound),
         Err(NoMemory) => Err(Cause::NoMemory),
     }
 }

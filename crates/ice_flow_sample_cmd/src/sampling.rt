@@ -1,50 +1,25 @@
 //! Sampling: the sample texts are made and read, the netlist is placed and routed, and its summary is said.
-ghost use Rattle.std.specs.Prelude.{◌≡◌, true, None, Ok, IfOk, IfErr};
+ghost use Rattle.std.specs.Prelude.{◌≡◌, true, None, IfOk, IfErr};
 ghost use Rattle.ice_flow_frame.specs.Told.{told_in};
 ghost use Rattle.ice_flow_frame.specs.Causes.{status_of};
 ghost use Rattle.ice_flow_frame.specs.Commands.{Aloud, IsRefusal, IsTrueOf};
 ghost use Rattle.ice_flow_frame.specs.Rows.{SaidBy, KeptRow};
 ghost use Rattle.ice_flow_frame.specs.Texts.{text_at};
-ghost use Rattle.ice_chip_read.specs.Whole.{chip_says};
 ghost use Rattle.ice_desk.specs.Desk.{SameButSaying, SameTest};
 ghost use Rattle.ice_flow_sample_cmd.specs.Command.{sample};
 ghost use Rattle.ice_flow_sample_cmd.specs.Made.{IsSampled};
 ghost use Rattle.ice_flow_words.specs.Views.{sample_view};
 ghost use Rattle.ice_flow_sample_cmd.specs.SampleRows.{IsSampleAnswer};
-ghost use Rattle.ice_flow_sample_cmd.specs.Samples.{chip_text, IsManned};
-ghost use Rattle.ice_flow_sample_cmd.specs.Standing.{BlifStands, StandsForSample};
+ghost use Rattle.ice_flow_sample_cmd.specs.Samples.{IsManned};
+ghost use Rattle.ice_flow_sample_cmd.specs.Standing.{StandsForSample};
 
-use crate::routing::route_sound;
-use crate::texts::{read_sample_chip, read_sample_net};
-use ice_chip::Chip;
+use crate::routing::route_task;
+use crate::texts::read_sample;
 use ice_desk::{Desk, Gate};
 use ice_flow_frame::{Cause, Done, Made, end_aloud};
 use ice_flow_words::SampleRequest;
 use std::alloc::Global;
 use std::thread::Threads;
-
-// What is made of the sample netlist, on the sample chip.
-fn make_on<G: Gate + Sync, R: Threads + Sync>(
-    rt: &R,
-    alloc: Global,
-    gate: &G,
-    request: &SampleRequest,
-    chip: &Chip,
-) -> Result<Made, Cause>
-    requires workers { IsManned request.now.workers }
-    requires chip { chip_says chip_text ≡ Ok chip.now }
-    ensures made { IfOk result (λ made. IsSampled request.now.number (text_at made.texts 1) made.arrangement (told_in made)) }
-    ensures refused { IfErr result (λ cause. IsRefusal (BlifStands request.now.number chip.now) cause) }
-{
-    match read_sample_net(alloc, request.number) {
-        Ok(sound) => {
-            let made = route_sound(rt, alloc, gate, request, chip, &sound);
-            drop(sound);
-            made
-        }
-        Err(cause) => Err(cause),
-    }
-}
 
 // What is made of the sample texts.
 fn make<G: Gate + Sync, R: Threads + Sync>(
@@ -57,10 +32,10 @@ fn make<G: Gate + Sync, R: Threads + Sync>(
     ensures made { IfOk result (λ made. IsSampled request.now.number (text_at made.texts 1) made.arrangement (told_in made)) }
     ensures refused { IfErr result (λ cause. IsRefusal (StandsForSample request.now.number) cause) }
 {
-    match read_sample_chip(alloc) {
-        Ok(chip) => {
-            let made = make_on(rt, alloc, gate, request, &chip);
-            drop(chip);
+    match read_sample(alloc, request.number) {
+        Ok(task) => {
+            let made = route_task(rt, alloc, gate, request, &task);
+            drop(task);
             made
         }
         Err(cause) => Err(cause),

@@ -1,11 +1,12 @@
 //! The sample texts, made and read.
-ghost use Rattle.std.specs.Prelude.{◌≡◌, ℕ, Ok, IfOk, IfErr};
+ghost use Rattle.std.specs.Prelude.{◌≡◌, ℕ, [], Ok, IfOk, IfErr};
 ghost use Rattle.ice_flow_frame.specs.Commands.{IsRefusal};
 ghost use Rattle.ice_blif.specs.Grammar.{netlist_of};
 ghost use Rattle.ice_check.specs.Sound.{IsSound};
 ghost use Rattle.ice_chip.specs.Database.{Parts};
 ghost use Rattle.ice_chip_read.specs.Whole.{chip_says};
-ghost use Rattle.ice_flow_sample_cmd.specs.Samples.{chip_text, net_text};
+ghost use Rattle.ice_flow_build.specs.Laid.{task_of};
+ghost use Rattle.ice_flow_sample_cmd.specs.Samples.{chip_text, net_text, package_name, IsAsked};
 ghost use Rattle.ice_flow_sample_cmd.specs.Standing.{BlifStands, StandsForSample};
 
 use ice_base::NoMemory;
@@ -50,11 +51,8 @@ fn read_chip_text(alloc: Global, text: &[u8]) -> Result<Chip, Cause>
     }
 }
 
-/// The sample chip.
-///
-/// # Errors
-/// The fault of its text; want of memory.
-pub fn read_sample_chip(alloc: Global) -> Result<Chip, Cause>
+// The sample chip.
+fn read_sample_chip(alloc: Global) -> Result<Chip, Cause>
     ensures chip { IfOk result (λ chip. chip_says chip_text ≡ Ok chip) }
     ensures refused { IfErr result (λ cause. (number : ℕ) → IsRefusal (StandsForSample number) cause) }
 {
@@ -100,11 +98,8 @@ fn check_netlist(alloc: Global, number: u64, netlist: Netlist) -> Result<Sound, 
     }
 }
 
-/// The sample netlist of a number, checked.
-///
-/// # Errors
-/// The fault of its text, or of the netlist; want of memory.
-pub fn read_sample_net(alloc: Global, number: u64) -> Result<Sound, Cause>
+// The sample netlist of a number, checked.
+fn read_sample_net(alloc: Global, number: u64) -> Result<Sound, Cause>
     ensures netlist { IfOk result (λ sound. netlist_of (net_text number) ≡ Ok sound) }
     ensures sound { IfOk result (λ sound. IsSound sound) }
     ensures refused { IfErr result (λ cause. (parts : Parts) → IsRefusal (BlifStands number parts) cause) }
@@ -112,5 +107,35 @@ pub fn read_sample_net(alloc: Global, number: u64) -> Result<Sound, Cause>
     match read_netlist(alloc, number) {
         Ok(netlist) => check_netlist(alloc, number, netlist),
         Err(cause) => Err(cause),
+    }
+}
+
+/// What the sample texts of a number say.
+#[derive(Drop)]
+pub struct SampleTask {
+    /// The sample chip.
+    pub chip: Chip,
+    /// The netlist of the number.
+    pub sound: Sound,
+}
+
+/// The sample texts of a number, read: first the chip's, then the netlist's.
+///
+/// # Errors
+/// The fault of the chip's text, then that of the netlist's text, or of the netlist; want of memory.
+pub fn read_sample(alloc: Global, number: u64) -> Result<SampleTask, Cause>
+    ensures task { IfOk result (λ task. IsAsked number (task_of task.chip package_name [] task.sound)) }
+    ensures refused { IfErr result (λ cause. IsRefusal (StandsForSample number) cause) }
+{
+    let chip = match read_sample_chip(alloc) {
+        Ok(chip) => chip,
+        Err(cause) => return Err(cause),
+    };
+    match read_sample_net(alloc, number) {
+        Ok(sound) => Ok(SampleTask { chip, sound }),
+        Err(cause) => {
+            drop(chip);
+            Err(cause)
+        }
     }
 }

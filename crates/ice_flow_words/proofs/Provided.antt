@@ -21,6 +21,7 @@ use Rattle.clap.specs.declared.parser.matches.ValueSource.{ValueSource}
 use Rattle.clap.specs.declared.parser.matches.ValueSource.TheVariants.{DefaultValue}
 use Rattle.clap.proofs.WalkLemmas.{both}
 use Rattle.clap.proofs.SimpleLemmas.{is_nil}
+use Rattle.std.proofs.lemmas.Bool.{or_right}
 use Rattle.ice_flow_words.specs.Command.{command, most_number, most_rounds, most_workers, build_command, back_command, play_net_command, play_bits_command, time_command, sample_command}
 use Rattle.ice_flow_words.specs.Requests.{◌>>=◌, asked_in, asked_of, build_of, back_of, play_net_of, play_bits_of, time_of, sample_of, workers_of, number_in, number_of, is_taken, request_of}
 use Rattle.ice_flow_words.proofs.Kept.{Each, Good, IsFilled, IsKnown, is_once, Passes, all_good, passes, found_in, no_fault, no_kind}
@@ -79,10 +80,6 @@ first_there c a id rows first good there = go (find (λ r. bytes_eq r.id id) row
 or_later : (a b c : Bool) → (b ≡ true → c ≡ true) → (a || b) ≡ true → (a || c) ≡ true
 or_later true b c later e = refl
 or_later false b c later e = later e
-
-or_right : (a b : Bool) → b ≡ true → (a || b) ≡ true
-or_right true b e = refl
-or_right false b e = e
 
 at_row_has : (id other : Text) (how : Reading) (source : ValueSource) (values : List Text) (rows : List Row) → has_row id rows ≡ true → has_row id (with_values other how source values rows) ≡ true
 at_row_has id other how source values [] e = absurd (true≢false (sym e))

@@ -142,6 +142,17 @@ impl Graph {
         self.wires
     }
 
+    /// The edges join wires of the graph, their rows rise, and the bound between two wires falls by at most 1 along each edge.
+    pub fn is_graph(&self)
+        ensures between { AreBetween self.now.wires self.now.edges }
+        ensures rise { RowsRise self.now.edges }
+        ensures few { length self.now.edges ≤ 2 ^ 32 }
+        ensures bounds { BoundsFall self.now }
+    {
+        // What holds of a graph is known where a field is looked at.
+        let _ = &self.edges;
+    }
+
     /// The edges in the order of their rows.
     pub fn edges(&self) -> &[Edge]
         ensures edges { result.now ≡ self.now.edges }

@@ -13,21 +13,11 @@ use Rattle.ice_negotiate_defs.specs.Fitting.{Fits, is_whole, whole, wholes}
 use Rattle.ice_negotiate_defs.specs.declared.kept.Kept.{Kept}
 use Rattle.ice_negotiate_defs.specs.declared.kept.Kept.TheVariants.{Whole, Lost, Cut}
 use Rattle.ice_negotiate_defs.proofs.Fitting.{leads_reached, leads_within, whole_at, wholes_long}
-use Rattle.ice_negotiate_defs.proofs.Listing.{length_push, pushed}
+use Rattle.ice_negotiate_defs.proofs.Listing.{length_push, pushed, there_at}
 use Rattle.ice_negotiate_defs.proofs.Openings.{left_or_kept}
 use Rattle.ice_negotiate_defs.proofs.Rounding.{some_same}
 use Rattle.ice_negotiate.specs.Progress.{MoveAtFirst, Rise}
 use Rattle.ice_negotiate.proofs.Rounding.{AreBetween, AreOnce, once_first, with_first}
-
-kept_at : (kept : List Kept) (n : ℕ) → n < length kept → (one : Kept) × (slice_get kept n ≡ Some one)
-kept_at [] n lt = absurd (omega arith)
-kept_at (one ∷ kept) zero lt = (one, refl)
-kept_at (one ∷ kept) (suc n) lt = kept_at kept n (omega (arith, lt))
-
-net_at : (nets : List Net) (n : ℕ) → n < length nets → (net : Net) × (slice_get nets n ≡ Some net)
-net_at [] n lt = absurd (omega arith)
-net_at (net ∷ nets) zero lt = (net, refl)
-net_at (net ∷ nets) (suc n) lt = net_at nets n (omega (arith, lt))
 
 -- ---- the numbers of the nets that keep a tree, and of the others, one net after another
 abbrev numbered : ℕ → NetNo
@@ -172,7 +162,7 @@ begun_is : (kept : List Kept) (trees : List Tree) (k : ℕ) (tree : Tree) → Be
     → ((its : Tree) × (slice_get kept k ≡ Some (Whole its)) × (route_of tree ≡ route_of its)) ⊎ (tree.wires.items ≡ [])
 begun_is kept trees k tree begins at =
     let lt : k < length kept = omega (arith, slice_get_within trees k tree at, begins.0, wholes_long kept) in
-    let one = kept_at kept k lt in
+    let one = there_at kept k lt in
     by_one one.0 one.1 (subst (λ (e : Option (Option Tree)). IsBegun e tree) (entry_is kept k one.0 one.1) (begins.1 k tree at))
   where
     by_one : (one : Kept) → slice_get kept k ≡ Some one → IsBegun (Some (whole one)) tree → ((its : Tree) × (slice_get kept k ≡ Some (Whole its)) × (route_of tree ≡ route_of its)) ⊎ (tree.wires.items ≡ [])
@@ -182,7 +172,7 @@ begun_is kept trees k tree begins at =
 
 module _ (graph : Network) (nets : List Net) (kept : List Kept) (trees : List Tree) (fits : Fits graph nets kept) (begins : BeginsWith (Some (wholes kept)) trees) where
   net_of : (k : ℕ) (tree : Tree) → slice_get trees k ≡ Some tree → (net : Net) × (slice_get nets k ≡ Some net)
-  net_of k tree at = net_at nets k (omega (arith, slice_get_within trees k tree at, begins.0, wholes_long kept, fits.long))
+  net_of k tree at = there_at nets k (omega (arith, slice_get_within trees k tree at, begins.0, wholes_long kept, fits.long))
 
   pub begun_long : length trees ≡ length nets
   begun_long = begins.0 ∙ (wholes_long kept ∙ fits.long)

@@ -8,7 +8,7 @@ ghost use Rattle.ice_negotiate_defs.specs.Fitting.{wholes};
 
 use crate::start::keeping_nets;
 use ice_base::{NetNo, NoMemory, WireNo};
-use ice_core::{RoundLog, RoundPrices};
+use ice_core::{MOST_NETS, MOST_WIRES, RoundLog, RoundPrices};
 use ice_graph::Tree;
 use ice_negotiate_defs::Kept;
 use std::alloc::Global;
@@ -16,7 +16,7 @@ use std::alloc::Global;
 // The wires that have a history, each with it.
 #[tactic(auto, using(crate::proofs::Listing::beyond_yes, crate::proofs::Listing::beyond_no, crate::proofs::Listing::beyond_all))]
 fn histories(alloc: Global, history: &[u64]) -> Result<Vec<(WireNo, u64)>, NoMemory>
-    requires { length history.now ≤ 1048576 }
+    requires { length history.now ≤ MOST_WIRES }
     ensures { IfOk result (λ list. list.items ≡ beyond 0 0 history.now) }
 {
     let mut list = Vec::new(alloc);
@@ -31,7 +31,7 @@ fn histories(alloc: Global, history: &[u64]) -> Result<Vec<(WireNo, u64)>, NoMem
 // The wires that more than one net holds, each with the number of these nets.
 #[tactic(auto, using(crate::proofs::Listing::beyond_yes, crate::proofs::Listing::beyond_no, crate::proofs::Listing::beyond_all))]
 fn overused(alloc: Global, counts: &[u32]) -> Result<Vec<(WireNo, u32)>, NoMemory>
-    requires { length counts.now ≤ 1048576 }
+    requires { length counts.now ≤ MOST_WIRES }
     ensures { IfOk result (λ list. list.items ≡ beyond 1 0 counts.now) }
 {
     let mut list = Vec::new(alloc);
@@ -73,7 +73,7 @@ fn moved_trees(
 
 // The log of an opening in which these nets keep these trees.
 pub fn opening_log(alloc: Global, kept: &[Kept], trees: &[Tree]) -> Result<RoundLog, NoMemory>
-    requires few { length kept.now ≤ 65536 }
+    requires few { length kept.now ≤ MOST_NETS }
     requires begun { BeginsWith (Some (wholes kept.now)) trees.now }
     ensures { IfOk result (IsOpeningLog (wholes kept.now)) }
 {
@@ -95,8 +95,8 @@ pub fn log_of(
     trees: &[Tree],
     counts: &[u32],
 ) -> Result<RoundLog, NoMemory>
-    requires history { length prices.now.history.items ≤ 1048576 }
-    requires counts { length counts.now ≤ 1048576 }
+    requires history { length prices.now.history.items ≤ MOST_WIRES }
+    requires counts { length counts.now ≤ MOST_WIRES }
     requires moved { (k : ℕ) (net : Number) → slice_get moved.now k ≡ Some net → net.0 < length trees.now }
     ensures { IfOk result (IsLog (past_of prices.now.round prices.now.history.items moved.now trees.now counts.now)) }
 {

@@ -11,7 +11,7 @@ ghost use Rattle.ice_negotiate.specs.Progress.{IsAfter, IsBefore, IsPlayed, IsRe
 use crate::logs::{log_of, opening_log};
 use crate::start::{all_nets, bare_trees, first_trees, left_nets};
 use ice_base::{NetNo, NoMemory};
-use ice_core::{Net, RoundLog, RoundPrices, holders, movers};
+use ice_core::{MOST_NETS, MOST_WIRES, Net, RoundLog, RoundPrices, holders, movers};
 use ice_desk::Gate;
 use ice_graph::{Graph, Tree};
 use ice_negotiate_defs::{Kept, RouteFault, Routed};
@@ -46,7 +46,7 @@ fn is_free(counts: &Counts) -> bool
 
 // The state before the first round, in which all nets move.
 fn start(alloc: Global, graph: &Graph, nets: &[Net]) -> Result<State, NoMemory>
-    requires nets { length nets.now ≤ 65536 }
+    requires nets { length nets.now ≤ MOST_NETS }
     ensures ready { IfOk result (IsReady graph.now nets.now 0) }
     ensures before { IfOk result (IsBefore graph.now nets.now None 0) }
 {
@@ -66,7 +66,7 @@ fn start(alloc: Global, graph: &Graph, nets: &[Net]) -> Result<State, NoMemory>
 
 // What the prices of the first round are made of, where nets begin with these trees.
 fn first_prices(alloc: Global, graph: &Graph, trees: &[Tree]) -> Result<RoundPrices, NoMemory>
-    requires trees { length trees.now ≤ 65536 }
+    requires trees { length trees.now ≤ MOST_NETS }
     requires within { AreWithin graph.now.wires trees.now }
     ensures fresh { IfOk result (λ prices. prices.history.items ≡ replicate graph.now.wires 0) }
     ensures histories { IfOk result (λ prices. length prices.history.items ≡ graph.now.wires) }
@@ -84,7 +84,7 @@ fn first_prices(alloc: Global, graph: &Graph, trees: &[Tree]) -> Result<RoundPri
 
 // A list of the log of an opening alone.
 fn first_logs(alloc: Global, kept: &[Kept], trees: &[Tree]) -> Result<Vec<RoundLog>, NoMemory>
-    requires few { length kept.now ≤ 65536 }
+    requires few { length kept.now ≤ MOST_NETS }
     requires begun { BeginsWith (Some (wholes kept.now)) trees.now }
     ensures { IfOk result (λ logs. (log : Log) × IsOpeningLog (wholes kept.now) log × (logs.items ≡ log ∷ [])) }
 {
@@ -97,12 +97,12 @@ fn first_logs(alloc: Global, kept: &[Kept], trees: &[Tree]) -> Result<Vec<RoundL
 // The state before the first round, in which the nets move that keep no tree.
 fn start_from(alloc: Global, graph: &Graph, nets: &[Net], kept: &[Kept]) -> Result<State, NoMemory>
     requires nets { AreNets graph.now nets.now }
-    requires few { length nets.now ≤ 65536 }
+    requires few { length nets.now ≤ MOST_NETS }
     requires kept { Fits graph.now nets.now kept.now }
     ensures ready { IfOk result (IsReady graph.now nets.now 0) }
     ensures before { IfOk result (IsBefore graph.now nets.now (Some (wholes kept.now)) 0) }
 {
-    let _edges = graph.edges();
+    graph.is_graph();
     let trees = first_trees(alloc, kept)?;
     let prices = first_prices(alloc, graph, &trees)?;
     let logs = first_logs(alloc, kept, &trees)?;
@@ -139,9 +139,9 @@ fn play_next<G: Gate + Sync, R: Threads + Sync>(
     gate: &G,
 ) -> Result<Round, RouteFault>
     requires round { round < 64 }
-    requires wires { graph.now.wires ≤ 1048576 }
+    requires wires { graph.now.wires ≤ MOST_WIRES }
     requires nets { AreNets graph.now nets.now }
-    requires few { length nets.now ≤ 65536 }
+    requires few { length nets.now ≤ MOST_NETS }
     requires ready { IsReady graph.now nets.now round state.old }
     requires workers { (1 ≤ vec_len kits) × (vec_len kits ≤ 8) }
     requires kits { All (IsKitOf graph.now) kits.items }
@@ -189,8 +189,8 @@ fn prepare<R: Threads + Sync>(
     workers: u32,
 ) -> Result<(), NoMemory>
     requires round { round < 64 }
-    requires wires { graph.now.wires ≤ 1048576 }
-    requires few { length nets.now ≤ 65536 }
+    requires wires { graph.now.wires ≤ MOST_WIRES }
+    requires few { length nets.now ≤ MOST_NETS }
     requires played { IsPlayed graph.now nets.now round state.old counts }
     requires overused { (w : ℕ) × (1 < slice_index counts.closed w) }
     requires workers { (1 ≤ workers) × (workers ≤ 8) }
@@ -239,8 +239,8 @@ fn play_all<G: Gate + Sync, R: Threads + Sync>(
 ) -> Result<Routed, RouteFault>
     requires rounds { (1 ≤ rounds) × (rounds ≤ 64) }
     requires workers { (1 ≤ workers) × (workers ≤ 8) }
-    requires wires { graph.now.wires ≤ 1048576 }
-    requires few { length nets.now ≤ 65536 }
+    requires wires { graph.now.wires ≤ MOST_WIRES }
+    requires few { length nets.now ≤ MOST_NETS }
     requires nets { AreNets graph.now nets.now }
     requires ready { IsReady graph.now nets.now 0 state }
     ensures routed { IfOk result (λ routed. (opening : Opening) → IsBefore graph.now nets.now opening 0 state → AreRoutedFrom graph.now nets.now opening rounds routed) }
@@ -294,8 +294,8 @@ pub fn negotiate<G: Gate + Sync, R: Threads + Sync>(
 ) -> Result<Routed, RouteFault>
     requires rounds { (1 ≤ rounds) × (rounds ≤ 64) }
     requires workers { (1 ≤ workers) × (workers ≤ 8) }
-    requires wires { graph.now.wires ≤ 1048576 }
-    requires few { length nets.now ≤ 65536 }
+    requires wires { graph.now.wires ≤ MOST_WIRES }
+    requires few { length nets.now ≤ MOST_NETS }
     requires nets { AreNets graph.now nets.now }
     ensures routed { IfOk result (AreRouted graph.now nets.now rounds) }
     ensures fault { IfErr result (IsFault graph.now nets.now rounds) }
@@ -321,8 +321,8 @@ pub fn negotiate_from<G: Gate + Sync, R: Threads + Sync>(
 ) -> Result<Routed, RouteFault>
     requires rounds { (1 ≤ rounds) × (rounds ≤ 64) }
     requires workers { (1 ≤ workers) × (workers ≤ 8) }
-    requires wires { graph.now.wires ≤ 1048576 }
-    requires few { length nets.now ≤ 65536 }
+    requires wires { graph.now.wires ≤ MOST_WIRES }
+    requires few { length nets.now ≤ MOST_NETS }
     requires nets { AreNets graph.now nets.now }
     requires kept { Fits graph.now nets.now kept.now }
     ensures routed { IfOk result (AreRoutedFrom graph.now nets.now (Some (wholes kept.now)) rounds) }

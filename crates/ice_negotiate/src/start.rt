@@ -5,6 +5,7 @@ ghost use Rattle.ice_negotiate_defs.specs.Fitting.{is_whole, whole, wholes};
 
 use crate::logs::copy_of;
 use ice_base::{NetNo, NoMemory};
+use ice_core::MOST_NETS;
 use ice_graph::Tree;
 use ice_negotiate_defs::Kept;
 use std::alloc::Global;
@@ -12,7 +13,7 @@ use std::alloc::Global;
 // The numbers of this many nets.
 #[tactic(auto, using(crate::proofs::Beginning::all_none, crate::proofs::Beginning::all_more))]
 pub fn all_nets(alloc: Global, nets: usize) -> Result<Vec<NetNo>, NoMemory>
-    requires { nets ≤ 65536 }
+    requires { nets ≤ MOST_NETS }
     ensures { IfOk result (λ list. AreAll nets list.items) }
 {
     let mut list = Vec::new(alloc);
@@ -25,7 +26,7 @@ pub fn all_nets(alloc: Global, nets: usize) -> Result<Vec<NetNo>, NoMemory>
 // Trees of this many nets that hold no wire.
 #[tactic(auto, using(crate::proofs::Beginning::bare_none, crate::proofs::Beginning::bare_more))]
 pub fn bare_trees(alloc: Global, nets: usize) -> Result<Vec<Tree>, NoMemory>
-    requires { nets ≤ 65536 }
+    requires { nets ≤ MOST_NETS }
     ensures long { IfOk result (λ trees. length trees.items ≡ nets) }
     ensures bare { IfOk result (λ trees. AreBare trees.items) }
 {
@@ -49,7 +50,7 @@ fn keeps(kept: &Kept) -> bool
 // The numbers of the nets that keep no tree.
 #[tactic(auto, using(crate::proofs::Keeping::left_more, crate::proofs::Keeping::left_same, crate::proofs::Keeping::left_all))]
 pub fn left_nets(alloc: Global, kept: &[Kept]) -> Result<Vec<NetNo>, NoMemory>
-    requires { length kept.now ≤ 65536 }
+    requires { length kept.now ≤ MOST_NETS }
     ensures { IfOk result (λ list. list.items ≡ left_from 0 (wholes kept.now)) }
 {
     let mut list = Vec::new(alloc);
@@ -64,7 +65,7 @@ pub fn left_nets(alloc: Global, kept: &[Kept]) -> Result<Vec<NetNo>, NoMemory>
 // The numbers of the nets that keep a tree.
 #[tactic(auto, using(crate::proofs::Keeping::keeping_more, crate::proofs::Keeping::keeping_same, crate::proofs::Keeping::keeping_all))]
 pub fn keeping_nets(alloc: Global, kept: &[Kept]) -> Result<Vec<NetNo>, NoMemory>
-    requires { length kept.now ≤ 65536 }
+    requires { length kept.now ≤ MOST_NETS }
     ensures { IfOk result (λ list. list.items ≡ kept_from 0 (wholes kept.now)) }
 {
     let mut list = Vec::new(alloc);

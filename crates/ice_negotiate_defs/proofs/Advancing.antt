@@ -1,5 +1,5 @@
 -- Nets move one after the other.
-use Rattle.std.proofs.Common.{◌≡◌, ℕ, zero, suc, ◌+◌, ◌≤◌, ◌<◌, Bool, true, false, cond, List, [], ◌∷◌, Some, length, slice_get, slice_index, refl, ap, subst, arith, inl, inr, ◌⊎◌}
+use Rattle.std.proofs.Common.{◌≡◌, ℕ, zero, suc, ◌+◌, ◌≤◌, Bool, true, false, cond, List, [], ◌∷◌, Some, length, slice_get, slice_index, refl, ap, subst, arith, inl, inr}
 use Rattle.ice_graph.specs.declared.tree.Tree.{Tree}
 use Rattle.ice_graph.specs.Network.{Network}
 use Rattle.ice_core.specs.declared.prices.Prices.{Prices}
@@ -7,20 +7,13 @@ use Rattle.ice_core.specs.Congestion.{ArePrices}
 use Rattle.ice_core.specs.Moves.{holds, occupancy, IsOccupancy}
 use Rattle.ice_negotiate_defs.specs.Rounds.{ArePricesOf, AreBounded, AreFew}
 use Rattle.std.proofs.lemmas.List.Sums.{count_by-le-length, sum_by-cons}
+use Rattle.std.proofs.lemmas.Bool.{cases_lt}
 
 -- beyond its end a list has zeros
 pub beyond_end : (xs : List ℕ) (w : ℕ) → length xs ≤ w → slice_index xs w ≡ 0
 beyond_end [] w le = refl
 beyond_end (x ∷ xs) zero le = absurd (omega arith)
 beyond_end (x ∷ xs) (suc w) le = beyond_end xs w (omega arith)
-
-pub within_or_not : (w n : ℕ) → (w < n) ⊎ (n ≤ w)
-within_or_not w zero = inr (omega arith)
-within_or_not zero (suc n) = inl (omega arith)
-within_or_not (suc w) (suc n) = elim (within_or_not w n) [
-  | inl lt ↦ inl (omega arith)
-  | inr le ↦ inr (omega arith)
-]
 
 -- with the net's own route left out they are prices
 pub left_prices : (graph : Network) (round : ℕ) (history counts : List ℕ) (tree : Tree) (p : Prices) → AreBounded graph round history counts → AreFew counts tree → ArePricesOf round history counts tree p → ArePrices p
@@ -39,7 +32,7 @@ left_prices graph round history counts tree p b few h =
       lengths = omega arith;
       wires = omega arith;
       history = λ w. (let e : slice_index p.history.items w ≡ slice_index history w = ap (λ xs. slice_index xs w) h.histories in let le = b.low w in omega arith);
-      others = λ w. elim (within_or_not w (length counts)) [
+      others = λ w. elim (cases_lt w (length counts)) [
         | inl lt ↦ (let e = h.others w lt in let le = few w lt in omega arith)
         | inr le ↦ (let e = beyond_end p.others.items w (omega arith) in omega arith)
       ];

@@ -8,3 +8,4 @@ pub mod Repeating
 pub mod Leading
 pub mod Unchanged
 pub mod Fitting
+pub mod Wires

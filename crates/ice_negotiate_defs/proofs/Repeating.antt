@@ -1,5 +1,6 @@
 -- Rounds of the same nets are the same.
 use Rattle.std.proofs.Common.{◌≡◌, ℕ, zero, suc, ◌+◌, ◌-◌, ◌*◌, ◌≤◌, ◌<◌, Bool, cond, List, [], ◌∷◌, ◌++◌, Option, None, Some, length, take, slice_get, slice_index, refl, sym, ap, ◌∙◌, subst, arith, inl, inr}
+use Rattle.std.proofs.lemmas.Bool.{cases_lt}
 use Rattle.std.proofs.Math.Path.{fun_ext}
 use Rattle.std.specs.List.{list_any}
 use Rattle.std.proofs.lemmas.Option.{slice_get_within}
@@ -19,7 +20,7 @@ use Rattle.ice_negotiate_defs.specs.Rounds.{Past, ArePricesOf, Moves, MoveFirst,
 use Rattle.ice_negotiate_defs.specs.Logs.{AreRoutedFrom, AllEndOverusedFrom}
 use Rattle.ice_negotiate_defs.specs.Determined.{AreAlike, AreSame, LeaveSame}
 use Rattle.ice_negotiate_defs.specs.declared.fault.Routed.{Routed}
-use Rattle.ice_negotiate_defs.proofs.Advancing.{beyond_end, within_or_not}
+use Rattle.ice_negotiate_defs.proofs.Advancing.{beyond_end}
 use Rattle.ice_negotiate_defs.proofs.Joining.{joined_unique}
 use Rattle.ice_negotiate_defs.proofs.Openings.{begin_same, begun_kept, stays_kept}
 use Rattle.ice_negotiate_defs.proofs.Rounding.{some_same}
@@ -137,7 +138,7 @@ pub prices_same : (round : ℕ) (history counts : List ℕ) (a b : Tree) (p q : 
 prices_same round history counts a b p q same h k = fun_ext (λ w. at w)
   where
     others : (w : ℕ) → slice_index p.others.items w ≡ slice_index q.others.items w
-    others w = (let one = h.long in let other = k.long in elim (within_or_not w (length counts)) [
+    others w = (let one = h.long in let other = k.long in elim (cases_lt w (length counts)) [
       | inl lt ↦ h.others w lt ∙ (ap (λ c. slice_index counts w - cond c 1 0) (holds_same a b w same) ∙ sym (k.others w lt))
       | inr le ↦ beyond_end p.others.items w (omega arith) ∙ sym (beyond_end q.others.items w (omega arith))
     ])

@@ -1,7 +1,7 @@
 -- What a round gives where no worker stopped.
 use Rattle.std.proofs.Common.{◌≡◌, ℕ, zero, suc, ◌+◌, ◌-◌, ◌*◌, ◌≤◌, ◌<◌, List, [], ◌∷◌, All, length, min, None, Some, slice_get, slice_index, inl, inr, refl, sym, ap, subst, arith, ◌∙◌}
 use Rattle.std.proofs.Math.Path.{fun_ext}
-use Rattle.std.proofs.lemmas.Bool.{cases_eq}
+use Rattle.std.proofs.lemmas.Bool.{cases_eq, cases_lt}
 use Rattle.std.proofs.lemmas.List.{length-map}
 use Rattle.std.specs.List.{sum_by, fold, AllByRecursion}
 use Rattle.std.proofs.lemmas.List.Sums.{sum_by-cons}
@@ -17,7 +17,7 @@ use Rattle.ice_core.specs.Routes.{numbers, old_wires, sum_below, times, tree_wir
 use Rattle.ice_core.proofs.Sums.{is_at, at_other, below_lists, below_once, below_ones}
 use Rattle.ice_core.proofs.Counting.{some_same}
 use Rattle.ice_negotiate_defs.specs.Trees.{IsTree, Route, route_of}
-use Rattle.ice_negotiate_defs.proofs.Advancing.{beyond_end, within_or_not}
+use Rattle.ice_negotiate_defs.proofs.Advancing.{beyond_end}
 use Rattle.ice_negotiate_defs.proofs.Joining.{joined_unique}
 use Rattle.ice_words.specs.declared.view.Claim.{Claim}
 use Rattle.ice_words.specs.declared.view.View.{View}
@@ -36,7 +36,7 @@ use Rattle.ice_negotiate_round.specs.Played.{IsLeft, AreTrees, IsPlayed, NoneSto
 
 -- ---- a task has one new tree
 same_others : (r : RoundPrices) (task : Task) (p q : Prices) → AreFor r task p → AreFor r task q → (w : ℕ) → slice_index p.others.items w ≡ slice_index q.others.items w
-same_others r task p q a b w = elim (within_or_not w (length r.counts.items)) [
+same_others r task p q a b w = elim (cases_lt w (length r.counts.items)) [
   | inl lt ↦ a.others.each w lt ∙ sym (b.others.each w lt)
   | inr le ↦ beyond_end p.others.items w (omega (arith, le, a.others.long)) ∙ sym (beyond_end q.others.items w (omega (arith, le, b.others.long)))
 ]

@@ -1,6 +1,6 @@
 -- The tasks of the nets that move can be done in the prices of the round.
 use Rattle.std.proofs.Common.{◌≡◌, ◌≢◌, ℕ, zero, suc, ◌-◌, ◌≤◌, ◌<◌, ◌||◌, cond, List, [], ◌∷◌, Some, length, map, min, slice_get, slice_index, refl, sym, ap, ◌∙◌, subst, arith, inl, inr}
-use Rattle.std.proofs.lemmas.Bool.{cases_eq, ne_eqb, eq-eqb}
+use Rattle.std.proofs.lemmas.Bool.{cases_eq, cases_lt, ne_eqb, eq-eqb}
 use Rattle.std.proofs.lemmas.List.{length-map}
 use Rattle.std.proofs.lemmas.List.Sums.{sum_by-cons}
 use Rattle.std.proofs.lemmas.List.Elements.{All-from_recursion}
@@ -20,10 +20,10 @@ use Rattle.ice_core.proofs.Sums.{at_itself, at_other, below_lists, is_at, once_s
 use Rattle.ice_path.specs.Room.{AreWires}
 use Rattle.ice_negotiate_defs.specs.Trees.{AreOnce, AreSinks}
 use Rattle.ice_negotiate_defs.specs.Rounds.{AreBounded, AreDifferent, AreNets, ArePricesOf, HoldOnce}
-use Rattle.ice_negotiate_defs.proofs.Advancing.{few_others, left_prices, within_or_not}
+use Rattle.ice_negotiate_defs.proofs.Advancing.{few_others, left_prices}
 use Rattle.ice_negotiate_defs.proofs.Rounding.{count_low}
 use Rattle.ice_worker.specs.Tasks.{AreFor, IsTaskOf, KeepsBounds}
-use Rattle.ice_worker.proofs.Wires.{once_times}
+use Rattle.ice_negotiate_defs.proofs.Wires.{once_times}
 use Rattle.ice_worker.proofs.Working.{wires_at}
 use Rattle.ice_negotiate_round.specs.Jobs.{ArePlayable}
 use Rattle.ice_negotiate_defs.specs.Tallies.{wires_in}
@@ -150,7 +150,7 @@ module _ (nets : List Net) (trees : List Tree) (moved : List NetNo) (tasks : Lis
 
   -- what holds of the old wires of each task holds of the lists
   each_list : (P : List ℕ → Type 0) → P [] → ((k : ℕ) (task : Task) → slice_get tasks k ≡ Some task → P (numbers task.old.items)) → (t : ℕ) → P (wires_of (old_wires tasks) t)
-  each_list P none each t = elim (within_or_not t (length tasks)) [
+  each_list P none each t = elim (cases_lt t (length tasks)) [
     | inl lt ↦ (let task = some_there tasks t lt in subst P (sym (wires_at tasks t task.0 task.1)) (each t task.0 task.1))
     | inr le ↦ subst P (sym (wires_beyond (old_wires tasks) t (omega (arith, le, many_olds tasks)))) none
   ]

@@ -84,7 +84,15 @@ fn run<G: Gate>(
     .err();
 }
 
-// All workers' work, each in a thread of its own.
+// In how many threads so many workers do so many tasks. More threads than tasks would find nothing to do.
+fn threads_of(workers: usize, tasks: usize) -> usize
+    requires { 1 ≤ workers }
+    ensures { 0 < result }
+{
+    workers.min(tasks.max(1))
+}
+
+// All workers' work, each in a thread of its own while there are tasks for it.
 pub fn run_all<G: Gate + Sync, R: Threads + Sync>(
     rt: &R,
     alloc: Global,
@@ -100,7 +108,7 @@ pub fn run_all<G: Gate + Sync, R: Threads + Sync>(
     requires started { AreStarted graph.now prices.now tasks.now words.now }
     ensures { (length jobs.new ≡ length jobs.old) × All (HasWorked graph.now prices.now tasks.now words.now) jobs.new }
 {
-    let threads = jobs.len();
+    let threads = threads_of(jobs.len(), tasks.len());
     thread::for_each_mut(
         rt,
         jobs,

@@ -13,7 +13,7 @@ ghost use Rattle.ice_worker.specs.declared.stop.WorkStop.TheVariants.{Unreachabl
 use crate::playing::{Played, play_tasks};
 use crate::tasks::tasks_of;
 use ice_base::NetNo;
-use ice_core::{Net, RoundPrices};
+use ice_core::{MOST_NETS, Net, RoundPrices};
 use ice_desk::Gate;
 use ice_graph::{Graph, Tree};
 use ice_negotiate_defs::RouteFault;
@@ -76,7 +76,7 @@ pub fn play<G: Gate + Sync, R: Threads + Sync>(
     gate: &G,
 ) -> Result<Round, RouteFault>
     requires nets { AreNets graph.now nets.now }
-    requires few { length nets.now ≤ 65536 }
+    requires few { length nets.now ≤ MOST_NETS }
     requires trees { length trees.old ≡ length nets.now }
     requires counts { IsOccupancy prices.now.counts.items trees.old }
     requires apart { HoldOnce trees.old }

@@ -14,6 +14,9 @@ use std::alloc::Global;
 use std::thread;
 use std::thread::Threads;
 
+// Fewer wires than this are raised in one thread, as starting another one takes longer.
+const WIRES_OF_THREAD: usize = 65_536;
+
 // So many hands, split off the main one.
 fn hands_of(
     alloc: Global,
@@ -45,7 +48,15 @@ fn raise_some(words: &HistoryWords, counts: &Counts, hand: &mut HistoryHand)
     raise_blocks(words, hand, counts);
 }
 
-// All workers' blocks, each in a thread of its own.
+// In how many threads so many hands raise so many wires.
+fn threads_of(hands: usize, wires: usize) -> usize
+    requires { 1 ≤ hands }
+    ensures { 0 < result }
+{
+    if wires < WIRES_OF_THREAD { 1 } else { hands }
+}
+
+// All workers' blocks, each in a thread of its own where there are many wires.
 fn raise_all<R: Threads + Sync>(
     rt: &R,
     words: &HistoryWords,
@@ -57,7 +68,7 @@ fn raise_all<R: Threads + Sync>(
     requires wires { length counts.now.opened ≡ length words.now.histories }
     ensures { (length hands.new ≡ length hands.old) × All (HasFinished words.now counts.now.closed) hands.new }
 {
-    let threads = hands.len();
+    let threads = threads_of(hands.len(), counts.all().len());
     thread::for_each_mut(
         rt,
         hands,
@@ -128,7 +139,7 @@ fn raised<R: Threads + Sync>(
 }
 
 /// Raises the history of each wire by the number of nets that hold it beyond one, where the counts are those of a round. From 1 to 8 workers do it, each in a
-/// thread, and claim blocks of wires from shared words. Each history is below 2^32, there are fewer than 2^32, and the counts are of as many wires. It answers
+/// thread where there are many wires, and claim blocks of wires from shared words. Each history is below 2^32, there are fewer than 2^32, and the counts are of as many wires. It answers
 /// `NoMemory` where it finds no memory for the words.
 pub fn raise<R: Threads + Sync>(
     rt: &R,

@@ -11,8 +11,8 @@ use Rattle.ice_words.specs.declared.view.View.{View}
 use Rattle.ice_words.specs.Views.{claiming, ending, held_at, holding, no_part, own, own_changed, own_of, released_at, releasing}
 use Rattle.ice_words.specs.Rule.{IsNewestReleased, MayHold, MayRelease}
 use Rattle.ice_words.specs.Lawful.{AreFinished, IsLawful, IsNewestFinished}
-use Rattle.ice_words.specs.Showing.{all_parts, bare, core_of, left_of, rest_of, worker_of}
-use Rattle.ice_words.proofs.Undoing.{bare_workers}
+use Rattle.ice_words.specs.Showing.{all_parts, bare, left_of, rest_of, worker_of}
+use Rattle.ice_words.proofs.Undoing.{bare_workers, core_same}
 use Rattle.ice_words_hands.proofs.Parts.{own_is}
 use Rattle.ice_negotiate_round_laws.specs.Events.{ClaimsAreClaims, HoldsAreHolds, IsEvent, ReleasesAreReleases, worker_number}
 
@@ -76,9 +76,6 @@ wire_set words w n long = subst (λ k. drop 3 (slice_set words k n) ≡ slice_se
 -- the claim number stays as a wire's word changes
 first_stays : (words : List ℕ) (w n : ℕ) → slice_index (slice_set words (w + 3) n) 0 ≡ slice_index words 0
 first_stays words w n = get_or-set_other words (w + 3) 0 n 0 (λ e. absurd (omega (arith, e)))
-
-core_same : (n m : ℕ) (xs ys : List ℕ) (us vs : List Worker) → n ≡ m → xs ≡ ys → us ≡ vs → core_of n xs us ≡ core_of m ys vs
-core_same n m xs ys us vs number counts workers = λ k. record { number = number k; counts = counts k; up = 0; down = 0; workers = workers k }
 
 -- ---- the own part among all
 module _ (olds news : List (List ℕ)) where

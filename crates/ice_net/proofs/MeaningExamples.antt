@@ -1,8 +1,8 @@
 -- The meaning of small netlists, found by computing.
 use Rattle.std.proofs.Common.{◌≡◌, ℕ, Bool, true, false, List, [], ◌∷◌, Option, Some, None, refl}
 use Rattle.ice_base.specs.declared.number.SignalNo.{SignalNo}
-use Rattle.ice_net.specs.declared.drive.Drive.{Drive}
-use Rattle.ice_net.specs.declared.drive.Drive.TheVariants.{Off, Low, High}
+use Rattle.ice_net.specs.declared.driver.Drive.{Drive}
+use Rattle.ice_net.specs.declared.driver.Drive.TheVariants.{Off, Low, High}
 use Rattle.ice_net.specs.declared.kind.Reset.{Reset}
 use Rattle.ice_net.specs.declared.kind.Reset.TheVariants.{SyncSet, AsyncSet, AsyncReset}
 use Rattle.ice_net.specs.declared.kind.CellKind.TheVariants.{Flop, Carry, PadCell}

@@ -8,7 +8,7 @@ use Rattle.ice_net.specs.declared.cell.Cell.{Cell}
 use Rattle.ice_net.specs.declared.port.Port.{Port}
 use Rattle.ice_net.specs.declared.kind.CellKind.{CellKind}
 use Rattle.ice_net.specs.declared.kind.CellKind.TheVariants.{Lut, Cover, Carry, Flop, PadCell, Global}
-use Rattle.ice_base.specs.Names.{with_name}
+use Rattle.ice_base.specs.Lists.{with_name}
 use Rattle.ice_net.specs.declared.port.Way.{Way}
 use Rattle.ice_net.specs.NetlistData.{NetlistData, PlacesAre, with_port, port_by, port_again, port_at, merged}
 use Rattle.ice_net.proofs.Single.{names_once, ports_still_once}

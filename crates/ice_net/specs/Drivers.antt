@@ -4,21 +4,21 @@ use Rattle.std.proofs.Common.{suc}
 use Rattle.ice_base.specs.declared.number.SignalNo.{SignalNo}
 use Rattle.ice_net.specs.declared.cell.Cell.{Cell}
 use Rattle.ice_net.specs.declared.kind.CellKind.{CellKind}
-use Rattle.ice_net.specs.declared.kind.CellKind.TheVariants.{Lut, Cover, Carry, Flop, PadCell, Global}
+use Rattle.ice_net.specs.declared.kind.CellKind.TheVariants.{PadCell}
 use Rattle.ice_net.specs.declared.port.Port.{Port}
 use Rattle.ice_net.specs.declared.port.Way.{Way}
 use Rattle.ice_net.specs.declared.port.Way.TheVariants.{Input, Output, Both}
-use Rattle.ice_net.specs.declared.driver.Driver.{Driver}
-use Rattle.ice_net.specs.declared.driver.Driver.TheVariants as driver
+use Rattle.ice_net.specs.declared.driver.SignalDriver.{SignalDriver}
+use Rattle.ice_net.specs.declared.driver.SignalDriver.TheVariants as driver
 use Rattle.ice_net.specs.NetlistData.{NetlistData}
 
 -- the number of a signal that may be missing
-abbrev pub number : Option SignalNo → Option ℕ
-number None = None
-number (Some signal) = Some signal.0
+abbrev pub signal_number : Option SignalNo → Option ℕ
+signal_number None = None
+signal_number (Some signal) = Some signal.0
 
 abbrev pub numbers : List (Option SignalNo) → List (Option ℕ)
-numbers signals = map number signals
+numbers signals = map signal_number signals
 
 -- a signal that may be missing is this one
 abbrev pub is_signal : ℕ → Option SignalNo → Bool
@@ -37,12 +37,8 @@ is_there (Some place) = true
 -- ---- pads
 -- the signal at the PACKAGE_PIN of an SB_IO; other cells have none
 abbrev pub pin_by : CellKind → List (Option SignalNo) → Option SignalNo
-pin_by (Lut table) ins = None
-pin_by (Cover table width) ins = None
-pin_by Carry ins = None
-pin_by (Flop falling enable reset) ins = None
 pin_by (PadCell pin_type pullup) ins = slice_index_or ins 0 None
-pin_by Global ins = None
+pin_by kind ins = None
 
 abbrev pub pin_of : Cell → Option SignalNo
 pin_of cell = pin_by cell.kind cell.ins
@@ -56,9 +52,8 @@ has_buffer cells s = is_there (buffer_at cells s)
 
 -- The pad of an Input or a Both port drives the port's signal. That of an Output port does where it is at an SB_IO, of any type.
 abbrev pub pad_by : Port → Bool → Way → Option SignalNo
-pad_by port buffered Input = Some port.signal
-pad_by port buffered Both = Some port.signal
 pad_by port buffered Output = if buffered then Some port.signal else None
+pad_by port buffered way = Some port.signal
 
 -- the signal that the pad of a port drives
 abbrev pub pad_of : List Cell → Port → Option SignalNo
@@ -71,19 +66,19 @@ output_of cell = slice_index_or cell.outs 0 None
 
 -- ---- the driver of a signal
 -- what has the first of the places, if there is one
-abbrev pub driver_from : Option ℕ → Option ℕ → Driver
+abbrev pub driver_from : Option ℕ → Option ℕ → SignalDriver
 driver_from (Some k) cell = driver.Pad k
 driver_from None (Some i) = driver.Output i
 driver_from None None = driver.Nothing
 
 -- the signals that pads drive, port by port
-abbrev pub pads : NetlistData → List (Option SignalNo)
-pads n = map (pad_of n.cells) n.ports
+abbrev pub pad_signals : NetlistData → List (Option SignalNo)
+pad_signals n = map (pad_of n.cells) n.ports
 
 -- the signals that outputs drive, cell by cell
 abbrev pub outputs : NetlistData → List (Option SignalNo)
 outputs n = map output_of n.cells
 
 -- what drives a signal: the first port whose pad does, or else the first cell whose output does
-abbrev pub driver_of : NetlistData → ℕ → Driver
-driver_of n s = driver_from (place_of s (pads n)) (place_of s (outputs n))
+abbrev pub driver_of : NetlistData → ℕ → SignalDriver
+driver_of n s = driver_from (place_of s (pad_signals n)) (place_of s (outputs n))

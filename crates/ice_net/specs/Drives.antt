@@ -1,15 +1,15 @@
 -- What the ports of a netlist drive, and which inputs are in use.
 use Rattle.std.specs.Prelude.{ℕ, ◌==◌, Bool, true, false, List, [], ◌∷◌, Option, Some, None, if◌then◌else◌, slice_get, slice_index_or}
 use Rattle.ice_base.specs.declared.number.SignalNo.{SignalNo}
-use Rattle.ice_base_values.specs.Inputs.{reading}
+use Rattle.ice_base_values.specs.System.{reading}
 use Rattle.ice_net.specs.declared.cell.Cell.{Cell}
-use Rattle.ice_net.specs.declared.drive.Drive.{Drive}
-use Rattle.ice_net.specs.declared.drive.Drive.TheVariants.{Off, Low, High}
+use Rattle.ice_net.specs.declared.driver.Drive.{Drive}
+use Rattle.ice_net.specs.declared.driver.Drive.TheVariants.{Off, Low, High}
 use Rattle.ice_net.specs.declared.kind.CellKind.{CellKind}
-use Rattle.ice_net.specs.declared.kind.CellKind.TheVariants.{Lut, Cover, Carry, Flop, PadCell, Global}
+use Rattle.ice_net.specs.declared.kind.CellKind.TheVariants.{PadCell}
 use Rattle.ice_net.specs.declared.port.Port.{Port}
 use Rattle.ice_net.specs.declared.port.Way.{Way}
-use Rattle.ice_net.specs.declared.port.Way.TheVariants.{Input, Output, Both}
+use Rattle.ice_net.specs.declared.port.Way.TheVariants.{Output}
 use Rattle.ice_net.specs.Drivers.{buffer_at}
 
 -- ---- pin types
@@ -44,12 +44,8 @@ pad_uses pin_type ins = if pin_type == output_type then data_of ins ∷ [] else 
 
 -- the inputs of a cell that are in use: all but some of an SB_IO
 abbrev pub uses_by : CellKind → List (Option SignalNo) → List (Option SignalNo)
-uses_by (Lut table) ins = ins
-uses_by (Cover table width) ins = ins
-uses_by Carry ins = ins
-uses_by (Flop falling enable reset) ins = ins
 uses_by (PadCell pin_type pullup) ins = pad_uses pin_type ins
-uses_by Global ins = ins
+uses_by kind ins = ins
 
 -- ---- drives
 -- a port that drives a level
@@ -64,17 +60,12 @@ pad_drive pin_type level enable =
 
 -- what a port without an SB_IO drives: an Output port the level of its signal
 abbrev pub bare_drive : Way → Bool → Drive
-bare_drive Input level = Off
 bare_drive Output level = level_drive level
-bare_drive Both level = Off
+bare_drive way level = Off
 
 abbrev pub kind_drive : (ℕ → Bool) → CellKind → List (Option SignalNo) → Drive
-kind_drive v (Lut table) ins = Off
-kind_drive v (Cover table width) ins = Off
-kind_drive v Carry ins = Off
-kind_drive v (Flop falling enable reset) ins = Off
 kind_drive v (PadCell pin_type pullup) ins = pad_drive pin_type (at_input false v ins 1) (at_input false v ins 2)
-kind_drive v Global ins = Off
+kind_drive v kind ins = Off
 
 abbrev pub buffer_drive : (ℕ → Bool) → Option Cell → Drive
 buffer_drive v None = Off

@@ -1,6 +1,6 @@
--- The kinds of cells: the words that name them in a netlist text, and their ports in order.
-use Rattle.std.specs.Prelude.{ℕ, ◌+◌, ◌<◌, Bool, true, false, List, [], ◌∷◌, ◌++◌, length, take, drop, Option, Some, None, if◌then◌else◌, option_map, codes, bytes_eq}
-use Rattle.ice_base.specs.Comments.{begins_with}
+-- The kinds of cells: the words that name them, the places of their ports, and what a flip-flop keeps.
+use Rattle.std.specs.Prelude.{ℕ, ◌+◌, ◌<◌, Bool, true, false, List, [], ◌∷◌, ◌++◌, length, take, drop, Option, Some, None, if◌then◌else◌, option_map, codes, bytes_eq, not, ◌&&◌}
+use Rattle.ice_base.specs.Text.{begins_with}
 use Rattle.ice_net.specs.declared.kind.Reset.{Reset}
 use Rattle.ice_net.specs.declared.kind.Reset.TheVariants.{Nothing, SyncReset, AsyncReset, SyncSet, AsyncSet}
 use Rattle.ice_net.specs.declared.kind.CellKind.{CellKind}
@@ -17,8 +17,7 @@ abbrev pub reset_names : Reset → List (List ℕ)
 reset_names Nothing = []
 reset_names SyncReset = codes "R" ∷ []
 reset_names AsyncReset = codes "R" ∷ []
-reset_names SyncSet = codes "S" ∷ []
-reset_names AsyncSet = codes "S" ∷ []
+reset_names reset = codes "S" ∷ []
 
 -- the inputs of a kind, in order; those of a cover have no names
 abbrev pub in_names : CellKind → List (List ℕ)
@@ -50,12 +49,8 @@ ins_count Global = 1
 
 -- how many outputs a kind has
 abbrev pub outs_count : CellKind → ℕ
-outs_count (Lut table) = 1
-outs_count (Cover table width) = 1
-outs_count Carry = 1
-outs_count (Flop falling enable reset) = 1
 outs_count (PadCell pin_type pullup) = 2
-outs_count Global = 1
+outs_count kind = 1
 
 -- the place of a name in a list whose first has the place k
 abbrev pub place_from : ℕ → List (List ℕ) → List ℕ → Option ℕ
@@ -68,8 +63,8 @@ port_place kind name = place_from 0 (in_names kind ++ out_names kind) name
 
 -- ---- words
 -- how a flip-flop is set or reset: R and S alone are asynchronous
-abbrev pub reset_of : List ℕ → Option Reset
-reset_of word =
+abbrev pub reset_named : List ℕ → Option Reset
+reset_named word =
     if bytes_eq word (codes "") then Some Nothing
     else (if bytes_eq word (codes "SR") then Some SyncReset
     else (if bytes_eq word (codes "R") then Some AsyncReset
@@ -80,8 +75,8 @@ reset_of word =
 -- `E` for an enable (69), or nothing, and then how the flip-flop is set or reset
 abbrev pub edge_flop_of : Bool → List ℕ → Option CellKind
 edge_flop_of falling word =
-    if begins_with 69 word then option_map (λ reset. Flop falling true reset) (reset_of (drop 1 word))
-    else option_map (λ reset. Flop falling false reset) (reset_of word)
+    if begins_with 69 word then option_map (λ reset. Flop falling true reset) (reset_named (drop 1 word))
+    else option_map (λ reset. Flop falling false reset) (reset_named word)
 
 -- `N` for a falling clock (78), or nothing, and then the rest of a flip-flop's word behind `SB_DFF`
 abbrev pub flop_of : List ℕ → Option CellKind
@@ -105,3 +100,27 @@ IsGateKind Carry = Unit {0}
 IsGateKind (Flop falling enable reset) = Unit {0}
 IsGateKind (PadCell pin_type pullup) = pin_type < 64
 IsGateKind Global = Unit {0}
+
+-- The clock's level of the step before and its level now make the active edge: from 1 to 0 for a flip-flop with a falling clock,
+-- from 0 to 1 for the others. In the first step there is no level before, and no edge.
+abbrev pub is_edge : Bool → Option Bool → Bool → Bool
+is_edge falling None now = false
+is_edge true (Some before) now = before && not now
+is_edge false (Some before) now = not before && now
+
+-- what a flip-flop takes at an edge with its enable at 1: its synchronous set or reset, else its data
+abbrev pub taken : Reset → Bool → Bool → Bool
+taken SyncReset set datum = if set then false else datum
+taken SyncSet set datum = if set then true else datum
+taken reset set datum = datum
+
+-- an asynchronous set or reset at 1 forces a flip-flop, at once
+abbrev pub forced : Reset → Bool → Bool → Bool
+forced AsyncReset set kept = if set then false else kept
+forced AsyncSet set kept = if set then true else kept
+forced reset set kept = kept
+
+-- What a flip-flop keeps after a step. It fires where there is an edge and its enable is 1; a synchronous set or reset acts
+-- only then. An asynchronous one acts whatever the edge and the enable are.
+abbrev pub fired : Reset → Bool → Bool → Bool → Bool → Bool → Bool
+fired reset edge enable set datum kept = forced reset set (if edge && enable then taken reset set datum else kept)

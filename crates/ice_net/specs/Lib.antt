@@ -2,7 +2,6 @@ pub mod NetlistData
 pub mod Kinds
 pub mod Formed
 pub mod Drivers
-pub mod Flops
 pub mod Drives
 pub mod Meaning
 pub mod Limits

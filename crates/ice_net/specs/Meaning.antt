@@ -3,19 +3,17 @@ use Rattle.std.specs.Prelude.{ℕ, ◌+◌, ◌*◌, ◌/◌, ◌%◌, ◌^◌, 
 use Rattle.std.specs.Option.{option_map_or}
 use Rattle.std.specs.List.{zip}
 use Rattle.ice_base.specs.declared.number.SignalNo.{SignalNo}
-use Rattle.ice_base_values.specs.System.{System, value}
-use Rattle.ice_base_values.specs.Inputs.{present, gapped}
-use Rattle.ice_base_values.specs.Machine as machine
+use Rattle.ice_base_values.specs.System.{System, value, present, gapped, machine_shows}
 use Rattle.ice_net.specs.declared.cell.Cell.{Cell}
-use Rattle.ice_net.specs.declared.drive.Drive.{Drive}
+use Rattle.ice_net.specs.declared.driver.Drive.{Drive}
 use Rattle.ice_net.specs.declared.kind.CellKind.{CellKind}
 use Rattle.ice_net.specs.declared.kind.CellKind.TheVariants.{Lut, Cover, Carry, Flop, PadCell, Global}
 use Rattle.ice_net.specs.declared.port.Port.{Port}
-use Rattle.ice_net.specs.declared.driver.Driver.{Driver}
-use Rattle.ice_net.specs.declared.driver.Driver.TheVariants.{Nothing, Pad, Output}
+use Rattle.ice_net.specs.declared.driver.SignalDriver.{SignalDriver}
+use Rattle.ice_net.specs.declared.driver.SignalDriver.TheVariants.{Nothing, Pad, Output}
 use Rattle.ice_net.specs.NetlistData.{NetlistData, port_at}
 use Rattle.ice_net.specs.Drivers.{numbers, pin_of, driver_of}
-use Rattle.ice_net.specs.Flops.{is_edge, fired}
+use Rattle.ice_net.specs.Kinds.{is_edge, fired}
 use Rattle.ice_net.specs.Drives.{port_drive, at_input}
 
 -- ---- levels
@@ -45,12 +43,9 @@ pad_level ports levels (Some signal) = level_by levels (port_at signal.0 ports)
 -- ---- the value of a signal
 -- the inputs that a cell's output depends on. That of a flip-flop, and D_IN_0 of an SB_IO, depends on none.
 abbrev pub reads_by : CellKind → List (Option SignalNo) → List (Option SignalNo)
-reads_by (Lut table) ins = ins
-reads_by (Cover table width) ins = ins
-reads_by Carry ins = ins
 reads_by (Flop falling enable reset) ins = []
 reads_by (PadCell pin_type pullup) ins = []
-reads_by Global ins = ins
+reads_by kind ins = ins
 
 -- What a cell's output makes of what these inputs read: of what the cell keeps where it is a flip-flop, and of the level of its
 -- pad where it is an SB_IO.
@@ -67,13 +62,12 @@ abbrev pub cell_reads : Cell → List (Option ℕ)
 cell_reads cell = numbers (reads_by cell.kind cell.ins)
 
 -- what the driver of a signal reads
-abbrev pub reads : NetlistData → Driver → List (Option ℕ)
-reads n Nothing = []
-reads n (Pad k) = []
+abbrev pub reads : NetlistData → SignalDriver → List (Option ℕ)
 reads n (Output i) = option_map_or (λ (cell : Cell). cell_reads cell) (slice_get n.cells i) []
+reads n other = []
 
 -- what the driver of a signal makes of what it reads, by the levels of the ports and what the cells keep
-abbrev pub makes : NetlistData → List Bool → List Bool → Driver → List Bool → Bool
+abbrev pub makes : NetlistData → List Bool → List Bool → SignalDriver → List Bool → Bool
 makes n levels kept Nothing xs = false
 makes n levels kept (Pad k) xs = slice_index_or levels k false
 makes n levels kept (Output i) xs =
@@ -111,22 +105,14 @@ set_level v false ins = at_input false v ins 2
 
 -- what a cell keeps after a step in which signals have the values v, by what it kept and its clock's level before
 abbrev pub kept_by : (ℕ → Bool) → CellKind → List (Option SignalNo) → Bool → Option Bool → Bool
-kept_by v (Lut table) ins kept clock = false
-kept_by v (Cover table width) ins kept clock = false
-kept_by v Carry ins kept clock = false
 kept_by v (Flop falling enable reset) ins kept clock =
     fired reset (is_edge falling clock (at_input false v ins 0)) (enable_level v enable ins) (set_level v enable ins) (at_input false v ins 1) kept
-kept_by v (PadCell pin_type pullup) ins kept clock = false
-kept_by v Global ins kept clock = false
+kept_by v kind ins kept clock = false
 
 -- the clock's level
 abbrev pub clock_by : (ℕ → Bool) → CellKind → List (Option SignalNo) → Option Bool
-clock_by v (Lut table) ins = None
-clock_by v (Cover table width) ins = None
-clock_by v Carry ins = None
 clock_by v (Flop falling enable reset) ins = Some (at_input false v ins 0)
-clock_by v (PadCell pin_type pullup) ins = None
-clock_by v Global ins = None
+clock_by v kind ins = None
 
 abbrev pub kept_after : (ℕ → Bool) → List Cell → State → List Bool
 kept_after v cells state = map (λ (x : Cell × (Bool × Option Bool)). kept_by v x.0.kind x.0.ins x.1.0 x.1.1) (zip cells (zip state.kept state.clocks))
@@ -147,4 +133,4 @@ start n = record { kept = map (λ (cell : Cell). false) n.cells; clocks = map (�
 
 -- what each port drives, step by step, for a list of levels
 abbrev pub shows : NetlistData → List (List Bool) → List (List Drive)
-shows n levels = machine.shows (step n) (start n) levels
+shows n levels = machine_shows (step n) (start n) levels

@@ -1,6 +1,6 @@
 //! The kinds of cells, the words that name them, and the places of their ports.
 ghost use Rattle.std.specs.Prelude.{◌≡◌, ◌≤◌, ◌++◌, ◌∷◌, [], false, codes, IfSome, ◌<◌};
-ghost use Rattle.ice_net.specs.Kinds.{kind_of, flop_of, edge_flop_of, reset_of, port_place, place_from, reset_names, ins_count, outs_count, IsGateKind};
+ghost use Rattle.ice_net.specs.Kinds.{kind_of, flop_of, edge_flop_of, reset_named, port_place, place_from, reset_names, ins_count, outs_count, IsGateKind};
 
 use ice_base::begins_with;
 
@@ -58,7 +58,7 @@ pub enum CellKind {
 
 // How a flip-flop is set or reset, by the end of its word.
 fn reset_named(word: &[u8]) -> Option<Reset>
-    ensures { result ≡ reset_of word.now }
+    ensures { result ≡ reset_named word.now }
 {
     if word.is_empty() {
         return Some(Reset::Nothing);

@@ -2,7 +2,6 @@
 #![tactic(auto)]
 
 mod cell;
-mod drive;
 mod driver;
 mod kind;
 mod names;
@@ -12,9 +11,8 @@ mod ports;
 mod signals;
 
 pub use cell::Cell;
-pub use drive::Drive;
-pub use driver::Driver;
+pub use driver::{Drive, SignalDriver};
 pub use kind::{CellKind, Reset, kind_named};
-pub use netlist::{MOST_CELLS, MOST_NAMES, Netlist};
+pub use netlist::{MOST_CELLS, MOST_NAMES, MOST_SIGNALS, Netlist};
 pub use port::{Port, Way, merged};
-pub use signals::Signals;
+pub use signals::{Signals, signal_at};

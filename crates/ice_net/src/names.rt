@@ -1,6 +1,6 @@
 //! Names in the order in which they are first met.
 ghost use Rattle.std.specs.Prelude.{◌≡◌, ◌<◌, ◌≤◌, length, position, bytes_eq, IfOk, IfSome, OnOk, OnErr};
-ghost use Rattle.ice_base.specs.Names.{texts, with_name, number_of_name};
+ghost use Rattle.ice_base.specs.Lists.{texts, with_name, number_of_name};
 
 use ice_base::NoMemory;
 use indexmap::IndexSet;

@@ -1,6 +1,6 @@
 //! Netlists as they are built.
 ghost use Rattle.std.specs.Prelude.{◌≡◌, ◌↔◌, ◌++◌, ◌∷◌, [], ◌<◌, ◌≤◌, length, slice_index_or, Some, None, option_map, position, bytes_eq, IfOk, IfSome, OnOk, OnErr, IsTrue};
-ghost use Rattle.ice_base.specs.Names.{with_name, number_of_name};
+ghost use Rattle.ice_base.specs.Lists.{with_name, number_of_name};
 ghost use Rattle.ice_net.specs.NetlistData.{empty_netlist, with_port, port_at, way_of};
 ghost use Rattle.ice_net.specs.Formed.{IsFormed, IsFormedCell, IsSingle};
 
@@ -18,6 +18,9 @@ pub const MOST_NAMES: u32 = 1_073_741_823;
 /// The cells that a netlist may have: up to this number.
 pub const MOST_CELLS: usize = 1_073_741_823;
 
+/// The signals that a netlist may have where it is read from a text and placed: up to this number.
+pub const MOST_SIGNALS: u32 = 65_534;
+
 /// A netlist: the names of its signals in the order of their numbers, its ports and its cells. Each cell is well
 /// formed. Contracts see it as a record of three lists.
 #[derive(Drop)]
@@ -30,7 +33,7 @@ pub struct Netlist {
 }
 
 impl Model for Netlist {
-    ghost use Rattle.ice_base.specs.Names.{texts};
+    ghost use Rattle.ice_base.specs.Lists.{texts};
     ghost use Rattle.ice_net.specs.NetlistData.{NetlistData};
     ghost use Rattle.ice_net.specs.Formed.{IsIndexed};
 
@@ -134,6 +137,15 @@ impl Netlist {
     {
         self.cells.push(cell)?;
         Ok(())
+    }
+
+    /// The netlist's ports and cells are over its own signals, and no name or port stands twice.
+    pub fn is_formed(&self)
+        ensures formed { IsFormed self.now }
+        ensures single { IsSingle self.now }
+    {
+        // What holds of a netlist is known where a field is looked at.
+        let _ = &self.cells;
     }
 
     /// The ports, in the order in which they were made.

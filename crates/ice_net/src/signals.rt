@@ -1,5 +1,5 @@
 //! Lists of signals, some of which are missing.
-ghost use Rattle.std.specs.Prelude.{◌≡◌};
+ghost use Rattle.std.specs.Prelude.{◌≡◌, None, slice_index_or};
 
 use ice_base::SignalNo;
 use std::marker::Model;
@@ -41,4 +41,11 @@ impl Signals {
     {
         self.items.as_slice()
     }
+}
+
+/// The signal at a place of a list; None where it is missing, or behind the list's end.
+pub fn signal_at(signals: &[Option<SignalNo>], place: usize) -> Option<SignalNo>
+    ensures { result ≡ slice_index_or signals.now place None }
+{
+    *signals.get(place)?
 }

@@ -1,3 +1,3 @@
-mod Padding
+pub mod Padding
 mod Marking
 mod Planning

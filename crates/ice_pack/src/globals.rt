@@ -5,8 +5,8 @@ ghost use Rattle.ice_pack_sinks.specs.Plans.{plan};
 
 use ice_base::NoMemory;
 use ice_cells::Root;
-use ice_net::{Cell, CellKind};
-use ice_pack_sinks::{Slices, input_at, sink};
+use ice_net::{Cell, CellKind, signal_at};
+use ice_pack_sinks::{Slices, sink};
 use std::alloc::Global;
 
 // Adds what a cell reads, where it is a global buffer.
@@ -20,7 +20,7 @@ fn push_global(
     let CellKind::Global = cell.kind else {
         return Ok(());
     };
-    found.push(sink(slices, input_at(cell.ins.as_slice(), 0)))?;
+    found.push(sink(slices, signal_at(cell.ins.as_slice(), 0)))?;
     Ok(())
 }
 

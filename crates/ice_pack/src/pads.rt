@@ -9,8 +9,8 @@ ghost use Rattle.ice_pack.specs.Buffered.{pads_by};
 
 use ice_base::{NoMemory, SignalNo, to_u32};
 use ice_cells::{DesignPad, Root};
-use ice_net::{Cell, CellKind, Netlist, Port, Way};
-use ice_pack_sinks::{Slices, input_at, sink};
+use ice_net::{Cell, CellKind, Netlist, Port, Way, signal_at};
+use ice_pack_sinks::{Slices, sink};
 use std::alloc::Global;
 
 // What the pad of a port without an SB_IO is driven with.
@@ -52,10 +52,10 @@ fn data_use(pin_type: u8, ins: &[Option<SignalNo>]) -> Option<SignalNo>
     ensures { result ≡ slice_index_or (pad_uses pin_type ins.now) 0 None }
 {
     if pin_type == 25 {
-        return input_at(ins, 1);
+        return signal_at(ins, 1);
     }
     if pin_type == 41 {
-        return input_at(ins, 1);
+        return signal_at(ins, 1);
     }
     None
 }
@@ -68,7 +68,7 @@ fn enable_use(pin_type: u8, ins: &[Option<SignalNo>]) -> Option<SignalNo>
         return None;
     }
     if pin_type == 41 {
-        return input_at(ins, 2);
+        return signal_at(ins, 2);
     }
     None
 }

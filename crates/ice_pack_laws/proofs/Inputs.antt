@@ -4,10 +4,10 @@ use Rattle.std.specs.Prelude.{slice_index_or, option_map}
 use Rattle.std.proofs.lemmas.Option.{same_Some, get_or_from_slice_get, slice_get_within}
 use Rattle.ice_base.specs.declared.number.SignalNo.{SignalNo}
 use Rattle.ice_base_values.specs.Order.{At, Has}
-use Rattle.ice_base_values.specs.Inputs.{present}
+use Rattle.ice_base_values.specs.System.{present}
 use Rattle.ice_net.specs.declared.kind.CellKind.{CellKind}
 use Rattle.ice_net.specs.declared.kind.CellKind.TheVariants.{Lut, Cover, Carry, Flop, PadCell, Global}
-use Rattle.ice_net.specs.Drivers.{number, numbers, is_signal, place_of}
+use Rattle.ice_net.specs.Drivers.{signal_number, numbers, is_signal, place_of}
 use Rattle.ice_net.specs.Kinds.{ins_count}
 use Rattle.ice_net.specs.Meaning.{number_of, table_bit, makes_by}
 use Rattle.ice_lut.specs.Tables.{levels_from, overlaid}
@@ -28,7 +28,7 @@ pub present_number : (ins : List (Option SignalNo)) (k : ℕ) (signal : SignalNo
 present_number [] k signal at = cc at
 present_number (None ∷ ins) zero signal at = cc at
 present_number (None ∷ ins) (suc k) signal at = present_number ins k signal at
-present_number (Some s ∷ ins) zero signal at = (0, ap (λ (o : Option SignalNo). number o) (same_Some (Some s) (Some signal) at))
+present_number (Some s ∷ ins) zero signal at = (0, ap (λ (o : Option SignalNo). signal_number o) (same_Some (Some s) (Some signal) at))
 present_number (Some s ∷ ins) (suc k) signal at = let rest = present_number ins k signal at in (suc rest.0, rest.1)
 
 -- what stands at the first place of a signal is the signal

@@ -11,4 +11,6 @@ pub mod Ready
 pub mod PadRoots
 pub mod PadReaders
 pub mod PadsRead
+pub mod Sources
+pub mod Taken
 pub mod Settled

@@ -87,7 +87,7 @@ abbrev root_of : ℕ → Option Root
 root_of k = Some (PadIn k)
 
 -- ---- lists
-flat_back : {X Y : Type 0} (f : X → List Y) (xs : List X) (i : ℕ) (y : Y) → At (flat_map f xs) i y → (c : ℕ) × (x : X) × Has (f x) y × At xs c x
+pub flat_back : {X Y : Type 0} (f : X → List Y) (xs : List X) (i : ℕ) (y : Y) → At (flat_map f xs) i y → (c : ℕ) × (x : X) × Has (f x) y × At xs c x
 flat_back f [] i y at = cc at
 flat_back f (x ∷ xs) i y at = elim (At_parts (f x) (flat_map f xs) i y at) [
   | inl here ↦ (0, x, (i, here), refl)

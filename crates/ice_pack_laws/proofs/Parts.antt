@@ -3,7 +3,7 @@ use Rattle.std.proofs.Common.{◌≡◌, ℕ, ◌+◌, Bool, true, false, cond, 
 use Rattle.std.specs.Prelude.{slice_get, slice_index_or, unwrap_or, not, ◌&&◌, ◌||◌, ◌==◌, find, option_map}
 use Rattle.std.specs.List.{list_any}
 use Rattle.std.specs.Option.{option_map_or}
-use Rattle.std.proofs.lemmas.Bool.{eqb-true, eq-eqb}
+use Rattle.std.proofs.lemmas.Bool.{eqb-true, eq-eqb, or_right, or_left}
 use Rattle.ice_base.specs.declared.number.SignalNo.{SignalNo}
 use Rattle.ice_base_values.specs.Order.{At, Has}
 use Rattle.ice_base_values.proofs.Members.{find_Has, Has_find, Has_any}
@@ -26,7 +26,7 @@ use Rattle.ice_cells.specs.declared.share.Role.TheVariants.{Gives, Takes, Neithe
 use Rattle.ice_cells.specs.Nodes.{source_node, carry_into, node_or}
 use Rattle.ice_cells.specs.Origins.{is_alias, is_table_kind, input_origin, level_of}
 use Rattle.ice_cells.specs.Pairs.{pair_of, role, role_by, roles_of}
-use Rattle.ice_cells.specs.Uses.{dropped, maker, reading_ins, readings}
+use Rattle.ice_cells.specs.Uses.{dropped, reading_ins, readings}
 use Rattle.ice_cells.specs.Uses as use_of
 use Rattle.ice_cells.specs.Homes.{part, part_of, part_by, is_kept, anchor, anchor_by, carriers_of, home, homes}
 use Rattle.ice_cells.specs.Packed.{root_by, carry_input, cell_by, constant_cell, is_level, has_level, reads_one, zero_by, one_by, port_one, ins_at, packed}
@@ -174,13 +174,6 @@ level_read os level (Some s) there e = ap (λ (o : Origin). is_level level (leve
     by : (b : Bool) → is_level b (Some b) ≡ true
     by true = refl
     by false = refl
-
-or_left : (a b : Bool) → a ≡ true → (a || b) ≡ true
-or_left a b e = ap (λ x. x || b) e
-
-or_right : (a b : Bool) → b ≡ true → (a || b) ≡ true
-or_right true b e = refl
-or_right false b e = e
 
 module _ (n : NetlistData) where
   abbrev pub Opened : Option SignalNo → Type 0

@@ -7,11 +7,11 @@ use Rattle.std.proofs.lemmas.Bool.{eqb-true, eq-eqb, cases_lt, lt-ltb}
 use Rattle.std.proofs.lemmas.Option.{same_Some}
 use Rattle.ice_base.specs.declared.number.SignalNo.{SignalNo}
 use Rattle.ice_base_values.specs.Order.{At, IsOrder}
-use Rattle.ice_base_values.specs.Inputs.{reading}
+use Rattle.ice_base_values.specs.System.{reading}
 use Rattle.ice_base_values.proofs.Members.{At_map, At_within}
 use Rattle.ice_net.specs.declared.cell.Cell.{Cell}
-use Rattle.ice_net.specs.declared.driver.Driver.{Driver}
-use Rattle.ice_net.specs.declared.driver.Driver.TheVariants as driver
+use Rattle.ice_net.specs.declared.driver.SignalDriver.{SignalDriver}
+use Rattle.ice_net.specs.declared.driver.SignalDriver.TheVariants as driver
 use Rattle.ice_net.specs.declared.kind.CellKind.{CellKind}
 use Rattle.ice_net.specs.declared.port.Port.{Port}
 use Rattle.ice_net.specs.declared.port.Way.{Way}
@@ -150,4 +150,4 @@ module _ (n : NetlistData) (formed : IsFormed n) (placed : pin_not_port n ≡ No
       origin_is : input_origin p.origins (slice_index_or cell.ins 0 None) ≡ Pad k
       origin_is =
           ap (input_origin p.origins) pin ∙ origins signal.0 below ∙ origin_meets n order sorted signal.0 below
-          ∙ ap (λ (dr : Driver). origin_made n dr (map (reading (Fixed false) (origin n)) (aliases n dr))) driven
+          ∙ ap (λ (dr : SignalDriver). origin_made n dr (map (reading (Fixed false) (origin n)) (aliases n dr))) driven

@@ -11,12 +11,12 @@ use Rattle.ice_net.specs.declared.kind.CellKind.{CellKind}
 use Rattle.ice_net.specs.declared.port.Port.{Port}
 use Rattle.ice_cells.specs.declared.origin.Origin.{Origin}
 use Rattle.ice_cells.specs.declared.origin.Origin.TheVariants.{Made}
-use Rattle.ice_cells.specs.declared.origin.Use.TheVariants.{Nobody, Taken, Other}
+use Rattle.ice_cells.specs.declared.origin.Use.TheVariants.{Nobody}
 use Rattle.ice_cells.specs.Homes.{facts_of}
 use Rattle.ice_cells.specs.Homes as homes
 use Rattle.ice_cells.specs.Origins.{input_origin}
 use Rattle.ice_cells.specs.Uses.{Reading, taker, reading_ins, reads_from, cells_read, port_reading, readings}
-use Rattle.ice_pack_share.proofs.UseLaws.{read_otherwise, taken_once}
+use Rattle.ice_pack_share.proofs.UseLaws.{read_otherwise, taken_once, taken_other}
 use Rattle.ice_pack_share.proofs.HomeLaws.{taker_use, taker_reads}
 
 module _ (os : List Origin) where
@@ -51,9 +51,6 @@ module _ (os : List Origin) where
     -- the signal of a port without an SB_IO is read
     pub read_port : (i : ℕ) (port : Port) → At bare i port → Has (readings os cells bare) (input_origin os (Some port.signal), None)
     read_port i port at = Has_right (cells_read os 0 cells) (map (port_reading os) bare) (input_origin os (Some port.signal), None) (i, At_map (port_reading os) bare i port at)
-
-    taken_other : (f : ℕ) → Taken f ≡ Other → ⊥
-    taken_other f e = cc e
 
     -- no flip-flop has for itself what is read in another way
     pub opened : (o : Origin) → Has (readings os cells bare) (o, None) → (i : ℕ) → o ≡ Made i → homes.taker (facts_of os cells bare) i ≡ None

@@ -5,18 +5,18 @@ use Rattle.std.specs.List.{range_with_len}
 use Rattle.std.specs.Option.{option_map_or}
 use Rattle.std.proofs.lemmas.List.FromFn.{length-range_with_len}
 use Rattle.std.proofs.lemmas.Option.{none-some}
+use Rattle.std.proofs.lemmas.List.{map-id}
 use Rattle.ice_base.specs.declared.number.SignalNo.{SignalNo}
 use Rattle.ice_base_values.specs.Order.{Has}
-use Rattle.ice_base_values.specs.Inputs.{present}
-use Rattle.ice_base_values.specs.System.{System, value}
+use Rattle.ice_base_values.specs.System.{System, value, present}
 use Rattle.ice_base_values.proofs.Enough.{value_enough}
-use Rattle.ice_base_values.proofs.Values.{value_at_more}
+use Rattle.ice_base_values.proofs.Values.{value_at_more, value_along}
 use Rattle.ice_base_values.proofs.ListPlaces.{has_number}
 use Rattle.ice_net.specs.declared.cell.Cell.{Cell}
 use Rattle.ice_net.specs.declared.kind.CellKind.{CellKind}
 use Rattle.ice_net.specs.declared.kind.CellKind.TheVariants.{Lut, Cover, Carry, Flop, PadCell, Global}
-use Rattle.ice_net.specs.declared.driver.Driver.{Driver}
-use Rattle.ice_net.specs.declared.driver.Driver.TheVariants.{Nothing, Pad, Output}
+use Rattle.ice_net.specs.declared.driver.SignalDriver.{SignalDriver}
+use Rattle.ice_net.specs.declared.driver.SignalDriver.TheVariants.{Nothing, Pad, Output}
 use Rattle.ice_net.specs.NetlistData.{NetlistData}
 use Rattle.ice_net.specs.Formed.{IsFormed}
 use Rattle.ice_net.specs.Drivers.{numbers, driver_of}
@@ -54,7 +54,7 @@ module _ (n : NetlistData) (formed : IsFormed n) where
   abbrev before : System ℕ Origin
   before = origin_system n
 
-  read_too : (q : ℕ) (d : Driver) → Has (present (aliases n d)) q → Has (present (reads n d)) q
+  read_too : (q : ℕ) (d : SignalDriver) → Has (present (aliases n d)) q → Has (present (reads n d)) q
   read_too q Nothing has = has
   read_too q (Pad k) has = has
   read_too q (Output i) has = by (slice_get n.cells i) has
@@ -82,3 +82,14 @@ module _ (n : NetlistData) (formed : IsFormed n) where
       by (Some x) e r f = e ∙ sym (known x e)
       by None e None f = e ∙ sym f
       by None e (Some x) f = absurd (none-some x (sym e ∙ value_at_more before (length n.names + 1) more s x le f))
+
+-- signals that a new netlist makes as before have the origins that they had, after as many steps
+pub settled_alike : (n new : NetlistData) → IsFormed n → ((s : ℕ) → s < length n.names → (origin_system new).depends s ≡ (origin_system n).depends s)
+    → ((s : ℕ) (xs : List Origin) → s < length n.names → (origin_system new).local s xs ≡ (origin_system n).local s xs)
+    → (f s : ℕ) → s < length n.names → value (origin_system new) f s ≡ value (origin_system n) f s
+settled_alike n new formed depends local f s lt =
+    value_along (origin_system n) (origin_system new) (λ s. s) (λ s. s < length n.names)
+    (λ s c q has. alias_below n formed s q has)
+    (λ s c. depends s c ∙ sym (map-id ((origin_system n).depends s)))
+    (λ s xs c. local s xs c)
+    f s lt

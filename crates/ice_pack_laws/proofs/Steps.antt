@@ -6,8 +6,7 @@ use Rattle.std.specs.Option.{option_map_or}
 use Rattle.std.proofs.lemmas.List.{length-map}
 use Rattle.std.proofs.lemmas.Option.{same_Some, get_or_from_slice_get}
 use Rattle.ice_base.specs.declared.number.SignalNo.{SignalNo}
-use Rattle.ice_base_values.specs.Inputs.{reading}
-use Rattle.ice_base_values.specs.Machine.{Simulates}
+use Rattle.ice_base_values.specs.System.{reading, Simulates}
 use Rattle.ice_base_values.specs.Order.{At}
 use Rattle.ice_base_values.proofs.Machines.{shows_always_alike}
 use Rattle.ice_base_values.proofs.Members.{At_map, At_within}
@@ -17,13 +16,13 @@ use Rattle.ice_net.specs.declared.cell.Cell.{Cell}
 use Rattle.ice_net.specs.declared.kind.CellKind.{CellKind}
 use Rattle.ice_net.specs.declared.kind.CellKind.TheVariants.{Flop}
 use Rattle.ice_net.specs.declared.kind.Reset.{Reset}
-use Rattle.ice_net.specs.declared.drive.Drive.TheVariants.{Off}
+use Rattle.ice_net.specs.declared.driver.Drive.TheVariants.{Off}
 use Rattle.ice_net.specs.declared.port.Port.{Port}
 use Rattle.ice_net.specs.declared.port.Way.{Way}
 use Rattle.ice_net.specs.declared.port.Way.TheVariants.{Input, Output, Both}
 use Rattle.ice_net.specs.Drives.{at_input, data_of, enable_of, pad_uses, level_drive, pad_drive, kind_drive, buffer_drive, drive_by, port_drive}
 use Rattle.ice_net.specs.Drives as drives
-use Rattle.ice_net.specs.Flops.{is_edge, fired}
+use Rattle.ice_net.specs.Kinds.{is_edge, fired}
 use Rattle.ice_net.specs.Formed.{IsBelow, IsPortBelow}
 use Rattle.ice_net.specs.Meaning.{number_of, table_bit, signal_value, enable_level, set_level, kept_by, clock_by, kept_after, clocks_after, State}
 use Rattle.ice_net.specs.Meaning as net
@@ -40,7 +39,7 @@ use Rattle.ice_cells.specs.Nodes.{Node, Net, net as node_of}
 use Rattle.ice_cells.specs.Origins.{input_origin, level_of}
 use Rattle.ice_cells.specs.Packed.{Plan, plain_sink, sink, enable_sink, origin_root, sink_root, flop_by, enable_input, set_input, passing_table, bare_type}
 use Rattle.ice_cells.specs.Packed.{bare_drive as packed_drive}
-use Rattle.ice_cells.proofs.TableLaws.{get_or-table}
+use Rattle.ice_cells.proofs.TableLaws.{get_or-table, passes}
 use Rattle.ice_pack_laws.specs.IsPacked.{root_at, IsOpen, IsSunk, IsEnabled, IsAlone, IsBehind, HasFlop, IsPadOf, lies, through}
 use Rattle.ice_pack_laws.proofs.Inputs.{at_all, input_at}
 use Rattle.ice_cells.proofs.NodeLevels.{level_is}
@@ -70,10 +69,6 @@ no_edge falling b o (inr e) = ap (λ x. is_edge falling x b) e ∙ same falling 
     same true false = refl
     same false true = refl
     same false false = refl
-
-passes : (b : Bool) → table_bit 43690 (number_of (b ∷ false ∷ false ∷ false ∷ [])) ≡ b
-passes true = refl
-passes false = refl
 
 passes_constant : (level b : Bool) → table_bit (cond level 65535 0) (number_of (b ∷ false ∷ false ∷ false ∷ [])) ≡ level
 passes_constant true true = refl

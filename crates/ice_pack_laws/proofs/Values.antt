@@ -5,19 +5,19 @@ use Rattle.std.specs.Option.{option_map_or}
 use Rattle.std.proofs.lemmas.Option.{same_Some}
 use Rattle.ice_base.specs.declared.number.SignalNo.{SignalNo}
 use Rattle.ice_base_values.specs.Arriving.{HasValue, HaveValues}
-use Rattle.ice_base_values.specs.Inputs.{reading, present}
+use Rattle.ice_base_values.specs.System.{reading, present}
 use Rattle.ice_base_values.specs.Order.{At, Has, IsOrder}
 use Rattle.ice_base_values.proofs.Arriving.{value_made}
 use Rattle.ice_base_values.proofs.Members.{At_map}
 use Rattle.ice_base_values.proofs.Places.{At_same}
 use Rattle.ice_net.specs.declared.cell.Cell.{Cell}
-use Rattle.ice_net.specs.declared.driver.Driver.{Driver}
-use Rattle.ice_net.specs.declared.driver.Driver.TheVariants.{Nothing, Output}
-use Rattle.ice_net.specs.declared.driver.Driver.TheVariants as driver
+use Rattle.ice_net.specs.declared.driver.SignalDriver.{SignalDriver}
+use Rattle.ice_net.specs.declared.driver.SignalDriver.TheVariants.{Nothing, Output}
+use Rattle.ice_net.specs.declared.driver.SignalDriver.TheVariants as driver
 use Rattle.ice_net.specs.declared.kind.CellKind.{CellKind}
 use Rattle.ice_net.specs.declared.kind.CellKind.TheVariants.{Lut, Cover, Carry, Flop, PadCell, Global}
 use Rattle.ice_net.specs.declared.kind.Reset.{Reset}
-use Rattle.ice_net.specs.Drivers.{numbers, pin_of, pin_by, place_of, is_signal, output_of, outputs, pads, driver_of}
+use Rattle.ice_net.specs.Drivers.{numbers, pin_of, pin_by, place_of, is_signal, output_of, outputs, pad_signals, driver_of}
 use Rattle.ice_net.specs.Formed.{IsFormed, IsFormedCell, IsFormedKind, IsBelow}
 use Rattle.ice_net.specs.Kinds.{ins_count}
 use Rattle.ice_net.specs.Meaning.{number_of, table_bit, majority, makes_by, reads, reads_by, cell_reads, signal_value, depends_on, pad_level}
@@ -392,7 +392,7 @@ module _ (n : NetlistData) (d : Design) (p : Plan) (order : List ℕ) (ready : I
   step : (s : ℕ) → s < length n.names → ((q : ℕ) → Has (depends_on n s) q → (q < length n.names) × Carries (origin n q)) → Carries (origin n s)
   step s lt earlier = subst Carries (sym (origin_meets n order ready.sorted s lt)) (by (driver_of n s) refl)
     where
-      by : (dr : Driver) → driver_of n s ≡ dr → Carries (origin_made n dr (map (reading (Fixed false) (origin n)) (aliases n dr)))
+      by : (dr : SignalDriver) → driver_of n s ≡ dr → Carries (origin_made n dr (map (reading (Fixed false) (origin n)) (aliases n dr)))
       by Nothing e = tt
       by (driver.Pad k) e = tt
       by (Output i) e = by_cell (slice_get n.cells i) refl
@@ -403,7 +403,7 @@ module _ (n : NetlistData) (d : Design) (p : Plan) (order : List ℕ) (ready : I
             where
               dep : (q : ℕ) → Has (present (cell_reads cell)) q → Has (depends_on n s) q
               dep q has =
-                  subst (λ (dr : Driver). Has (present (reads n dr)) q) (sym e)
+                  subst (λ (dr : SignalDriver). Has (present (reads n dr)) q) (sym e)
                   (subst (λ (o : Option Cell). Has (present (option_map_or (λ (c : Cell). cell_reads c) o [])) q) (sym at) has)
 
               lower : (k : ℕ) (signal : Option SignalNo) → At (reads_by cell.kind cell.ins) k signal → Carries (from signal)
@@ -414,7 +414,7 @@ module _ (n : NetlistData) (d : Design) (p : Plan) (order : List ℕ) (ready : I
 
               stays : dropped cell.outs ≡ false
               stays =
-                  let found = place_at s (outputs n) i (output_from (place_of s (pads n)) (place_of s (outputs n)) i e) in
+                  let found = place_at s (outputs n) i (output_from (place_of s (pad_signals n)) (place_of s (outputs n)) i e) in
                   let same : output_of cell ≡ found.0 = At_same (outputs n) i (output_of cell) found.0 (At_map (λ (c : Cell). output_of c) n.cells i cell at) found.1 in
                   there_is s (output_of cell) (ap (is_signal s) same ∙ found.2)
 

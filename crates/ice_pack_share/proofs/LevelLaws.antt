@@ -6,19 +6,19 @@ use Rattle.std.proofs.lemmas.Bool.{eqb-true}
 use Rattle.std.proofs.lemmas.Option.{same_Some, slice_get_within, get_or_from_slice_get}
 use Rattle.ice_base.specs.declared.number.SignalNo.{SignalNo}
 use Rattle.ice_base_values.specs.Order.{At, Has, IsOrder}
-use Rattle.ice_base_values.specs.Inputs.{reading, present}
+use Rattle.ice_base_values.specs.System.{reading, present}
 use Rattle.ice_base_values.proofs.Values.{value_step, value_suc}
 use Rattle.ice_base_values.proofs.Gaps.{local_gapped}
 use Rattle.ice_net.specs.declared.cell.Cell.{Cell}
 use Rattle.ice_net.specs.declared.kind.CellKind.{CellKind}
 use Rattle.ice_net.specs.declared.kind.CellKind.TheVariants.{Lut, Cover, Carry, Flop, PadCell, Global}
-use Rattle.ice_net.specs.declared.driver.Driver.{Driver}
-use Rattle.ice_net.specs.declared.driver.Driver.TheVariants.{Nothing, Output}
-use Rattle.ice_net.specs.declared.driver.Driver.TheVariants as driver
+use Rattle.ice_net.specs.declared.driver.SignalDriver.{SignalDriver}
+use Rattle.ice_net.specs.declared.driver.SignalDriver.TheVariants.{Nothing, Output}
+use Rattle.ice_net.specs.declared.driver.SignalDriver.TheVariants as driver
 use Rattle.ice_net.specs.Kinds.{ins_count}
 use Rattle.ice_net.specs.NetlistData.{NetlistData}
 use Rattle.ice_net.specs.Formed.{IsFormed, IsFormedCell}
-use Rattle.ice_net.specs.Drivers.{number, numbers, driver_of, pin_of}
+use Rattle.ice_net.specs.Drivers.{signal_number, numbers, driver_of, pin_of}
 use Rattle.ice_net.specs.Meaning.{number_of, table_bit, makes, makes_by, reads, reads_by, cell_reads, signal_value, depends_on, pad_level, system_of}
 use Rattle.ice_check.proofs.Faulty.{signals_valued}
 use Rattle.ice_cells.specs.declared.origin.Origin.{Origin}
@@ -82,7 +82,7 @@ module _ (n : NetlistData) (order : List ℕ) (sorted : IsOrder (length n.names)
     made_by i o = option_map_or (λ (cell : Cell). makes_by cell.kind (slice_index_or kept i false) (pad_level n.ports levels (pin_of cell)) (map (reading false sv) (option_map_or (λ (c : Cell). cell_reads c) o []))) o false
 
     -- one step, by the driver
-    stepped : (d : Driver) → ((q : ℕ) → Has (present (aliases n d)) q → sv q ≡ lv (origin n q)) → ((cell : Cell) (i : ℕ) → d ≡ Output i → At n.cells i cell → is_alias cell.kind ≡ true → (q : Option SignalNo) × (cell.ins ≡ q ∷ []))
+    stepped : (d : SignalDriver) → ((q : ℕ) → Has (present (aliases n d)) q → sv q ≡ lv (origin n q)) → ((cell : Cell) (i : ℕ) → d ≡ Output i → At n.cells i cell → is_alias cell.kind ≡ true → (q : Option SignalNo) × (cell.ins ≡ q ∷ []))
         → ((cell : Cell) (i : ℕ) → d ≡ Output i → At n.cells i cell → (b : Bool) → constant_of cell.kind ≡ Some b → cell.ins ≡ [])
         → makes n levels kept d (map (reading false sv) (reads n d)) ≡ lv (origin_made n d (map (reading (Fixed false) (origin n)) (aliases n d)))
     stepped Nothing lower one none = refl
@@ -98,7 +98,7 @@ module _ (n : NetlistData) (order : List ℕ) (sorted : IsOrder (length n.names)
             bit true = refl
             bit false = refl
 
-            two : (q : Option SignalNo) → ((s : ℕ) → Has (present (numbers (q ∷ []))) s → sv s ≡ lv (origin n s)) → table_bit 2 (number_of (reading false sv (number q) ∷ [])) ≡ lv (reading (Fixed false) (origin n) (number q))
+            two : (q : Option SignalNo) → ((s : ℕ) → Has (present (numbers (q ∷ []))) s → sv s ≡ lv (origin n s)) → table_bit 2 (number_of (reading false sv (signal_number q) ∷ [])) ≡ lv (reading (Fixed false) (origin n) (signal_number q))
             two None each = refl
             two (Some s) each = bit (sv s.0) ∙ each s.0 (0, refl)
 

@@ -6,17 +6,16 @@ use Rattle.std.proofs.lemmas.Bool.{and_parts, eqb-true, cases_lt, cases_eq}
 use Rattle.std.proofs.lemmas.List.{length-set, get_or-set_same, get_or-set_other, length-replicate}
 use Rattle.std.proofs.lemmas.Option.{same_Some, slice_get_within, slice_get-get_or}
 use Rattle.ice_base.specs.declared.number.SignalNo.{SignalNo}
-use Rattle.ice_base_values.specs.System.{value}
+use Rattle.ice_base_values.specs.System.{value, reading, present}
 use Rattle.ice_base_values.specs.Order.{At, Has, IsOrder}
-use Rattle.ice_base_values.specs.Inputs.{reading, present}
 use Rattle.ice_base_values.proofs.Values.{value_there, value_step, value_suc}
 use Rattle.ice_base_values.proofs.Gaps.{local_gapped}
 use Rattle.ice_net.specs.declared.cell.Cell.{Cell}
 use Rattle.ice_net.specs.declared.kind.CellKind.{CellKind}
 use Rattle.ice_net.specs.declared.kind.CellKind.TheVariants.{Lut, Cover, Carry, Flop, PadCell, Global}
-use Rattle.ice_net.specs.declared.driver.Driver.{Driver}
-use Rattle.ice_net.specs.declared.driver.Driver.TheVariants.{Nothing, Output}
-use Rattle.ice_net.specs.declared.driver.Driver.TheVariants as driver
+use Rattle.ice_net.specs.declared.driver.SignalDriver.{SignalDriver}
+use Rattle.ice_net.specs.declared.driver.SignalDriver.TheVariants.{Nothing, Output}
+use Rattle.ice_net.specs.declared.driver.SignalDriver.TheVariants as driver
 use Rattle.ice_net.specs.NetlistData.{NetlistData}
 use Rattle.ice_net.specs.Drivers.{numbers, driver_of}
 use Rattle.ice_net.specs.Meaning.{reads, reads_by, cell_reads, depends_on}
@@ -33,7 +32,7 @@ first_read found [] = refl
 first_read found (None ∷ ins) = refl
 first_read found (Some signal ∷ ins) = refl
 
-made_is : (n : NetlistData) (found : List Origin) (d : Driver) → made_of n.cells found d ≡ origin_made n d (origins_read found (aliases n d))
+made_is : (n : NetlistData) (found : List Origin) (d : SignalDriver) → made_of n.cells found d ≡ origin_made n d (origins_read found (aliases n d))
 made_is n found Nothing = refl
 made_is n found (driver.Pad k) = refl
 made_is n found (Output i) = by (slice_get n.cells i)
@@ -54,7 +53,7 @@ alias_cover (PadCell pin_type pullup) e = cc e
 alias_cover Global e = cc e
 
 -- what makes an origin, the signal reads
-alias_read : (n : NetlistData) (d : Driver) (q : ℕ) → Has (present (aliases n d)) q → Has (present (reads n d)) q
+alias_read : (n : NetlistData) (d : SignalDriver) (q : ℕ) → Has (present (aliases n d)) q → Has (present (reads n d)) q
 alias_read n Nothing q has = has
 alias_read n (driver.Pad k) q has = has
 alias_read n (Output i) q has = by (slice_get n.cells i) has
@@ -114,7 +113,7 @@ module _ (n : NetlistData) (order : List ℕ) (sorted : IsOrder (length n.names)
       (λ q has. let before = falls i s q at has in are.found_are before.0 q before.1 before.2))
       ∙ sym (origin_meets s (sorted.within i s at))
 
-  pub found_more : (cells : List Cell) (drivers : List Driver) (i s : ℕ) (old new : List Origin) → cells ≡ n.cells → AreDrivers n drivers → At order i s → AreFound n order i old
+  pub found_more : (cells : List Cell) (drivers : List SignalDriver) (i s : ℕ) (old new : List Origin) → cells ≡ n.cells → AreDrivers n drivers → At order i s → AreFound n order i old
       → new ≡ set old s (made_of cells old (slice_index_or drivers s Nothing)) → AreFound n order (i + 1) new
   found_more cells drivers i s old new same_cells table at are e = subst (AreFound n order (i + 1)) (sym e) (record {
     long = length-set old s x ∙ are.long;

@@ -92,7 +92,7 @@ taken_back j f (r ∷ rs) u e = elim (taken_back j f rs (cond (is_place j (made_
     by false is g = inr g
     by true is g = inl (0, (λ i. Some (at_place j r.0 is i, after_back u r.1 f g i)))
 
-taken_other : (f : ℕ) → Taken f ≡ Other → ⊥
+pub taken_other : (f : ℕ) → Taken f ≡ Other → ⊥
 taken_other f e = cc e
 
 -- what is taken is read once

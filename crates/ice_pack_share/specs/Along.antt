@@ -1,12 +1,12 @@
 -- The origins of signals, one after another along an order of evaluation.
 use Rattle.std.specs.Prelude.{◌≡◌, ℕ, ◌<◌, false, List, length, map, Option, slice_get, slice_index_or}
 use Rattle.std.specs.Option.{option_map_or}
-use Rattle.ice_base_values.specs.Inputs.{reading}
+use Rattle.ice_base_values.specs.System.{reading}
 use Rattle.ice_base_values.specs.Order.{At}
 use Rattle.ice_net.specs.declared.cell.Cell.{Cell}
-use Rattle.ice_net.specs.declared.driver.Driver.{Driver}
-use Rattle.ice_net.specs.declared.driver.Driver.TheVariants.{Nothing, Output}
-use Rattle.ice_net.specs.declared.driver.Driver.TheVariants as driver
+use Rattle.ice_net.specs.declared.driver.SignalDriver.{SignalDriver}
+use Rattle.ice_net.specs.declared.driver.SignalDriver.TheVariants.{Nothing, Output}
+use Rattle.ice_net.specs.declared.driver.SignalDriver.TheVariants as driver
 use Rattle.ice_net.specs.NetlistData.{NetlistData}
 use Rattle.ice_cells.specs.declared.origin.Origin.{Origin}
 use Rattle.ice_cells.specs.declared.origin.Origin.TheVariants.{Fixed, Pad}
@@ -21,7 +21,7 @@ abbrev pub origins_read : List Origin → List (Option ℕ) → List Origin
 origins_read found inputs = map (reading (Fixed false) (found_at found)) inputs
 
 -- what a driver makes of the origins found so far
-abbrev pub made_of : List Cell → List Origin → Driver → Origin
+abbrev pub made_of : List Cell → List Origin → SignalDriver → Origin
 made_of cells found Nothing = Fixed false
 made_of cells found (driver.Pad k) = Pad k
 made_of cells found (Output i) = option_map_or (λ (cell : Cell). cell_origin i (origins_read found (cell_aliases cell)) cell) (slice_get cells i) (Fixed false)

@@ -1,10 +1,10 @@
 -- The laws of cells that share a logic cell, each as one sentence.
 use Rattle.std.specs.Prelude.{◌≡◌, ℕ, ◌<◌, Bool, true, false, List, length, map, Option, Some, None, slice_get, slice_index_or}
 use Rattle.std.proofs.Common.{◌⊎◌}
-use Rattle.ice_base_values.specs.Inputs.{reading}
+use Rattle.ice_base_values.specs.System.{reading}
 use Rattle.ice_base_values.specs.Order.{At, IsOrder}
 use Rattle.ice_net.specs.declared.cell.Cell.{Cell}
-use Rattle.ice_net.specs.declared.driver.Driver.TheVariants.{Output}
+use Rattle.ice_net.specs.declared.driver.SignalDriver.TheVariants.{Output}
 use Rattle.ice_net.specs.declared.port.Port.{Port}
 use Rattle.ice_net.specs.Formed.{IsFormed}
 use Rattle.ice_net.specs.Meaning.{depends_on, makes, reads, signal_value}

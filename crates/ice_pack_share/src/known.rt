@@ -3,12 +3,11 @@ ghost use Rattle.std.specs.Prelude.{◌≡◌, map, IfOk};
 ghost use Rattle.ice_cells.specs.Homes.{part_of, facts_of};
 ghost use Rattle.ice_cells.specs.Uses.{maker, taker_of, uses};
 
-use crate::inputs::{input_origin, is_dropped, is_table, signal_at};
 use crate::marking::find_uses;
 use crate::pairing::find_luts;
 use ice_base::NoMemory;
-use ice_cells::{Origin, Part, Use};
-use ice_net::{Cell, CellKind, Port};
+use ice_cells::{Origin, Part, Use, input_origin, is_dropped, is_table_kind};
+use ice_net::{Cell, CellKind, Port, signal_at};
 use std::alloc::Global;
 use std::marker::Model;
 
@@ -66,7 +65,7 @@ fn maker(origin: Origin) -> Option<usize>
 fn part_of(origins: &[Origin], cell: &Cell) -> Part
     ensures { result ≡ part_of origins.now cell.now }
 {
-    if is_table(cell.kind) {
+    if is_table_kind(cell.kind) {
         return Part::Table;
     }
     match cell.kind {

@@ -4,10 +4,10 @@ ghost use Rattle.ice_net.specs.Drives.{pad_uses};
 ghost use Rattle.ice_cells.specs.declared.origin.Use.TheVariants.{Nobody};
 ghost use Rattle.ice_cells.specs.Uses.{reading_ins, taker, reads_from, cells_read, port_reading, uses, marked, use_after};
 
-use crate::inputs::{input_origin, is_alias, is_dropped, signal_at};
+use crate::inputs::is_alias;
 use ice_base::{NoMemory, SignalNo};
-use ice_cells::{Origin, Use};
-use ice_net::{Cell, CellKind, Port};
+use ice_cells::{Origin, Use, input_origin, is_dropped};
+use ice_net::{Cell, CellKind, Port, signal_at};
 use std::alloc::Global;
 
 // How a cell is read after one more reading.

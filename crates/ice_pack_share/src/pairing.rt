@@ -7,10 +7,9 @@ ghost use Rattle.ice_pack_share.specs.declared.pairing.Turn.{Turn};
 ghost use Rattle.ice_pack_share.specs.Behind.{role_at, roles_behind};
 ghost use Rattle.ice_pack_share.specs.Turns.{same_turn, turn_of, count_in, one_if, lut_at, lut_taken, AreSmall, AreByTurn};
 
-use crate::inputs::{input_origin, is_dropped, is_table, signal_at};
 use ice_base::{NoMemory, SignalNo};
-use ice_cells::{Origin, Pair, Role};
-use ice_net::{Cell, CellKind};
+use ice_cells::{Origin, Pair, Role, input_origin, is_dropped, is_table_kind};
+use ice_net::{Cell, CellKind, signal_at};
 use indexmap::IndexMap;
 use std::alloc::Global;
 
@@ -38,7 +37,7 @@ fn role_of(origins: &[Origin], cell: &Cell) -> Role
     ensures { result ≡ role_of origins.now cell.now }
 {
     let ins = cell.ins.as_slice();
-    if is_table(cell.kind) {
+    if is_table_kind(cell.kind) {
         return Role::Gives(pair_of(origins, ins, 1, 2));
     }
     match cell.kind {

@@ -1,15 +1,15 @@
 //! Where the levels of signals come from, along an order of evaluation.
 ghost use Rattle.std.specs.Prelude.{◌≡◌, ◌<◌, false, length, map, replicate, slice_index_or, slice_set, IfOk, OnOk};
-ghost use Rattle.ice_net.specs.declared.driver.Driver.TheVariants.{Nothing};
+ghost use Rattle.ice_net.specs.declared.driver.SignalDriver.TheVariants.{Nothing};
 ghost use Rattle.ice_cells.specs.declared.origin.Origin.TheVariants.{Fixed};
 ghost use Rattle.ice_cells.specs.Origins.{cell_aliases, cell_origin, origins};
 ghost use Rattle.ice_pack_share.specs.Along.{origins_read, made_of};
 
-use crate::inputs::{constant_of, input_origin, is_alias, signal_at};
+use crate::inputs::{constant_of, is_alias};
 use ice_base::{NoMemory, to_u32};
-use ice_cells::Origin;
+use ice_cells::{Origin, input_origin};
 use ice_check::Sound;
-use ice_net::{Cell, Driver};
+use ice_net::{Cell, SignalDriver, signal_at};
 use std::alloc::Global;
 
 // The origin of what cell i drives, by the origins found so far.
@@ -27,13 +27,13 @@ fn cell_origin(found: &[Origin], i: usize, cell: &Cell) -> Origin
 }
 
 // The origin of what a driver drives, by the origins found so far.
-fn made_of(cells: &[Cell], found: &[Origin], driver: Driver) -> Result<Origin, NoMemory>
+fn made_of(cells: &[Cell], found: &[Origin], driver: SignalDriver) -> Result<Origin, NoMemory>
     ensures { IfOk result (λ origin. origin ≡ made_of cells.now found.now driver) }
 {
     match driver {
-        Driver::Nothing => Ok(Origin::Fixed(false)),
-        Driver::Pad(port) => Ok(Origin::Pad(to_u32(port)?)),
-        Driver::Output(i) => if i < cells.len() {
+        SignalDriver::Nothing => Ok(Origin::Fixed(false)),
+        SignalDriver::Pad(port) => Ok(Origin::Pad(to_u32(port)?)),
+        SignalDriver::Output(i) => if i < cells.len() {
             Ok(cell_origin(found, i, &cells[i]))
         } else {
             Ok(Origin::Fixed(false))
@@ -45,7 +45,7 @@ fn made_of(cells: &[Cell], found: &[Origin], driver: Driver) -> Result<Origin, N
 fn settle(
     found: &mut Vec<Origin>,
     cells: &[Cell],
-    drivers: &[Driver],
+    drivers: &[SignalDriver],
     s: usize,
 ) -> Result<(), NoMemory>
     requires found { s < length found.old.items }

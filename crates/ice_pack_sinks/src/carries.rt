@@ -4,12 +4,11 @@ ghost use Rattle.ice_cells.specs.Packed.{carry_source, carry_input, carry_by, ca
 ghost use Rattle.ice_pack_sinks.specs.Plans.{plan};
 
 use crate::Slices;
-use crate::inputs::{input_at, input_origin, is_dropped};
 use crate::rooting::home_at;
 use crate::sinks::root_at;
 use ice_base::{NoMemory, to_u32};
-use ice_cells::{CarryIn, Origin, Root};
-use ice_net::{Cell, CellKind};
+use ice_cells::{CarryIn, Origin, Root, input_origin, is_dropped};
+use ice_net::{Cell, CellKind, signal_at};
 use std::alloc::Global;
 
 // What comes into a carry from a root; where there is none, 0 does.
@@ -48,7 +47,7 @@ fn push_carry(
     if is_dropped(cell.outs.as_slice()) {
         return Ok(());
     }
-    let input = input_at(cell.ins.as_slice(), 2);
+    let input = signal_at(cell.ins.as_slice(), 2);
     let origin = input_origin(slices.origins, input);
     carries.push((to_u32(home)?, carry_input(slices.roots, origin)))?;
     Ok(())

@@ -6,20 +6,20 @@ ghost use Rattle.ice_pack_sinks.specs.Plans.{plan};
 use crate::Slices;
 use crate::constants::{needs_one, needs_zero, push_constant};
 use crate::flops::flop_of;
-use crate::inputs::{input_at, input_origin, ins_at};
+use crate::inputs::ins_at;
 use crate::shares::{anchor, number_at, part, taker};
 use crate::sinks::{plain_sink, sink};
 use crate::tables::{lut_table, passing_table};
 use ice_base::{NoMemory, SignalNo};
-use ice_cells::{LogicCell, Part, Root};
-use ice_net::{Cell, Port};
+use ice_cells::{LogicCell, Part, Root, input_origin};
+use ice_net::{Cell, Port, signal_at};
 use std::alloc::Global;
 
 // The input of the flip-flop of a number that it takes.
 fn data_input(cells: &[Cell], flop: usize) -> Option<SignalNo>
     ensures { result ≡ data_input cells.now flop }
 {
-    input_at(ins_at(cells, flop), 1)
+    signal_at(ins_at(cells, flop), 1)
 }
 
 // What the look-up table of a number reads.
@@ -28,10 +28,10 @@ fn lut_inputs(slices: &Slices<'_>, cells: &[Cell], j: usize) -> [Option<Root>; 4
 {
     let ins = ins_at(cells, j);
     [
-        plain_sink(slices, input_at(ins, 0)),
-        plain_sink(slices, input_at(ins, 1)),
-        plain_sink(slices, input_at(ins, 2)),
-        plain_sink(slices, input_at(ins, 3)),
+        plain_sink(slices, signal_at(ins, 0)),
+        plain_sink(slices, signal_at(ins, 1)),
+        plain_sink(slices, signal_at(ins, 2)),
+        plain_sink(slices, signal_at(ins, 3)),
     ]
 }
 
@@ -99,8 +99,8 @@ fn with_carry(
     let ins = ins_at(cells, c);
     [
         inputs[0],
-        sink(slices, input_at(ins, 0)),
-        sink(slices, input_at(ins, 1)),
+        sink(slices, signal_at(ins, 0)),
+        sink(slices, signal_at(ins, 1)),
         inputs[3],
     ]
 }

@@ -5,10 +5,10 @@ ghost use Rattle.ice_net.specs.Drives.{pad_uses};
 ghost use Rattle.ice_cells.specs.Packed.{constant_cell, constant_if, has_level, reads_zero, reads_one, zero_by, one_by, port_one, needs_zero, needs_one};
 
 use crate::flops::{enable_input, set_input};
-use crate::inputs::{input_at, input_level, is_dropped};
+use crate::inputs::input_level;
 use ice_base::{NoMemory, SignalNo};
-use ice_cells::{LogicCell, Origin};
-use ice_net::{Cell, CellKind, Port};
+use ice_cells::{LogicCell, Origin, is_dropped};
+use ice_net::{Cell, CellKind, Port, signal_at};
 
 // Whether an input reads a constant of a level.
 fn has_level(origins: &[Origin], level: bool, input: Option<SignalNo>) -> bool
@@ -35,11 +35,11 @@ fn pad_reads_one(origins: &[Origin], pin_type: u8, ins: &[Option<SignalNo>]) -> 
     ensures { result ≡ list_any (has_level origins.now true) (pad_uses pin_type ins.now) }
 {
     if pin_type == 25 {
-        return has_level(origins, true, input_at(ins, 1));
+        return has_level(origins, true, signal_at(ins, 1));
     }
     if pin_type == 41 {
-        return has_level(origins, true, input_at(ins, 1))
-            || has_level(origins, true, input_at(ins, 2));
+        return has_level(origins, true, signal_at(ins, 1))
+            || has_level(origins, true, signal_at(ins, 2));
     }
     false
 }
@@ -51,7 +51,7 @@ fn carry_reads_one(origins: &[Origin], ins: &[Option<SignalNo>], outs: &[Option<
     if is_dropped(outs) {
         return false;
     }
-    has_level(origins, true, input_at(ins, 0)) || has_level(origins, true, input_at(ins, 1))
+    has_level(origins, true, signal_at(ins, 0)) || has_level(origins, true, signal_at(ins, 1))
 }
 
 // Whether constant 1 stands at an input of a cell of a kind that can't be folded.
@@ -67,7 +67,7 @@ fn reads_one(
         CellKind::Carry => carry_reads_one(origins, ins, outs),
         CellKind::Flop { enable, .. } => has_level(origins, true, set_input(enable, ins)),
         CellKind::PadCell { pin_type, .. } => pad_reads_one(origins, pin_type, ins),
-        CellKind::Global => has_level(origins, true, input_at(ins, 0)),
+        CellKind::Global => has_level(origins, true, signal_at(ins, 0)),
         _ => false,
     }
 }

@@ -4,17 +4,16 @@ ghost use Rattle.ice_cells.specs.Packed.{enable_input, set_input, flop_by, flop_
 ghost use Rattle.ice_pack_sinks.specs.Plans.{plan};
 
 use crate::Slices;
-use crate::inputs::input_at;
 use crate::sinks::{enable_sink, plain_sink, sink};
 use ice_base::SignalNo;
 use ice_cells::Control;
-use ice_net::{Cell, CellKind, Reset};
+use ice_net::{Cell, CellKind, Reset, signal_at};
 
 // The input at the enable of a flip-flop, if it has one.
 pub(crate) fn enable_input(enable: bool, ins: &[Option<SignalNo>]) -> Option<SignalNo>
     ensures { result ≡ enable_input enable ins.now }
 {
-    if enable { input_at(ins, 2) } else { None }
+    if enable { signal_at(ins, 2) } else { None }
 }
 
 // The input at the set or reset of a flip-flop, which stands behind the enable, if there is one.
@@ -22,9 +21,9 @@ pub(crate) fn set_input(enable: bool, ins: &[Option<SignalNo>]) -> Option<Signal
     ensures { result ≡ set_input enable ins.now }
 {
     if enable {
-        input_at(ins, 3)
+        signal_at(ins, 3)
     } else {
-        input_at(ins, 2)
+        signal_at(ins, 2)
     }
 }
 
@@ -45,7 +44,7 @@ fn flop_by(
         return None;
     };
     let control = Control {
-        clock: plain_sink(slices, input_at(ins, 0)),
+        clock: plain_sink(slices, signal_at(ins, 0)),
         falling,
         enable: enable_sink(slices, enable_input(enable, ins)),
         reset: sink(slices, set_input(enable, ins)),

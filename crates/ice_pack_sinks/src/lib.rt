@@ -16,7 +16,6 @@ mod tables;
 pub use carries::carries_from;
 pub use cells::cells_by;
 pub use constants::needs_zero;
-pub use inputs::input_at;
 pub use rooting::roots_from;
 pub use sinks::sink;
 pub use slices::Slices;

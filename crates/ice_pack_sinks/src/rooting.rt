@@ -2,10 +2,9 @@
 ghost use Rattle.std.specs.Prelude.{◌≡◌, IfOk, slice_index_or};
 ghost use Rattle.ice_cells.specs.Packed.{pad_root, root_by, roots_from, one_if, is_global};
 
-use crate::inputs::{input_at, input_origin, is_dropped, is_table_kind};
 use ice_base::{NoMemory, SignalNo, to_u32};
-use ice_cells::{Origin, Root};
-use ice_net::{Cell, CellKind};
+use ice_cells::{Origin, Root, input_origin, is_dropped, is_table_kind};
+use ice_net::{Cell, CellKind, signal_at};
 use std::alloc::Global;
 
 // The number of the logic cell that the cell of a number goes to.
@@ -43,7 +42,7 @@ fn root_by(
             }
             Ok(Some(Root::CarryOut(to_u32(home)?)))
         }
-        CellKind::PadCell { .. } => Ok(pad_root(input_origin(origins, input_at(ins, 0)))),
+        CellKind::PadCell { .. } => Ok(pad_root(input_origin(origins, signal_at(ins, 0)))),
         CellKind::Global => Ok(Some(Root::GlobalOut(to_u32(globals)?))),
         CellKind::Flop { .. } => Ok(Some(Root::CellOut(to_u32(home)?))),
         CellKind::Lut { .. } | CellKind::Cover { .. } => {

@@ -4,9 +4,8 @@ ghost use Rattle.ice_cells.specs.Packed.{origin_root, constant_root, sink_root, 
 ghost use Rattle.ice_pack_sinks.specs.Plans.{plan};
 
 use crate::Slices;
-use crate::inputs::input_origin;
 use ice_base::SignalNo;
-use ice_cells::{Origin, Root};
+use ice_cells::{Origin, Root, input_origin};
 
 // The root of the output of the cell of a number.
 pub(crate) fn root_at(roots: &[Option<Root>], j: usize) -> Option<Root>

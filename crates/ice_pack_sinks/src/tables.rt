@@ -5,10 +5,10 @@ ghost use Rattle.ice_cells.specs.Packed.{first_input, first_inputs, table_by, ta
 ghost use Rattle.ice_pack_sinks.specs.Plans.{plan};
 
 use crate::Slices;
-use crate::inputs::{input_at, input_level, ins_at};
+use crate::inputs::{input_level, ins_at};
 use ice_cells::Origin;
 use ice_lut::{rewired, with_constant};
-use ice_net::{Cell, CellKind};
+use ice_net::{Cell, CellKind, signal_at};
 
 // An input, where a cover of a width has it.
 fn first_input(input: u8, width: u8) -> Option<u8>
@@ -70,11 +70,11 @@ pub(crate) fn lut_table(slices: &Slices<'_>, cells: &[Cell], j: usize) -> u16
     let table = folded_one(
         table_at(cells, j),
         0,
-        input_level(origins, input_at(ins, 0)),
+        input_level(origins, signal_at(ins, 0)),
     );
-    let table = folded_one(table, 1, input_level(origins, input_at(ins, 1)));
-    let table = folded_one(table, 2, input_level(origins, input_at(ins, 2)));
-    folded_one(table, 3, input_level(origins, input_at(ins, 3)))
+    let table = folded_one(table, 1, input_level(origins, signal_at(ins, 1)));
+    let table = folded_one(table, 2, input_level(origins, signal_at(ins, 2)));
+    folded_one(table, 3, input_level(origins, signal_at(ins, 3)))
 }
 
 // The table before a flip-flop with a cell of its own: it passes the first input on, or is the constant that the flip-flop takes.

@@ -5,9 +5,8 @@ use Rattle.std.proofs.lemmas.Bool.{eqb-true}
 use Rattle.std.proofs.lemmas.List.{take_all}
 use Rattle.std.proofs.lemmas.List.Folds.{list_any-append, list_any_more}
 use Rattle.std.proofs.lemmas.Option.{slice_get-get_or}
-use Rattle.ice_chip.specs.Database.{Parts}
-use Rattle.ice_chip.specs.Places.{same_pad}
-use Rattle.ice_chip.specs.WireNames.{pad_input_name, pad_output_name, output_enable_name}
+use Rattle.ice_chip.specs.Database.{Parts, same_pad}
+use Rattle.ice_chip.specs.Names.{pad_input_name, pad_output_name, output_enable_name}
 use Rattle.ice_chip.specs.declared.rows.Pad.{Pad}
 use Rattle.ice_pads.specs.PadWires.{has_io_wire, suits}
 use Rattle.ice_pads.specs.declared.want.Want.{Want}

@@ -5,8 +5,7 @@ use Rattle.std.specs.Option.{option_or}
 use Rattle.ice_base.proofs.Keys.{nat_same}
 use Rattle.ice_net.specs.NetlistData.{NetlistData}
 use Rattle.ice_pcf.specs.declared.constraint.Constraint.{Constraint}
-use Rattle.ice_chip.specs.Database.{Parts}
-use Rattle.ice_chip.specs.Places.{same_pad}
+use Rattle.ice_chip.specs.Database.{Parts, same_pad}
 use Rattle.ice_chip.specs.declared.rows.Pad.{Pad}
 use Rattle.ice_chip.proofs.Keys.{pad_self}
 use Rattle.ice_pads.specs.declared.want.Want.{Want}

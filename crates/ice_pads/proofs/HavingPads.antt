@@ -8,9 +8,8 @@ use Rattle.ice_base_values.specs.Order.{At, Has}
 use Rattle.ice_net.specs.NetlistData.{NetlistData}
 use Rattle.ice_pcf.specs.declared.constraint.Constraint.{Constraint}
 use Rattle.ice_chip.proofs.Keys.{pad_same}
-use Rattle.ice_chip.specs.Database.{Parts, PackageRows}
+use Rattle.ice_chip.specs.Database.{Parts, PackageRows, same_pad}
 use Rattle.ice_chip.specs.Lookups.{package_of}
-use Rattle.ice_chip.specs.Places.{same_pad}
 use Rattle.ice_chip.specs.declared.rows.Pad.{Pad}
 use Rattle.ice_cells.specs.declared.design.Design.{Design}
 use Rattle.ice_pads.specs.declared.want.Want.{Want}
@@ -19,12 +18,11 @@ use Rattle.ice_pads.specs.declared.given.Chosen.{Chosen}
 use Rattle.ice_pads.specs.declared.fault.PinFault.TheVariants.{UnknownPort, PadLacks}
 use Rattle.ice_pads.specs.PadWires.{suits}
 use Rattle.ice_pads.specs.Wants.{wants, buffers}
-use Rattle.ice_pads.specs.Constraints.{◌>>=◌, of_port, want_of, free_pad, given_to, with_pad, by_port, with_line, given_by, port_named, port_name}
+use Rattle.ice_pads.specs.Constraints.{◌>>=◌, of_port, want_of, free_pad, given_to, with_pad, by_port, with_line, given_by, port_named, port_name, HavePads}
 use Rattle.ice_pads.specs.Ports.{by_given, next_chosen, with_next, all_chosen}
 use Rattle.ice_pads.specs.Globals.{globals_of}
 use Rattle.ice_pads.specs.Assign.{PadsData, chosen_pads, pads_with, chosen_by, assigned, assign_of}
 use Rattle.ice_pads.specs.Facts.{ArePads}
-use Rattle.ice_pads.specs.HavePads.{HavePads}
 use Rattle.ice_pads.proofs.Inversions.{bind_ok, if_ok, pushed_at}
 use Rattle.ice_pads.proofs.Noting.{port_more}
 use Rattle.ice_pads.proofs.GivenLaws.{free_pad_ok}

@@ -1,7 +1,7 @@
 -- The first number that passes a test, one more at a time.
 use Rattle.std.proofs.Common.{◌≡◌, ℕ, zero, suc, ◌+◌, ◌<◌, ◌≤◌, ◌-◌, Bool, true, false, cond, None, Some, if◌then◌else◌, refl, ap, ◌∙◌, arith, add-one}
 use Rattle.std.specs.Option.{option_or}
-use Rattle.ice_pads.specs.Passing.{first_passing}
+use Rattle.ice_pads.specs.Constraints.{first_passing}
 
 -- it is the first of those that are left
 pub here : (test : ℕ → Bool) (n limit : ℕ) → n < limit → test n ≡ true → first_passing test n (limit - n) ≡ Some n

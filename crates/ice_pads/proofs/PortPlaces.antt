@@ -3,8 +3,7 @@ use Rattle.std.proofs.Common.{◌≡◌, ℕ, ◌+◌, ◌<◌, ◌==◌, List, 
 use Rattle.std.specs.Option.{option_or}
 use Rattle.std.proofs.lemmas.Option.{slice_get-get_or}
 use Rattle.ice_net.specs.declared.port.Port.{Port}
-use Rattle.ice_pads.specs.Passing.{first_passing}
-use Rattle.ice_pads.specs.Constraints.{is_of_signal}
+use Rattle.ice_pads.specs.Constraints.{is_of_signal, first_passing}
 use Rattle.ice_pads.proofs.Passed.{one_more}
 
 -- the first of so many ports that are of a signal

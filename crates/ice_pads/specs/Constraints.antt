@@ -1,19 +1,24 @@
 -- What constraints give to ports, or their first fault.
-use Rattle.std.specs.Prelude.{ℕ, ◌==◌, Bool, false, Option, None, Some, Result, Ok, Err, List, [], ◌∷◌, ◌++◌, find, position, bytes_eq, length, slice_get, slice_index_or, if◌then◌else◌}
+use Rattle.std.specs.Prelude.{ℕ, ◌==◌, Bool, false, Option, None, Some, Result, Ok, Err, List, [], ◌∷◌, ◌++◌, find, position, bytes_eq, length, slice_get, slice_index_or, if◌then◌else◌, zero, suc, ◌+◌, ◌≡◌}
 use Rattle.std.specs.Map.{lookup}
 use Rattle.std.specs.Option.{option_and_then}
 use Rattle.ice_net.specs.NetlistData.{NetlistData, is_at}
-use Rattle.ice_pads.specs.Passing.{first_passing}
 use Rattle.ice_net.specs.declared.port.Port.{Port}
 use Rattle.ice_pcf.specs.declared.constraint.Constraint.{Constraint}
-use Rattle.ice_chip.specs.Database.{Parts}
-use Rattle.ice_chip.specs.Places.{same_pad}
+use Rattle.ice_chip.specs.Database.{Parts, same_pad, PackageRows}
 use Rattle.ice_chip.specs.declared.rows.Pad.{Pad}
 use Rattle.ice_pads.specs.declared.want.Want.{Want}
 use Rattle.ice_pads.specs.declared.given.Given.{Given}
 use Rattle.ice_pads.specs.declared.fault.PinFault.{PinFault}
 use Rattle.ice_pads.specs.declared.fault.PinFault.TheVariants.{UnknownPin, UnknownPort, PinTwice, PortTwice, PadLacks}
 use Rattle.ice_pads.specs.PadWires.{suits}
+use Rattle.ice_base_values.specs.Order.{At, Has, StandOnce}
+
+-- ---- the first number that passes a test
+-- the first of so many numbers from this one that passes a test
+unfoldable pub first_passing : (ℕ → Bool) → ℕ → ℕ → Option ℕ
+first_passing test n zero = None
+first_passing test n (suc left) = if test n then Some n else first_passing test (n + 1) left
 
 -- the next part, unless there was a fault
 infixl 10 ◌>>=◌
@@ -27,12 +32,12 @@ is_of_signal s None = false
 is_of_signal s (Some port) = is_at s port
 
 -- the place of the first port of a signal
-abbrev pub port_place : List Port → ℕ → Option ℕ
-port_place ports s = first_passing (λ k. is_of_signal s (slice_get ports k)) 0 (length ports)
+abbrev pub place_of_port : List Port → ℕ → Option ℕ
+place_of_port ports s = first_passing (λ k. is_of_signal s (slice_get ports k)) 0 (length ports)
 
 -- the place of the port of a name
 abbrev pub port_named : NetlistData → List ℕ → Option ℕ
-port_named n name = option_and_then (port_place n.ports) (position (bytes_eq name) n.names)
+port_named n name = option_and_then (place_of_port n.ports) (position (bytes_eq name) n.names)
 
 abbrev pub name_at : NetlistData → Option Port → List ℕ
 name_at n None = []
@@ -93,3 +98,13 @@ with_line parts pins n wants given c = by_port parts pins n wants given c (port_
 abbrev pub given_by : Parts → List (List ℕ × Pad) → NetlistData → List Want → List Given → List Constraint → Result (List Given) PinFault
 given_by parts pins n wants given [] = Ok given
 given_by parts pins n wants given (c ∷ cs) = with_line parts pins n wants given c >>= (λ more. given_by parts pins n wants more cs)
+
+-- ---- pads by what they are
+-- The ports of the netlist have these pads, in port order, in the package with these rows.
+pub record HavePads (bonded : PackageRows) (constraints : List Constraint) (n : NetlistData) (ports : List Pad) : Type 0 where
+  -- there are as many as ports, all of the package, and none stands twice
+  pub each : length ports ≡ length n.ports
+  pub of_package : (k : ℕ) (pad : Pad) → At ports k pad → Has bonded.pads pad
+  pub apart : StandOnce ports
+  -- a port that a constraint names has the pad of the constraint's pin
+  pub constrained : (c : Constraint) (k : ℕ) (pad : Pad) → Has constraints c → port_named n c.name ≡ Some k → At ports k pad → lookup (bytes_eq c.pin) bonded.pins ≡ Some pad

@@ -4,11 +4,10 @@ use Rattle.std.specs.List.{list_any}
 use Rattle.ice_base.specs.declared.number.TileAt.{TileAt}
 use Rattle.ice_net.specs.NetlistData.{NetlistData}
 use Rattle.ice_pcf.specs.declared.constraint.Constraint.{Constraint}
-use Rattle.ice_chip.specs.Database.{Parts, PackageRows}
+use Rattle.ice_chip.specs.Database.{Parts, PackageRows, same_pad}
 use Rattle.ice_chip.specs.Lookups.{package_of, global_of, gbufpin_of, padin_of}
-use Rattle.ice_chip.specs.Places.{same_pad}
 use Rattle.ice_chip.specs.IsRead.{IsChip}
-use Rattle.ice_chip.specs.WireNames.{pad_input_name, pad_output_name, output_enable_name, fabout_name}
+use Rattle.ice_chip.specs.Names.{pad_input_name, pad_output_name, output_enable_name, fabout_name}
 use Rattle.ice_chip.specs.declared.rows.Pad.{Pad}
 use Rattle.ice_cells.specs.declared.design.DesignPad.{DesignPad}
 use Rattle.ice_cells.specs.declared.design.Design.{Design}

@@ -2,10 +2,9 @@
 use Rattle.std.specs.Prelude.{ℕ, zero, suc, ◌==◌, nat_eq, Bool, true, false, ◌&&◌, ◌||◌, not, is_some, Option, None, Some, Result, Ok, Err, List, [], ◌∷◌, ◌++◌, map, filter, find, length, bytes_eq, nat_lt, if◌then◌else◌}
 use Rattle.std.specs.List.{list_any}
 use Rattle.ice_base.specs.declared.number.TileAt.{TileAt}
-use Rattle.ice_chip.specs.Database.{Parts}
+use Rattle.ice_chip.specs.Database.{Parts, same_pad, same_tile}
 use Rattle.ice_chip.specs.Lookups.{names_of, global_of, gbufpin_of, padin_of, tile_of, wire_named}
-use Rattle.ice_chip.specs.Places.{same_pad, same_tile}
-use Rattle.ice_chip.specs.WireNames.{clock_enable_name, set_reset_name, fabout_name, global_name}
+use Rattle.ice_chip.specs.Names.{clock_enable_name, set_reset_name, fabout_name, global_name}
 use Rattle.ice_chip.specs.declared.rows.Pad.{Pad}
 use Rattle.ice_chip.specs.declared.tile.Tile.{Tile}
 use Rattle.ice_chip.specs.declared.rows.TileKind.{TileKind}
@@ -15,7 +14,7 @@ use Rattle.ice_pads.specs.declared.want.Buffer.{Buffer}
 use Rattle.ice_pads.specs.declared.want.Pins.{Pins}
 use Rattle.ice_pads.specs.declared.fault.PinFault.{PinFault}
 use Rattle.ice_pads.specs.declared.fault.PinFault.TheVariants.{TooManyGlobals}
-use Rattle.ice_pads.specs.Passing.{first_passing}
+use Rattle.ice_pads.specs.Constraints.{first_passing}
 use Rattle.ice_pads.specs.PadWires.{has_io_wire}
 
 -- ---- the globals of a chip

@@ -1,4 +1,3 @@
-pub mod Passing
 pub mod Wants
 pub mod PadWires
 pub mod Constraints
@@ -8,4 +7,3 @@ pub mod Answers
 pub mod Tables
 pub mod Assign
 pub mod Facts
-pub mod HavePads

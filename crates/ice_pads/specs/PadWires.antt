@@ -3,7 +3,7 @@ use Rattle.std.specs.Prelude.{ℕ, Bool, false, ◌&&◌, ◌||◌, not, Option,
 use Rattle.ice_base.specs.declared.number.TileAt.{TileAt}
 use Rattle.ice_chip.specs.Database.{Parts}
 use Rattle.ice_chip.specs.Lookups.{wire_named, kind_at, is_io_kind}
-use Rattle.ice_chip.specs.WireNames.{pad_input_name, pad_output_name, output_enable_name}
+use Rattle.ice_chip.specs.Names.{pad_input_name, pad_output_name, output_enable_name}
 use Rattle.ice_chip.specs.declared.rows.Pad.{Pad}
 use Rattle.ice_chip.specs.declared.rows.TileKind.{TileKind}
 use Rattle.ice_pads.specs.declared.want.Want.{Want}

@@ -2,8 +2,7 @@
 use Rattle.std.specs.Prelude.{ℕ, Bool, ◌&&◌, not, is_some, Option, None, Some, unwrap_or, Result, Ok, Err, List, [], ◌∷◌, ◌++◌, find, length}
 use Rattle.std.specs.List.{list_any}
 use Rattle.ice_net.specs.NetlistData.{NetlistData}
-use Rattle.ice_chip.specs.Database.{Parts}
-use Rattle.ice_chip.specs.Places.{same_pad}
+use Rattle.ice_chip.specs.Database.{Parts, same_pad}
 use Rattle.ice_chip.specs.declared.rows.Pad.{Pad}
 use Rattle.ice_pads.specs.declared.want.Want.{Want}
 use Rattle.ice_pads.specs.declared.given.Given.{Given}

@@ -3,8 +3,7 @@ use Rattle.std.specs.Prelude.{◌≡◌, ℕ, ◌+◌, false, if◌then◌else�
 use Rattle.std.specs.List.{list_any}
 use Rattle.std.specs.HashMap.{HashMap, get_by}
 use Rattle.std.specs.HashSet.{HashSet, contains_by}
-use Rattle.ice_chip.specs.Database.{Parts}
-use Rattle.ice_chip.specs.Places.{same_pad}
+use Rattle.ice_chip.specs.Database.{Parts, same_pad}
 use Rattle.ice_chip.specs.declared.rows.Pad.{Pad}
 use Rattle.ice_pads.specs.declared.want.Want.{Want}
 use Rattle.ice_pads.specs.declared.given.Given.{Given}
@@ -12,7 +11,7 @@ use Rattle.ice_pads.specs.declared.given.Chosen.{Chosen}
 use Rattle.ice_net.specs.declared.port.Port.{Port}
 use Rattle.ice_pads.specs.declared.tables.Tables.{Tables}
 use Rattle.ice_pads.specs.declared.progress.Progress.{Progress}
-use Rattle.ice_pads.specs.Constraints.{of_port, of_pad, port_place}
+use Rattle.ice_pads.specs.Constraints.{of_port, of_pad, place_of_port}
 use Rattle.ice_pads.specs.Ports.{is_fit}
 
 -- each port and each pad has what the first line with it gave
@@ -26,7 +25,7 @@ AreKept tables = AreTables tables.given.items tables.ports.items tables.pads
 
 -- the place of the first port of each signal
 abbrev pub ArePlaces : List Port → List (Option ℕ) → Type 0
-ArePlaces ports places = (s : ℕ) → slice_index_or places s None ≡ port_place ports s
+ArePlaces ports places = (s : ℕ) → slice_index_or places s None ≡ place_of_port ports s
 
 -- the set has the pads of these ports
 abbrev pub AreTaken : {S : Type 0} → List Chosen → HashSet Pad S → Type 0

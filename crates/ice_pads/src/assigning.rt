@@ -1,7 +1,6 @@
 //! The pads, pull-ups and globals of a design.
 ghost use Rattle.std.specs.Prelude.{◌≡◌, IfOk};
 ghost use Rattle.ice_chip.specs.Views.{package_view};
-ghost use Rattle.ice_bits_rows.specs.Index.{IsIndexOf};
 ghost use Rattle.ice_pads.specs.Assign.{pads_with, chosen_by, assign_of};
 ghost use Rattle.ice_pads.specs.Answers.{Answers, Lists};
 
@@ -12,7 +11,7 @@ use crate::progress::Progress;
 use crate::tables::Tables;
 use crate::{Chosen, PinFault, Want, wants};
 use ice_base::NoMemory;
-use ice_bits_rows::{Index, index_of};
+use ice_bits_rows::Index;
 use ice_cells::Design;
 use ice_chip::{Chip, Package, Pad};
 use ice_net::Netlist;
@@ -122,25 +121,30 @@ fn chosen_by(
     Ok(progress.chosen)
 }
 
-/// The pads, pull-ups and globals of a design of the netlist, or the fault, as [`assign`] answers, by the index of the chip's groups.
-pub fn indexed_assign(
+/// The pads, pull-ups and globals of a design of the netlist on an indexed chip, or the fault, as [`assign`] answers.
+pub fn assign_by(
     alloc: Global,
-    chip: &Chip,
     index: &Index,
     name: &[u8],
     pcf: &Pcf,
     netlist: &Netlist,
     design: &Design,
 ) -> Result<Pads, PinFault>
-    requires { IsIndexOf chip.now index.now }
-    ensures { Answers result (assign_of chip.now name.now pcf.now netlist.now design.now) }
+    ensures { Answers result (assign_of index.now.chip.now name.now pcf.now netlist.now design.now) }
 {
-    let Some(bonded) = chip.package(name) else {
+    let Some(bonded) = index.chip.package(name) else {
         return Err(PinFault::NoPackage);
     };
     let wants = wants(alloc, design)?;
-    let chosen = chosen_by(alloc, chip, bonded, pcf.constraints(), netlist, &wants)?;
-    let taken = globals_of(alloc, chip, index, design, &chosen)?;
+    let chosen = chosen_by(
+        alloc,
+        index.chip,
+        bonded,
+        pcf.constraints(),
+        netlist,
+        &wants,
+    )?;
+    let taken = globals_of(alloc, index, design, &chosen)?;
     Ok(pads_with(alloc, &chosen, taken)?)
 }
 
@@ -157,6 +161,6 @@ pub fn assign(
 ) -> Result<Pads, PinFault>
     ensures { Answers result (assign_of chip.now name.now pcf.now netlist.now design.now) }
 {
-    let index = index_of(alloc, chip)?;
-    indexed_assign(alloc, chip, &index, name, pcf, netlist, design)
+    let index = Index::new(alloc, chip)?;
+    assign_by(alloc, &index, name, pcf, netlist, design)
 }

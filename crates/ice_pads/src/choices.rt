@@ -1,6 +1,5 @@
 //! The globals that the global buffers of a design take.
 ghost use Rattle.std.specs.Prelude.{◌≡◌, ◌≤◌, [], map, find, length, IfOk};
-ghost use Rattle.ice_bits_rows.specs.Index.{IsIndexOf};
 ghost use Rattle.ice_pads.specs.Wants.{buffers};
 ghost use Rattle.ice_pads.specs.Assign.{chosen_pads};
 ghost use Rattle.ice_pads.specs.Globals.{serves, picked, or_first, without, choice, other_choices, chosen_from, globals, left, fed_pins, is_there, taken_with, globals_of};
@@ -35,12 +34,11 @@ impl Model for Taken {
 }
 
 // The first of these globals that serves the pins.
-fn first_serving(chip: &Chip, index: &Index, pins: Pins, free: &[u8]) -> Option<u8>
-    requires { IsIndexOf chip.now index.now }
-    ensures { result ≡ find (serves chip.now pins) free.now }
+fn first_serving(index: &Index, pins: Pins, free: &[u8]) -> Option<u8>
+    ensures { result ≡ find (serves index.now.chip.now pins) free.now }
 {
     for number in free {
-        if serves(chip, index, pins, *number) {
+        if serves(index, pins, *number) {
             return Some(*number);
         }
     }
@@ -48,23 +46,21 @@ fn first_serving(chip: &Chip, index: &Index, pins: Pins, free: &[u8]) -> Option<
 }
 
 // The first of these globals that serves the pins, and where there is none the first of all.
-fn picked(chip: &Chip, index: &Index, pins: Pins, free: &[u8]) -> Option<u8>
-    requires { IsIndexOf chip.now index.now }
-    ensures { result ≡ picked chip.now pins free.now }
+fn picked(index: &Index, pins: Pins, free: &[u8]) -> Option<u8>
+    ensures { result ≡ picked index.now.chip.now pins free.now }
 {
-    match first_serving(chip, index, pins, free) {
+    match first_serving(index, pins, free) {
         Some(number) => Some(number),
         None => free.first().copied(),
     }
 }
 
 // What a global buffer takes among the first: one of these globals where it is read as an enable, or as a set or reset.
-fn choice(chip: &Chip, index: &Index, pins: Pins, free: &[u8]) -> Option<u8>
-    requires { IsIndexOf chip.now index.now }
-    ensures { result ≡ choice chip.now pins free.now }
+fn choice(index: &Index, pins: Pins, free: &[u8]) -> Option<u8>
+    ensures { result ≡ choice index.now.chip.now pins free.now }
 {
     if pins.enable || pins.reset {
-        return picked(chip, index, pins, free);
+        return picked(index, pins, free);
     }
     None
 }
@@ -107,18 +103,16 @@ fn other_choices(alloc: Global, taken: &[Option<u8>], free: &[u8]) -> Result<Vec
 // What each global buffer takes of these globals.
 fn chosen_from(
     alloc: Global,
-    chip: &Chip,
     index: &Index,
     pins: &[Pins],
     free: Vec<u8>,
 ) -> Result<Vec<u8>, NoMemory>
-    requires { IsIndexOf chip.now index.now }
-    ensures { IfOk result (λ globals. globals.items ≡ chosen_from chip.now free.items pins.now) }
+    ensures { IfOk result (λ globals. globals.items ≡ chosen_from index.now.chip.now free.items pins.now) }
 {
     let mut free = free;
     let mut taken = Vec::new(alloc);
     for buffer in pins {
-        let number = choice(chip, index, *buffer, &free);
+        let number = choice(index, *buffer, &free);
         free = without(alloc, number, &free)?;
         taken.push(number)?;
     }
@@ -165,15 +159,13 @@ fn are_there(alloc: Global, numbers: &[Option<u8>]) -> Result<Vec<bool>, NoMemor
 // The globals of all buffers, of which the direct ones have these, and the others choose.
 fn taken_with(
     alloc: Global,
-    chip: &Chip,
     index: &Index,
     direct: &[Option<u8>],
     free: Vec<u8>,
     pins: &[Pins],
 ) -> Result<Taken, PinFault>
     requires few { length free.items ≤ 8 }
-    requires index { IsIndexOf chip.now index.now }
-    ensures { Answers result (taken_with chip.now direct.now free.items pins.now) }
+    ensures { Answers result (taken_with index.now.chip.now direct.now free.items pins.now) }
 {
     let Ok(need) = u32::try_from(pins.len()) else {
         return Err(PinFault::NoMemory);
@@ -182,7 +174,7 @@ fn taken_with(
     if have < need {
         return Err(PinFault::TooManyGlobals { need, have });
     }
-    let others = chosen_from(alloc, chip, index, pins, free)?;
+    let others = chosen_from(alloc, index, pins, free)?;
     let numbers = other_choices(alloc, direct, &others)?;
     let direct = are_there(alloc, direct)?;
     Ok(Taken { numbers, direct })
@@ -191,17 +183,15 @@ fn taken_with(
 /// The global of each global buffer of a design whose ports have these pads, or that there are too few.
 pub fn globals_of(
     alloc: Global,
-    chip: &Chip,
     index: &Index,
     design: &Design,
     ports: &[Chosen],
 ) -> Result<Taken, PinFault>
-    requires { IsIndexOf chip.now index.now }
-    ensures { Answers result (globals_of chip.now (buffers design.now (chosen_pads ports.now))) }
+    ensures { Answers result (globals_of index.now.chip.now (buffers design.now (chosen_pads ports.now))) }
 {
     let buffers = buffers(alloc, design, ports)?;
-    let direct = direct_choices(alloc, chip, index, &buffers)?;
-    let free = left(alloc, chip, &direct)?;
+    let direct = direct_choices(alloc, index, &buffers)?;
+    let free = left(alloc, index.chip, &direct)?;
     let pins = fed_pins(alloc, &direct, &buffers)?;
-    taken_with(alloc, chip, index, &direct, free, &pins)
+    taken_with(alloc, index, &direct, free, &pins)
 }

@@ -1,7 +1,6 @@
 //! The globals that pads feed directly, and which global buffers take them.
 ghost use Rattle.std.specs.Prelude.{◌≡◌, [], find, IfOk};
 ghost use Rattle.std.specs.List.{list_any};
-ghost use Rattle.ice_bits_rows.specs.Index.{IsIndexOf};
 ghost use Rattle.ice_pads.specs.Globals.{is_same_extra, is_shared_by, is_own, has_own_extra, is_pad, meets, can_be_direct, has_number, is_taken, is_free_for, direct_on, direct_choices};
 
 use crate::{Buffer, Pins, global_wire, serves};
@@ -60,22 +59,20 @@ fn is_pad(pad: Pad, other: Option<Pad>) -> bool
 }
 
 // Whether the global reaches what a buffer is read as.
-fn meets(chip: &Chip, index: &Index, pins: Pins, number: u8) -> bool
-    requires { IsIndexOf chip.now index.now }
-    ensures { result ≡ meets chip.now pins number }
+fn meets(index: &Index, pins: Pins, number: u8) -> bool
+    ensures { result ≡ meets index.now.chip.now pins number }
 {
-    !(pins.enable || pins.reset) || serves(chip, index, pins, number)
+    !(pins.enable || pins.reset) || serves(index, pins, number)
 }
 
 // Whether a buffer that takes the level of the pad can be direct on the global.
-fn can_be_direct(chip: &Chip, index: &Index, pins: Pins, pad: Pad, number: u8) -> bool
-    requires { IsIndexOf chip.now index.now }
-    ensures { result ≡ can_be_direct chip.now pins pad number }
+fn can_be_direct(index: &Index, pins: Pins, pad: Pad, number: u8) -> bool
+    ensures { result ≡ can_be_direct index.now.chip.now pins pad number }
 {
-    is_pad(pad, chip.gbufpin_of(number))
-        && has_own_extra(chip, number)
-        && global_wire(chip, number).is_some()
-        && meets(chip, index, pins, number)
+    is_pad(pad, index.chip.gbufpin_of(number))
+        && has_own_extra(index.chip, number)
+        && global_wire(index.chip, number).is_some()
+        && meets(index, pins, number)
 }
 
 // Whether this is the number.
@@ -101,34 +98,24 @@ fn is_taken(taken: &[Option<u8>], number: u8) -> bool
 }
 
 // Whether the global is not taken, and a buffer that takes the level of the pad can be direct on it.
-fn is_free_for(
-    chip: &Chip,
-    index: &Index,
-    taken: &[Option<u8>],
-    pins: Pins,
-    pad: Pad,
-    number: u8,
-) -> bool
-    requires { IsIndexOf chip.now index.now }
-    ensures { result ≡ is_free_for chip.now taken.now pins pad number }
+fn is_free_for(index: &Index, taken: &[Option<u8>], pins: Pins, pad: Pad, number: u8) -> bool
+    ensures { result ≡ is_free_for index.now.chip.now taken.now pins pad number }
 {
-    !is_taken(taken, number) && can_be_direct(chip, index, pins, pad, number)
+    !is_taken(taken, number) && can_be_direct(index, pins, pad, number)
 }
 
 // The first of these globals that is not taken, and on which a buffer that takes the level of the pad can be direct.
 fn first_direct(
-    chip: &Chip,
     index: &Index,
     taken: &[Option<u8>],
     pins: Pins,
     pad: Pad,
     numbers: &[u8],
 ) -> Option<u8>
-    requires { IsIndexOf chip.now index.now }
-    ensures { result ≡ find (is_free_for chip.now taken.now pins pad) numbers.now }
+    ensures { result ≡ find (is_free_for index.now.chip.now taken.now pins pad) numbers.now }
 {
     for number in numbers {
-        if is_free_for(chip, index, taken, pins, pad, *number) {
+        if is_free_for(index, taken, pins, pad, *number) {
             return Some(*number);
         }
     }
@@ -136,36 +123,26 @@ fn first_direct(
 }
 
 // The global on which a buffer is direct, where it is, behind what others took.
-fn direct_on(chip: &Chip, index: &Index, taken: &[Option<u8>], buffer: Buffer) -> Option<u8>
-    requires { IsIndexOf chip.now index.now }
-    ensures { result ≡ direct_on chip.now taken.now buffer.pins buffer.pad }
+fn direct_on(index: &Index, taken: &[Option<u8>], buffer: Buffer) -> Option<u8>
+    ensures { result ≡ direct_on index.now.chip.now taken.now buffer.pins buffer.pad }
 {
     match buffer.pad {
         None => None,
-        Some(pad) => first_direct(
-            chip,
-            index,
-            taken,
-            buffer.pins,
-            pad,
-            &[0, 1, 2, 3, 4, 5, 6, 7],
-        ),
+        Some(pad) => first_direct(index, taken, buffer.pins, pad, &[0, 1, 2, 3, 4, 5, 6, 7]),
     }
 }
 
 /// The global on which each of these buffers is direct, where it is.
 pub fn direct_choices(
     alloc: Global,
-    chip: &Chip,
     index: &Index,
     buffers: &[Buffer],
 ) -> Result<Vec<Option<u8>>, NoMemory>
-    requires { IsIndexOf chip.now index.now }
-    ensures { IfOk result (λ taken. taken.items ≡ direct_choices chip.now [] buffers.now) }
+    ensures { IfOk result (λ taken. taken.items ≡ direct_choices index.now.chip.now [] buffers.now) }
 {
     let mut taken = Vec::new(alloc);
     for buffer in buffers {
-        let number = direct_on(chip, index, &taken, *buffer);
+        let number = direct_on(index, &taken, *buffer);
         taken.push(number)?;
     }
     Ok(taken)

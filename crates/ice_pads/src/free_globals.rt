@@ -1,9 +1,8 @@
 //! The globals of a chip that can be taken.
 ghost use Rattle.std.specs.Prelude.{◌≡◌, ◌<◌, ◌≤◌, filter, length, option_map, IfOk};
 ghost use Rattle.ice_chip.specs.Lookups.{wire_named};
-ghost use Rattle.ice_chip.specs.WireNames.{clock_enable_name, set_reset_name};
-ghost use Rattle.ice_bits_rows.specs.Index.{IsIndexOf};
-ghost use Rattle.ice_pads.specs.Passing.{first_passing};
+ghost use Rattle.ice_chip.specs.Names.{clock_enable_name, set_reset_name};
+ghost use Rattle.ice_pads.specs.Constraints.{first_passing};
 ghost use Rattle.ice_pads.specs.Globals.{has_name, global_wire, is_same_tile, is_fed, some_lower, is_global, globals, is_joined_to, is_logic_kind, reaches, serves};
 
 use crate::Pins;
@@ -129,12 +128,11 @@ pub fn globals(chip: &Chip) -> u32
 }
 
 // Whether a usable row leads from the one wire to the other, where both are there.
-fn is_joined_to(chip: &Chip, index: &Index, source: Option<WireNo>, target: Option<WireNo>) -> bool
-    requires { IsIndexOf chip.now index.now }
-    ensures { result ≡ is_joined_to chip.now (option_map (λ w. w.0) source) (option_map (λ w. w.0) target) }
+fn is_joined_to(index: &Index, source: Option<WireNo>, target: Option<WireNo>) -> bool
+    ensures { result ≡ is_joined_to index.now.chip.now (option_map (λ w. w.0) source) (option_map (λ w. w.0) target) }
 {
     match (source, target) {
-        (Some(source), Some(target)) => is_joined(chip, index, source, target),
+        (Some(source), Some(target)) => is_joined(index, source, target),
         _ => false,
     }
 }
@@ -154,14 +152,13 @@ fn reset_wire(chip: &Chip, tile: TileAt) -> Option<WireNo>
 }
 
 // Whether usable rows lead from the wire to each of the pins in the tile.
-fn reaches(chip: &Chip, index: &Index, wire: Option<WireNo>, pins: Pins, tile: TileAt) -> bool
-    requires { IsIndexOf chip.now index.now }
-    ensures { result ≡ reaches chip.now (option_map (λ w. w.0) wire) pins tile }
+fn reaches(index: &Index, wire: Option<WireNo>, pins: Pins, tile: TileAt) -> bool
+    ensures { result ≡ reaches index.now.chip.now (option_map (λ w. w.0) wire) pins tile }
 {
-    let enable = enable_wire(chip, tile);
-    let reset = reset_wire(chip, tile);
-    (!pins.enable || is_joined_to(chip, index, wire, enable))
-        && (!pins.reset || is_joined_to(chip, index, wire, reset))
+    let enable = enable_wire(index.chip, tile);
+    let reset = reset_wire(index.chip, tile);
+    (!pins.enable || is_joined_to(index, wire, enable))
+        && (!pins.reset || is_joined_to(index, wire, reset))
 }
 
 // Whether this is the kind of a logic tile.
@@ -172,13 +169,12 @@ fn is_logic_kind(kind: TileKind) -> bool
 }
 
 /// Whether usable rows lead from a global to each of the pins in some logic tile.
-pub fn serves(chip: &Chip, index: &Index, pins: Pins, number: u8) -> bool
-    requires { IsIndexOf chip.now index.now }
-    ensures { result ≡ serves chip.now pins number }
+pub fn serves(index: &Index, pins: Pins, number: u8) -> bool
+    ensures { result ≡ serves index.now.chip.now pins number }
 {
-    let wire = global_wire(chip, number);
-    for tile in chip.tiles() {
-        if is_logic_kind(tile.kind) && reaches(chip, index, wire, pins, tile.at) {
+    let wire = global_wire(index.chip, number);
+    for tile in index.chip.tiles() {
+        if is_logic_kind(tile.kind) && reaches(index, wire, pins, tile.at) {
             return true;
         }
     }

@@ -17,7 +17,7 @@ mod tables;
 mod want;
 mod wires;
 
-pub use assigning::{Pads, assign, indexed_assign};
+pub use assigning::{Pads, assign, assign_by};
 pub use fault::PinFault;
 pub use free_globals::{global_wire, globals, serves};
 pub use given::{Chosen, Given};

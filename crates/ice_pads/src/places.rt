@@ -1,7 +1,7 @@
 //! The ports of a netlist by their names, and the names of ports.
 ghost use Rattle.std.specs.Prelude.{◌≡◌, ◌==◌, ℕ, ◌<◌, length, slice_index_or, None, Some, if◌then◌else◌, OnOk, IfOk};
 ghost use Rattle.std.specs.Option.{option_or};
-ghost use Rattle.ice_pads.specs.Constraints.{port_place, port_named, port_name};
+ghost use Rattle.ice_pads.specs.Constraints.{place_of_port, port_named, port_name};
 ghost use Rattle.ice_pads.specs.Tables.{ArePlaces};
 
 use ice_base::{Name, NoMemory, SignalNo, name_of};

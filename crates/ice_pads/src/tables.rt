@@ -2,7 +2,7 @@
 ghost use Rattle.std.specs.Prelude.{◌≡◌, ◌==◌, ℕ, ◌<◌, ◌++◌, ◌∷◌, [], length, slice_index_or, None, Some, if◌then◌else◌, OnOk};
 ghost use Rattle.std.specs.Option.{option_or};
 ghost use Rattle.std.specs.HashMap.{get_by};
-ghost use Rattle.ice_chip.specs.Places.{same_pad};
+ghost use Rattle.ice_chip.specs.Database.{same_pad};
 ghost use Rattle.ice_chip.specs.declared.rows.Pad.{Pad};
 ghost use Rattle.ice_pads.specs.Constraints.{of_port, of_pad};
 ghost use Rattle.ice_pads.specs.Tables.{AreKept};

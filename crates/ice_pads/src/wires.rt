@@ -1,6 +1,6 @@
 //! Which pads have the wires that a port needs.
 ghost use Rattle.std.specs.Prelude.{◌≡◌};
-ghost use Rattle.ice_chip.specs.WireNames.{pad_input_name, pad_output_name, output_enable_name};
+ghost use Rattle.ice_chip.specs.Names.{pad_input_name, pad_output_name, output_enable_name};
 ghost use Rattle.ice_pads.specs.PadWires.{is_io_at, has_io_wire, suits};
 
 use crate::Want;

@@ -2,17 +2,14 @@
 use Rattle.std.proofs.Common.{◌≡◌, ℕ, suc, ◌+◌, ◌<◌, false, cond, Option, Some, List, [], length, map, refl, ap, sym, ◌∙◌, arith}
 use Rattle.std.specs.Prelude.{unwrap_or, option_map}
 use Rattle.std.specs.Option.{option_map_or}
-use Rattle.std.proofs.lemmas.List.{map-id}
 use Rattle.ice_base.specs.Lists.{all_known}
 use Rattle.ice_base.specs.declared.number.SignalNo.{SignalNo}
 use Rattle.ice_base_values.specs.Order.{At}
-use Rattle.ice_base_values.specs.Inputs.{filled, present}
-use Rattle.ice_base_values.specs.System.{value}
-use Rattle.ice_base_values.proofs.Values.{value_along}
+use Rattle.ice_base_values.specs.System.{value, filled_inputs, present}
 use Rattle.ice_net.specs.declared.kind.CellKind.{CellKind}
 use Rattle.ice_net.specs.declared.kind.CellKind.TheVariants.{Lut, Cover, Carry, Flop, PadCell, Global}
-use Rattle.ice_net.specs.declared.driver.Driver.{Driver}
-use Rattle.ice_net.specs.declared.driver.Driver.TheVariants.{Nothing, Pad, Output}
+use Rattle.ice_net.specs.declared.driver.SignalDriver.{SignalDriver}
+use Rattle.ice_net.specs.declared.driver.SignalDriver.TheVariants.{Nothing, Pad, Output}
 use Rattle.ice_net.specs.NetlistData.{NetlistData}
 use Rattle.ice_net.specs.Formed.{IsFormed}
 use Rattle.ice_net.specs.Drivers.{numbers, driver_of}
@@ -22,7 +19,7 @@ use Rattle.ice_cells.specs.Origins.{is_alias, cell_aliases, aliases, cell_origin
 use Rattle.ice_check_promote.specs.Promoted.{buffered_ins, with_buffers}
 use Rattle.ice_check.proofs.OldSignals.{IsThere, driver_there}
 use Rattle.ice_check_promote.proofs.NewDrivers.{length_names, driver_old, driver_new, cell_kept, cell_added}
-use Rattle.ice_pack_laws.proofs.Settled.{alias_below, origin_settled}
+use Rattle.ice_pack_laws.proofs.Settled.{origin_settled, settled_alike}
 
 module _ (n : NetlistData) (clocks : List ℕ) (formed : IsFormed n) where
   abbrev count : ℕ
@@ -39,13 +36,13 @@ module _ (n : NetlistData) (clocks : List ℕ) (formed : IsFormed n) where
   kept_aliases (PadCell pin_type pullup) ins = refl
   kept_aliases Global ins = refl
 
-  same_aliases : (d : Driver) → IsThere n d → aliases new d ≡ aliases n d
+  same_aliases : (d : SignalDriver) → IsThere n d → aliases new d ≡ aliases n d
   same_aliases Nothing there = refl
   same_aliases (Pad k) there = refl
   same_aliases (Output i) (cell, at) =
       ap (λ o. option_map_or cell_aliases o []) (cell_kept n clocks i cell at) ∙ kept_aliases cell.kind cell.ins ∙ sym (ap (λ o. option_map_or cell_aliases o []) at)
 
-  same_made : (d : Driver) → IsThere n d → (found : List Origin) → origin_made new d found ≡ origin_made n d found
+  same_made : (d : SignalDriver) → IsThere n d → (found : List Origin) → origin_made new d found ≡ origin_made n d found
   same_made Nothing there found = refl
   same_made (Pad k) there found = refl
   same_made (Output i) (cell, at) found =
@@ -56,23 +53,15 @@ module _ (n : NetlistData) (clocks : List ℕ) (formed : IsFormed n) where
 
   same_local : (s : ℕ) (xs : List Origin) → s < count → (origin_system new).local s xs ≡ (origin_system n).local s xs
   same_local s xs lt =
-      ap (λ d. origin_made new d (filled (Fixed false) (aliases new d) xs)) (driver_old n clocks s lt)
-      ∙ ap (λ (rs : List (Option ℕ)). origin_made new (driver_of n s) (filled (Fixed false) rs xs)) (same_aliases (driver_of n s) (driver_there n s))
-      ∙ same_made (driver_of n s) (driver_there n s) (filled (Fixed false) (aliases n (driver_of n s)) xs)
-
-  same_steps : (f s : ℕ) → s < count → value (origin_system new) f s ≡ value (origin_system n) f s
-  same_steps f s lt =
-      value_along (origin_system n) (origin_system new) (λ s. s) (λ s. s < count)
-      (λ s c q has. alias_below n formed s q has)
-      (λ s c. same_depends s c ∙ sym (map-id ((origin_system n).depends s)))
-      (λ s xs c. same_local s xs c)
-      f s lt
+      ap (λ d. origin_made new d (filled_inputs (Fixed false) (aliases new d) xs)) (driver_old n clocks s lt)
+      ∙ ap (λ (rs : List (Option ℕ)). origin_made new (driver_of n s) (filled_inputs (Fixed false) rs xs)) (same_aliases (driver_of n s) (driver_there n s))
+      ∙ same_made (driver_of n s) (driver_there n s) (filled_inputs (Fixed false) (aliases n (driver_of n s)) xs)
 
   -- an old signal keeps its origin
   pub origin_old : (s : ℕ) → s < count → origin new s ≡ origin n s
   origin_old s lt =
       let long = length_names n clocks in
-      ap (λ o. unwrap_or o (Fixed false)) (same_steps (length new.names + 1) s lt ∙ origin_settled n formed (length new.names + 1) s (omega (arith, long)) lt)
+      ap (λ o. unwrap_or o (Fixed false)) (settled_alike n new formed same_depends same_local (length new.names + 1) s lt ∙ origin_settled n formed (length new.names + 1) s (omega (arith, long)) lt)
 
   -- the signal behind a buffer is made by it
   one_more : (k : ℕ) → k + 1 ≡ suc k
@@ -84,8 +73,8 @@ module _ (n : NetlistData) (clocks : List ℕ) (formed : IsFormed n) where
 
   buffer_local : (j clock : ℕ) (xs : List Origin) → At clocks j clock → (origin_system new).local (count + j) xs ≡ Made (length n.cells + j)
   buffer_local j clock xs at =
-      ap (λ d. origin_made new d (filled (Fixed false) (aliases new d) xs)) (driver_new n clocks formed j clock at)
-      ∙ ap (λ o. option_map_or (cell_origin (length n.cells + j) (filled (Fixed false) (aliases new (Output (length n.cells + j))) xs)) o (Fixed false)) (cell_added n clocks j clock at)
+      ap (λ d. origin_made new d (filled_inputs (Fixed false) (aliases new d) xs)) (driver_new n clocks formed j clock at)
+      ∙ ap (λ o. option_map_or (cell_origin (length n.cells + j) (filled_inputs (Fixed false) (aliases new (Output (length n.cells + j))) xs)) o (Fixed false)) (cell_added n clocks j clock at)
 
   pub origin_new : (j clock : ℕ) → At clocks j clock → origin new (count + j) ≡ Made (length n.cells + j)
   origin_new j clock at =

@@ -7,6 +7,7 @@ ghost use Rattle.ice_path.specs.Room.{AreWires};
 ghost use Rattle.ice_path.specs.Search.{label};
 
 use ice_base::WireNo;
+use ice_core::MOST_PRICE;
 use ice_graph::Graph;
 
 /// The targets of a search, and what walks to them cost at least.
@@ -101,7 +102,7 @@ impl Aim<'_> {
         requires wire { wire.0 < graph.now.wires }
         requires leads { leads self.now wire.0 ≡ true }
         ensures bound { result ≡ bound_in graph.now self.now wire.0 }
-        ensures small { result ≤ 1024 * 17046213234436 }
+        ensures small { result ≤ 1024 * MOST_PRICE }
     {
         if let Some(cost) = label_at(self.near, wire) {
             return cost;

@@ -146,7 +146,7 @@ pub fn take_path(
     let Some(cost) = cost else {
         return;
     };
-    let _edges = graph.edges();
+    graph.is_graph();
     let target = taken_target(graph, prices, tree, aim, labels, cost);
     walk_back(graph, prices, tree, labels, target.0, cost, path);
 }

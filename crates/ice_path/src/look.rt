@@ -17,8 +17,12 @@ use crate::queue::{Queue, clear, next_open};
 use crate::search::lower;
 use crate::start::root_all;
 use ice_base::WireNo;
-use ice_core::Prices;
+use ice_core::{MOST_PRICE, MOST_STEPS, Prices};
 use ice_graph::{Edge, Graph};
+
+/// The wires before a sink's targets that a search looks up by price, each with its exact least cost. Any number is right: more make
+/// the search's bounds exact farther from the targets, and each look longer.
+const LOOKED_WIRES: u64 = 40;
 
 // Lowers the label of the source of one row to this cost.
 fn widen_one(
@@ -36,7 +40,7 @@ fn widen_one(
     requires leads { (w : ℕ) → leads aim.now w ≡ true }
     requires row { row.from.0 < length near.old }
     requires lengths { length settled.now ≡ length near.old }
-    requires cost { cost ≤ 1048575 * 17046213234436 }
+    requires cost { cost ≤ MOST_STEPS * MOST_PRICE }
     requires order { IsQueue queue.old }
     requires room { queue_len queue.old < queue.old.room }
     requires touches { Touches near.old marked.old.items }
@@ -72,7 +76,7 @@ fn widen(
     requires leads { (w : ℕ) → leads aim.now w ≡ true }
     requires rows { (k : ℕ) (e : GraphEdge) → slice_get rows.now k ≡ Some e → e.from.0 < length near.old }
     requires lengths { length settled.now ≡ length near.old }
-    requires cost { cost ≤ 1048575 * 17046213234436 }
+    requires cost { cost ≤ MOST_STEPS * MOST_PRICE }
     requires order { IsQueue queue.old }
     requires room { queue_len queue.old + length rows.now ≤ queue.old.room }
     requires touches { Touches near.old marked.old.items }
@@ -110,14 +114,14 @@ fn settle_back(
     requires bound { (w : ℕ) → bound_in graph.now aim.now w ≡ 0 }
     requires next { IsNext (bound_in graph.now aim.now) near.old settled.old wire cost }
     requires wire { wire < graph.now.wires }
-    requires cost { cost ≤ 64 * 17046213234436 }
+    requires cost { cost ≤ 64 * MOST_PRICE }
     requires order { IsQueue queue.old }
     requires room { queue_len queue.old + open_edges settled.old (flips graph.now.edges) ≤ queue.old.room }
     requires touches { Touches near.old marked.old.items }
     requires space { graph.now.wires ≤ vec_capacity marked.old }
     requires waits { Queues (bound_in graph.now aim.now) (slice_set settled.old wire true) near.old queue.old }
     ensures settled { settled.new ≡ slice_set settled.old wire true }
-    ensures looks { (targets : List Wire) (rest : ℕ → Option ℕ) (most next : ℕ) → RestFalls graph.now.edges rest → most ≤ next → cost + 17046213234436 ≤ next → Looks graph.now.edges (price prices.now) targets rest most near.old settled.old → Looks graph.now.edges (price prices.now) targets rest next near.new settled.new }
+    ensures looks { (targets : List Wire) (rest : ℕ → Option ℕ) (most next : ℕ) → RestFalls graph.now.edges rest → most ≤ next → cost + MOST_PRICE ≤ next → Looks graph.now.edges (price prices.now) targets rest most near.old settled.old → Looks graph.now.edges (price prices.now) targets rest next near.new settled.new }
     ensures waits { Queues (bound_in graph.now aim.now) settled.new near.new queue.new }
     ensures order { IsQueue queue.new }
     ensures room { queue_len queue.new + open_edges settled.new (flips graph.now.edges) ≤ queue.new.room }
@@ -125,7 +129,7 @@ fn settle_back(
     ensures touches { Touches near.new marked.new.items }
     ensures space { vec_capacity marked.new ≡ vec_capacity marked.old }
 {
-    let _edges = graph.edges();
+    graph.is_graph();
     let to = cost + prices.of(WireNo(wire));
     settled[wire as usize] = true;
     widen(
@@ -140,7 +144,7 @@ fn settle_back(
     );
 }
 
-// Settles 40 wires, or more where so many cost nothing: each with what a walk costs at least from it. It answers what a walk
+// Settles `LOOKED_WIRES` wires, or more where so many cost nothing: each with what a walk costs at least from it. It answers what a walk
 // costs at least from all others.
 fn look(
     graph: &Graph,
@@ -162,18 +166,18 @@ fn look(
     requires touches { Touches near.old marked.old.items }
     requires space { graph.now.wires ≤ vec_capacity marked.old }
     requires waits { Queues (bound_in graph.now aim.now) settled.old near.old queue.old }
-    ensures looks { (targets : List Wire) (rest : ℕ → Option ℕ) → RestFalls graph.now.edges rest → Looks graph.now.edges (price prices.now) targets rest 0 near.old settled.old → Looks graph.now.edges (price prices.now) targets rest (64 * 17046213234436) near.new settled.new }
+    ensures looks { (targets : List Wire) (rest : ℕ → Option ℕ) → RestFalls graph.now.edges rest → Looks graph.now.edges (price prices.now) targets rest 0 near.old settled.old → Looks graph.now.edges (price prices.now) targets rest (64 * MOST_PRICE) near.new settled.new }
     ensures ends { Ends near.new settled.new result }
-    ensures small { result ≤ 64 * 17046213234436 }
+    ensures small { result ≤ 64 * MOST_PRICE }
     ensures order { IsQueue queue.new }
     ensures capacity { queue.new.room ≡ queue.old.room }
     ensures touches { Touches near.new marked.new.items }
     ensures space { vec_capacity marked.new ≡ vec_capacity marked.old }
 {
-    let mut left = 40u64;
+    let mut left = LOOKED_WIRES;
     loop {
         let Some((wire, cost)) = next_open(graph, aim, queue, near, settled) else {
-            return 64 * 17046213234436;
+            return 64 * MOST_PRICE;
         };
         if left == 0 && cost > 0 {
             return cost;
@@ -254,7 +258,7 @@ fn level_down(beyond: &mut [u64])
 // Lowers each cost to one more than that before it.
 fn level_up(beyond: &mut [u64])
     requires long { length beyond.old ≡ 64 }
-    requires small { (k : ℕ) → slice_index beyond.old k ≤ 64 * 17046213234436 }
+    requires small { (k : ℕ) → slice_index beyond.old k ≤ 64 * MOST_PRICE }
     requires rises { (k : ℕ) → k < 63 → slice_index beyond.old k ≤ slice_index beyond.old (k + 1) }
     ensures long { length beyond.new ≡ 64 }
     ensures rises { (k : ℕ) → k < 63 → slice_index beyond.new k ≤ slice_index beyond.new (k + 1) }
@@ -317,7 +321,7 @@ pub fn look_back(
     requires queue { IsEmpty queue.old × (queue_len queue.old ≡ 0) × IsQueue queue.old }
     requires room { graph.now.wires + length graph.now.edges ≤ queue.old.room }
     ensures knows { Knows graph.now.edges (price prices.now) way.now.targets.now near.new (rest graph.now way.now.hops.now way.now.guides.now) (beyond_at beyond.new) }
-    ensures small { ((w c : ℕ) → label near.new w ≡ Some c → c ≤ 64 * 17046213234436) × ((k : ℕ) → slice_index beyond.new k ≤ 64 * 17046213234436) }
+    ensures small { ((w c : ℕ) → label near.new w ≡ Some c → c ≤ 64 * MOST_PRICE) × ((k : ℕ) → slice_index beyond.new k ≤ 64 * MOST_PRICE) }
     ensures long { (length near.new ≡ length near.old) × (length settled.new ≡ length settled.old) × (length beyond.new ≡ 64) }
     ensures settled { (w : ℕ) → done settled.new w ≡ false }
     ensures labelled { (w c : ℕ) → label near.new w ≡ Some c → Contains marked.new.items w }
@@ -326,12 +330,12 @@ pub fn look_back(
     ensures queue { IsEmpty queue.new × (queue_len queue.new ≡ 0) × IsQueue queue.new }
     ensures capacity { queue.new.room ≡ queue.old.room }
 {
-    let _edges = graph.edges();
+    graph.is_graph();
     let aim = blind();
     root_all(graph, &aim, near, marked, queue, way.targets, settled);
     let _far = look(graph, prices, &aim, near, settled, marked, queue);
     clear(queue);
-    fill(beyond, 64 * 17046213234436);
+    fill(beyond, 64 * MOST_PRICE);
     note(graph, way, near, settled, marked, beyond);
     level_down(beyond);
     level_up(beyond);

@@ -18,7 +18,7 @@ use crate::queue::{Queue, clear, queue_for};
 use crate::search::search;
 use crate::start::root_all;
 use ice_base::{NoMemory, WireNo};
-use ice_core::Prices;
+use ice_core::{MOST_PRICE, MOST_STEPS, Prices};
 use ice_graph::{Edge, Graph, Tree};
 use std::alloc::Global;
 use std::marker::Model;
@@ -108,14 +108,14 @@ pub fn connect(
     requires some { 0 < length targets.now }
     requires scratch { IsFor graph.now scratch.old }
     ensures some { IfSome result (IsCostTo graph.now.edges (price prices.now) tree.now.wires.items targets.now) }
-    ensures bound { IfSome result (λ cost. cost + 17046213234436 + 131071 < 2 ^ 64) }
+    ensures bound { IfSome result (λ cost. cost + MOST_PRICE + 131071 < 2 ^ 64) }
     ensures none { IfNone result (NoWalkTo graph.now.edges tree.now.wires.items targets.now) }
     ensures found { is_some scratch.new.path ≡ is_some result }
     ensures path { IfSome scratch.new.path (IsTakenTo graph.now.edges (price prices.now) tree.now.wires.items targets.now) }
     ensures settled { IfSome result (λ cost. AreSettled graph.now.edges (price prices.now) tree.now.wires.items (least_bound graph.now targets.now) cost scratch.new.settled) }
     ensures scratch { IsFor graph.now scratch.new }
 {
-    let _edges = graph.edges();
+    graph.is_graph();
     let aim = Aim {
         targets,
         guides: targets,
@@ -155,7 +155,7 @@ pub fn connect_ahead(
     requires some { 0 < length targets.now }
     requires scratch { IsFor graph.now scratch.old }
     ensures some { IfSome result (IsCostTo graph.now.edges (price prices.now) tree.now.wires.items targets.now) }
-    ensures bound { IfSome result (λ cost. cost + 17046213234436 + 131071 < 2 ^ 64) }
+    ensures bound { IfSome result (λ cost. cost + MOST_PRICE + 131071 < 2 ^ 64) }
     ensures none { IfNone result (NoWalkTo graph.now.edges tree.now.wires.items targets.now) }
     ensures found { is_some scratch.new.path ≡ is_some result }
     ensures path { IfSome scratch.new.path (IsTakenTo graph.now.edges (price prices.now) tree.now.wires.items targets.now) }
@@ -288,7 +288,7 @@ fn find(
     requires room { graph.now.wires + length graph.now.edges ≤ queue.old.room }
     requires path { graph.now.wires ≤ vec_capacity path.old }
     ensures some { IfSome result (IsCostTo graph.now.edges (price prices.now) tree.now aim.now.targets.now) }
-    ensures bound { IfSome result (λ cost. cost ≤ 1048575 * 17046213234436) }
+    ensures bound { IfSome result (λ cost. cost ≤ MOST_STEPS * MOST_PRICE) }
     ensures taken { OnSome result (IsTakenTo graph.now.edges (price prices.now) tree.now aim.now.targets.now path.new.items) }
     ensures path { vec_capacity path.new ≡ vec_capacity path.old }
     ensures none { IfNone result (NoWalkTo graph.now.edges tree.now aim.now.targets.now) }
@@ -349,7 +349,7 @@ fn find_ahead(
     requires marked { marked.old.items ≡ [] }
     requires marks { graph.now.wires ≤ vec_capacity marked.old }
     ensures some { IfSome result (IsCostTo graph.now.edges (price prices.now) tree.now targets.now) }
-    ensures bound { IfSome result (λ cost. cost ≤ 1048575 * 17046213234436) }
+    ensures bound { IfSome result (λ cost. cost ≤ MOST_STEPS * MOST_PRICE) }
     ensures taken { OnSome result (IsTakenTo graph.now.edges (price prices.now) tree.now targets.now path.new.items) }
     ensures path { vec_capacity path.new ≡ vec_capacity path.old }
     ensures none { IfNone result (NoWalkTo graph.now.edges tree.now targets.now) }
@@ -364,7 +364,7 @@ fn find_ahead(
     ensures marked { marked.new.items ≡ [] }
     ensures marks { vec_capacity marked.new ≡ vec_capacity marked.old }
 {
-    let _edges = graph.edges();
+    graph.is_graph();
     let guides = guides_of(targets, hops);
     let way = Aim {
         targets,

@@ -14,7 +14,7 @@ ghost use Rattle.std.specs.List.{Contains};
 use crate::aim::Aim;
 use crate::queue::{Queue, next_open, push};
 use ice_base::WireNo;
-use ice_core::Prices;
+use ice_core::{MOST_PRICE, MOST_STEPS, MOST_WIRES, Prices};
 use ice_graph::{Edge, Graph};
 
 /// Gives the wire a label that is lower than the one that it has, and puts it into the queue.
@@ -29,7 +29,7 @@ pub fn mark(
 )
     requires wires { length labels.old ≡ graph.now.wires }
     requires fits { Fits graph.now aim.now }
-    requires cost { cost ≤ 1048576 * 17046213234436 }
+    requires cost { cost ≤ MOST_WIRES * MOST_PRICE }
     requires within { wire < length labels.old }
     requires leads { leads aim.now wire ≡ true }
     requires lower { (l : ℕ) → label labels.old wire ≡ Some l → cost < l }
@@ -59,7 +59,7 @@ pub fn lower(
 )
     requires wires { length labels.old ≡ graph.now.wires }
     requires fits { Fits graph.now aim.now }
-    requires cost { cost ≤ 1048576 * 17046213234436 }
+    requires cost { cost ≤ MOST_WIRES * MOST_PRICE }
     requires within { wire < length labels.old }
     requires leads { leads aim.now wire ≡ true }
     requires order { IsQueue queue.old }
@@ -114,7 +114,7 @@ fn relax_one(
     requires row { row.to.0 < length labels.old }
     requires prices { ArePrices prices.now }
     requires lengths { (length prices.now.history.items ≡ length labels.old) × (length settled.now ≡ length labels.old) }
-    requires cost { cost ≤ 1048575 * 17046213234436 }
+    requires cost { cost ≤ MOST_STEPS * MOST_PRICE }
     requires order { IsQueue queue.old }
     requires room { queue_len queue.old < queue.old.room }
     requires touches { Touches labels.old touched.old.items }
@@ -165,7 +165,7 @@ fn relax(
     requires rows { (k : ℕ) (e : GraphEdge) → slice_get rows.now k ≡ Some e → e.to.0 < length labels.old }
     requires prices { ArePrices prices.now }
     requires lengths { (length prices.now.history.items ≡ length labels.old) × (length settled.now ≡ length labels.old) }
-    requires cost { cost ≤ 1048575 * 17046213234436 }
+    requires cost { cost ≤ MOST_STEPS * MOST_PRICE }
     requires order { IsQueue queue.old }
     requires room { queue_len queue.old + length rows.now ≤ queue.old.room }
     requires touches { Touches labels.old touched.old.items }
@@ -206,7 +206,7 @@ fn settle(
     requires aim { IsAim graph.now.edges (price prices.now) aim.now.targets.now (bound_in graph.now aim.now) (leads aim.now) }
     requires next { IsNext (bound_in graph.now aim.now) labels.old settled.old wire cost }
     requires wire { wire < graph.now.wires }
-    requires cost { cost ≤ 1048575 * 17046213234436 }
+    requires cost { cost ≤ MOST_STEPS * MOST_PRICE }
     requires order { IsQueue queue.old }
     requires room { queue_len queue.old + open_edges settled.old graph.now.edges ≤ queue.old.room }
     requires touches { Touches labels.old touched.old.items }
@@ -214,7 +214,7 @@ fn settle(
     requires waits { Queues (bound_in graph.now aim.now) (slice_set settled.old wire true) labels.old queue.old }
     ensures settled { settled.new ≡ slice_set settled.old wire true }
     ensures fixed { (w : ℕ) → done settled.new w ≡ true → label labels.new w ≡ label labels.old w }
-    ensures searches { (tree : List Wire) (count : ℕ) → Searches graph.now.edges (price prices.now) tree (bound_in graph.now aim.now) (leads aim.now) 17046213234436 count labels.old settled.old → Searches graph.now.edges (price prices.now) tree (bound_in graph.now aim.now) (leads aim.now) 17046213234436 (count + 1) labels.new settled.new }
+    ensures searches { (tree : List Wire) (count : ℕ) → Searches graph.now.edges (price prices.now) tree (bound_in graph.now aim.now) (leads aim.now) MOST_PRICE count labels.old settled.old → Searches graph.now.edges (price prices.now) tree (bound_in graph.now aim.now) (leads aim.now) MOST_PRICE (count + 1) labels.new settled.new }
     ensures waits { Queues (bound_in graph.now aim.now) settled.new labels.new queue.new }
     ensures order { IsQueue queue.new }
     ensures room { queue_len queue.new + open_edges settled.new graph.now.edges ≤ queue.new.room }
@@ -296,7 +296,7 @@ pub fn search(
     ensures some { IfSome result (IsCostTo graph.now.edges (price prices.now) tree.now aim.now.targets.now) }
     ensures exact { IfSome result (λ c. AreExact graph.now.edges (price prices.now) tree.now (bound_in graph.now aim.now) c labels.new) }
     ensures settled { IfSome result (λ c. AreSettled graph.now.edges (price prices.now) tree.now (bound_in graph.now aim.now) c order.new.items) }
-    ensures bound { IfSome result (λ c. c ≤ 1048575 * 17046213234436) }
+    ensures bound { IfSome result (λ c. c ≤ MOST_STEPS * MOST_PRICE) }
     ensures length { length labels.new ≡ length labels.old }
     ensures none { IfNone result (NoWalkTo graph.now.edges tree.now aim.now.targets.now) }
     ensures list { vec_capacity order.new ≡ vec_capacity order.old }

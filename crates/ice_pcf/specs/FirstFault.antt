@@ -5,11 +5,11 @@ use Rattle.ice_base.specs.Text.{lines, numbered}
 use Rattle.ice_pcf.specs.declared.constraint.Constraint.{Constraint}
 use Rattle.ice_pcf.specs.declared.fault.PcfFault.{PcfFault}
 use Rattle.ice_pcf.specs.declared.fault.PcfFault.TheVariants.{UnknownWord, Missing, Extra, NoMemory}
-use Rattle.ice_pcf.specs.Grammar.{line_says, with_constraint}
+use Rattle.ice_pcf.specs.Grammar.{pin_line_says, with_constraint}
 
 -- a valid line: it says one constraint, or none
 abbrev pub IsValidLine : ℕ × List ℕ → Type 0
-IsValidLine line = (said : Option Constraint) × (line_says line ≡ Ok said)
+IsValidLine line = (said : Option Constraint) × (pin_line_says line ≡ Ok said)
 
 -- the constraint that a line says, if it says one
 abbrev pub said_by : Result (Option Constraint) PcfFault → List Constraint
@@ -26,7 +26,7 @@ fault_line NoMemory = None
 -- every line is valid, and these are the constraints of the lines in order
 pub record AreConstraints (ls : List (ℕ × List ℕ)) (constraints : List Constraint) : Type 0 where
   pub valid : AllByRecursion IsValidLine ls
-  pub in_order : constraints ≡ flat_map (λ line. said_by (line_says line)) ls
+  pub in_order : constraints ≡ flat_map (λ line. said_by (pin_line_says line)) ls
 
 -- a line has this fault, which names its number, and every line before it is valid
 pub record IsFirstFault (ls : List (ℕ × List ℕ)) (fault : PcfFault) : Type 0 where
@@ -35,7 +35,7 @@ pub record IsFirstFault (ls : List (ℕ × List ℕ)) (fault : PcfFault) : Type 
   pub behind : List (ℕ × List ℕ)
   pub stands : ls ≡ before ++ line ∷ behind
   pub valid_before : AllByRecursion IsValidLine before
-  pub faulty : line_says line ≡ Err fault
+  pub faulty : pin_line_says line ≡ Err fault
   pub number : fault_line fault ≡ Some line.0
 
 abbrev pub HasConstraints : List ℕ → List Constraint → Type 0

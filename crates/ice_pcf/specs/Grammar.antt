@@ -1,10 +1,9 @@
 -- What a text of pin constraints says: its constraints, or the first fault in it.
 use Rattle.std.specs.Prelude.{ℕ, Bool, true, false, ◌||◌, List, [], ◌∷◌, Option, Some, None, Result, Ok, Err, if◌then◌else◌, codes}
 use Rattle.std.specs.Str.{bytes_eq}
-use Rattle.ice_base.specs.Text.{lines, numbered, words}
-use Rattle.ice_base.specs.Comments.{begins_with, uncommented}
+use Rattle.ice_base.specs.Text.{lines, numbered, words, begins_with, uncommented}
 use Rattle.ice_pcf.specs.declared.constraint.Constraint.{Constraint}
-use Rattle.ice_pcf.specs.declared.options.Options.{Options}
+use Rattle.ice_pcf.specs.declared.constraint.Options.{Options}
 use Rattle.ice_pcf.specs.declared.fault.PcfFault.{PcfFault}
 use Rattle.ice_pcf.specs.declared.fault.PcfFault.TheVariants.{UnknownWord, Missing, Extra}
 
@@ -56,18 +55,18 @@ words_say line (w ∷ ws) =
     else Err (UnknownWord line))
 
 -- what a line says by its words before the comment
-abbrev pub line_says : ℕ × List ℕ → Result (Option Constraint) PcfFault
-line_says line = words_say line.0 (uncommented (words line.1))
+abbrev pub pin_line_says : ℕ × List ℕ → Result (Option Constraint) PcfFault
+pin_line_says line = words_say line.0 (uncommented (words line.1))
 
 abbrev pub with_constraint : Option Constraint → List Constraint → List Constraint
 with_constraint None constraints = constraints
 with_constraint (Some constraint) constraints = constraint ∷ constraints
 
 -- what numbered lines say: their constraints in order, or the first fault
-abbrev pub lines_say : List (ℕ × List ℕ) → Result (List Constraint) PcfFault
-lines_say [] = Ok []
-lines_say (line ∷ lines) = line_says line >>= (λ constraint. lines_say lines >>= (λ constraints. Ok (with_constraint constraint constraints)))
+abbrev pub pin_lines_say : List (ℕ × List ℕ) → Result (List Constraint) PcfFault
+pin_lines_say [] = Ok []
+pin_lines_say (line ∷ lines) = pin_line_says line >>= (λ constraint. pin_lines_say lines >>= (λ constraints. Ok (with_constraint constraint constraints)))
 
 -- what a text says: its constraints in the order of its lines, or the first fault
-abbrev pub text_says : List ℕ → Result (List Constraint) PcfFault
-text_says text = lines_say (numbered 1 (lines text))
+abbrev pub pin_text_says : List ℕ → Result (List Constraint) PcfFault
+pin_text_says text = pin_lines_say (numbered 1 (lines text))

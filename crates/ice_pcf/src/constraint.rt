@@ -1,4 +1,4 @@
-//! A constraint: the pin that a port is to have.
+//! A constraint: the pin that a port is to have, and the options of its line.
 use ice_base::Name;
 
 /// The line `set_io OPTIONS NAME PIN`: the port of this name goes to this pin.
@@ -13,5 +13,14 @@ pub struct Constraint {
     /// Whether the port may be missing: `--warn-no-port` or `-nowarn` stands among the options.
     pub lenient: bool,
     /// What the last `-pullup` among the options says, where there is one.
+    pub pullup: Option<bool>,
+}
+
+/// What the options of a line say.
+#[derive(Clone, Copy)]
+pub struct Options {
+    /// Whether the port may be missing.
+    pub lenient: bool,
+    /// What the last pull-up says, where there is one.
     pub pullup: Option<bool>,
 }

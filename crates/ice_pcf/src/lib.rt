@@ -4,7 +4,6 @@
 mod constraint;
 mod fault;
 mod laws;
-mod options;
 mod pcf;
 mod reading;
 

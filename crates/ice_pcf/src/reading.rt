@@ -1,10 +1,10 @@
 //! Reading a text of pin constraints.
 ghost use Rattle.std.specs.Prelude.{◌≡◌, true, false};
 ghost use Rattle.ice_base.specs.Cursors.{line_view};
-ghost use Rattle.ice_pcf.specs.Grammar.{line_says, set_io_says, no_options, pin_says, text_says};
+ghost use Rattle.ice_pcf.specs.Grammar.{pin_line_says, set_io_says, no_options, pin_says, pin_text_says};
 ghost use Rattle.ice_pcf.specs.Answers.{Gives};
 
-use crate::options::Options;
+use crate::constraint::Options;
 use crate::{Constraint, Pcf, PcfFault};
 use ice_base::{Line, PlainWords, begins_with, lines_of, name_of, plain_words_of};
 use std::alloc::Global;
@@ -70,7 +70,7 @@ fn set_io(alloc: Global, line: u32, mut words: PlainWords<'_>) -> Result<Constra
 
 // What a line says.
 fn read_line(alloc: Global, line: &Line<'_>) -> Result<Option<Constraint>, PcfFault>
-    ensures { Gives result (line_says (line_view line.now)) }
+    ensures { Gives result (pin_line_says (line_view line.now)) }
 {
     let mut words = plain_words_of(line.text);
     let Some(word) = words.next() else {
@@ -89,7 +89,7 @@ fn read_line(alloc: Global, line: &Line<'_>) -> Result<Option<Constraint>, PcfFa
 /// The constraints of a text: those that the text says, or the first fault in it, in the order of the text.
 /// It takes memory for the constraints alone.
 pub fn read_pcf(alloc: Global, text: &[u8]) -> Result<Pcf, PcfFault>
-    ensures { Gives result (text_says text.now) }
+    ensures { Gives result (pin_text_says text.now) }
 {
     let mut constraints = Vec::new(alloc);
     for line in lines_of(text) {

@@ -9,7 +9,7 @@ ghost use Rattle.ice_place.specs.Views.{tiles_of, fitting};
 ghost use Rattle.ice_place.specs.Answers.{Answers};
 
 use crate::fit::{Fits, begin, fit_runs, order};
-use crate::refusal::{longest, refused};
+use crate::refusal::{MOST_SITES, longest, refused};
 use crate::{PlaceFault, Placement};
 use ice_base::{NoMemory, TileAt, to_u32};
 use ice_cells::{Clusters, Design, Run};
@@ -65,8 +65,8 @@ fn place(
     runs: &[u32],
     need: u32,
 ) -> Result<Placement, PlaceFault>
-    requires each { All (λ (s : List TileAt). length s ≤ 65536) stretches.now }
-    requires few { sites_count stretches.now ≤ 65536 }
+    requires each { All (λ (s : List TileAt). length s ≤ MOST_SITES) stretches.now }
+    requires few { sites_count stretches.now ≤ MOST_SITES }
     ensures { Answers result (place_by stretches.now runs.now need) }
 {
     if let Some(fault) = refused(stretches, runs, need) {

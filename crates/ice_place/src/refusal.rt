@@ -8,9 +8,12 @@ ghost use Rattle.ice_place.specs.Place.{longest, sites_count, too_long, overfull
 use crate::PlaceFault;
 use ice_sites::Stretch;
 
+/// The sites of a chip: up to this number, since it is at most 256 tiles wide and high.
+pub(crate) const MOST_SITES: u32 = 65_536;
+
 // How many sites a stretch has.
 fn count(stretch: &Stretch) -> u32
-    requires { length stretch.now ≤ 65536 }
+    requires { length stretch.now ≤ MOST_SITES }
     ensures { result ≡ length stretch.now }
 {
     stretch.tiles().len() as u32
@@ -18,9 +21,9 @@ fn count(stretch: &Stretch) -> u32
 
 /// How many sites the longest stretch has.
 pub fn longest(stretches: &[Stretch]) -> u32
-    requires { All (λ (s : List TileAt). length s ≤ 65536) stretches.now }
+    requires { All (λ (s : List TileAt). length s ≤ MOST_SITES) stretches.now }
     ensures value { result ≡ longest stretches.now }
-    ensures bound { result ≤ 65536 }
+    ensures bound { result ≤ MOST_SITES }
 {
     let mut most = 0;
     for stretch in stretches {
@@ -31,8 +34,8 @@ pub fn longest(stretches: &[Stretch]) -> u32
 
 // How many sites the stretches have.
 fn sites_count(stretches: &[Stretch]) -> u32
-    requires each { All (λ (s : List TileAt). length s ≤ 65536) stretches.now }
-    requires few { sites_count stretches.now ≤ 65536 }
+    requires each { All (λ (s : List TileAt). length s ≤ MOST_SITES) stretches.now }
+    requires few { sites_count stretches.now ≤ MOST_SITES }
     ensures { result ≡ sites_count stretches.now }
 {
     let mut total = 0;
@@ -69,8 +72,8 @@ fn overfull(need: u32, have: u32) -> Option<PlaceFault>
 
 /// Why runs of these lengths, and so many clusters, get no places, before any run is fitted.
 pub fn refused(stretches: &[Stretch], runs: &[u32], need: u32) -> Option<PlaceFault>
-    requires each { All (λ (s : List TileAt). length s ≤ 65536) stretches.now }
-    requires few { sites_count stretches.now ≤ 65536 }
+    requires each { All (λ (s : List TileAt). length s ≤ MOST_SITES) stretches.now }
+    requires few { sites_count stretches.now ≤ MOST_SITES }
     ensures { result ≡ refusal stretches.now runs.now need }
 {
     if let Some(fault) = too_long(runs, 8 * longest(stretches)) {

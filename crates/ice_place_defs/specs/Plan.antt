@@ -8,6 +8,7 @@ use Rattle.ice_cells.specs.declared.design.Design.{Design}
 use Rattle.ice_cells.specs.declared.root.Root.{Root}
 use Rattle.ice_cells.specs.declared.root.Root.TheVariants.{PadIn, CellOut, GlobalOut, CarryOut}
 use Rattle.ice_cells.specs.Tables.{is_place}
+use Rattle.ice_place_defs.specs.declared.placed.Placed.{Placed}
 
 pub record Plan : Type 0 where
   pub design : Design
@@ -19,6 +20,10 @@ pub record Plan : Type 0 where
   -- the number of the global of each global buffer, and whether the buffer is direct: its global has the level of a pad by itself
   pub globals : List ℕ
   pub direct : List Bool
+
+-- a placed design, without its chip
+abbrev pub plan_in : Placed → Plan
+plan_in placed = record { design = placed.design.now; clusters = placed.clusters.now; at = placed.tiles.now; ports = placed.ports.now; globals = placed.globals.now; direct = placed.direct.now }
 
 -- the global buffer of this number is direct
 abbrev pub is_direct : Plan → ℕ → Bool

@@ -3,5 +3,7 @@
 #![tactic(auto)]
 
 mod fed;
+mod placed;
 
 pub use fed::fed_root;
+pub use placed::Placed;

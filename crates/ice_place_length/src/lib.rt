@@ -4,10 +4,8 @@
 mod boxes;
 mod loads;
 mod nets;
-mod placed;
 mod placement;
 
 pub use boxes::{Span, half_perimeter, span_at, with_tile};
 pub use nets::length_of;
-pub use placed::Placed;
 pub use placement::wire_length;

@@ -4,11 +4,10 @@ ghost use Rattle.ice_place_defs.specs.Loads.{pad_loads, pads_loads, global_loads
 ghost use Rattle.ice_place_length.specs.Grown.{box_in, grown, loads_in};
 
 use crate::boxes::{Span, grown_at};
-use crate::placed::Placed;
 use ice_base::TileAt;
 use ice_cells::{Cluster, Control, DesignPad, LogicCell, Root};
 use ice_chip::{Chip, Pad};
-use ice_place_defs::fed_root;
+use ice_place_defs::{Placed, fed_root};
 
 // The box with a pad that the root drives or enables.
 fn with_pad(span: Span, root: Root, place: Pad, pad: &DesignPad) -> Span

@@ -2,16 +2,16 @@
 ghost use Rattle.std.specs.Prelude.{◌≡◌, ◌≤◌, ◌^◌, ◌*◌, ◌+◌, length, map, slice_get, option_map};
 ghost use Rattle.std.specs.List.{range_with_len};
 ghost use Rattle.ice_cells.specs.Tables.{is_place};
-ghost use Rattle.ice_place_defs.specs.Plan.{slot_in, slot_tile, slot_among, pad_tile, root_tile};
+ghost use Rattle.ice_place_defs.specs.Plan.{slot_in, slot_tile, slot_among, pad_tile, root_tile, plan_in};
 ghost use Rattle.ice_place_defs.specs.Length.{sum, pad_root, cell_root, net_length, length_of};
-ghost use Rattle.ice_place_length.specs.Grown.{plan_in, loads_in};
+ghost use Rattle.ice_place_length.specs.Grown.{loads_in};
 
 use crate::boxes::{half_perimeter, span_at};
 use crate::loads::with_loads;
-use crate::placed::Placed;
 use ice_base::TileAt;
 use ice_cells::{Cluster, Root};
 use ice_chip::Pad;
+use ice_place_defs::Placed;
 
 // Whether a slot holds the cell.
 fn is_place(cell: u32, slot: Option<u32>) -> bool

@@ -3,7 +3,7 @@ use Rattle.std.proofs.Common.{◌≡◌, ℕ, Bool, true, false, ◌||◌, IsSom
 use Rattle.std.specs.List.{find, list_any}
 use Rattle.std.proofs.lemmas.List.Folds.{list_any-append}
 use Rattle.indexmap.specs.IndexSet.{insert_key, insert_all}
-use Rattle.ice_chip.specs.Places.{same_pad}
+use Rattle.ice_chip.specs.Database.{same_pad}
 use Rattle.ice_chip.specs.declared.rows.Pad.{Pad}
 use Rattle.ice_pads.specs.Facts.{AssignedPadsFit}
 use Rattle.ice_pads.proofs.AssignLaws.{found_package}

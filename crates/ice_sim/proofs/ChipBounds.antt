@@ -6,13 +6,12 @@ use Rattle.ice_base.specs.declared.number.TileAt.{TileAt}
 use Rattle.ice_chip.specs.Database.{Parts}
 use Rattle.ice_chip.specs.declared.rows.Pad.{Pad}
 use Rattle.ice_bits.specs.Configuration.{Bits}
-use Rattle.ice_base_values.specs.Inputs.{reading}
+use Rattle.ice_base_values.specs.System.{reading}
 use Rattle.ice_decode.specs.declared.point.Point.{Point}
-use Rattle.ice_chip.specs.WireNames.{pad_output_name, output_enable_name, input_clock_name, output_clock_name, in_out_enable_name}
+use Rattle.ice_chip.specs.Names.{pad_output_name, output_enable_name, input_clock_name, output_clock_name, in_out_enable_name}
 use Rattle.ice_decode.specs.Cells.{has_flop}
 use Rattle.ice_decode.specs.Reads.{at_pin}
-use Rattle.ice_decode.specs.Pads.{is_enabled, pin_type}
-use Rattle.ice_decode.specs.Registers.{Store, CellStore, InputStore, OutputStore, stores, register_place, has_input_register, has_output_register}
+use Rattle.ice_decode.specs.Pads.{is_enabled, pin_type, Store, CellStore, InputStore, OutputStore, stores, register_place, has_input_register, has_output_register}
 use Rattle.ice_sim_sweep.specs.declared.parts.Gate.{Gate}
 use Rattle.ice_sim_sweep.specs.declared.parts.Keeper.{Keeper}
 use Rattle.ice_sim_sweep.specs.declared.parts.Feed.{Feed}

@@ -7,8 +7,7 @@ use Rattle.std.proofs.lemmas.List.FromFn.{length-range_with_len}
 use Rattle.std.proofs.lemmas.List.Elements.{All-map, All-filter}
 use Rattle.std.proofs.lemmas.Option.{same_Some, slice_get_within}
 use Rattle.ice_base.specs.declared.number.TileAt.{TileAt}
-use Rattle.ice_base_values.specs.System.{System, MeetsEquation}
-use Rattle.ice_base_values.specs.Inputs.{reading}
+use Rattle.ice_base_values.specs.System.{System, MeetsEquation, reading}
 use Rattle.ice_base_values.specs.Order.{At, Has}
 use Rattle.ice_base_values.proofs.Values.{value_ranked}
 use Rattle.ice_base_values.proofs.Gaps.{local_gapped}
@@ -20,16 +19,15 @@ use Rattle.ice_chip.specs.WholeFaults.{same_placed}
 use Rattle.ice_chip.specs.declared.rows.Pad.{Pad}
 use Rattle.ice_chip.specs.declared.placed.PlacedName.{PlacedName}
 use Rattle.ice_bits.specs.Configuration.{Bits}
-use Rattle.ice_net.specs.declared.drive.Drive.TheVariants.{Off}
+use Rattle.ice_net.specs.declared.driver.Drive.TheVariants.{Off}
 use Rattle.ice_net.specs.Drives.{level_drive}
 use Rattle.ice_decode.specs.declared.point.Point.{Point}
-use Rattle.ice_chip.specs.WireNames.{input_name, pad_output_name, output_enable_name}
+use Rattle.ice_chip.specs.Names.{input_name, pad_output_name, output_enable_name}
 use Rattle.ice_decode.specs.Cells.{cells, logic_tiles, looked_up}
-use Rattle.ice_decode.specs.Reads.{wire_point, carry_point, points, count_points, at_pin, reads}
-use Rattle.ice_decode.specs.Pads.{is_enabled, level_of, pad_gives, pin_type, pin_level, part_drive}
-use Rattle.ice_decode.specs.Registers.{stores, register_place, output_kept, has_output_register}
+use Rattle.ice_decode.specs.Reads.{wire_point, carry_point, points, count_points, at_pin, reads_at}
+use Rattle.ice_decode.specs.Pads.{is_enabled, level_of, pad_gives, pin_type, pin_level, part_drive, stores, register_place, output_kept, has_output_register}
 use Rattle.ice_decode.specs.Faults.{IsOrderOf}
-use Rattle.ice_decode.specs.Meaning.{makes, system_of, point_level, table_level, drive_at}
+use Rattle.ice_decode.specs.Meaning.{makes_at, chip_system, point_level, table_level, drive_at}
 use Rattle.ice_decode.proofs.PointPlaces.{wire_at}
 use Rattle.ice_sim_sweep.specs.Slots.{level_at}
 use Rattle.ice_sim_sweep.specs.Sweeps.{gate_level, tap_drive}
@@ -120,12 +118,12 @@ module _ (parts : Parts) (bits : Bits) (extras : List (ℕ × ℕ × ℕ)) (bond
   one_is = one_level l.feeds levels kept values laid_.some laid_.first laid_.second obeys
 
   abbrev system : System Point Bool
-  system = system_of parts bits extras bonded levels kept
+  system = chip_system parts bits extras bonded levels kept
 
   meets : (j : ℕ) (p : Point) → At order j p → MeetsEquation system v p
   meets j p at =
       (laid_.meets j p at (slice_get_within order j p at)).is levels kept values kept_long obeys
-      ∙ sym (local_gapped (reads parts bits extras) false (makes parts bits extras bonded levels kept) v p)
+      ∙ sym (local_gapped (reads_at parts bits extras) false (makes_at parts bits extras bonded levels kept) v p)
 
   -- each point of the chip has its level in its slot
   pub level_is : (p : Point) → Has (points parts) p → w p ≡ v p

@@ -4,10 +4,10 @@ use Rattle.std.proofs.lemmas.List.{get_or-replicate, length-replicate, length-ma
 use Rattle.ice_chip.specs.Database.{Parts}
 use Rattle.ice_chip.specs.declared.rows.Pad.{Pad}
 use Rattle.ice_bits.specs.Configuration.{Bits}
-use Rattle.ice_net.specs.declared.drive.Drive.{Drive}
+use Rattle.ice_net.specs.declared.driver.Drive.{Drive}
 use Rattle.ice_decode.specs.declared.point.Point.{Point}
-use Rattle.ice_decode.specs.Registers.{Store, stores}
-use Rattle.ice_decode.specs.Meaning.{point_level, drive_at, step}
+use Rattle.ice_decode.specs.Pads.{Store, stores}
+use Rattle.ice_decode.specs.Meaning.{point_level, drive_at, chip_step}
 use Rattle.ice_sim_sweep.specs.declared.parts.Memory.{Memory}
 use Rattle.ice_sim_sweep.specs.declared.parts.Feed.{Feed}
 use Rattle.ice_sim_sweep.specs.declared.parts.Feed.TheVariants.{Nothing}
@@ -161,10 +161,10 @@ module _ (parts : Parts) (bits : Bits) (extras : List (ℕ × ℕ × ℕ)) (bond
       pub run_after : IsChipRun parts bits extras bonded feeds plan next after
       run_after = rw (next_follows, after_last) last_run
 
-      pub state_after_is : state_of next ≡ (step parts bits extras bonded bonded (state_of memories) levels).0
+      pub state_after_is : state_of next ≡ (chip_step parts bits extras bonded bonded (state_of memories) levels).0
       state_after_is = ap state_of next_follows ∙ state_is parts bits bonded levels v memories run.remembers
 
-      pub out_after : (out : List Drive) → out ≡ map (tap_drive after) plan.taps.items → out ≡ (step parts bits extras bonded bonded (state_of memories) levels).1
+      pub out_after : (out : List Drive) → out ≡ map (tap_drive after) plan.taps.items → out ≡ (chip_step parts bits extras bonded bonded (state_of memories) levels).1
       out_after out is = is ∙ ap (λ l. map (tap_drive l) plan.taps.items) after_last ∙ out_is
 
   pub taps_long : length plan.taps.items ≡ length bonded

@@ -6,17 +6,16 @@ use Rattle.std.proofs.Math.Seq.{get_or-append_seam, set-append_seam}
 use Rattle.ice_base.specs.declared.number.TileAt.{TileAt}
 use Rattle.ice_chip.specs.Database.{Parts}
 use Rattle.ice_chip.specs.IsRead.{IsRead}
-use Rattle.ice_chip.specs.WireNames.{pad_output_name, input_clock_name, output_clock_name, in_out_enable_name}
+use Rattle.ice_chip.specs.Names.{pad_output_name, input_clock_name, output_clock_name, in_out_enable_name}
 use Rattle.ice_chip.specs.declared.rows.Pad.{Pad}
 use Rattle.ice_bits.specs.Configuration.{Bits}
 use Rattle.ice_bits.specs.Settings.{set_at}
 use Rattle.ice_net.specs.declared.kind.Reset.TheVariants as reset
 use Rattle.ice_decode.specs.declared.point.Point.{Point}
 use Rattle.ice_decode.specs.Cells.{has_flop, reset_of}
-use Rattle.ice_decode.specs.Pads.{pad_gives, pin_level}
-use Rattle.ice_decode.specs.Registers.{Store, CellStore, InputStore, OutputStore, stores, has_input_register, has_output_register}
+use Rattle.ice_decode.specs.Pads.{pad_gives, pin_level, Store, CellStore, InputStore, OutputStore, stores, has_input_register, has_output_register}
 use Rattle.ice_decode.specs.Faults.{IsOrderOf}
-use Rattle.ice_decode.specs.Meaning.{point_level, table_level, clock_level, flop_after, register_after, store_after, kept_after, clock_after, state_after, start}
+use Rattle.ice_decode.specs.Meaning.{point_level, table_level, clock_level, flop_after, register_after, store_after, store_kept_after, clock_after, state_after, chip_start}
 use Rattle.ice_sim_sweep.specs.declared.parts.Keeper.{Keeper}
 use Rattle.ice_sim_sweep.specs.declared.parts.Memory.{Memory}
 use Rattle.ice_sim_sweep.specs.declared.parts.Feed.{Feed}
@@ -44,7 +43,7 @@ module _ (parts : Parts) (bits : Bits) (bonded : List Pad) (levels : List Bool) 
 
   -- ---- the state, as the meaning has it
   kept_are : (stores : List Store) (memories : List Memory) → AreKept parts bits stores memories
-      → kept_levels (followed stores memories) ≡ map (kept_after parts bits bonded levels v) (zip stores (zip (kept_levels memories) (map (λ (memory : Memory). memory.clock) memories)))
+      → kept_levels (followed stores memories) ≡ map (store_kept_after parts bits bonded levels v) (zip stores (zip (kept_levels memories) (map (λ (memory : Memory). memory.clock) memories)))
   kept_are [] [] are = refl
   kept_are [] (memory ∷ memories) are = absurd are
   kept_are (s ∷ stores) [] are = absurd are
@@ -60,7 +59,7 @@ module _ (parts : Parts) (bits : Bits) (bonded : List Pad) (levels : List Bool) 
   pub state_is : (memories : List Memory) → AreKept parts bits (stores parts) memories → state_of (followed (stores parts) memories) ≡ state_after parts bits bonded levels v (state_of memories)
   state_is memories are =
       ap (λ kept. state_with kept (map (λ (memory : Memory). memory.clock) (followed (stores parts) memories))) (kept_are (stores parts) memories are)
-      ∙ ap (λ clocks. state_with (map (kept_after parts bits bonded levels v) (zip (stores parts) (zip (kept_levels memories) (map (λ (memory : Memory). memory.clock) memories)))) clocks)
+      ∙ ap (λ clocks. state_with (map (store_kept_after parts bits bonded levels v) (zip (stores parts) (zip (kept_levels memories) (map (λ (memory : Memory). memory.clock) memories)))) clocks)
       (clocks_are (stores parts) memories are)
 
   quiet_one : (b kept : Bool) (clock : Bool) → IsBlankUnless b (record { kept = b && kept; clock = cond b (Some clock) None })
@@ -107,7 +106,7 @@ clocks_blank : (stores : List Store) → map (λ (memory : Memory). memory.clock
 clocks_blank [] = refl
 clocks_blank (s ∷ stores) = ap (λ clocks. None ∷ clocks) (clocks_blank stores)
 
-pub state_blank : (parts : Parts) → state_of (replicate (length (stores parts)) blank) ≡ start parts
+pub state_blank : (parts : Parts) → state_of (replicate (length (stores parts)) blank) ≡ chip_start parts
 state_blank parts =
     ap (λ l. state_with l (map (λ (memory : Memory). memory.clock) (replicate (length (stores parts)) blank))) (levels_blank (stores parts))
     ∙ ap (λ l. state_with (map (λ (s : Store). false) (stores parts)) l) (clocks_blank (stores parts))

@@ -6,7 +6,7 @@ use Rattle.ice_chip.specs.declared.rows.Pad.{Pad}
 use Rattle.ice_bits.specs.Configuration.{Bits}
 use Rattle.ice_decode.specs.declared.point.Point.{Point}
 use Rattle.ice_decode.specs.declared.point.Point.TheVariants.{Wire, Carry}
-use Rattle.ice_decode.specs.Registers.{stores}
+use Rattle.ice_decode.specs.Pads.{stores}
 use Rattle.ice_decode.specs.Reads.{count_points}
 use Rattle.ice_decode.specs.Faults.{IsOrderOf}
 use Rattle.ice_decode.specs.Points.{HasWire}

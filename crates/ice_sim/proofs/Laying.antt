@@ -9,12 +9,11 @@ use Rattle.std.proofs.lemmas.Option.{same_Some}
 use Rattle.std.proofs.lemmas.Bool.{cases_lt, ltb-true}
 use Rattle.std.proofs.lemmas.Bool.Decides.{eqb_tells}
 use Rattle.ice_base.specs.declared.number.TileAt.{TileAt}
-use Rattle.ice_base_values.specs.Inputs.{present, reading}
+use Rattle.ice_base_values.specs.System.{present, reading}
 use Rattle.ice_base_values.specs.Order.{At, Has}
 use Rattle.ice_base_values.proofs.Places.{At_same, At_drop}
-use Rattle.ice_chip.specs.Database.{Parts}
+use Rattle.ice_chip.specs.Database.{Parts, same_pad}
 use Rattle.ice_chip.specs.Lookups.{gbufpin_of}
-use Rattle.ice_chip.specs.Places.{same_pad}
 use Rattle.ice_chip.specs.declared.rows.Pad.{Pad}
 use Rattle.ice_bits.specs.Configuration.{Bits}
 use Rattle.ice_bits.specs.Settings.{set_at}
@@ -25,16 +24,14 @@ use Rattle.ice_decode.specs.declared.driver.Driver.{Driver}
 use Rattle.ice_decode.specs.declared.driver.Driver.TheVariants as driver
 use Rattle.ice_decode.specs.declared.role.Role.{Role}
 use Rattle.ice_decode.specs.declared.role.Role.TheVariants.{Plain, Output, LookUp, CarryOut, PadInput, Global, CarryIn, ClockEnable}
-use Rattle.ice_decode.specs.Roles.{role_of}
-use Rattle.ice_decode.specs.Drivers.{driver as driver_of}
-use Rattle.ice_chip.specs.WireNames.{input_name}
+use Rattle.ice_decode.specs.Drivers.{role_of, driver as driver_of}
+use Rattle.ice_chip.specs.Names.{input_name}
 use Rattle.ice_decode.specs.Cells.{cells, has_carry, has_flop}
-use Rattle.ice_decode.specs.Reads.{count_points, at_pin, carry_into, global_feed, reads}
+use Rattle.ice_decode.specs.Reads.{count_points, at_pin, carry_into, global_feed, reads_at}
 use Rattle.ice_decode.specs.Direct.{takes_pad}
-use Rattle.ice_decode.specs.Pads.{is_enabled, pads}
-use Rattle.ice_decode.specs.Registers.{cell_store, pad_stores, stores, register_place, has_input_register}
+use Rattle.ice_decode.specs.Pads.{is_enabled, pads, cell_store, pad_stores, stores, register_place, has_input_register}
 use Rattle.ice_decode.specs.Faults.{IsOrderOf}
-use Rattle.ice_decode.specs.Meaning.{passes, makes}
+use Rattle.ice_decode.specs.Meaning.{passes, makes_at}
 use Rattle.ice_sim_sweep.specs.declared.parts.Feed.{Feed}
 use Rattle.ice_sim_sweep.specs.declared.parts.Feed.TheVariants.{Nothing, Kept, Made}
 use Rattle.ice_sim.specs.declared.points.PointSlot.{PointSlot}
@@ -213,7 +210,7 @@ reads_same bare v w (Some p ∷ inputs) same =
 -- the slot of a point has the level that the point makes of the levels in the slots of what it reads
 pub record Meets (parts : Parts) (bits : Bits) (extras : List (ℕ × ℕ × ℕ)) (bonded : List Pad) (l : Layout) (p : Point) : Type 0 where
   pub is : (levels kept values : List Bool) → length kept ≡ length (stores parts) → Obeys l.feeds levels kept values
-      → level_at values (slot_in parts l.slots p) ≡ makes parts bits extras bonded levels kept p (map (reading false (λ q. level_at values (slot_in parts l.slots q))) (reads parts bits extras p))
+      → level_at values (slot_in parts l.slots p) ≡ makes_at parts bits extras bonded levels kept p (map (reading false (λ q. level_at values (slot_in parts l.slots q))) (reads_at parts bits extras p))
 
 -- the slots of the first i points of the order
 pub record IsLaid (parts : Parts) (bits : Bits) (extras : List (ℕ × ℕ × ℕ)) (bonded : List Pad) (order : List Point) (i : ℕ) (l : Layout) : Type 0 where
@@ -257,10 +254,10 @@ module _ (parts : Parts) (bits : Bits) (extras : List (ℕ × ℕ × ℕ)) (bond
 
   -- what a point at place j reads has slots that a write for the point at place i, from j on, leaves
   reads_kept : (slots values : List ℕ) (i j s : ℕ) (p q : Point) → At order i p → At order j q → j ≤ i → (levels : List Bool)
-      → map (reading false (λ r. level_at levels (slot_in parts slots r))) (reads parts bits extras q)
-      ≡ map (reading false (λ r. level_at levels (slot_in parts (set slots (number parts p) s) r))) (reads parts bits extras q)
+      → map (reading false (λ r. level_at levels (slot_in parts slots r))) (reads_at parts bits extras q)
+      ≡ map (reading false (λ r. level_at levels (slot_in parts (set slots (number parts p) s) r))) (reads_at parts bits extras q)
   reads_kept slots values i j s p q a b le levels =
-      reads_same false (λ r. level_at levels (slot_in parts slots r)) (λ r. level_at levels (slot_in parts (set slots (number parts p) s) r)) (reads parts bits extras q)
+      reads_same false (λ r. level_at levels (slot_in parts slots r)) (λ r. level_at levels (slot_in parts (set slots (number parts p) s) r)) (reads_at parts bits extras q)
       (λ r has. let before = o.after j q r b has in
       ap (level_at levels) (sym (slot_other slots i before.0 s p r a before.2 (λ e. let lt : before.0 < j = before.1 in absurd (omega arith)))))
 
@@ -285,7 +282,7 @@ module _ (parts : Parts) (bits : Bits) (extras : List (ℕ × ℕ × ℕ)) (bond
       is = λ levels kept values kept_long obeys.
           ap (level_at values) (slot_other l.slots i j s p q at there (λ e. absurd (omega arith)))
           ∙ (laid_.meets j q there lt).is levels kept values kept_long (obeys_left l.feeds more levels kept values obeys)
-          ∙ ap (makes parts bits extras bonded levels kept q) (reads_kept l.slots [] i j s p q at there (omega arith) values);
+          ∙ ap (makes_at parts bits extras bonded levels kept q) (reads_kept l.slots [] i j s p q at there (omega arith) values);
     }
 
     -- and this one has its own
@@ -302,7 +299,7 @@ module _ (parts : Parts) (bits : Bits) (extras : List (ℕ × ℕ × ℕ)) (bond
           ∙ level levels kept values kept_long obeys zero_is one_is
           ∙ ap (slot_level parts bits l.slots values zero_is extras bonded levels kept kept_long one_is) (sym e)
           ∙ point_is parts bits l.slots values zero_is extras bonded levels kept kept_long one_is (length l.feeds) p
-          ∙ ap (makes parts bits extras bonded levels kept p) (reads_kept l.slots [] i i s p p at at (omega arith) values);
+          ∙ ap (makes_at parts bits extras bonded levels kept p) (reads_kept l.slots [] i i s p p at at (omega arith) values);
     }
 
     all_meet : (s : ℕ) (more : List Feed) → Meets parts bits extras bonded (record { slots = set l.slots here s; feeds = l.feeds ++ more }) p

@@ -5,10 +5,9 @@ use Rattle.std.specs.Option.{option_map_or}
 use Rattle.std.proofs.Math.ListN.{get_or-eq_default}
 use Rattle.std.proofs.lemmas.Bool.{ltb-false}
 use Rattle.ice_base.specs.declared.number.TileAt.{TileAt}
-use Rattle.ice_base_values.specs.Inputs.{reading}
-use Rattle.ice_chip.specs.Database.{Parts}
+use Rattle.ice_base_values.specs.System.{reading}
+use Rattle.ice_chip.specs.Database.{Parts, same_pad}
 use Rattle.ice_chip.specs.Lookups.{gbufpin_of}
-use Rattle.ice_chip.specs.Places.{same_pad}
 use Rattle.ice_chip.specs.declared.rows.Pad.{Pad}
 use Rattle.ice_bits.specs.Configuration.{Bits}
 use Rattle.ice_bits.specs.Settings.{set_at}
@@ -19,15 +18,13 @@ use Rattle.ice_decode.specs.declared.driver.Driver.{Driver}
 use Rattle.ice_decode.specs.declared.driver.Driver.TheVariants as driver
 use Rattle.ice_decode.specs.declared.role.Role.{Role}
 use Rattle.ice_decode.specs.declared.role.Role.TheVariants.{Plain, Output, LookUp, CarryOut, PadInput, Global, CarryIn, ClockEnable}
-use Rattle.ice_decode.specs.Roles.{role_of}
-use Rattle.ice_decode.specs.Drivers.{driver as driver_of}
+use Rattle.ice_decode.specs.Drivers.{role_of, driver as driver_of}
 use Rattle.ice_decode.specs.Cells.{logic_tiles, tile_place, has_carry, has_flop, table_entry, looked_up}
 use Rattle.ice_decode.specs.Direct.{takes_pad}
-use Rattle.ice_decode.specs.Reads.{at_pin, cell_inputs, carry_into, carry_inputs, global_feed, role_reads, driven_reads, reads}
-use Rattle.ice_decode.specs.Pads.{is_enabled, level_of, pad_gives}
-use Rattle.ice_decode.specs.Registers.{stores, kept_at, register_place, register_at, input_kept, has_input_register}
-use Rattle.ice_chip.specs.WireNames.{input_name}
-use Rattle.ice_decode.specs.Meaning.{passes, global_gives, role_makes, driven_makes, makes}
+use Rattle.ice_decode.specs.Reads.{at_pin, cell_inputs, carry_into, carry_inputs, global_feed, role_reads, driven_reads, reads_at}
+use Rattle.ice_decode.specs.Pads.{is_enabled, level_of, pad_gives, stores, kept_at, register_place, register_at, input_kept, has_input_register}
+use Rattle.ice_chip.specs.Names.{input_name}
+use Rattle.ice_decode.specs.Meaning.{passes, global_gives, role_makes, driven_makes, makes_at}
 use Rattle.ice_sim_sweep.specs.declared.parts.Feed.TheVariants.{Nothing, Kept, Made}
 use Rattle.ice_sim.specs.declared.points.PointSlot.{PointSlot}
 use Rattle.ice_sim.specs.declared.points.PointSlot.TheVariants.{Shared, Own}
@@ -200,7 +197,7 @@ module _ (parts : Parts) (bits : Bits) (slots : List ℕ) (values : List Bool) (
 
     -- what gives a point its level
     pub point_is : (next : ℕ) (p : Point)
-        → slot_level (point_slot parts bits extras bonded slots next p) ≡ makes parts bits extras bonded levels kept p (map (reading false v) (reads parts bits extras p))
+        → slot_level (point_slot parts bits extras bonded slots next p) ≡ makes_at parts bits extras bonded levels kept p (map (reading false v) (reads_at parts bits extras p))
     point_is next (Wire w) = driven_is next (role_of parts w.0) (driver_of parts bits w.0)
     point_is next (Carry t i) = of (has_carry parts bits t i)
       where

@@ -5,12 +5,11 @@ use Rattle.std.proofs.lemmas.List.{length-map}
 use Rattle.ice_base.specs.declared.number.TileAt.{TileAt}
 use Rattle.ice_chip.specs.Database.{Parts}
 use Rattle.ice_chip.specs.Lookups.{tile_of, is_io_kind}
-use Rattle.ice_chip.specs.declared.parts.TileLine.{TileLine}
+use Rattle.ice_chip.specs.declared.rows.TileLine.{TileLine}
 use Rattle.ice_chip.specs.declared.rows.Pad.{Pad}
 use Rattle.ice_chip.specs.declared.tile.Tile.{Tile}
 use Rattle.ice_decode.specs.Cells.{cells}
-use Rattle.ice_decode.specs.Pads.{pads_in, is_io_tile, io_tiles, pads}
-use Rattle.ice_decode.specs.Registers.{cell_store, pad_stores, stores}
+use Rattle.ice_decode.specs.Pads.{pads_in, is_io_tile, io_tiles, pads, cell_store, pad_stores, stores}
 use Rattle.ice_sim.specs.Layouts.{cell_stores}
 
 -- ---- tiles

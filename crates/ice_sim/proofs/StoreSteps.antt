@@ -7,8 +7,7 @@ use Rattle.ice_chip.specs.Database.{Parts}
 use Rattle.ice_chip.specs.declared.rows.Pad.{Pad}
 use Rattle.ice_bits.specs.Configuration.{Bits}
 use Rattle.ice_decode.specs.Cells.{cells}
-use Rattle.ice_decode.specs.Pads.{pads}
-use Rattle.ice_decode.specs.Registers.{Store, InputStore, OutputStore, cell_store, pad_stores, stores}
+use Rattle.ice_decode.specs.Pads.{pads, Store, InputStore, OutputStore, cell_store, pad_stores, stores}
 use Rattle.ice_sim_sweep.specs.declared.parts.Keeper.{Keeper}
 use Rattle.ice_sim_sweep.specs.declared.parts.Feed.{Feed}
 use Rattle.ice_sim.specs.Layouts.{cell_stores, store_keepers, store_feeds, next_slot, keepers_from, feeds_from}

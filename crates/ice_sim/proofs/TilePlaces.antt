@@ -1,24 +1,17 @@
 -- What a configured chip finds while it is compiled.
-use Rattle.std.proofs.Common.{◌≡◌, ℕ, suc, ◌+◌, Bool, true, false, cond, List, [], ◌∷◌, ◌++◌, Option, Some, None, refl, ap, sym, ◌∙◌, arith}
+use Rattle.std.proofs.Common.{◌≡◌, ℕ, suc, ◌+◌, Bool, true, false, cond, List, [], ◌∷◌, ◌++◌, Option, Some, None, refl, ap, ◌∙◌, arith}
 use Rattle.std.specs.Prelude.{option_map, position}
 use Rattle.std.specs.Map.{lookup}
 use Rattle.ice_base.specs.declared.number.TileAt.{TileAt}
-use Rattle.ice_chip.specs.Database.{Parts}
-use Rattle.ice_chip.specs.IsRead.{IsChip}
-use Rattle.ice_chip.specs.Places.{same_tile, same_pad}
+use Rattle.ice_chip.specs.Database.{same_tile, same_pad}
 use Rattle.ice_chip.specs.declared.rows.Pad.{Pad}
 use Rattle.ice_chip.proofs.Keys.{tile_turned, pad_turned}
-use Rattle.ice_bits.specs.Configuration.{Bits}
-use Rattle.ice_decode.specs.declared.driver.Driver.{Driver}
-use Rattle.ice_decode.specs.declared.driver.Driver.TheVariants.{Nothing, By, Several}
-use Rattle.ice_decode.specs.Drivers.{driver}
 use Rattle.ice_decode.specs.Cells.{tile_place}
 use Rattle.ice_decode.specs.Faults.{or_else}
 use Rattle.ice_base.proofs.Keys.{tile_same}
-use Rattle.ice_decode.proofs.Switches.{driver_between}
 use Rattle.ice_sim.specs.ChipSlots.{pad_place}
-use Rattle.ice_sim.specs.ConfiguredChips.{ComesFrom, put_place, with_place, with_places}
-use Rattle.ice_sim_sweep.proofs.Feeding.{position_cons}
+use Rattle.ice_sim.specs.ConfiguredChips.{put_place, with_place, with_places}
+use Rattle.ice_base_values.proofs.ListPlaces.{position_cons}
 
 -- ---- tiles
 lookup_push : (t u : TileAt) (k : ℕ) (entries : List (TileAt × ℕ))
@@ -85,9 +78,3 @@ pad_found (p ∷ bonded) pad =
     position_cons (same_pad pad) p bonded
     ∙ ap (λ o. cond (same_pad pad p) (Some 0) (option_map suc o)) (pad_found bonded pad)
     ∙ ap (λ b. cond b (Some 0) (option_map suc (pad_place bonded pad))) (pad_turned pad p)
-
--- ---- drivers
-pub comes_from : (parts : Parts) (bits : Bits) (w : ℕ) (d : Driver) → IsChip parts → d ≡ driver parts bits w → ComesFrom parts.wires d
-comes_from parts bits w Nothing chip e = tt
-comes_from parts bits w (By s) chip e = let between = driver_between parts bits w s chip.read (sym e) in between.source
-comes_from parts bits w (Several first second) chip e = tt

@@ -6,7 +6,7 @@ use Rattle.ice_chip.specs.declared.rows.Pad.{Pad}
 use Rattle.ice_bits.specs.Configuration.{Bits, Configuration}
 use Rattle.ice_net.specs.Meaning.{State}
 use Rattle.ice_decode.specs.declared.point.Point.{Point}
-use Rattle.ice_decode.specs.Registers.{Store, stores}
+use Rattle.ice_decode.specs.Pads.{Store, stores}
 use Rattle.ice_decode.specs.Faults.{IsOrderOf}
 use Rattle.ice_sim_sweep.specs.declared.parts.Feed.{Feed}
 use Rattle.ice_sim_sweep.specs.declared.parts.Feed.TheVariants.{Nothing}

@@ -3,10 +3,9 @@
 use Rattle.std.specs.Prelude.{ℕ, ◌+◌, ◌*◌, ◌==◌, nat_lt, Option, None, Some, List, [], ◌∷◌, map, length, option_map, if◌then◌else◌, codes, slice_index_or, unwrap_or}
 use Rattle.std.proofs.Common.{suc}
 use Rattle.ice_base.specs.declared.number.TileAt.{TileAt}
-use Rattle.ice_base_values.specs.Inputs.{reading}
-use Rattle.ice_chip.specs.Database.{Parts}
+use Rattle.ice_base_values.specs.System.{reading}
+use Rattle.ice_chip.specs.Database.{Parts, same_pad}
 use Rattle.ice_chip.specs.Lookups.{gbufpin_of}
-use Rattle.ice_chip.specs.Places.{same_pad}
 use Rattle.ice_chip.specs.declared.rows.Pad.{Pad}
 use Rattle.ice_bits.specs.Configuration.{Bits}
 use Rattle.ice_bits.specs.Settings.{set_at}
@@ -17,13 +16,11 @@ use Rattle.ice_decode.specs.declared.driver.Driver.{Driver}
 use Rattle.ice_decode.specs.declared.driver.Driver.TheVariants as driver
 use Rattle.ice_decode.specs.declared.role.Role.{Role}
 use Rattle.ice_decode.specs.declared.role.Role.TheVariants.{Plain, Output, LookUp, CarryOut, PadInput, Global, CarryIn, ClockEnable}
-use Rattle.ice_decode.specs.Roles.{role_of}
-use Rattle.ice_decode.specs.Drivers.{driver as driver_of}
+use Rattle.ice_decode.specs.Drivers.{role_of, driver as driver_of}
 use Rattle.ice_decode.specs.Cells.{logic_tiles, tile_place, has_carry, has_flop, table_entry}
 use Rattle.ice_decode.specs.Direct.{takes_pad}
 use Rattle.ice_decode.specs.Reads.{at_pin, cell_inputs, carry_inputs, global_feed}
-use Rattle.ice_decode.specs.Pads.{is_enabled}
-use Rattle.ice_decode.specs.Registers.{stores, register_place, has_input_register}
+use Rattle.ice_decode.specs.Pads.{is_enabled, stores, register_place, has_input_register}
 use Rattle.ice_decode.specs.Meaning.{passes}
 use Rattle.ice_sim_sweep.specs.declared.parts.Gate.{Gate}
 use Rattle.ice_sim_sweep.specs.declared.parts.Feed.{Feed}

@@ -1,19 +1,15 @@
 -- A configured chip while it is compiled, seen at the pads of a package.
-use Rattle.std.specs.Prelude.{◌≡◌, ℕ, ◌<◌, Option, None, Some, List, [], ◌∷◌, ◌++◌, length}
+use Rattle.std.specs.Prelude.{◌≡◌, ℕ, Option, None, Some, List, [], ◌∷◌, ◌++◌, length}
 use Rattle.std.specs.Map.{lookup}
 use Rattle.std.proofs.Common.{suc}
 use Rattle.ice_base.specs.declared.number.TileAt.{TileAt}
-use Rattle.ice_chip.specs.Database.{Parts}
+use Rattle.ice_chip.specs.Database.{Parts, same_tile}
 use Rattle.ice_chip.specs.IsRead.{IsChip}
-use Rattle.ice_chip.specs.Places.{same_tile}
 use Rattle.ice_chip.specs.declared.rows.Pad.{Pad}
 use Rattle.ice_bits.specs.Configuration.{Configuration}
-use Rattle.ice_decode.specs.declared.driver.Driver.{Driver}
-use Rattle.ice_decode.specs.declared.driver.Driver.TheVariants.{Nothing, By, Several}
 use Rattle.ice_decode.specs.Cells.{cells, logic_tiles}
-use Rattle.ice_decode.specs.Pads.{io_tiles, pads}
+use Rattle.ice_decode.specs.Pads.{io_tiles, pads, stores}
 use Rattle.ice_decode.specs.Refusals.{IsCircuitOf}
-use Rattle.ice_decode.specs.Registers.{stores}
 use Rattle.ice_sim.specs.declared.configured.ConfiguredChip.TheInside.{Inside}
 use Rattle.ice_sim.specs.declared.stores.Stores.{Stores}
 
@@ -25,12 +21,6 @@ pub record ConfiguredData : Type 0 where
 
 abbrev pub configured_view : Inside → ConfiguredData
 configured_view s = record { parts = s.chip.now; configuration = s.circuit.now.configuration; bonded = s.«package».now.pads.keys }
-
--- a row that drives a wire leads from one of so many wires
-abbrev pub ComesFrom : ℕ → Driver → Type 0
-ComesFrom wires Nothing = Unit {0}
-ComesFrom wires (By s) = s.source.0 < wires
-ComesFrom wires (Several first second) = Unit {0}
 
 -- ---- places of tiles
 -- the entries with the place of a tile, if it has none yet

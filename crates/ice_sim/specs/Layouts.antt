@@ -9,12 +9,11 @@ use Rattle.ice_bits.specs.Configuration.{Bits}
 use Rattle.ice_bits.specs.Settings.{set_at}
 use Rattle.ice_net.specs.declared.kind.Reset.TheVariants as reset
 use Rattle.ice_decode.specs.declared.point.Point.{Point}
-use Rattle.ice_chip.specs.WireNames.{pad_output_name, output_enable_name, input_clock_name, output_clock_name, in_out_enable_name}
+use Rattle.ice_chip.specs.Names.{pad_output_name, output_enable_name, input_clock_name, output_clock_name, in_out_enable_name}
 use Rattle.ice_decode.specs.Cells.{has_flop, reset_of}
 use Rattle.ice_decode.specs.Reads.{count_points}
-use Rattle.ice_decode.specs.Pads.{is_enabled, pin_type}
+use Rattle.ice_decode.specs.Pads.{is_enabled, pin_type, Store, CellStore, InputStore, OutputStore, cell_store, has_input_register, has_output_register}
 use Rattle.ice_decode.specs.Points.{HasWire}
-use Rattle.ice_decode.specs.Registers.{Store, CellStore, InputStore, OutputStore, cell_store, has_input_register, has_output_register}
 use Rattle.ice_sim_sweep.specs.declared.parts.Tap.{Tap}
 use Rattle.ice_sim_sweep.specs.declared.parts.Keeper.{Keeper}
 use Rattle.ice_sim_sweep.specs.declared.parts.Feed.{Feed}

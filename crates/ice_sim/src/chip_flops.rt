@@ -2,29 +2,17 @@
 ghost use Rattle.std.specs.Prelude.{◌≡◌, ◌++◌, [], length, OnOk};
 ghost use Rattle.std.specs.List.{flat_map};
 ghost use Rattle.ice_bits.specs.Configuration.{bits_of};
-ghost use Rattle.ice_decode.specs.Cells.{reset_by, reset_of};
-ghost use Rattle.ice_decode.specs.Registers.{cell_store};
+ghost use Rattle.ice_decode.specs.Cells.{reset_of};
+ghost use Rattle.ice_decode.specs.Pads.{cell_store};
 ghost use Rattle.ice_sim.specs.Layouts.{cell_stores, keeper_of, store_feeds, store_keepers, feeds_from, keepers_from};
 
 use crate::configured::ConfiguredChip;
 use crate::gates::{cell_gate, table};
 use crate::stores::small;
 use ice_base::{NoMemory, TileAt};
-use ice_decode::{cell_bit, has_flop, setting};
+use ice_decode::{cell_bit, has_flop, reset_by, setting};
 use ice_net::Reset;
 use ice_sim_sweep::{Feed, Keeper};
-
-// Which way a flip-flop is set or reset.
-fn reset_by(set: bool, at_once: bool) -> Reset
-    ensures { result ≡ reset_by set at_once }
-{
-    match (set, at_once) {
-        (false, false) => Reset::SyncReset,
-        (false, true) => Reset::AsyncReset,
-        (true, false) => Reset::SyncSet,
-        (true, true) => Reset::AsyncSet,
-    }
-}
 
 // Which way the flip-flop of a cell is set or reset.
 fn reset(configured: &ConfiguredChip<'_>, tile: TileAt, cell: u8) -> Reset

@@ -4,7 +4,7 @@ ghost use Rattle.ice_chip.specs.IsRead.{IsChip};
 ghost use Rattle.ice_bits.specs.Configuration.{bits_of};
 ghost use Rattle.ice_decode.specs.Faults.{IsOrderOf};
 ghost use Rattle.ice_decode.specs.Refusals.{IsCircuitOf};
-ghost use Rattle.ice_decode.specs.Registers.{stores};
+ghost use Rattle.ice_decode.specs.Pads.{stores};
 ghost use Rattle.ice_sim_sweep.specs.Arrays.{IsWired};
 ghost use Rattle.ice_sim.specs.Layouts.{layout_of, laid, bare_layout, keepers_from, feeds_from, output_feed, taps_from};
 ghost use Rattle.ice_sim.specs.ChipRuns.{IsCompiled};

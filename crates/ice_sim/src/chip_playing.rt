@@ -1,7 +1,7 @@
 //! What a configured chip shows for a list of levels, as a text.
 ghost use Rattle.std.specs.Prelude.{◌≡◌, ◌++◌, length, All, IfOk, OnOk};
 ghost use Rattle.ice_bits.specs.Configuration.{bits_of};
-ghost use Rattle.ice_decode.specs.Meaning.{shows, step};
+ghost use Rattle.ice_decode.specs.Meaning.{bits_show, chip_step};
 ghost use Rattle.ice_decode.specs.Refusals.{IsCircuitOf};
 ghost use Rattle.ice_sim_levels.specs.LevelTexts.{HasWidth};
 ghost use Rattle.ice_sim_levels.specs.DriveTexts.{drives_line, drives_text};
@@ -25,9 +25,9 @@ fn play_step(
     requires levels { length levels.now ≡ length run.old.bonded }
     requires drives { length drives.old ≡ length run.old.bonded }
     ensures run { run.new
-        ≡ with_state run.old (step run.old.parts (bits_of run.old.configuration) run.old.configuration.extras run.old.bonded run.old.bonded run.old.state levels.now).0 }
+        ≡ with_state run.old (chip_step run.old.parts (bits_of run.old.configuration) run.old.configuration.extras run.old.bonded run.old.bonded run.old.state levels.now).0 }
     ensures text { OnOk result (text.new.items
-        ≡ text.old.items ++ drives_line (step run.old.parts (bits_of run.old.configuration) run.old.configuration.extras run.old.bonded run.old.bonded run.old.state levels.now).1) }
+        ≡ text.old.items ++ drives_line (chip_step run.old.parts (bits_of run.old.configuration) run.old.configuration.extras run.old.bonded run.old.bonded run.old.state levels.now).1) }
 {
     run.step(levels, drives);
     put_drives(text, drives)
@@ -45,7 +45,7 @@ pub fn play_chip(
     requires circuit { IsCircuitOf chip.now circuit.now.configuration circuit.now }
     requires levels { All (HasWidth (length «package».now.pads.keys)) levels.now }
     ensures { IfOk result (λ text. text.items
-        ≡ drives_text (shows chip.now (bits_of circuit.now.configuration) circuit.now.configuration.extras «package».now.pads.keys «package».now.pads.keys levels.now)) }
+        ≡ drives_text (bits_show chip.now (bits_of circuit.now.configuration) circuit.now.configuration.extras «package».now.pads.keys «package».now.pads.keys levels.now)) }
 {
     let mut run = ChipRun::new(alloc, chip, circuit, package)?;
     let mut drives = vec![in alloc; Drive::Off; package.pads.len()]?;

@@ -2,7 +2,7 @@
 ghost use Rattle.std.specs.Prelude.{◌≡◌, ◌++◌, length, OnOk};
 ghost use Rattle.std.specs.List.{flat_map};
 ghost use Rattle.ice_bits.specs.Configuration.{bits_of};
-ghost use Rattle.ice_decode.specs.Registers.{pad_stores, InputStore, OutputStore};
+ghost use Rattle.ice_decode.specs.Pads.{pad_stores, InputStore, OutputStore};
 ghost use Rattle.ice_sim.specs.Layouts.{register_of, input_feed, store_feeds, store_keepers, feeds_from, keepers_from};
 
 use crate::configured::ConfiguredChip;

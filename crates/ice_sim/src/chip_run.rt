@@ -1,7 +1,7 @@
 //! Runs of configured chips, step by step.
 ghost use Rattle.std.specs.Prelude.{◌≡◌, length, IfOk};
 ghost use Rattle.ice_bits.specs.Configuration.{bits_of};
-ghost use Rattle.ice_decode.specs.Meaning.{start, step};
+ghost use Rattle.ice_decode.specs.Meaning.{chip_start, chip_step};
 ghost use Rattle.ice_decode.specs.Refusals.{IsCircuitOf};
 ghost use Rattle.ice_sim.specs.ChipRuns.{with_state};
 
@@ -53,7 +53,7 @@ impl<'a> ChipRun<'a> {
     ) -> Result<ChipRun<'a>, NoMemory>
         requires { IsCircuitOf chip.now circuit.now.configuration circuit.now }
         ensures { IfOk result (λ run. run
-            ≡ record { parts = chip.now; configuration = circuit.now.configuration; bonded = «package».now.pads.keys; state = start chip.now }) }
+            ≡ record { parts = chip.now; configuration = circuit.now.configuration; bonded = «package».now.pads.keys; state = chip_start chip.now }) }
     {
         let stores = chip_stores(alloc, chip)?;
         let (plan, values) = compile_chip(alloc, chip, circuit, package, &stores)?;
@@ -74,9 +74,9 @@ impl<'a> ChipRun<'a> {
         requires levels { length levels.now ≡ length self.old.bonded }
         requires out { length out.old ≡ length self.old.bonded }
         ensures run { self.new
-            ≡ with_state self.old (step self.old.parts (bits_of self.old.configuration) self.old.configuration.extras self.old.bonded self.old.bonded self.old.state levels.now).0 }
+            ≡ with_state self.old (chip_step self.old.parts (bits_of self.old.configuration) self.old.configuration.extras self.old.bonded self.old.bonded self.old.state levels.now).0 }
         ensures out { out.new
-            ≡ (step self.old.parts (bits_of self.old.configuration) self.old.configuration.extras self.old.bonded self.old.bonded self.old.state levels.now).1 }
+            ≡ (chip_step self.old.parts (bits_of self.old.configuration) self.old.configuration.extras self.old.bonded self.old.bonded self.old.state levels.now).1 }
     {
         sweep(
             &self.plan,

@@ -5,10 +5,10 @@ ghost use Rattle.ice_decode.specs.Drivers.{driver};
 ghost use Rattle.ice_decode.specs.Refusals.{IsCircuitOf};
 ghost use Rattle.ice_decode.specs.Cells.{logic_tiles, tile_place};
 ghost use Rattle.ice_decode.specs.Direct.{takes_pad};
-ghost use Rattle.ice_decode.specs.Pads.{io_tiles};
-ghost use Rattle.ice_decode.specs.Registers.{register_place};
+ghost use Rattle.ice_decode.specs.Pads.{io_tiles, register_place};
+ghost use Rattle.ice_decode.specs.Tables.{ComesFrom};
 ghost use Rattle.ice_sim.specs.ChipSlots.{pad_place, cell_place, number, slot_in, pin_slot, pad_register};
-ghost use Rattle.ice_sim.specs.ConfiguredChips.{ComesFrom, AreStoresOf, with_place, with_places};
+ghost use Rattle.ice_sim.specs.ConfiguredChips.{AreStoresOf, with_place, with_places};
 
 use crate::stores::{Stores, io_tiles, small};
 use ice_base::{NoMemory, TileAt, WireNo};
@@ -140,7 +140,7 @@ impl<'a> ConfiguredChip<'a> {
     }
 
     /// What drives a wire of the chip.
-    #[tactic(auto, using(ice_decode::proofs::DriverTables::driver_within, ice_decode::proofs::DriverTables::driver_found, crate::proofs::TilePlaces::comes_from))]
+    #[tactic(auto, using(ice_decode::proofs::DriverTables::driver_within, ice_decode::proofs::DriverTables::driver_found, ice_decode::proofs::Switches::comes_from))]
     pub(crate) fn driver(&self, wire: WireNo) -> Driver
         requires { wire.0 < self.now.parts.wires }
         ensures driver { result ≡ driver self.now.parts (bits_of self.now.configuration) wire.0 }

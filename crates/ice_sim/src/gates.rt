@@ -1,10 +1,10 @@
 //! The tables of a configured chip, over slots.
 ghost use Rattle.std.specs.Prelude.{◌≡◌, ◌<◌, ◌∷◌, [], map, if◌then◌else◌};
-ghost use Rattle.ice_base_values.specs.Inputs.{reading};
+ghost use Rattle.ice_base_values.specs.System.{reading};
 ghost use Rattle.ice_bits.specs.Configuration.{bits_of};
 ghost use Rattle.ice_net.specs.Meaning.{number_of};
 ghost use Rattle.ice_decode.specs.Cells.{cell_bit};
-ghost use Rattle.ice_chip.specs.WireNames.{input_name};
+ghost use Rattle.ice_chip.specs.Names.{input_name};
 ghost use Rattle.ice_decode.specs.Reads.{carry_into};
 ghost use Rattle.ice_sim.specs.ChipSlots.{slot_in, pin_slot, table_of, cell_gate, carry_gate};
 

@@ -1,9 +1,8 @@
 //! What gives each point of a configured chip its level.
 ghost use Rattle.std.specs.Prelude.{◌≡◌, ◌<◌, [], codes, if◌then◌else◌};
-ghost use Rattle.ice_base_values.specs.Inputs.{reading};
+ghost use Rattle.ice_base_values.specs.System.{reading};
 ghost use Rattle.ice_bits.specs.Configuration.{bits_of};
-ghost use Rattle.ice_decode.specs.Drivers.{driver};
-ghost use Rattle.ice_decode.specs.Roles.{role_of};
+ghost use Rattle.ice_decode.specs.Drivers.{driver, role_of};
 ghost use Rattle.ice_decode.specs.Reads.{global_feed};
 ghost use Rattle.ice_decode.specs.Points.{HasWire};
 ghost use Rattle.ice_decode.specs.Meaning.{passes};

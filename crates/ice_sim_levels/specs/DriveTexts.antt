@@ -1,7 +1,7 @@
 -- Texts of drives: for each step one line, with one byte for each port.
 use Rattle.std.specs.Prelude.{ℕ, List, [], ◌∷◌, ◌++◌, map}
-use Rattle.ice_net.specs.declared.drive.Drive.{Drive}
-use Rattle.ice_net.specs.declared.drive.Drive.TheVariants.{Off, Low, High}
+use Rattle.ice_net.specs.declared.driver.Drive.{Drive}
+use Rattle.ice_net.specs.declared.driver.Drive.TheVariants.{Off, Low, High}
 
 -- `.`, `0` or `1`
 abbrev pub drive_byte : Drive → ℕ

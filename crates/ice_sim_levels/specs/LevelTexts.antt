@@ -1,7 +1,6 @@
 -- Level texts: for each step one line of one word, which has a digit for each port.
 use Rattle.std.specs.Prelude.{◌≡◌, ℕ, Bool, true, false, ◌==◌, ◌&&◌, nat_lt, List, [], ◌∷◌, ◌++◌, length, map, Option, Some, None, Result, Ok, Err, if◌then◌else◌}
-use Rattle.ice_base.specs.Text.{lines, numbered, words}
-use Rattle.ice_base.specs.Comments.{uncommented}
+use Rattle.ice_base.specs.Text.{lines, numbered, words, uncommented}
 use Rattle.ice_base.specs.Lists.{all_known}
 use Rattle.ice_sim_levels.specs.declared.fault.LevelFault.{LevelFault}
 use Rattle.ice_sim_levels.specs.declared.fault.LevelFault.TheVariants.{BadLine, NoMemory}

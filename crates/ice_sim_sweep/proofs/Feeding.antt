@@ -1,26 +1,25 @@
 -- What a signal's driver makes of levels is what the signal is compiled to.
-use Rattle.std.proofs.Common.{◌≡◌, ℕ, zero, suc, ◌+◌, ◌≤◌, Bool, true, false, cond, List, [], ◌∷◌, length, map, get_or, Option, Some, None, refl, ap, sym, ◌∙◌, subst, arith, inl, inr, leb}
-use Rattle.std.specs.Prelude.{option_map, slice_get, slice_index_or, position}
+use Rattle.std.proofs.Common.{◌≡◌, ℕ, zero, suc, ◌≤◌, Bool, true, false, cond, List, [], ◌∷◌, length, map, get_or, Option, Some, None, refl, ap, sym, ◌∙◌, subst, arith}
+use Rattle.std.specs.Prelude.{option_map, slice_get, slice_index_or}
 use Rattle.std.specs.Option.{option_map_or}
-use Rattle.std.specs.List.{position_or_len}
 use Rattle.std.proofs.lemmas.List.{length-map}
 use Rattle.std.proofs.lemmas.Option.{slice_get_within, get_or_from_slice_get, slice_get-map, same_Some}
-use Rattle.std.proofs.lemmas.Bool.{lt-ltb, eqb-true, eq-eqb}
-use Rattle.std.proofs.lemmas.Bool.Decides.{leb_tells}
+use Rattle.std.proofs.lemmas.Bool.{eqb-true, eq-eqb}
 use Rattle.ice_base.specs.declared.number.SignalNo.{SignalNo}
 use Rattle.ice_base_values.specs.Order.{At}
-use Rattle.ice_base_values.specs.Inputs.{reading}
+use Rattle.ice_base_values.specs.System.{reading}
+use Rattle.ice_base_values.proofs.ListPlaces.{position_cons}
 use Rattle.ice_net.specs.declared.cell.Cell.{Cell}
 use Rattle.ice_net.specs.declared.kind.CellKind.{CellKind}
 use Rattle.ice_net.specs.declared.kind.CellKind.TheVariants.{Lut, Cover, Carry, Flop, PadCell, Global}
 use Rattle.ice_net.specs.declared.port.Port.{Port}
 use Rattle.ice_net.specs.declared.port.Way.TheVariants.{Input, Output, Both}
-use Rattle.ice_net.specs.declared.driver.Driver.{Driver}
-use Rattle.ice_net.specs.declared.driver.Driver.TheVariants as driver
+use Rattle.ice_net.specs.declared.driver.SignalDriver.{SignalDriver}
+use Rattle.ice_net.specs.declared.driver.SignalDriver.TheVariants as driver
 use Rattle.ice_net.specs.NetlistData.{NetlistData, is_at, port_at}
 use Rattle.ice_net.specs.Formed.{IsFormed, IsFormedCell, IsFormedKind}
 use Rattle.ice_net.specs.Kinds.{ins_count}
-use Rattle.ice_net.specs.Drivers.{number, numbers, is_signal, place_of, is_there, pin_by, pin_of, has_buffer, pad_by, pad_of, pads, outputs, driver_from, driver_of}
+use Rattle.ice_net.specs.Drivers.{signal_number, numbers, is_signal, place_of, is_there, pin_by, pin_of, has_buffer, pad_by, pad_of, pad_signals, outputs, driver_from, driver_of}
 use Rattle.ice_net.specs.Meaning.{number_of, table_bit, majority, level_by, pad_level, reads_by, makes_by, cell_reads, reads, makes}
 use Rattle.ice_sim_sweep.specs.declared.parts.Gate.{Gate}
 use Rattle.ice_sim_sweep.specs.declared.parts.Feed.TheVariants.{Made}
@@ -61,7 +60,7 @@ abbrev pub inputs_in : List Bool → List (Option SignalNo) → List Bool
 inputs_in values ins = map (read_in values) (numbers ins)
 
 module _ (values : List Bool) (signals : ℕ) (zero_is : get_or values signals false ≡ false) where
-  slot_level : (input : Option SignalNo) → level_at values (slot_of signals input) ≡ read_in values (number input)
+  slot_level : (input : Option SignalNo) → level_at values (slot_of signals input) ≡ read_in values (signal_number input)
   slot_level None = zero_is
   slot_level (Some signal) = refl
 
@@ -83,7 +82,7 @@ module _ (values : List Bool) (signals : ℕ) (zero_is : get_or values signals f
   gate_makes : (ins : List (Option SignalNo)) (table s : ℕ) → length ins ≤ 4
       → table_bit table (number_of (inputs_in values ins)) ≡ gate_level values (gate_of signals table ins s)
   gate_makes ins table s le =
-      let long : length (inputs_in values ins) ≡ length ins = length-map (numbers ins) (read_in values) ∙ length-map ins number in
+      let long : length (inputs_in values ins) ≡ length ins = length-map (numbers ins) (read_in values) ∙ length-map ins signal_number in
       sym (gate_number ins table s ∙ ap (table_bit table) (four (inputs_in values ins) (omega arith)))
 
   majority_makes : (xs : List Bool) → length xs ≡ 3
@@ -100,22 +99,6 @@ module _ (values : List Bool) (signals : ℕ) (zero_is : get_or values signals f
   first_makes (a ∷ b ∷ xs) e = absurd (omega arith)
 
 -- ---- pads
-shifted : (k l : ℕ) → cond (leb (suc (1 + k)) (suc l)) (Some (1 + k)) None ≡ option_map suc (cond (leb (suc k) l) (Some k) None)
-shifted k l = elim (leb_tells (suc k) l) [
-  | inl hit ↦ elim (leb_tells (suc (1 + k)) (suc l)) [
-    | inl also ↦ rw (hit.0, also.0) (let e : 1 + k ≡ suc k = omega arith in ap Some e)
-    | inr never ↦ absurd (omega (arith, hit.1, never.1))
-  ]
-  | inr miss ↦ elim (leb_tells (suc (1 + k)) (suc l)) [ inl never ↦ absurd (omega (arith, miss.1, never.1)) | inr also ↦ rw (miss.0, also.0) refl ]
-]
-
-pub position_cons : {X : Type 0} (p : X → Bool) (x : X) (xs : List X) → position p (x ∷ xs) ≡ cond (p x) (Some 0) (option_map suc (position p xs))
-position_cons p x xs = of (p x) refl
-  where
-    of : (b : Bool) → p x ≡ b → position p (x ∷ xs) ≡ cond b (Some 0) (option_map suc (position p xs))
-    of true e = rw e (rw (lt-ltb 0 (suc (length xs)) (omega arith)) refl)
-    of false e = rw e (shifted (position_or_len p xs) (length xs))
-
 -- a signal at an SB_IO is driven by its first port's pad, if it is a port
 pad_stands : (cells : List Cell) (s : ℕ) → has_buffer cells s ≡ true → (port : Port) → is_signal s (pad_of cells port) ≡ is_at s port
 pad_stands cells s has port = by port.way
@@ -164,7 +147,7 @@ module _ (n : NetlistData) (levels kept values : List Bool) (formed : IsFormed n
   pad_makes i cell at (Some pin) e =
       let there : At (map pin_of n.cells) i (Some pin) = slice_get-map pin_of n.cells i ∙ ap (option_map pin_of) at ∙ ap Some e in
       let has : has_buffer n.cells pin.0 ≡ true = there_at pin.0 (map pin_of n.cells) i pin there refl in
-      ap (level_by levels) (sym (pad_place n.cells pin.0 has n.ports)) ∙ placed (place_of pin.0 (pads n)) (place_of pin.0 (outputs n))
+      ap (level_by levels) (sym (pad_place n.cells pin.0 has n.ports)) ∙ placed (place_of pin.0 (pad_signals n)) (place_of pin.0 (outputs n))
 
   kind_makes : (s i : ℕ) (kind : CellKind) (ins outs : List (Option SignalNo)) (pad : Bool) → length ins ≡ ins_count kind → IsFormedKind (length n.names) kind ins outs
       → pad ≡ feed_level levels kept values (pin_feed n (pin_by kind ins))
@@ -172,12 +155,12 @@ module _ (n : NetlistData) (levels kept values : List Bool) (formed : IsFormed n
   kind_makes s i (Lut table) ins outs pad long ok padded = gate_makes values (length n.names) zero_is ins table s (omega arith)
   kind_makes s i (Cover table width) ins outs pad long ok padded = gate_makes values (length n.names) zero_is ins table s (let le = ok.narrow in omega arith)
   kind_makes s i Carry ins outs pad long ok padded =
-      majority_makes values (length n.names) zero_is (inputs_in values ins) (length-map (numbers ins) (read_in values) ∙ length-map ins number ∙ long)
+      majority_makes values (length n.names) zero_is (inputs_in values ins) (length-map (numbers ins) (read_in values) ∙ length-map ins signal_number ∙ long)
       ∙ sym (gate_number values (length n.names) zero_is ins majority_table s)
   kind_makes s i (Flop falling enable reset) ins outs pad long ok padded = refl
   kind_makes s i (PadCell pin_type pullup) ins outs pad long ok padded = padded
   kind_makes s i Global ins outs pad long ok padded =
-      first_makes values (length n.names) zero_is (inputs_in values ins) (length-map (numbers ins) (read_in values) ∙ length-map ins number ∙ long)
+      first_makes values (length n.names) zero_is (inputs_in values ins) (length-map (numbers ins) (read_in values) ∙ length-map ins signal_number ∙ long)
       ∙ sym (gate_number values (length n.names) zero_is ins first_table s)
 
   cell_formed : (i : ℕ) (cell : Cell) → At n.cells i cell → IsFormedCell (length n.names) cell
@@ -193,7 +176,7 @@ module _ (n : NetlistData) (levels kept values : List Bool) (formed : IsFormed n
       let ok = cell_formed i cell at in
       kind_makes s i cell.kind cell.ins cell.outs (pad_level n.ports levels (pin_of cell)) ok.ins_long ok.kind (pad_makes i cell at (pin_of cell) refl)
 
-  driver_makes : (s : ℕ) (d : Driver) → makes n levels kept d (map (read_in values) (reads n d)) ≡ feed_level levels kept values (driver_feed n s d)
+  driver_makes : (s : ℕ) (d : SignalDriver) → makes n levels kept d (map (read_in values) (reads n d)) ≡ feed_level levels kept values (driver_feed n s d)
   driver_makes s driver.Nothing = refl
   driver_makes s (driver.Pad k) = refl
   driver_makes s (driver.Output i) = cell_makes s i (slice_get n.cells i) refl
@@ -206,7 +189,7 @@ module _ (n : NetlistData) (levels kept values : List Bool) (formed : IsFormed n
 pub gate_out : (n : NetlistData) (s : ℕ) (gate : Gate) → feed_of n s ≡ Made gate → gate.out ≡ s
 gate_out n s gate e = by (driver_of n s) e
   where
-    pin : (d : Driver) → pad_feed d ≡ Made gate → gate.out ≡ s
+    pin : (d : SignalDriver) → pad_feed d ≡ Made gate → gate.out ≡ s
     pin driver.Nothing e = cc
     pin (driver.Pad k) e = cc
     pin (driver.Output i) e = cc
@@ -230,7 +213,7 @@ gate_out n s gate e = by (driver_of n s) e
     cells i None e = cc
     cells i (Some cell) e = kinds i cell.kind cell.ins e
 
-    by : (d : Driver) → driver_feed n s d ≡ Made gate → gate.out ≡ s
+    by : (d : SignalDriver) → driver_feed n s d ≡ Made gate → gate.out ≡ s
     by driver.Nothing e = cc
     by (driver.Pad k) e = cc
     by (driver.Output i) e = cells i (slice_get n.cells i) e

@@ -8,7 +8,7 @@ use Rattle.ice_net.specs.declared.kind.CellKind.{CellKind}
 use Rattle.ice_net.specs.declared.kind.CellKind.TheVariants.{Lut, Cover, Carry, Flop, PadCell, Global}
 use Rattle.ice_net.specs.Formed.{IsBelow, IsFormedCell}
 use Rattle.ice_net.specs.Drives.{at_input}
-use Rattle.ice_net.specs.Flops.{is_edge, fired}
+use Rattle.ice_net.specs.Kinds.{is_edge, fired}
 use Rattle.ice_net.specs.Meaning.{State, enable_level, set_level, kept_by, clock_by, kept_after, clocks_after}
 use Rattle.ice_sim_sweep.specs.declared.parts.Keeper.{Keeper}
 use Rattle.ice_sim_sweep.specs.declared.parts.Memory.{Memory}

@@ -1,12 +1,12 @@
 -- One step of a compiled netlist is one step of its meaning.
-use Rattle.std.proofs.Common.{◌≡◌, ℕ, ◌+◌, ◌<◌, ◌≤◌, Bool, true, false, List, [], ◌∷◌, ◌++◌, length, map, replicate, Option, refl, ap, sym, ◌∙◌, subst, arith, length-append, take, drop, append_assoc, append-nil, drop_of_length-le}
+use Rattle.std.proofs.Common.{◌≡◌, ℕ, ◌+◌, ◌<◌, ◌≤◌, Bool, true, false, List, [], ◌∷◌, ◌++◌, length, map, replicate, Option, refl, ap, sym, ◌∙◌, subst, arith, length-append, append_assoc, append-nil}
 use Rattle.std.specs.List.{flat_map}
-use Rattle.std.proofs.lemmas.List.{get_or-replicate, get_or_append_left, length-replicate, length-map, take_all}
+use Rattle.std.proofs.lemmas.List.{get_or-replicate, get_or_append_left, length-replicate, length-map}
 use Rattle.std.proofs.Math.Seq.{get_or-append_seam}
 use Rattle.ice_base_values.specs.Order.{At}
-use Rattle.ice_base_values.specs.Machine as machine
+use Rattle.ice_base_values.specs.System.{machine_shows}
 use Rattle.ice_net.specs.declared.cell.Cell.{Cell}
-use Rattle.ice_net.specs.declared.drive.Drive.{Drive}
+use Rattle.ice_net.specs.declared.driver.Drive.{Drive}
 use Rattle.ice_net.specs.NetlistData.{NetlistData}
 use Rattle.ice_net.specs.Drives.{port_drive}
 use Rattle.ice_net.specs.Meaning.{State, step, start, signal_value, kept_after}
@@ -171,25 +171,19 @@ state_start n =
     ∙ ap (λ l. state_of_lists (map (λ (cell : Cell). false) n.cells) l) (clocks_blank n.cells)
 
 -- ---- steps in a row
--- a slice that a Vec lent, after a write
-pub written : {X : Type 0} (len : ℕ) (xs next : List X) → length next ≡ length xs → len ≡ length xs → take len (next ++ drop (length next) xs) ≡ next
-written len xs next same long =
-    let none : drop (length next) xs ≡ [] = drop_of_length-le xs (omega arith) in
-    rw (none, append-nil next) (take_all len next (omega arith))
-
 -- one line more was told
 pub told_more : (n : NetlistData) (run next : NetlistData × State) (levels : List Bool) (left rest : List (List Bool)) (text longer all : List ℕ) → run.0 ≡ n → left ≡ levels ∷ rest
     → next ≡ (run.0, (step run.0 run.1 levels).0) → longer ≡ text ++ drives_line (step run.0 run.1 levels).1
-    → all ≡ text ++ drives_text (machine.shows (step n) run.1 left) → all ≡ longer ++ drives_text (machine.shows (step n) next.1 rest)
+    → all ≡ text ++ drives_text (machine_shows (step n) run.1 left) → all ≡ longer ++ drives_text (machine_shows (step n) next.1 rest)
 told_more n run next levels left rest text longer all run_is left_is next_is longer_is told =
     let line : text ++ drives_line (step n run.1 levels).1 ≡ longer = sym (longer_is ∙ ap (λ (m : NetlistData). text ++ drives_line (step m run.1 levels).1) run_is) in
     let state : (step n run.1 levels).0 ≡ next.1 = sym (ap (λ (r : NetlistData × State). r.1) next_is ∙ ap (λ (m : NetlistData). (step m run.1 levels).0) run_is) in
     told
-    ∙ ap (λ l. text ++ drives_text (machine.shows (step n) run.1 l)) left_is
-    ∙ sym (append_assoc text (drives_line (step n run.1 levels).1) (drives_text (machine.shows (step n) (step n run.1 levels).0 rest)))
-    ∙ ap (λ t. t ++ drives_text (machine.shows (step n) (step n run.1 levels).0 rest)) line
-    ∙ ap (λ s. longer ++ drives_text (machine.shows (step n) s rest)) state
+    ∙ ap (λ l. text ++ drives_text (machine_shows (step n) run.1 l)) left_is
+    ∙ sym (append_assoc text (drives_line (step n run.1 levels).1) (drives_text (machine_shows (step n) (step n run.1 levels).0 rest)))
+    ∙ ap (λ t. t ++ drives_text (machine_shows (step n) (step n run.1 levels).0 rest)) line
+    ∙ ap (λ s. longer ++ drives_text (machine_shows (step n) s rest)) state
 
 -- all was told
-pub told_all : (n : NetlistData) (state : State) (left : List (List Bool)) (text all : List ℕ) → left ≡ [] → all ≡ text ++ drives_text (machine.shows (step n) state left) → text ≡ all
-told_all n state left text all none told = sym (told ∙ ap (λ l. text ++ drives_text (machine.shows (step n) state l)) none ∙ append-nil text)
+pub told_all : (n : NetlistData) (state : State) (left : List (List Bool)) (text all : List ℕ) → left ≡ [] → all ≡ text ++ drives_text (machine_shows (step n) state left) → text ≡ all
+told_all n state left text all none told = sym (told ∙ ap (λ l. text ++ drives_text (machine_shows (step n) state l)) none ∙ append-nil text)

@@ -6,9 +6,9 @@ use Rattle.std.proofs.lemmas.Bool.{cases_lt}
 use Rattle.std.proofs.lemmas.Option.{slice_get_within, get_or_from_slice_get}
 use Rattle.ice_base.specs.declared.number.SignalNo.{SignalNo}
 use Rattle.ice_base_values.specs.Order.{At}
-use Rattle.ice_base_values.specs.Inputs.{reading}
+use Rattle.ice_base_values.specs.System.{reading}
 use Rattle.ice_net.specs.declared.cell.Cell.{Cell}
-use Rattle.ice_net.specs.declared.drive.Drive.TheVariants.{Off}
+use Rattle.ice_net.specs.declared.driver.Drive.TheVariants.{Off}
 use Rattle.ice_net.specs.declared.kind.CellKind.{CellKind}
 use Rattle.ice_net.specs.declared.kind.CellKind.TheVariants.{Lut, Cover, Carry, Flop, PadCell, Global}
 use Rattle.ice_net.specs.declared.port.Port.{Port}

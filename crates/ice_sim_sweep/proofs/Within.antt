@@ -13,11 +13,11 @@ use Rattle.ice_net.specs.declared.kind.CellKind.TheVariants.{Lut, Cover, Carry, 
 use Rattle.ice_net.specs.declared.port.Port.{Port}
 use Rattle.ice_net.specs.declared.port.Way.{Way}
 use Rattle.ice_net.specs.declared.port.Way.TheVariants.{Input, Output, Both}
-use Rattle.ice_net.specs.declared.driver.Driver.{Driver}
-use Rattle.ice_net.specs.declared.driver.Driver.TheVariants as driver
+use Rattle.ice_net.specs.declared.driver.SignalDriver.{SignalDriver}
+use Rattle.ice_net.specs.declared.driver.SignalDriver.TheVariants as driver
 use Rattle.ice_net.specs.NetlistData.{NetlistData}
 use Rattle.ice_net.specs.Formed.{IsBelow, IsFormed, IsFormedCell, IsPortBelow}
-use Rattle.ice_net.specs.Drivers.{is_signal, place_of, pad_of, pads, outputs, driver_from, driver_of, buffer_at}
+use Rattle.ice_net.specs.Drivers.{is_signal, place_of, pad_of, pad_signals, outputs, driver_from, driver_of, buffer_at}
 use Rattle.ice_net.specs.Drives.{output_type, enabled_type}
 use Rattle.ice_sim_sweep.specs.declared.parts.Gate.{Gate}
 use Rattle.ice_sim_sweep.specs.declared.plan.Plan.{Plan}
@@ -51,19 +51,19 @@ place_within s (x ∷ list) k e = of (is_signal s x) e (λ m f. place_within s l
     of false f rec = next (place_of s list) f rec
 
 module _ (n : NetlistData) where
-  pad_within : (s k : ℕ) → (p o : Option ℕ) → place_of s (pads n) ≡ p → driver_from p o ≡ driver.Pad k → k < length n.ports
+  pad_within : (s k : ℕ) → (p o : Option ℕ) → place_of s (pad_signals n) ≡ p → driver_from p o ≡ driver.Pad k → k < length n.ports
   pad_within s k None None e f = cc
   pad_within s k None (Some i) e f = cc
   pad_within s k (Some m) o e f =
       let same : m ≡ k = cc in
-      let lt = place_within s (pads n) m e in
-      let long : length (pads n) ≡ length n.ports = length-map n.ports (pad_of n.cells) in
+      let lt = place_within s (pad_signals n) m e in
+      let long : length (pad_signals n) ≡ length n.ports = length-map n.ports (pad_of n.cells) in
       omega arith
 
   driver_within : (s k : ℕ) → driver_of n s ≡ driver.Pad k → k < length n.ports
-  driver_within s k e = pad_within s k (place_of s (pads n)) (place_of s (outputs n)) refl e
+  driver_within s k e = pad_within s k (place_of s (pad_signals n)) (place_of s (outputs n)) refl e
 
-  pin_within : (s k : ℕ) (d : Driver) → driver_of n s ≡ d → port_in (pad_feed d) ≡ Some k → k < length n.ports
+  pin_within : (s k : ℕ) (d : SignalDriver) → driver_of n s ≡ d → port_in (pad_feed d) ≡ Some k → k < length n.ports
   pin_within s k driver.Nothing e f = cc
   pin_within s k (driver.Pad m) e f = let same : m ≡ k = same_Some m k f in driver_within s k (e ∙ ap driver.Pad same)
   pin_within s k (driver.Output i) e f = cc
@@ -84,12 +84,12 @@ module _ (n : NetlistData) where
   port_cell s i k None e = cc
   port_cell s i k (Some cell) e = port_kind s i k cell.kind cell.ins e
 
-  port_driver : (s k : ℕ) (d : Driver) → driver_of n s ≡ d → port_in (driver_feed n s d) ≡ Some k → k < length n.ports
+  port_driver : (s k : ℕ) (d : SignalDriver) → driver_of n s ≡ d → port_in (driver_feed n s d) ≡ Some k → k < length n.ports
   port_driver s k driver.Nothing e f = cc
   port_driver s k (driver.Pad m) e f = let same : m ≡ k = same_Some m k f in driver_within s k (e ∙ ap driver.Pad same)
   port_driver s k (driver.Output i) e f = port_cell s i k (slice_get n.cells i) f
 
-  kept_pin : (d : Driver) (k : ℕ) → kept_in (pad_feed d) ≡ Some k → ⊥
+  kept_pin : (d : SignalDriver) (k : ℕ) → kept_in (pad_feed d) ≡ Some k → ⊥
   kept_pin driver.Nothing k e = cc
   kept_pin (driver.Pad m) k e = cc
   kept_pin (driver.Output i) k e = cc
@@ -110,7 +110,7 @@ module _ (n : NetlistData) where
   kept_cell s i k None at e = cc
   kept_cell s i k (Some cell) at e = let same = kept_kind s i k cell.kind cell.ins e in let lt = slice_get_within n.cells i cell at in omega arith
 
-  kept_driver : (s k : ℕ) (d : Driver) → kept_in (driver_feed n s d) ≡ Some k → k < length n.cells
+  kept_driver : (s k : ℕ) (d : SignalDriver) → kept_in (driver_feed n s d) ≡ Some k → k < length n.cells
   kept_driver s k driver.Nothing f = cc
   kept_driver s k (driver.Pad m) f = cc
   kept_driver s k (driver.Output i) f = kept_cell s i k (slice_get n.cells i) refl f
@@ -135,7 +135,7 @@ gate_within signals table ins s lt all = record {
 one_gate : (slots : ℕ) (gate : Gate) → IsGateWithin slots gate → All (IsGateWithin slots) (gate ∷ [])
 one_gate slots gate within = All-cons (IsGateWithin slots) gate [] within (All-nil (IsGateWithin slots))
 
-no_pin_gate : (slots : ℕ) (d : Driver) → All (IsGateWithin slots) (gate_in (pad_feed d))
+no_pin_gate : (slots : ℕ) (d : SignalDriver) → All (IsGateWithin slots) (gate_in (pad_feed d))
 no_pin_gate slots driver.Nothing = All-nil (IsGateWithin slots)
 no_pin_gate slots (driver.Pad k) = All-nil (IsGateWithin slots)
 no_pin_gate slots (driver.Output i) = All-nil (IsGateWithin slots)
@@ -158,7 +158,7 @@ gate_cell : (n : NetlistData) (s i : ℕ) → s < length n.names → IsFormed n 
 gate_cell n s i lt formed None at = All-nil (IsGateWithin (length n.names + 2))
 gate_cell n s i lt formed (Some cell) at = gate_kind n s i lt cell.kind cell.ins (cell_at (length n.names) n.cells i cell formed.cells at).ins_below
 
-gate_driver : (n : NetlistData) (s : ℕ) → s < length n.names → IsFormed n → (d : Driver) → All (IsGateWithin (length n.names + 2)) (gate_in (driver_feed n s d))
+gate_driver : (n : NetlistData) (s : ℕ) → s < length n.names → IsFormed n → (d : SignalDriver) → All (IsGateWithin (length n.names + 2)) (gate_in (driver_feed n s d))
 gate_driver n s lt formed driver.Nothing = All-nil (IsGateWithin (length n.names + 2))
 gate_driver n s lt formed (driver.Pad k) = All-nil (IsGateWithin (length n.names + 2))
 gate_driver n s lt formed (driver.Output i) = gate_cell n s i lt formed (slice_get n.cells i) refl

@@ -3,8 +3,8 @@ use Rattle.std.specs.Prelude.{ℕ, ◌+◌, ◌==◌, List, [], ◌∷◌, ◌++
 use Rattle.std.proofs.Common.{suc}
 use Rattle.ice_base.specs.declared.number.SignalNo.{SignalNo}
 use Rattle.ice_net.specs.declared.cell.Cell.{Cell}
-use Rattle.ice_net.specs.declared.driver.Driver.{Driver}
-use Rattle.ice_net.specs.declared.driver.Driver.TheVariants as driver
+use Rattle.ice_net.specs.declared.driver.SignalDriver.{SignalDriver}
+use Rattle.ice_net.specs.declared.driver.SignalDriver.TheVariants as driver
 use Rattle.ice_net.specs.declared.kind.CellKind.{CellKind}
 use Rattle.ice_net.specs.declared.kind.CellKind.TheVariants.{Lut, Cover, Carry, Flop, PadCell, Global}
 use Rattle.ice_net.specs.declared.port.Port.{Port}
@@ -30,7 +30,7 @@ abbrev pub first_table : ℕ
 first_table = 2
 
 -- D_IN_0 of an SB_IO has the level of the port whose pad drives the signal at its PACKAGE_PIN
-abbrev pub pad_feed : Driver → Feed
+abbrev pub pad_feed : SignalDriver → Feed
 pad_feed driver.Nothing = Nothing
 pad_feed (driver.Pad k) = FromPort k
 pad_feed (driver.Output i) = Nothing
@@ -52,7 +52,7 @@ abbrev pub cell_feed : NetlistData → ℕ → ℕ → Option Cell → Feed
 cell_feed n s i None = Nothing
 cell_feed n s i (Some cell) = kind_feed n s i cell.kind cell.ins
 
-abbrev pub driver_feed : NetlistData → ℕ → Driver → Feed
+abbrev pub driver_feed : NetlistData → ℕ → SignalDriver → Feed
 driver_feed n s driver.Nothing = Nothing
 driver_feed n s (driver.Pad k) = FromPort k
 driver_feed n s (driver.Output i) = cell_feed n s i (slice_get n.cells i)

@@ -1,9 +1,9 @@
 -- What the parts do to the array in one step.
 use Rattle.std.specs.Prelude.{ℕ, Bool, false, List, [], ◌∷◌, map, Some, None, if◌then◌else◌, slice_index_or, slice_set}
-use Rattle.ice_net.specs.declared.drive.Drive.{Drive}
-use Rattle.ice_net.specs.declared.drive.Drive.TheVariants.{Off}
+use Rattle.ice_net.specs.declared.driver.Drive.{Drive}
+use Rattle.ice_net.specs.declared.driver.Drive.TheVariants.{Off}
 use Rattle.ice_net.specs.Drives.{level_drive}
-use Rattle.ice_net.specs.Flops.{is_edge, fired}
+use Rattle.ice_net.specs.Kinds.{is_edge, fired}
 use Rattle.ice_net.specs.Meaning.{number_of, table_bit}
 use Rattle.ice_sim_sweep.specs.declared.parts.Gate.{Gate}
 use Rattle.ice_sim_sweep.specs.declared.parts.Link.{Link}

@@ -8,7 +8,7 @@ ghost use Rattle.ice_sim_sweep.specs.Feeds.{feed_of, kind_feed, pin_feed, pad_fe
 
 use crate::parts::{Feed, Gate, Keeper, Tap};
 use ice_base::{NoMemory, SignalNo};
-use ice_net::{Cell, CellKind, Driver, Netlist, Port, Way};
+use ice_net::{Cell, CellKind, Netlist, Port, SignalDriver, Way};
 
 // The table of the majority of the first three inputs.
 const MAJORITY: u16 = 0xe8;
@@ -47,7 +47,7 @@ fn gate(signals: u32, table: u16, ins: &[Option<SignalNo>], out: u32) -> Gate
 }
 
 // Where the level of a pad's D_IN_0 comes from, by the signal at its PACKAGE_PIN.
-fn pin_feed(netlist: &Netlist, drivers: &[Driver], ins: &[Option<SignalNo>]) -> Feed
+fn pin_feed(netlist: &Netlist, drivers: &[SignalDriver], ins: &[Option<SignalNo>]) -> Feed
     requires drivers { AreDrivers netlist.now drivers.now }
     requires below { All (IsBelow (length netlist.now.names)) ins.now }
     ensures { result ≡ pin_feed netlist.now (slice_index_or ins.now 0 None) }
@@ -56,13 +56,19 @@ fn pin_feed(netlist: &Netlist, drivers: &[Driver], ins: &[Option<SignalNo>]) -> 
         return Feed::Nothing;
     };
     match drivers[pin.0 as usize] {
-        Driver::Pad(port) => Feed::Port(port),
-        Driver::Nothing | Driver::Output(_) => Feed::Nothing,
+        SignalDriver::Pad(port) => Feed::Port(port),
+        SignalDriver::Nothing | SignalDriver::Output(_) => Feed::Nothing,
     }
 }
 
 // Where the level at a cell's output comes from, which is this signal.
-fn kind_feed(netlist: &Netlist, drivers: &[Driver], signal: usize, i: usize, cell: &Cell) -> Feed
+fn kind_feed(
+    netlist: &Netlist,
+    drivers: &[SignalDriver],
+    signal: usize,
+    i: usize,
+    cell: &Cell,
+) -> Feed
     requires drivers { AreDrivers netlist.now drivers.now }
     requires signal { signal < length netlist.now.names }
     requires formed { IsFormedCell (length netlist.now.names) cell.now }
@@ -82,15 +88,15 @@ fn kind_feed(netlist: &Netlist, drivers: &[Driver], signal: usize, i: usize, cel
 }
 
 /// Where the level of a signal comes from.
-pub(crate) fn feed(netlist: &Netlist, drivers: &[Driver], signal: usize) -> Feed
+pub(crate) fn feed(netlist: &Netlist, drivers: &[SignalDriver], signal: usize) -> Feed
     requires drivers { AreDrivers netlist.now drivers.now }
     requires signal { signal < length netlist.now.names }
     ensures { result ≡ feed_of netlist.now signal }
 {
     match drivers[signal] {
-        Driver::Nothing => Feed::Nothing,
-        Driver::Pad(port) => Feed::Port(port),
-        Driver::Output(i) => match netlist.cells().get(i) {
+        SignalDriver::Nothing => Feed::Nothing,
+        SignalDriver::Pad(port) => Feed::Port(port),
+        SignalDriver::Output(i) => match netlist.cells().get(i) {
             None => Feed::Nothing,
             Some(cell) => kind_feed(netlist, drivers, signal, i, cell),
         },

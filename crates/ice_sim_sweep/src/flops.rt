@@ -1,6 +1,6 @@
 //! Flip-flops, by levels.
 ghost use Rattle.std.specs.Prelude.{◌≡◌};
-ghost use Rattle.ice_net.specs.Flops.{is_edge, taken, forced, fired};
+ghost use Rattle.ice_net.specs.Kinds.{is_edge, taken, forced, fired};
 
 use ice_net::Reset;
 

@@ -10,7 +10,7 @@ ghost use Rattle.ice_sim_sweep.specs.Plans.{IsWiring, IsPlan};
 use crate::feeds::{add_keeper, feed, tap};
 use crate::parts::{Feed, Gate, Keeper, Link, Tap};
 use ice_base::NoMemory;
-use ice_net::{Cell, Driver, Netlist};
+use ice_net::{Cell, Netlist, SignalDriver};
 use std::alloc::Global;
 
 /// What a netlist is compiled to.
@@ -57,7 +57,7 @@ pub(crate) fn add(
 // Adds all signals, in an order of evaluation.
 fn wire(
     netlist: &Netlist,
-    drivers: &[Driver],
+    drivers: &[SignalDriver],
     order: &[usize],
     pads: &mut Vec<Link>,
     keeps: &mut Vec<Link>,
@@ -90,7 +90,7 @@ struct Wiring {
 fn wiring_of(
     alloc: Global,
     netlist: &Netlist,
-    drivers: &[Driver],
+    drivers: &[SignalDriver],
     order: &[usize],
 ) -> Result<Wiring, NoMemory>
     requires drivers { AreDrivers netlist.now drivers.now }
@@ -134,7 +134,7 @@ fn keepers(alloc: Global, signals: u32, cells: &[Cell]) -> Result<Vec<Keeper>, N
 pub(crate) fn compile(
     alloc: Global,
     netlist: &Netlist,
-    drivers: &[Driver],
+    drivers: &[SignalDriver],
     buffers: &[Option<usize>],
     order: &[usize],
 ) -> Result<Plan, NoMemory>

@@ -8,4 +8,4 @@ mod sites;
 mod stretches;
 
 pub use laws::clusters_stand_on_sites;
-pub use sites::{Sites, Stretch, indexed_sites, sites_of};
+pub use sites::{Sites, Stretch, sites_by, sites_of};

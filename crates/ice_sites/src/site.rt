@@ -1,8 +1,7 @@
 //! Whether a tile is a site, and whether two sites are linked.
 ghost use Rattle.std.specs.Prelude.{◌≡◌, ◌<◌, option_map};
 ghost use Rattle.ice_chip.specs.Lookups.{wire_named};
-ghost use Rattle.ice_chip.specs.WireNames.{input_name, output_name, carry_out_name, first_carry_name};
-ghost use Rattle.ice_bits_rows.specs.Index.{IsIndexOf};
+ghost use Rattle.ice_chip.specs.Names.{input_name, output_name, carry_out_name, first_carry_name};
 ghost use Rattle.ice_sites.specs.Site.{has_wire, leads, is_same_wire, is_logic, all_below, has_cell, has_chain, has_controls, has_entry, is_site, is_above, is_link};
 
 use ice_base::{TileAt, WireNo};
@@ -20,12 +19,11 @@ fn has_wire(chip: &Chip, tile: TileAt, name: &[u8]) -> bool
 }
 
 // Whether both wires are there, and a sound row leads from the one to the other.
-fn leads(chip: &Chip, index: &Index, source: Option<WireNo>, target: Option<WireNo>) -> bool
-    requires { IsIndexOf chip.now index.now }
-    ensures { result ≡ leads chip.now (option_map (λ w. w.0) source) (option_map (λ w. w.0) target) }
+fn leads(index: &Index, source: Option<WireNo>, target: Option<WireNo>) -> bool
+    ensures { result ≡ leads index.now.chip.now (option_map (λ w. w.0) source) (option_map (λ w. w.0) target) }
 {
     match (source, target) {
-        (Some(source), Some(target)) => first_sound(chip, index, source, target).is_some(),
+        (Some(source), Some(target)) => first_sound(index, source, target).is_some(),
         _ => false,
     }
 }
@@ -107,24 +105,22 @@ fn has_cells(chip: &Chip, tile: TileAt) -> bool
 }
 
 // Whether the carry of a cell goes to input 3 of the next one. The cell is not the last.
-fn has_chain(chip: &Chip, index: &Index, tile: TileAt, cell: u8) -> bool
-    requires index { IsIndexOf chip.now index.now }
+fn has_chain(index: &Index, tile: TileAt, cell: u8) -> bool
     requires cell { cell < 7 }
-    ensures { result ≡ has_chain chip.now tile cell }
+    ensures { result ≡ has_chain index.now.chip.now tile cell }
 {
-    let carry = carry_wire(chip, tile, cell);
-    let input = input_wire(chip, tile, cell + 1, 3);
-    leads(chip, index, carry, input)
+    let carry = carry_wire(index.chip, tile, cell);
+    let input = input_wire(index.chip, tile, cell + 1, 3);
+    leads(index, carry, input)
 }
 
 // Whether carries go from cell to cell.
 #[tactic(auto, using(crate::proofs::Below::next, crate::proofs::Below::none))]
-fn has_chains(chip: &Chip, index: &Index, tile: TileAt) -> bool
-    requires { IsIndexOf chip.now index.now }
-    ensures { result ≡ all_below (has_chain chip.now tile) 7 }
+fn has_chains(index: &Index, tile: TileAt) -> bool
+    ensures { result ≡ all_below (has_chain index.now.chip.now tile) 7 }
 {
     for cell in 0..7 {
-        if !has_chain(chip, index, tile, cell) {
+        if !has_chain(index, tile, cell) {
             return false;
         }
     }
@@ -141,26 +137,24 @@ fn has_controls(chip: &Chip, tile: TileAt) -> bool
 }
 
 // Whether the carry into the tile goes to input 3 of its first cell.
-fn has_entry(chip: &Chip, index: &Index, tile: TileAt) -> bool
-    requires { IsIndexOf chip.now index.now }
-    ensures { result ≡ has_entry chip.now tile }
+fn has_entry(index: &Index, tile: TileAt) -> bool
+    ensures { result ≡ has_entry index.now.chip.now tile }
 {
-    let entry = entry_wire(chip, tile);
-    let input = input_wire(chip, tile, 0, 3);
-    leads(chip, index, entry, input)
+    let entry = entry_wire(index.chip, tile);
+    let input = input_wire(index.chip, tile, 0, 3);
+    leads(index, entry, input)
 }
 
 /// Whether the tile is a site: a logic tile with eight cells, their controls, and a carry that goes in and from cell to
 /// cell.
-pub fn is_site(chip: &Chip, index: &Index, tile: TileAt) -> bool
-    requires { IsIndexOf chip.now index.now }
-    ensures { result ≡ is_site chip.now tile }
+pub fn is_site(index: &Index, tile: TileAt) -> bool
+    ensures { result ≡ is_site index.now.chip.now tile }
 {
-    is_logic(chip.kind_at(tile))
-        && has_cells(chip, tile)
-        && has_controls(chip, tile)
-        && has_entry(chip, index, tile)
-        && has_chains(chip, index, tile)
+    is_logic(index.chip.kind_at(tile))
+        && has_cells(index.chip, tile)
+        && has_controls(index.chip, tile)
+        && has_entry(index, tile)
+        && has_chains(index, tile)
 }
 
 // Whether the one tile stands directly below the other.
@@ -171,12 +165,11 @@ fn is_above(low: TileAt, high: TileAt) -> bool
 }
 
 /// Whether the carry of a tile's last cell goes into the tile above it.
-pub fn is_link(chip: &Chip, index: &Index, low: TileAt, high: TileAt) -> bool
-    requires { IsIndexOf chip.now index.now }
-    ensures { result ≡ is_link chip.now low high }
+pub fn is_link(index: &Index, low: TileAt, high: TileAt) -> bool
+    ensures { result ≡ is_link index.now.chip.now low high }
 {
-    let into = chip.wire_named(high, &carry_in_name());
-    let last = carry_wire(chip, low, 7);
-    let entry = entry_wire(chip, high);
-    is_above(low, high) && is_same_wire(into, last) && leads(chip, index, into, entry)
+    let into = index.chip.wire_named(high, &carry_in_name());
+    let last = carry_wire(index.chip, low, 7);
+    let entry = entry_wire(index.chip, high);
+    is_above(low, high) && is_same_wire(into, last) && leads(index, into, entry)
 }

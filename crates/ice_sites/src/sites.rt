@@ -1,12 +1,11 @@
 //! The sites of a chip, stretch by stretch.
 ghost use Rattle.std.specs.Prelude.{◌≡◌, IfOk};
-ghost use Rattle.ice_bits_rows.specs.Index.{IsIndexOf};
 ghost use Rattle.ice_sites.specs.Stretches.{stretches_of};
 
 use crate::ordered::sites_in_order;
 use crate::stretches::stretches_in;
 use ice_base::{NoMemory, TileAt};
-use ice_bits_rows::{Index, index_of};
+use ice_bits_rows::Index;
 use ice_chip::Chip;
 use std::alloc::Global;
 use std::marker::Model;
@@ -66,13 +65,12 @@ impl Sites {
     }
 }
 
-/// The sites of a chip, by the index of its groups.
-pub fn indexed_sites(alloc: Global, chip: &Chip, index: &Index) -> Result<Sites, NoMemory>
-    requires { IsIndexOf chip.now index.now }
-    ensures { IfOk result (λ sites. sites ≡ stretches_of chip.now) }
+/// The sites of an indexed chip, as [`sites_of`] finds them.
+pub fn sites_by(alloc: Global, index: &Index) -> Result<Sites, NoMemory>
+    ensures { IfOk result (λ sites. sites ≡ stretches_of index.now.chip.now) }
 {
-    let sites = sites_in_order(alloc, chip, index)?;
-    let stretches = stretches_in(alloc, chip, index, &sites)?;
+    let sites = sites_in_order(alloc, index)?;
+    let stretches = stretches_in(alloc, index, &sites)?;
     Ok(Sites { stretches })
 }
 
@@ -84,6 +82,7 @@ pub fn indexed_sites(alloc: Global, chip: &Chip, index: &Index) -> Result<Sites,
 pub fn sites_of(alloc: Global, chip: &Chip) -> Result<Sites, NoMemory>
     ensures { IfOk result (λ sites. sites ≡ stretches_of chip.now) }
 {
-    let index = index_of(alloc, chip)?;
-    indexed_sites(alloc, chip, &index)
+    let index = Index::new(alloc, chip)?;
+    let sites = sites_by(alloc, &index)?;
+    Ok(sites)
 }

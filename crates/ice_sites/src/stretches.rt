@@ -1,6 +1,5 @@
 //! The stretches of a list of sites.
 ghost use Rattle.std.specs.Prelude.{◌≡◌, ◌<◌, ◌+◌, [], length, drop, slice_index_or, IfOk};
-ghost use Rattle.ice_bits_rows.specs.Index.{IsIndexOf};
 ghost use Rattle.ice_sites.specs.Site.{is_link};
 ghost use Rattle.ice_sites.specs.Stretches.{goes_on, cut};
 
@@ -8,36 +7,32 @@ use crate::Stretch;
 use crate::site::is_link;
 use ice_base::{NoMemory, TileAt};
 use ice_bits_rows::Index;
-use ice_chip::Chip;
 use std::alloc::Global;
 
 // Whether the next site is linked to this one.
-fn goes_on(chip: &Chip, index: &Index, sites: &[TileAt], k: usize) -> bool
-    requires index { IsIndexOf chip.now index.now }
+fn goes_on(index: &Index, sites: &[TileAt], k: usize) -> bool
     requires place { k < length sites.now }
-    ensures { result ≡ goes_on (is_link chip.now) (slice_index_or sites.now k (record { x = 0; y = 0 })) (drop (k + 1) sites.now) }
+    ensures { result ≡ goes_on (is_link index.now.chip.now) (slice_index_or sites.now k (record { x = 0; y = 0 })) (drop (k + 1) sites.now) }
 {
     match sites.get(k + 1) {
         None => false,
-        Some(next) => is_link(chip, index, sites[k], *next),
+        Some(next) => is_link(index, sites[k], *next),
     }
 }
 
 /// The stretches of these sites.
 pub fn stretches_in(
     alloc: Global,
-    chip: &Chip,
     index: &Index,
     sites: &[TileAt],
 ) -> Result<Vec<Stretch>, NoMemory>
-    requires { IsIndexOf chip.now index.now }
-    ensures { IfOk result (λ stretches. stretches.items ≡ cut (is_link chip.now) [] sites.now) }
+    ensures { IfOk result (λ stretches. stretches.items ≡ cut (is_link index.now.chip.now) [] sites.now) }
 {
     let mut stretches = Vec::new(alloc);
     let mut open = Vec::new(alloc);
     for k in 0..sites.len() {
         open.push(sites[k])?;
-        if !goes_on(chip, index, sites, k) {
+        if !goes_on(index, sites, k) {
             let tiles = std::mem::replace(&mut open, Vec::new(alloc));
             stretches.push(Stretch::of(tiles))?;
         }

@@ -1,8 +1,7 @@
 //! Lines, words, numbers and names of texts.
 ghost use Rattle.std.specs.Prelude.{◌≡◌, bytes_eq};
 ghost use Rattle.std.specs.List.{list_any};
-ghost use Rattle.ice_base.specs.Text.{lines, numbered, words};
-ghost use Rattle.ice_base.specs.Comments.{begins_with};
+ghost use Rattle.ice_base.specs.Text.{lines, numbered, words, begins_with};
 
 use crate::claims::expect_that;
 use ice_base::{begins_with, lines_of, name_of, no_words, number_of, plain_words_of, words_of};

@@ -10,6 +10,7 @@ use crate::placed::{say_nets, say_places};
 use crate::text::Text;
 use ice_asc::write_asc;
 use ice_base::{NoMemory, to_u32};
+use ice_bits_rows::Index;
 use ice_chip::Chip;
 use ice_core::{Net, RoundLog};
 use ice_desk::OpenGate;
@@ -95,17 +96,17 @@ fn show_routed(
     show_bits(text, alloc, chip, layout, routed)
 }
 
-// Shows what comes of routing these nets of a placed design, with 64 rounds permitted.
+// Shows what comes of routing these nets of a placed design on an indexed chip, with 64 rounds permitted.
 fn show_routes<R: Threads + Sync>(
     rt: &R,
     text: &mut Text,
     alloc: Global,
-    chip: &Chip,
+    index: &Index<'_>,
     layout: &Layout,
     nets: &[Net],
 ) -> Result<(), NoMemory>
-    requires placed { IsPlacedOn chip.now (plan_in layout.now) layout.now.pads.pullups }
-    requires nets { AreNetsOf chip.now (plan_in layout.now) nets.now }
+    requires placed { IsPlacedOn index.now.chip.now (plan_in layout.now) layout.now.pads.pullups }
+    requires nets { AreNetsOf index.now.chip.now (plan_in layout.now) nets.now }
     requires few { length nets.now ≤ 65536 }
 {
     let effort = Effort {
@@ -115,9 +116,9 @@ fn show_routes<R: Threads + Sync>(
         opening: false,
     };
     let mut kept = Vec::new(alloc);
-    match route(rt, alloc, chip, layout, nets, effort, &mut kept, &OpenGate) {
+    match route(rt, alloc, index, layout, nets, effort, &mut kept, &OpenGate) {
         Ok(routed) => {
-            let shown = show_routed(text, alloc, chip, layout, nets.len(), &routed);
+            let shown = show_routed(text, alloc, index.chip, layout, nets.len(), &routed);
             drop(routed);
             shown
         }
@@ -145,6 +146,23 @@ fn say_length(text: &mut Text, chip: &Chip, layout: &Layout) -> Result<(), NoMem
     Ok(())
 }
 
+// Shows a placed design on an indexed chip.
+fn show_by<R: Threads + Sync>(
+    rt: &R,
+    text: &mut Text,
+    alloc: Global,
+    index: &Index<'_>,
+    layout: &Layout,
+) -> Result<(), NoMemory>
+    requires { IsPlacedOn index.now.chip.now (plan_in layout.now) layout.now.pads.pullups }
+{
+    say_places(text, layout.placement.tiles());
+    say_length(text, index.chip, layout)?;
+    let nets = nets_in(alloc, index.chip, layout)?;
+    say_nets(text, &nets);
+    show_routes(rt, text, alloc, index, layout, &nets)
+}
+
 /// Shows a placed design: the tiles of its clusters, its wire length and its nets, and then the report on their routes and the text of its
 /// bits, or the first sink that no walk reaches.
 ///
@@ -159,9 +177,6 @@ pub fn show_placed<R: Threads + Sync>(
 ) -> Result<(), NoMemory>
     requires { IsPlacedOn chip.now (plan_in layout.now) layout.now.pads.pullups }
 {
-    say_places(text, layout.placement.tiles());
-    say_length(text, chip, layout)?;
-    let nets = nets_in(alloc, chip, layout)?;
-    say_nets(text, &nets);
-    show_routes(rt, text, alloc, chip, layout, &nets)
+    let index = Index::new(alloc, chip)?;
+    show_by(rt, text, alloc, &index, layout)
 }

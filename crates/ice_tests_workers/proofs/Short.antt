@@ -1,8 +1,9 @@
 -- The two rounds of two nets over one short wire can be played.
-use Rattle.std.proofs.Common.{◌≡◌, ℕ, zero, suc, ◌≤◌, ◌<◌, ◌⊎◌, List, [], ◌∷◌, length, slice_index, sym, ap, ◌∙◌, subst, arith, inl, inr}
+use Rattle.std.proofs.Common.{◌≡◌, ℕ, zero, suc, ◌≤◌, ◌<◌, List, [], ◌∷◌, length, slice_index, sym, ap, ◌∙◌, subst, arith, inl, inr}
 use Rattle.std.proofs.lemmas.List.{get_or_past}
 use Rattle.std.proofs.lemmas.List.Elements.{All-from_recursion}
 use Rattle.std.specs.List.{AllByRecursion}
+use Rattle.std.proofs.lemmas.Bool.{cases_lt}
 use Rattle.ice_base.specs.declared.number.WireNo.{WireNo}
 use Rattle.ice_graph.specs.Network.{Network}
 use Rattle.ice_core.specs.declared.round_prices.RoundPrices.{RoundPrices}
@@ -11,14 +12,6 @@ use Rattle.ice_core.specs.Routes.{IsOpening, numbers, old_wires, sum_below, time
 use Rattle.ice_core.proofs.Sums.{at_other, times_cons}
 use Rattle.ice_worker.specs.Tasks.{IsTaskOf, KeepsBounds}
 use Rattle.ice_tests_workers.specs.Hands.{AreReady}
-
-within_or_not : (w n : ℕ) → (w < n) ⊎ (n ≤ w)
-within_or_not w zero = inr (omega arith)
-within_or_not zero (suc n) = inl (omega arith)
-within_or_not (suc w) (suc n) = elim (within_or_not w n) [
-  | inl lt ↦ inl (omega arith)
-  | inr le ↦ inr (omega arith)
-]
 
 low_at : (n : ℕ) (xs : List ℕ) → AllByRecursion (λ x. x ≤ n) xs → (w : ℕ) → slice_index xs w ≤ n
 low_at n [] each w = omega arith
@@ -33,7 +26,7 @@ bounds r task first last histories counts history low p are = record {
   lengths = omega (arith, are.others.long, counts, histories, ap length are.histories);
   wires = omega (arith, histories, ap length are.histories);
   history = λ w. omega (arith, history w, ap (λ xs. slice_index xs w) are.histories);
-  others = λ w. elim (within_or_not w (length r.counts.items)) [
+  others = λ w. elim (cases_lt w (length r.counts.items)) [
     | inl lt ↦ omega (arith, are.others.each w lt, low w)
     | inr le ↦ omega (arith, get_or_past p.others.items w 0 (omega (arith, le, are.others.long)))
   ];

@@ -11,7 +11,7 @@ use Rattle.ice_chip.specs.IsRead.{IsRead}
 use Rattle.ice_bits.specs.Configuration.{Bits}
 use Rattle.ice_decode.specs.declared.point.Point.{Point}
 use Rattle.ice_decode.specs.Points.{HasWire, AreAllPoints, IsNumbered}
-use Rattle.ice_decode.specs.Reads.{reads}
+use Rattle.ice_decode.specs.Reads.{reads_at}
 use Rattle.ice_decode.proofs.Numbered.{has_wire, reads_numbered}
 use Rattle.ice_timing.specs.Arriving.{ArrivalsData, Arrives, IsLatestPoint}
 use Rattle.ice_timing.specs.Latest.{IsLatestOf, IsLatestRead, IsLatest}
@@ -53,18 +53,18 @@ none_there [] e = refl
 none_there (n ∷ numbers) e = cc
 
 -- ---- as points
-module _ (points reads : List Point) (row : List ℕ) (same : map (slice_get points) row ≡ map (λ p. Some p) reads) where
+module _ (points reads_at : List Point) (row : List ℕ) (same : map (slice_get points) row ≡ map (λ p. Some p) reads_at) where
   -- what stands at a number of the row is read
-  number_reads : (n : ℕ) → Has row n → (p : Point) × Has reads p × At points n p
+  number_reads : (n : ℕ) → Has row n → (p : Point) × Has reads_at p × At points n p
   number_reads n has =
-      let at : At (map (λ (p : Point). Some p) reads) has.0 (slice_get points n) = subst (λ (l : List (Option Point)). At l has.0 (slice_get points n)) same (At_map (slice_get points) row has.0 n has.1) in
-      let found = map_At (λ (p : Point). Some p) reads has.0 (slice_get points n) at in
+      let at : At (map (λ (p : Point). Some p) reads_at) has.0 (slice_get points n) = subst (λ (l : List (Option Point)). At l has.0 (slice_get points n)) same (At_map (slice_get points) row has.0 n has.1) in
+      let found = map_At (λ (p : Point). Some p) reads_at has.0 (slice_get points n) at in
       (found.0, (has.0, found.1), sym found.2)
 
   -- and what is read has a number in the row
-  read_number : (p : Point) → Has reads p → (n : ℕ) × Has row n × At points n p
+  read_number : (p : Point) → Has reads_at p → (n : ℕ) × Has row n × At points n p
   read_number p has =
-      let at : At (map (slice_get points) row) has.0 (Some p) = subst (λ (l : List (Option Point)). At l has.0 (Some p)) (sym same) (At_map (λ (q : Point). Some q) reads has.0 p has.1) in
+      let at : At (map (slice_get points) row) has.0 (Some p) = subst (λ (l : List (Option Point)). At l has.0 (Some p)) (sym same) (At_map (λ (q : Point). Some q) reads_at has.0 p has.1) in
       let found = map_At (slice_get points) row has.0 (Some p) at in
       (found.0, (has.0, found.1), found.2)
 
@@ -74,14 +74,14 @@ module _ (points reads : List Point) (row : List ℕ) (same : map (slice_get poi
       let below = At_within points (get_or row k d) there.0 there.2 in
       omega (arith, e, below))
 
-  pub none_read : row ≡ [] → reads ≡ []
-  none_read e = by reads (sym same ∙ ap (map (slice_get points)) e)
+  pub none_read : row ≡ [] → reads_at ≡ []
+  none_read e = by reads_at (sym same ∙ ap (map (slice_get points)) e)
     where
       by : (rs : List Point) → map (λ (p : Point). Some p) rs ≡ [] → rs ≡ []
       by [] f = refl
       by (r ∷ rs) f = cc
 
-  pub latest_read : (at : List ℕ) (n : ℕ) → ((p : Point) (i j : ℕ) → At points i p → At points j p → i ≡ j) → IsLatestOf at row n → IsLatestRead points at reads n
+  pub latest_read : (at : List ℕ) (n : ℕ) → ((p : Point) (i j : ℕ) → At points i p → At points j p → i ≡ j) → IsLatestOf at row n → IsLatestRead points at reads_at n
   latest_read at n once latest =
       let here = number_reads n latest.one in
       record {
@@ -95,22 +95,22 @@ module _ (points reads : List Point) (row : List ℕ) (same : map (slice_get poi
       }
 
   pub latest_is : (at : List ℕ) → ((p : Point) (i j : ℕ) → At points i p → At points j p → i ≡ j) → (found : Option ℕ) → IfNone found (row ≡ []) → IfSome found (IsLatestOf at row)
-      → IsLatest points at reads found
+      → IsLatest points at reads_at found
   latest_is at once None none some = none_read none
   latest_is at once (Some n) none some = latest_read at n once some
 
-pub latest_within : (points reads : List Point) (at : List ℕ) (n : ℕ) → length at ≡ length points → IsLatestRead points at reads n → n < length at
-latest_within points reads at n long latest = let lt = At_within points n latest.point latest.stands in omega (arith, long, lt)
+pub latest_within : (points reads_at : List Point) (at : List ℕ) (n : ℕ) → length at ≡ length points → IsLatestRead points at reads_at n → n < length at
+latest_within points reads_at at n long latest = let lt = At_within points n latest.point latest.stands in omega (arith, long, lt)
 
 -- the same by the arrivals
-pub latest_point : (a : ArrivalsData) (reads others : List Point) (n : ℕ) (e : Point) → length a.at ≡ length a.points → others ≡ a.points → IsLatestRead a.points a.at reads n
-    → IsLatestPoint a reads (get_or others n e)
-latest_point a reads others n e long is latest =
+pub latest_point : (a : ArrivalsData) (reads_at others : List Point) (n : ℕ) (e : Point) → length a.at ≡ length a.points → others ≡ a.points → IsLatestRead a.points a.at reads_at n
+    → IsLatestPoint a reads_at (get_or others n e)
+latest_point a reads_at others n e long is latest =
     let same : latest.point ≡ get_or others n e = sym (ap (λ (l : List Point). get_or l n e) is ∙ get_or_from_slice_get a.points n latest.point e latest.stands) in
     record {
-      one = subst (Has reads) same latest.one;
+      one = subst (Has reads_at) same latest.one;
       moment = get_or a.at n 0;
-      arrives = (n, subst (At a.points n) same latest.stands, slice_get-get_or a.at n 0 (latest_within a.points reads a.at n long latest));
+      arrives = (n, subst (At a.points n) same latest.stands, slice_get-get_or a.at n 0 (latest_within a.points reads_at a.at n long latest));
       most = λ q other has arrives.
           (let le = latest.most q arrives.0 has arrives.1 in
           subst (λ m. m ≤ get_or a.at n 0) (get_or_from_slice_get a.at arrives.0 other 0 arrives.2) le);
@@ -118,9 +118,9 @@ latest_point a reads others n e long is latest =
 
 -- ---- points of the chip
 -- what a numbered point reads is numbered
-pub reads_there : (parts : Parts) (bits : Bits) (extras : List (ℕ × ℕ × ℕ)) → IsRead parts → (list : List Point) → AreAllPoints parts list → (p : Point) → Has list p → All (IsNumbered list) (reads parts bits extras p)
+pub reads_there : (parts : Parts) (bits : Bits) (extras : List (ℕ × ℕ × ℕ)) → IsRead parts → (list : List Point) → AreAllPoints parts list → (p : Point) → Has list p → All (IsNumbered list) (reads_at parts bits extras p)
 reads_there parts bits extras read list all p has =
-    subst (λ (q : Point). All (IsNumbered list) (reads parts bits extras q)) (get_or_from_slice_get list has.0 p p has.1)
+    subst (λ (q : Point). All (IsNumbered list) (reads_at parts bits extras q)) (get_or_from_slice_get list has.0 p p has.1)
     (reads_numbered parts bits extras read list list all refl has.0 p (At_within list has.0 p has.1))
 
 -- the wire of a numbered point is one of the chip

@@ -6,14 +6,14 @@ use Rattle.std.proofs.lemmas.Option.{none-some, same_Some}
 use Rattle.std.proofs.lemmas.List.Elements.{All-map, All-filter}
 use Rattle.ice_base.specs.declared.number.TileAt.{TileAt}
 use Rattle.ice_base.proofs.Entries.{lookup_all}
-use Rattle.ice_base_values.specs.Inputs.{present}
+use Rattle.ice_base_values.specs.System.{present}
 use Rattle.ice_base_values.specs.Order.{At, Has}
 use Rattle.ice_base_values.proofs.Members.{Has_none, Has_cases, Has_read, map_Has}
 use Rattle.ice_chip.specs.Database.{Parts, WireName}
 use Rattle.ice_chip.specs.IsRead.{IsRead}
 use Rattle.ice_chip.specs.Lookups.{wire_named, placed_at, placed_wire, placed_names, is_placed}
 use Rattle.ice_chip.specs.WholeFaults.{same_placed}
-use Rattle.ice_chip.specs.WireNames.{input_name, clock_enable_name, set_reset_name, pad_output_name, output_enable_name}
+use Rattle.ice_chip.specs.Names.{input_name, clock_enable_name, set_reset_name, pad_output_name, output_enable_name}
 use Rattle.ice_chip.specs.declared.placed.PlacedName.{PlacedName}
 use Rattle.ice_chip.specs.declared.rows.Pad.{Pad}
 use Rattle.ice_bits.specs.Configuration.{Bits}

@@ -11,10 +11,9 @@ use Rattle.ice_decode.specs.declared.role.Role.{Role}
 use Rattle.ice_decode.specs.declared.role.Role.TheVariants.{Plain, Output, LookUp, CarryOut, PadInput, Global, CarryIn, ClockEnable}
 use Rattle.ice_decode.specs.Cells.{has_flop}
 use Rattle.ice_decode.specs.Direct.{takes_pad}
-use Rattle.ice_decode.specs.Drivers.{driver}
+use Rattle.ice_decode.specs.Drivers.{driver, role_of}
 use Rattle.ice_decode.specs.Reads.{depends_on}
-use Rattle.ice_decode.specs.Registers.{has_input_register}
-use Rattle.ice_decode.specs.Roles.{role_of}
+use Rattle.ice_decode.specs.Pads.{has_input_register}
 use Rattle.ice_timing_delays.specs.declared.delays.Delays.{Delays}
 use Rattle.ice_timing.specs.Paths.{IsArrival, IsPathTo, length_of}
 

@@ -2,7 +2,7 @@
 ghost use Rattle.std.specs.Prelude.{◌≡◌, ◌++◌, ◌∷◌, [], OnOk, IfOk};
 ghost use Rattle.std.specs.List.{flat_map};
 ghost use Rattle.ice_bits.specs.Configuration.{bits_of};
-ghost use Rattle.ice_chip.specs.WireNames.{input_name};
+ghost use Rattle.ice_chip.specs.Names.{input_name};
 ghost use Rattle.ice_decode.specs.Pads.{pads_in, pads};
 ghost use Rattle.ice_decode.specs.Reads.{at_pin, cell_inputs};
 ghost use Rattle.ice_timing.specs.Entries.{entries_by, controls, flop_entries, tile_entries, pad_door, pad_lasts, pad_entries, io_entries, entries};

@@ -2,9 +2,7 @@
 use Rattle.std.specs.Prelude.{ℕ, List, [], ◌∷◌, Option, Some, None, Result, Ok, Err, option_map, is_some, if◌then◌else◌, codes}
 use Rattle.std.specs.Option.{option_and_then}
 use Rattle.std.specs.Str.{bytes_eq}
-use Rattle.ice_base.specs.Text.{lines, numbered, words}
-use Rattle.ice_base.specs.Comments.{uncommented}
-use Rattle.ice_base.specs.Numbers.{number_below}
+use Rattle.ice_base.specs.Text.{lines, numbered, words, uncommented, number_below}
 use Rattle.ice_timing_delays.specs.declared.delays.Delays.{Delays}
 use Rattle.ice_timing_delays.specs.declared.known.Known.{Known}
 use Rattle.ice_timing_delays.specs.declared.word.Word.{Word}

@@ -1,5 +1,5 @@
 -- The rule is kept by each step.
-use Rattle.std.proofs.Common.{◌≡◌, ◌≢◌, ℕ, suc, ◌+◌, ◌-◌, ◌*◌, ◌%◌, ◌^◌, ◌≤◌, ◌<◌, List, [], ◌∷◌, ◌++◌, length, set, cond, Bool, true, false, true≢false, inl, inr, get_or-set_same, get_or-set_other, length-set, length-append, length-drop, append_assoc, append-nil, slice_index, slice_set, slice_get, Some, drop, min, refl, sym, ap, ◌∙◌, subst, arith}
+use Rattle.std.proofs.Common.{◌≡◌, ◌≢◌, ℕ, suc, ◌+◌, ◌-◌, ◌*◌, ◌%◌, ◌^◌, ◌≤◌, ◌<◌, List, [], ◌∷◌, ◌++◌, length, set, true, false, true≢false, inl, inr, get_or-set_same, get_or-set_other, length-set, length-append, length-drop, append_assoc, append-nil, slice_index, slice_set, slice_get, Some, drop, min, refl, sym, ap, ◌∙◌, subst, arith}
 use mathlib.Core.Option.{some}
 use lib.ListN.{get_elem?}
 use Rattle.std.proofs.lemmas.Bool.{cases_eq, cases_lt}
@@ -13,7 +13,7 @@ use Rattle.atomic_table.specs.Table.{State, Seen}
 use Rattle.ice_words_hands.specs.Standing.{joined_standing}
 use Rattle.ice_words_hands.proofs.Lists.{set_at, set_same}
 use Rattle.ice_words_hands.proofs.Parts.{own_and_rest, own_at_most, own_length, own_sum, own_total}
-use Rattle.ice_words_hands.proofs.Draws.{draws_next, draws_none, draws_past, drawn_below}
+use Rattle.ice_words_hands.proofs.Draws.{draws_next, draws_none, draws_past, drawn_below, next_number, one_end}
 use Rattle.ice_words_hands.proofs.Seated.{alone_in, few_in, seated_first, seated_join, seated_split, seated_step}
 use Rattle.ice_words.specs.declared.view.Claim.{Claim}
 use Rattle.ice_words.specs.declared.view.Part.{Part}
@@ -92,10 +92,6 @@ all_at_most olds counts g k c bound views each = sum_at_most (IsView olds counts
 -- no more is claimed than there are tasks
 pub few_claims : (olds : List (List ℕ)) (counts : List ℕ) (s : State ℕ View) → Holds olds counts s → total_of one s.views ≤ length olds
 few_claims olds counts s h = omega (arith, h.draws (λ x. 1), below_ones (min (slice_index s.words 0) (length olds)))
-
-one_end : (b : Bool) → cond b 1 0 ≤ 1
-one_end true = omega arith
-one_end false = omega arith
 
 -- word 0 is far from its end
 pub few_draws : (olds : List (List ℕ)) (counts : List ℕ) (s : State ℕ View) → Holds olds counts s → slice_index s.words 0 ≤ 131072
@@ -352,9 +348,6 @@ wire_fits olds counts words w m up down up' down' f p c cs is going same step lt
     }
 
 -- ---- the steps on words
-next_number : (n : ℕ) → n ≤ 131072 → (n + 1) % 2 ^ 64 ≡ n + 1
-next_number n le = let lt : n + 1 < 2 ^ 64 = omega arith in mod-eq_of_lt lt
-
 more_number : (n k : ℕ) → n + k ≤ 2 ^ 48 → (n + k) % 2 ^ 64 ≡ n + k
 more_number n k le = let lt : n + k < 2 ^ 64 = omega arith in mod-eq_of_lt lt
 

@@ -54,7 +54,7 @@ same_list (x ∷ xs) (y ∷ ys) long same =
     λ k. first k ∷ rest k
 
 -- ---- a step more in the core
-core_same : (n m : ℕ) (xs ys : List ℕ) (us vs : List Worker) → n ≡ m → xs ≡ ys → us ≡ vs → core_of n xs us ≡ core_of m ys vs
+pub core_same : (n m : ℕ) (xs ys : List ℕ) (us vs : List Worker) → n ≡ m → xs ≡ ys → us ≡ vs → core_of n xs us ≡ core_of m ys vs
 core_same n m xs ys us vs number counts workers = λ k. record { number = number k; counts = counts k; up = 0; down = 0; workers = workers k }
 
 -- what the bare worker may do, the worker may do

@@ -1,6 +1,7 @@
 -- Numbers that are drawn from a word: each below a bound is claimed once.
-use Rattle.std.proofs.Common.{◌≡◌, ℕ, zero, suc, ◌+◌, ◌≤◌, ◌<◌, min, inl, inr, refl, arith}
+use Rattle.std.proofs.Common.{◌≡◌, ℕ, zero, suc, ◌+◌, ◌≤◌, ◌<◌, min, inl, inr, refl, arith, ◌%◌, ◌^◌, cond, Bool, true, false}
 use Rattle.std.proofs.lemmas.Bool.{cases_lt}
+use Rattle.std.proofs.Math.Nat.{mod-eq_of_lt}
 use Rattle.ice_core.specs.Routes.{sum_below}
 use Rattle.ice_core.proofs.Sums.{is_at, below_of, below_once}
 
@@ -29,3 +30,16 @@ drawn_once n b = elim (cases_lt b n) [
     none_of : (k : ℕ) → (1 ≤ k → ⊥) → k ≤ 1
     none_of zero never = omega arith
     none_of (suc k) never = absurd (never (omega arith))
+
+-- the next number is no remainder
+pub next_number : (n : ℕ) → n ≤ 131072 → (n + 1) % 2 ^ 64 ≡ n + 1
+next_number n le = let lt : n + 1 < 2 ^ 64 = omega arith in mod-eq_of_lt lt
+
+-- a hand ends once
+pub one_end : (b : Bool) → cond b 1 0 ≤ 1
+one_end true = omega arith
+one_end false = omega arith
+
+-- a number is not on both sides of a bound
+pub clash : (n a b : ℕ) → a ≡ b → n < b → a ≤ n → ⊥
+clash n a b e lt le = absurd (omega arith)

@@ -1,5 +1,5 @@
 -- The rule of the histories is kept by each step.
-use Rattle.std.proofs.Common.{◌≡◌, ◌≢◌, ℕ, ◌+◌, ◌-◌, ◌*◌, ◌/◌, ◌%◌, ◌^◌, ◌≤◌, ◌<◌, List, [], ◌∷◌, ◌++◌, length, set, cond, eqb, Bool, true, false, inl, inr, get_or-set_same, get_or-set_other, length-set, length-append, length-drop, slice_index, slice_set, drop, min, refl, sym, ap, ◌∙◌, subst, arith}
+use Rattle.std.proofs.Common.{◌≡◌, ◌≢◌, ℕ, ◌+◌, ◌-◌, ◌*◌, ◌/◌, ◌%◌, ◌^◌, ◌≤◌, ◌<◌, List, [], ◌∷◌, ◌++◌, length, set, cond, eqb, false, inl, inr, get_or-set_same, get_or-set_other, length-set, length-append, length-drop, slice_index, slice_set, drop, min, refl, sym, ap, ◌∙◌, subst, arith}
 use mathlib.Core.Option.{some}
 use lib.ListN.{get_elem?}
 use Rattle.std.proofs.lemmas.Bool.{cases_eq, cases_lt}
@@ -15,7 +15,7 @@ use Rattle.ice_core.proofs.Sums.{sum_set, sum_at, each_set, each_at, each_append
 use Rattle.ice_words_hands.specs.Standing.{joined_standing}
 use Rattle.ice_words_hands.proofs.Lists.{behind_first, set_same}
 use Rattle.ice_words_hands.proofs.Parts.{own_and_rest, own_at_most, own_length, own_total}
-use Rattle.ice_words_hands.proofs.Draws.{draws_next, draws_none, draws_past, drawn_below, drawn_once}
+use Rattle.ice_words_hands.proofs.Draws.{draws_next, draws_none, draws_past, drawn_below, drawn_once, one_end, clash}
 use Rattle.ice_words_hands.proofs.Seated.{alone_in, few_in, seated_first, seated_join, seated_split, seated_step}
 use Rattle.ice_words_histories.specs.declared.view.Bump.{Bump}
 use Rattle.ice_words_histories.specs.declared.view.HistoryPart.{HistoryPart}
@@ -72,10 +72,6 @@ few_blocks histories s h =
   where
     few : (n : ℕ) → n < 2 ^ 32 → (n + 1023) / 1024 ≤ 2 ^ 32
     few n lt = omega arith
-
-one_end : (b : Bool) → cond b 1 0 ≤ 1
-one_end true = omega arith
-one_end false = omega arith
 
 few_draws : (histories : List ℕ) (s : State ℕ HistoryView) → Holds histories s → slice_index s.words 0 ≤ 2 ^ 33
 few_draws histories s h = omega (arith, h.drawn, few_blocks histories s h, few_in standing_of spent_view refl (λ (u : HistoryView). u.parts) (λ u. refl) ends_of (λ p. one_end p.ended) s.views h.seated)
@@ -179,9 +175,6 @@ next_number n k le lt = let lt : n + k < 2 ^ 64 = omega arith in mod-eq_of_lt lt
 -- the state after a hand's step on a word
 abbrev pub stepped_to : State ℕ HistoryView → ℕ → ℕ → ℕ → HistoryView → State ℕ HistoryView
 stepped_to s i m id w = record { words = slice_set s.words i m; homes = s.homes; views = slice_set s.views id w }
-
-clash : (n a b : ℕ) → a ≡ b → n < b → a ≤ n → ⊥
-clash n a b e lt le = absurd (omega arith)
 
 pub claim_keeps : (histories : List ℕ) (s : State ℕ HistoryView) (id : ℕ) (v : HistoryView) → Holds histories s → get_elem? s.views id ≡ some v → 1 ≤ length v.parts → v.histories ≡ histories → (own v).ended ≡ false
     → (w : HistoryView) × Holds histories (stepped_to s 0 ((slice_index s.words 0 + 1) % 2 ^ 64) id w) × Draws v (slice_index s.words 0) w

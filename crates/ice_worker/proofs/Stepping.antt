@@ -10,7 +10,8 @@ use Rattle.ice_words.specs.Views.{with_own, own_changed, own, first_part, newest
 use Rattle.ice_core.proofs.Sums.{times_append, times_push, at_itself}
 use Rattle.ice_words.specs.Rule.{MayRelease, MayHold}
 use Rattle.ice_base.specs.declared.number.WireNo.{WireNo}
-use Rattle.ice_worker.proofs.Wires.{numbers_long, number_at}
+use Rattle.ice_negotiate_defs.proofs.Wires.{numbers_long}
+use Rattle.ice_worker.proofs.Wires.{number_at}
 use Rattle.ice_worker.specs.Work.{changing, released_as, held_as, finished_as, IsNew, IsReady}
 
 -- ---- two changes of the own part make one

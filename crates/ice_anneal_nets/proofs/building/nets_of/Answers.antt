@@ -1,7 +1,7 @@
 use Rattle.std.proofs.Common.{◌++◌, ap, ◌∙◌, length}
 use Rattle.std.specs.Prelude.{option_map, slice_get}
 use Rattle.ice_cells.specs.Tables.{table}
-use Rattle.ice_place_length.specs.Grown.{plan_in}
+use Rattle.ice_place_defs.specs.Plan.{plan_in}
 use Rattle.ice_anneal_nets.specs.Nodes.{pad_node, holder, nodes_in}
 use Rattle.ice_anneal_nets.specs.Sorted.{sorted_in, nets_by}
 use Rattle.ice_anneal_nets.proofs.ByRoots.{nets_are}

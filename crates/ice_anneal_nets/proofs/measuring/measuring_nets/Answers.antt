@@ -1,4 +1,4 @@
-use Rattle.ice_place_length.specs.Grown.{plan_in}
+use Rattle.ice_place_defs.specs.Plan.{plan_in}
 use Rattle.ice_anneal_nets.specs.Nodes.{plan_at}
 use Rattle.ice_anneal_nets.proofs.Bridge.{same_length}
 use Rattle.ice_anneal_nets.proofs.Fits.{nets_fit}

@@ -1,5 +1,5 @@
 use Rattle.std.proofs.Common.{◌+◌, ◌++◌, drop, option_map, sym, ap, ◌∙◌, arith}
-use Rattle.ice_base.specs.BitNames.{values_in}
+use Rattle.ice_base.specs.Places.{values_in}
 use Rattle.ice_base.proofs.KnownLists.{all_begin, value_joins, value_stops, values_end}
 use Rattle.ice_asc.specs.Grammar.{known_row}
 use Rattle.ice_asc.proofs.words.known_bits.Goals as goal

@@ -1,6 +1,6 @@
 use Rattle.std.proofs.Common.{◌≡◌, ◌++◌, map, drop, option_map}
 use Rattle.ice_base.specs.Lists.{all_known}
-use Rattle.ice_base.specs.BitNames.{digit_value}
+use Rattle.ice_base.specs.Places.{digit_value}
 use Rattle.ice_asc.proofs.words.known_bits.Given as goal
 
 abbrev pub invariant-loop-digit : goal.invariant-loop-digit

@@ -3,7 +3,7 @@ use Rattle.std.specs.Prelude.{OnOk}
 use Rattle.ice_chip.specs.Database.{Parts}
 use Rattle.ice_bits.specs.Configuration.{Configuration, bits_of}
 use Rattle.ice_net.specs.declared.cell.Cell.{Cell}
-use Rattle.ice_decode.specs.Registers.{has_output_register}
+use Rattle.ice_decode.specs.Pads.{has_output_register}
 use Rattle.ice_back_laws.specs.Back.{output_cell, output_cells}
 use Rattle.ice_back.specs.Adding.{with_cells, HasRoomForCells}
 use Rattle.ice_back.proofs.Rooms.{one_made}

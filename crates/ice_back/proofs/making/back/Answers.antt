@@ -4,7 +4,7 @@ use Rattle.ice_bits.specs.Configuration.{bits_of}
 use Rattle.ice_net.specs.Meaning as nets
 use Rattle.ice_net.specs.NetlistData.{NetlistData}
 use Rattle.ice_check.specs.Sound.{IsSound}
-use Rattle.ice_decode.specs.Meaning as chips
+use Rattle.ice_decode.specs.Meaning.{bits_show}
 use Rattle.ice_back_laws.specs.Back.{back_netlist}
 use Rattle.ice_back_points.specs.ConfiguredChips.{ConfiguredData, IsConfigured}
 use Rattle.ice_back.proofs.making.back.Goals as goal
@@ -23,8 +23,8 @@ returns-clause-shows c =
     let is : IsConfigured d = c.tiles.ensures.configured in
     IfOk-weaker c.filled.result (λ netlist. netlist ≡ back_netlist d.parts (bits_of d.configuration) d.configuration.extras d.bonded)
     (λ netlist. (levels : List (List Bool)) → nets.shows netlist levels
-    ≡ chips.shows c.args.chip.now (bits_of c.args.circuit.now.configuration) c.args.circuit.now.configuration.extras c.args.«package».now.pads.keys c.args.«package».now.pads.keys levels)
+    ≡ bits_show c.args.chip.now (bits_of c.args.circuit.now.configuration) c.args.circuit.now.configuration.extras c.args.«package».now.pads.keys c.args.«package».now.pads.keys levels)
     (λ netlist e levels. ap (λ (n : NetlistData). nets.shows n levels) e
     ∙ c.netlist_shows_what_bits_show.ensures d.parts (bits_of d.configuration) d.configuration.extras d.bonded is.chip is.faultless is.listed levels
-    ∙ ap (λ (s : ConfiguredData). chips.shows s.parts (bits_of s.configuration) s.configuration.extras s.bonded.pads s.bonded.pads levels) c.in_ok-configured.ensures)
+    ∙ ap (λ (s : ConfiguredData). bits_show s.parts (bits_of s.configuration) s.configuration.extras s.bonded.pads s.bonded.pads levels) c.in_ok-configured.ensures)
     c.filled.ensures

@@ -2,7 +2,7 @@ use Rattle.std.proofs.Common.{◌∙◌, arith, subst, sym, List}
 use Rattle.std.specs.List.{IsDistinct}
 use Rattle.std.proofs.lemmas.Map.Made.{IsDistinct-keys_filter}
 use Rattle.ice_base.specs.declared.number.TileAt.{TileAt}
-use Rattle.ice_chip.specs.Places.{same_tile}
+use Rattle.ice_chip.specs.Database.{same_tile}
 use Rattle.ice_decode.specs.Cells.{is_logic_tile}
 use Rattle.ice_back_points.proofs.ConfiguredFacts.{tile_next}
 use Rattle.ice_back_points.proofs.configured.tile_set.Goals as goal

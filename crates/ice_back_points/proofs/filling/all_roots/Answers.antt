@@ -6,7 +6,8 @@ use Rattle.ice_decode.specs.Points.{HasWire}
 use Rattle.ice_back_laws.specs.declared.root.LevelRoot.{LevelRoot}
 use Rattle.ice_back_laws.specs.declared.root.LevelRoot.TheVariants.{Fixed}
 use Rattle.ice_back_points.specs.Filling.{filled, AreRoots}
-use Rattle.ice_back_points.proofs.ConfiguredFacts.{order_wires, written}
+use Rattle.ice_base_values.proofs.Places.{written}
+use Rattle.ice_back_points.proofs.ConfiguredFacts.{order_wires}
 use Rattle.ice_back_points.proofs.Filled.{all_filled}
 use Rattle.ice_back_points.proofs.filling.all_roots.Goals as goal
 

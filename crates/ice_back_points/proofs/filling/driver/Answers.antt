@@ -3,7 +3,7 @@ use Rattle.ice_bits.specs.Configuration.{bits_of}
 use Rattle.ice_decode.specs.declared.driver.Driver.{Driver}
 use Rattle.ice_decode.specs.declared.driver.Driver.TheVariants.{Nothing}
 use Rattle.ice_decode.proofs.DriverTables.{driver_within, driver_found}
-use Rattle.ice_back_points.proofs.ConfiguredFacts.{comes_from}
+use Rattle.ice_decode.proofs.Switches.{comes_from}
 use Rattle.ice_back_points.proofs.filling.driver.Goals as goal
 
 pub bounds-drivers-wire : goal.bounds-drivers-wire

@@ -1,5 +1,5 @@
 use Rattle.std.proofs.Common.{◌≡◌, drop, option_map}
-use Rattle.ice_base.specs.BitNames.{cut_at}
+use Rattle.ice_base.specs.Places.{cut_at}
 use Rattle.ice_base.proofs.BitCuts.{behind_front}
 use Rattle.ice_base.proofs.bit_name.cut_at.Given as goal
 

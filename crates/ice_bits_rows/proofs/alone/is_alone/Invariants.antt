@@ -1,6 +1,6 @@
 use Rattle.std.proofs.Common.{◌≡◌, ◌++◌, drop}
 use Rattle.ice_chip.specs.Views.{row_view, group_view}
-use Rattle.ice_bits.specs.RowsOn.{rows_on}
+use Rattle.ice_bits.specs.Settings.{rows_on}
 use Rattle.ice_bits_rows.specs.Sound.{sets}
 use Rattle.ice_bits_rows.specs.Lists.{views}
 use Rattle.ice_bits_rows.specs.Alone.{in_tile, listed_one}

@@ -8,4 +8,4 @@ pub returns : goal.returns
 returns c =
     let long = ap length c.as_slice-bit-items.ensures in
     sym (c.loop-bit.invariant
-    ∙ at_drop_all (list_any (is_shared c.args.chip.now c.args.group.now.tile c.args.group.now.wire.0)) c.args.group.now.bits.items c.loop-bit.bit-index (omega (arith, long, c.loop-bit-test.false)))
+    ∙ at_drop_all (list_any (is_shared c.args.index.now.chip.now c.args.group.now.tile c.args.group.now.wire.0)) c.args.group.now.bits.items c.loop-bit.bit-index (omega (arith, long, c.loop-bit-test.false)))

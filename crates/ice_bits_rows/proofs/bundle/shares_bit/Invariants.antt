@@ -5,4 +5,4 @@ use Rattle.ice_bits_rows.specs.Bundles.{is_shared, shares_bit}
 use Rattle.ice_bits_rows.proofs.bundle.shares_bit.Given as goal
 
 abbrev pub invariant-loop-bit : goal.invariant-loop-bit
-invariant-loop-bit l = shares_bit l.chip (group_view l.group) ≡ list_any (is_shared l.chip l.group.tile l.group.wire.0) (drop l.bit-index l.group.bits.items)
+invariant-loop-bit l = shares_bit l.fn.index.chip.now (group_view l.group) ≡ list_any (is_shared l.fn.index.chip.now l.group.tile l.group.wire.0) (drop l.bit-index l.group.bits.items)

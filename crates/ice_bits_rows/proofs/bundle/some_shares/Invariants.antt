@@ -6,4 +6,4 @@ use Rattle.ice_bits_rows.specs.Alone.{in_tile}
 use Rattle.ice_bits_rows.proofs.bundle.some_shares.Given as goal
 
 abbrev pub invariant-loop-group : goal.invariant-loop-group
-invariant-loop-group l = list_any (shares_bit l.chip) (in_tile l.tile (views l.groups)) ≡ list_any (shares_bit l.chip) (in_tile l.tile (views (drop l.group-index l.groups)))
+invariant-loop-group l = list_any (shares_bit l.fn.index.chip.now) (in_tile l.tile (views l.groups)) ≡ list_any (shares_bit l.fn.index.chip.now) (in_tile l.tile (views (drop l.group-index l.groups)))

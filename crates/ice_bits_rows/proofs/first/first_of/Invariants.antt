@@ -4,5 +4,5 @@ use Rattle.ice_bits_rows.specs.FirstSound.{first_of}
 use Rattle.ice_bits_rows.proofs.first.first_of.Given as goal
 
 abbrev pub invariant-loop-k : goal.invariant-loop-k
-invariant-loop-k l = first_of l.chip l.source.0 (group_view l.group) l.group.first.0 (map row_view l.group.rows.items)
-    ≡ first_of l.chip l.source.0 (group_view l.group) (l.group.first.0 + l.k) (map row_view (drop l.k l.group.rows.items))
+invariant-loop-k l = first_of l.fn.index.chip.now l.source.0 (group_view l.group) l.group.first.0 (map row_view l.group.rows.items)
+    ≡ first_of l.fn.index.chip.now l.source.0 (group_view l.group) (l.group.first.0 + l.k) (map row_view (drop l.k l.group.rows.items))

@@ -9,5 +9,5 @@ pub returns : goal.returns
 returns c =
     let count : c.len-k-end.result ≡ length c.args.group.now.rows.items = search rules in
     sym (c.loop-k.invariant
-    ∙ at_drop_all (λ (rs : List Row). some_usable c.args.chip.now c.args.source.0 (group_view c.args.group.now) (c.args.group.now.first.0 + c.loop-k.k) (map row_view rs))
+    ∙ at_drop_all (λ (rs : List Row). some_usable c.args.index.now.chip.now c.args.source.0 (group_view c.args.group.now) (c.args.group.now.first.0 + c.loop-k.k) (map row_view rs))
     c.args.group.now.rows.items c.loop-k.k (omega (arith, count, c.loop-k-test.false)))

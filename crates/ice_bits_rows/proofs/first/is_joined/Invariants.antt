@@ -5,4 +5,4 @@ use Rattle.ice_bits_rows.specs.Lists.{views}
 use Rattle.ice_bits_rows.proofs.first.is_joined.Given as goal
 
 abbrev pub invariant-loop-group : goal.invariant-loop-group
-invariant-loop-group l = is_joined l.chip l.source.0 l.fn.target.0 ≡ list_any (λ g. some_usable l.chip l.source.0 g g.first g.rows) (views (drop l.group-index l.group-items))
+invariant-loop-group l = is_joined l.fn.index.chip.now l.source.0 l.fn.target.0 ≡ list_any (λ g. some_usable l.fn.index.chip.now l.source.0 g g.first g.rows) (views (drop l.group-index l.group-items))

@@ -2,7 +2,7 @@ use Rattle.std.proofs.Common.{◌+◌, drop, get_or, length, ap, sym, ◌∙◌,
 use Rattle.std.specs.Prelude.{◌==◌, ◌&&◌, ◌||◌, not}
 use Rattle.std.proofs.lemmas.List.{at_drop_more}
 use Rattle.ice_base.specs.declared.number.BitAt.{BitAt}
-use Rattle.ice_chip.specs.Places.{same_tile}
+use Rattle.ice_chip.specs.Database.{same_tile}
 use Rattle.ice_base.specs.Places.{same_place}
 use Rattle.ice_bits_rows.specs.Bundles.{has_bit}
 use Rattle.ice_bits_rows.specs.Owners.{owner_at, is_other}

@@ -2,7 +2,7 @@ use Rattle.std.proofs.Common.{◌≡◌, drop, map}
 use Rattle.std.specs.Bool.{beq}
 use Rattle.std.specs.Cmp.Lexicographic.{pointwise}
 use Rattle.ice_chip.specs.Views.{row_view, group_view}
-use Rattle.ice_bits.specs.RowsOn.{values_of}
+use Rattle.ice_bits.specs.Settings.{values_of}
 use Rattle.ice_bits_rows.specs.Sound.{sets}
 use Rattle.ice_bits_rows.proofs.rows.are_values.Given as goal
 

@@ -1,6 +1,6 @@
 use Rattle.std.proofs.Common.{◌≡◌, ◌+◌, drop, map}
 use Rattle.ice_chip.specs.Views.{row_view}
-use Rattle.ice_bits.specs.RowsOn.{number_with}
+use Rattle.ice_bits.specs.Settings.{number_with}
 use Rattle.ice_bits_rows.proofs.rows.number_of.Given as goal
 
 abbrev pub invariant-loop-k : goal.invariant-loop-k

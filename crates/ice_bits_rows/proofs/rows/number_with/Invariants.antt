@@ -1,6 +1,6 @@
 use Rattle.std.proofs.Common.{◌≡◌, ◌+◌, drop, map}
 use Rattle.ice_chip.specs.Views.{row_view, group_view}
-use Rattle.ice_bits.specs.RowsOn.{values_of, number_with}
+use Rattle.ice_bits.specs.Settings.{values_of, number_with}
 use Rattle.ice_bits_rows.specs.Sound.{sets}
 use Rattle.ice_bits_rows.proofs.rows.number_with.Given as goal
 

@@ -1,7 +1,7 @@
 use Rattle.std.proofs.Common.{◌≡◌, drop, map}
 use Rattle.std.specs.List.{list_any}
 use Rattle.ice_chip.specs.Views.{row_view, group_view}
-use Rattle.ice_bits.specs.RowsOn.{values_of}
+use Rattle.ice_bits.specs.Settings.{values_of}
 use Rattle.ice_bits_rows.specs.Sound.{sets}
 use Rattle.ice_bits_rows.proofs.rows.sets_some.Given as goal
 

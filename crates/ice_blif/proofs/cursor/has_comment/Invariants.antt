@@ -1,7 +1,6 @@
 use Rattle.std.proofs.Common.{◌≡◌}
 use Rattle.std.specs.List.{list_any}
-use Rattle.ice_base.specs.Text.{words}
-use Rattle.ice_base.specs.Comments.{begins_with}
+use Rattle.ice_base.specs.Text.{words, begins_with}
 use Rattle.ice_blif.proofs.cursor.has_comment.Given as goal
 
 abbrev pub invariant-loop-word : goal.invariant-loop-word

@@ -1,8 +1,8 @@
 use Rattle.std.proofs.Common.{◌≡◌, take}
 use Rattle.std.specs.Prelude.{map, slice_index_or}
 use Rattle.ice_net.specs.declared.cell.Cell.{Cell}
-use Rattle.ice_net.specs.declared.driver.Driver.TheVariants.{Nothing}
-use Rattle.ice_base_values.specs.Inputs.{present}
+use Rattle.ice_net.specs.declared.driver.SignalDriver.TheVariants.{Nothing}
+use Rattle.ice_base_values.specs.System.{present}
 use Rattle.ice_net.specs.Meaning.{cell_reads}
 use Rattle.ice_check.specs.Loops.{cells_at}
 use Rattle.ice_check.proofs.order.graph_of_cells.Given as goal

@@ -1,6 +1,6 @@
 use Rattle.std.proofs.Common.{◌≡◌, ◌++◌, drop}
 use Rattle.std.specs.Prelude.{slice_index_or}
-use Rattle.ice_net.specs.declared.driver.Driver.TheVariants.{Nothing}
+use Rattle.ice_net.specs.declared.driver.SignalDriver.TheVariants.{Nothing}
 use Rattle.ice_check.specs.Loops.{cells_at}
 use Rattle.ice_check.proofs.order.push_cells.Given as goal
 

@@ -1,5 +1,5 @@
 use Rattle.std.proofs.Common.{◌≡◌, [], drop, map, filter}
-use Rattle.ice_chip.specs.Places.{same_tile}
+use Rattle.ice_chip.specs.Database.{same_tile}
 use Rattle.ice_chip.specs.Lookups.{buffer_counts, served_tile}
 use Rattle.ice_chip.specs.Indices.{firsts}
 use Rattle.ice_chip.specs.Views.{parts_view}

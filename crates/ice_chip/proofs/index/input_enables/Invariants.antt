@@ -1,5 +1,5 @@
 use Rattle.std.proofs.Common.{◌≡◌, [], drop, filter}
-use Rattle.ice_chip.specs.Places.{same_pad}
+use Rattle.ice_chip.specs.Database.{same_pad}
 use Rattle.ice_chip.specs.Lookups.{enable_counts}
 use Rattle.ice_chip.specs.Indices.{firsts}
 use Rattle.ice_chip.specs.Views.{parts_view}

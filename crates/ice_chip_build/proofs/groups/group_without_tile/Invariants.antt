@@ -1,5 +1,5 @@
 use Rattle.std.proofs.Common.{◌≡◌, drop, map}
-use Rattle.ice_chip.specs.Places.{tile_known}
+use Rattle.ice_chip.specs.Database.{tile_known}
 use Rattle.ice_chip.specs.Views.{group_view, parts_view}
 use Rattle.ice_chip.specs.WholeFaults.{group_without_tile}
 use Rattle.ice_chip_build.proofs.groups.group_without_tile.Given as goal

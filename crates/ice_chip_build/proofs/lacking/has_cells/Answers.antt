@@ -1,5 +1,5 @@
 use Rattle.std.proofs.Common.{map, sym, ap, ◌∙◌}
-use Rattle.ice_chip.specs.FunctionNames.{cell_function}
+use Rattle.ice_chip.specs.Names.{cell_function}
 use Rattle.ice_chip.specs.LacksFunction.{has_function}
 use Rattle.ice_chip.specs.Views.{function_view}
 use Rattle.ice_chip.specs.declared.rows.TileKind.TheVariants.{Logic}

@@ -1,5 +1,5 @@
 use Rattle.std.proofs.Common.{◌≡◌, true, map}
-use Rattle.ice_chip.specs.FunctionNames.{cell_function}
+use Rattle.ice_chip.specs.Names.{cell_function}
 use Rattle.ice_chip.specs.LacksFunction.{has_each}
 use Rattle.ice_chip.specs.Views.{function_view}
 use Rattle.ice_chip.specs.declared.rows.TileKind.TheVariants.{Logic}

@@ -1,5 +1,5 @@
 use Rattle.std.proofs.Common.{◌≡◌, true, map}
-use Rattle.ice_chip.specs.FunctionNames.{pin_type_function}
+use Rattle.ice_chip.specs.Names.{pin_type_function}
 use Rattle.ice_chip.specs.LacksFunction.{has_each}
 use Rattle.ice_chip.specs.Views.{function_view}
 use Rattle.ice_chip.specs.declared.rows.TileKind.TheVariants.{Io}

@@ -1,5 +1,5 @@
 use Rattle.std.proofs.Common.{ap, sym, ◌∙◌}
-use Rattle.ice_chip.specs.Places.{tile_known}
+use Rattle.ice_chip.specs.Database.{tile_known}
 use Rattle.ice_chip.specs.WireNames.{tile_wire}
 use Rattle.ice_chip.specs.Views.{parts_view}
 use Rattle.ice_chip_build.proofs.NoPins.{no_pin}

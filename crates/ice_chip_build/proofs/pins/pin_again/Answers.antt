@@ -1,6 +1,6 @@
 use Rattle.std.proofs.Common.{◌≡◌, ◌<◌, ◌≤◌, map, length, get_or, sym, ap, ◌∙◌, arith}
 use Rattle.std.proofs.lemmas.List.{at_drop_all}
-use Rattle.ice_chip.specs.Places.{tile_known}
+use Rattle.ice_chip.specs.Database.{tile_known}
 use Rattle.ice_chip.specs.SharedPins.{with_pin_name, shared_from}
 use Rattle.ice_chip.specs.Views.{name_view, parts_view}
 use Rattle.ice_chip.specs.declared.rows.NameRow.{NameRow}

@@ -1,6 +1,6 @@
 use Rattle.std.proofs.Common.{◌≡◌, drop, map}
 use Rattle.ice_chip_build.specs.BitsUsed.{groups_shared}
-use Rattle.ice_chip.specs.Places.{tile_known}
+use Rattle.ice_chip.specs.Database.{tile_known}
 use Rattle.ice_chip.specs.Views.{group_view, parts_view}
 use Rattle.ice_chip_build.proofs.shared.with_groups.Given as goal
 

@@ -1,6 +1,6 @@
 use Rattle.std.proofs.Common.{◌≡◌, ◌++◌, map, option_map}
 use Rattle.ice_base.specs.Lists.{all_known}
-use Rattle.ice_base.specs.BitNames.{bit_named}
+use Rattle.ice_base.specs.Places.{bit_named}
 use Rattle.ice_chip_read.proofs.bits.bits.Given as goal
 
 abbrev pub invariant-loop-name : goal.invariant-loop-name

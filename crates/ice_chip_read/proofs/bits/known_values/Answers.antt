@@ -1,5 +1,5 @@
 use Rattle.std.proofs.Common.{◌+◌, Bool, List, ◌++◌, drop, option_map, sym, ap, ◌∙◌}
-use Rattle.ice_base.specs.BitNames.{values_in}
+use Rattle.ice_base.specs.Places.{values_in}
 use Rattle.ice_base.proofs.KnownLists.{value_joins, values_end}
 use Rattle.ice_chip_read.specs.Lines.{known_values}
 use Rattle.ice_chip_read.proofs.bits.known_values.Goals as goal

@@ -1,6 +1,6 @@
 use Rattle.std.proofs.Common.{rules, ◌≡◌, [], ◌∷◌, ◌++◌, None}
 use Rattle.std.specs.Map.{lookup}
-use Rattle.ice_chip.specs.Places.{same_tile}
+use Rattle.ice_chip.specs.Database.{same_tile}
 use Rattle.ice_chip_read.specs.Lines.{tile_line}
 use Rattle.ice_chip.proofs.Entries.{new_goes_last}
 use Rattle.ice_chip_read.proofs.headings.tile_heading.Goals as goal

@@ -2,7 +2,7 @@ use Rattle.std.proofs.Common.{rules, ◌≡◌, [], ◌∷◌, ◌++◌, None, b
 use Rattle.std.specs.Map.{lookup}
 use Rattle.indexmap.specs.IndexSet.{insert_key}
 use Rattle.ice_chip.specs.Views.{package_view}
-use Rattle.ice_chip.specs.Places.{same_pad}
+use Rattle.ice_chip.specs.Database.{same_pad}
 use Rattle.ice_chip_read.specs.Lines.{with_pin}
 use Rattle.ice_chip.proofs.Entries.{new_goes_last}
 use Rattle.ice_chip_read.proofs.rows.add_pin.Goals as goal

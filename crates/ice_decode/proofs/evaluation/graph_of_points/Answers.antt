@@ -2,12 +2,12 @@ use Rattle.std.proofs.Common.{◌<◌, [], ◌∷◌, ◌++◌, List, length, ma
 use Rattle.std.specs.Prelude.{slice_get}
 use Rattle.std.proofs.lemmas.List.{take_all}
 use Rattle.std.proofs.lemmas.List.Elements.{All-same}
-use Rattle.ice_base_values.specs.Inputs.{present}
+use Rattle.ice_base_values.specs.System.{present}
 use Rattle.ice_bits.specs.Configuration.{bits_of}
 use Rattle.ice_decode.specs.declared.point.Point.{Point}
 use Rattle.ice_decode.specs.declared.point.Point.TheVariants.{Wire}
 use Rattle.ice_decode.specs.Points.{IsNumbered}
-use Rattle.ice_decode.specs.Reads.{reads, depends_on}
+use Rattle.ice_decode.specs.Reads.{reads_at, depends_on}
 use Rattle.ice_decode.proofs.Graphs.{graph_from, graph_more}
 use Rattle.ice_decode.proofs.Numbered.{has_wire, reads_numbered}
 use Rattle.ice_decode.proofs.evaluation.graph_of_points.Goals as goal
@@ -19,8 +19,8 @@ add_reads-requires-clause-point c =
 pub number_all-requires : goal.number_all-requires
 number_all-requires c =
     let point : Point = get_or c.points-point-items.result.now c.loop-point.point-index (Wire (record { 0 = 0 })) in
-    All-same (IsNumbered c.args.numbering.now) c.deref.result.now (reads c.args.chip.now (bits_of c.args.bits.now) c.args.bits.now.extras point)
-    (c.deref.ensures.value ∙ c.in_ok-add_reads.ensures ∙ ap (λ inputs. inputs ++ reads c.args.chip.now (bits_of c.args.bits.now) c.args.bits.now.extras point) c.clear.ensures.items)
+    All-same (IsNumbered c.args.numbering.now) c.deref.result.now (reads_at c.args.chip.now (bits_of c.args.bits.now) c.args.bits.now.extras point)
+    (c.deref.ensures.value ∙ c.in_ok-add_reads.ensures ∙ ap (λ inputs. inputs ++ reads_at c.args.chip.now (bits_of c.args.bits.now) c.args.bits.now.extras point) c.clear.ensures.items)
     (reads_numbered c.args.chip.now (bits_of c.args.bits.now) c.args.bits.now.extras c.is_chip.ensures.read c.args.numbering.now c.points-point-items.result.now c.requires.points c.points-point-items.ensures
     c.loop-point.point-index (Wire (record { 0 = 0 })) c.loop-point-test.true)
 
@@ -33,7 +33,7 @@ loop-point-preserved c =
     ∙ graph_more c.args.numbering.now (depends_on c.args.chip.now (bits_of c.args.bits.now) c.args.bits.now.extras) c.loop-point.graph c.number_all.new.row.items c.loop-point.point-index none c.loop-point.invariant lt
     (c.in_ok-number_all.ensures
     ∙ ap (λ inputs. map (λ (q : Point). Some q) (present inputs))
-    (c.deref.ensures.value ∙ c.in_ok-add_reads.ensures ∙ ap (λ inputs. inputs ++ reads c.args.chip.now (bits_of c.args.bits.now) c.args.bits.now.extras point) c.clear.ensures.items)
+    (c.deref.ensures.value ∙ c.in_ok-add_reads.ensures ∙ ap (λ inputs. inputs ++ reads_at c.args.chip.now (bits_of c.args.bits.now) c.args.bits.now.extras point) c.clear.ensures.items)
     ∙ ap (λ (points : List Point). map (λ (q : Point). Some q) (depends_on c.args.chip.now (bits_of c.args.bits.now) c.args.bits.now.extras (get_or points c.loop-point.point-index none))) c.points-point-items.ensures)
 
 pub returns : goal.returns

@@ -1,8 +1,8 @@
 use Rattle.std.proofs.Common.{◌≡◌, ℕ, Bool, true, false, cond, List, Option, Some, refl, sym, ap, ◌∙◌}
 use Rattle.std.specs.Prelude.{codes, bytes_eq}
 use Rattle.ice_base.specs.declared.number.TileAt.{TileAt}
-use Rattle.ice_chip.specs.PinNames.{cell_pin}
-use Rattle.ice_decode.specs.Roles.{number_at, output_role, or_global, logic_role}
+use Rattle.ice_chip.specs.Names.{cell_pin}
+use Rattle.ice_decode.specs.Drivers.{number_at, output_role, or_global, logic_role}
 use Rattle.ice_decode.specs.declared.role.Role.{Role}
 use Rattle.ice_decode.specs.declared.role.Role.TheVariants.{CarryIn, ClockEnable}
 use Rattle.ice_decode.proofs.role.logic_role.Goals as goal

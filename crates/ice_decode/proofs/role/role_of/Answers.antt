@@ -1,6 +1,6 @@
 use Rattle.std.proofs.Common.{sym, ◌∙◌}
 use Rattle.std.proofs.lemmas.List.{at_drop_all}
-use Rattle.ice_decode.specs.Roles.{first_role}
+use Rattle.ice_decode.specs.Drivers.{first_role}
 use Rattle.ice_decode.proofs.role.role_of.Goals as goal
 
 pub returns : goal.returns

@@ -1,5 +1,5 @@
 use Rattle.std.proofs.Common.{◌≡◌, drop}
-use Rattle.ice_decode.specs.Roles.{first_role, role_of}
+use Rattle.ice_decode.specs.Drivers.{first_role, role_of}
 use Rattle.ice_decode.proofs.role.role_of.Given as goal
 
 abbrev pub invariant-loop-placed : goal.invariant-loop-placed

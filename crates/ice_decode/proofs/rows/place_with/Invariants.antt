@@ -1,7 +1,7 @@
 use Rattle.std.proofs.Common.{◌≡◌, ◌+◌, drop, map}
 use Rattle.ice_chip.specs.Views.{row_view}
 use Rattle.ice_bits.specs.Configuration.{bit_in}
-use Rattle.ice_bits.specs.RowsOn.{number_with}
+use Rattle.ice_bits.specs.Settings.{number_with}
 use Rattle.ice_decode.proofs.rows.place_with.Given as goal
 
 abbrev pub invariant-loop-place : goal.invariant-loop-place

@@ -1,5 +1,5 @@
 use Rattle.std.proofs.Common.{ℕ, List, ◌++◌, ap, ◌∙◌}
-use Rattle.ice_chip.specs.FunctionNames.{cell_function}
+use Rattle.ice_chip.specs.Names.{cell_function}
 use Rattle.ice_emit_defs.specs.Functions.{setting_if, table_settings, flop_settings}
 use Rattle.ice_emit_settings.specs.Views.{views}
 use Rattle.ice_emit.proofs.clusters.push_placed.Goals as goal

@@ -1,13 +1,13 @@
 use Rattle.std.proofs.Common.{◌++◌, ap, sym, ◌∙◌}
 use Rattle.ice_chip.specs.Lookups.{wire_named}
-use Rattle.ice_chip.specs.WireNames.{carry_in_name, first_carry_name}
+use Rattle.ice_chip.specs.Names.{carry_in_name, first_carry_name}
 use Rattle.ice_emit_settings.specs.Views.{switches}
 use Rattle.ice_emit.proofs.Listed.{link_added, later_chunk}
 use Rattle.ice_emit.proofs.links.push_entry.Goals as goal
 
 pub returns : goal.returns
 returns c =
-    let parts = c.args.chip.now in
+    let parts = c.args.index.now.chip.now in
     let t = c.args.tile in
     let old = switches parts c.args.rows.now.items in
     link_added parts old (switches parts c.push_row.new.rows.items) c.link-row.result c.wire_named.result c.wire_named-2.result (wire_named parts t carry_in_name) (wire_named parts t first_carry_name)

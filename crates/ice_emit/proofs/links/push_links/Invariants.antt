@@ -6,4 +6,4 @@ use Rattle.ice_emit.proofs.links.push_links.Given as goal
 
 abbrev pub invariant-loop-k : goal.invariant-loop-k
 invariant-loop-k l =
-    switches l.chip l.rows.items ++ sides (cluster_link l.chip l.cells) l.tiles l.k (drop l.k l.clusters) ≡ switches l.chip l.initial.rows.items ++ sides (cluster_link l.chip l.cells) l.tiles 0 l.clusters
+    switches l.fn.index.chip.now l.rows.items ++ sides (cluster_link l.fn.index.chip.now l.cells) l.tiles l.k (drop l.k l.clusters) ≡ switches l.fn.index.chip.now l.initial.rows.items ++ sides (cluster_link l.fn.index.chip.now l.cells) l.tiles 0 l.clusters

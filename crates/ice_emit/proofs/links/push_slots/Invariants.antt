@@ -6,4 +6,4 @@ use Rattle.ice_emit.proofs.links.push_slots.Given as goal
 
 abbrev pub invariant-loop-i : goal.invariant-loop-i
 invariant-loop-i l =
-    switches l.chip l.rows.items ++ slots_give (cell_links l.chip) l.cells l.tile l.i (drop l.i l.slots) ≡ switches l.chip l.initial.rows.items ++ slots_give (cell_links l.chip) l.cells l.tile 0 l.slots
+    switches l.fn.index.chip.now l.rows.items ++ slots_give (cell_links l.fn.index.chip.now) l.cells l.tile l.i (drop l.i l.slots) ≡ switches l.fn.index.chip.now l.initial.rows.items ++ slots_give (cell_links l.fn.index.chip.now) l.cells l.tile 0 l.slots

@@ -1,5 +1,5 @@
 use Rattle.ice_emit_nets.specs.Collected.{bare_nets}
-use Rattle.ice_emit_nets.specs.Plans.{plan_in}
+use Rattle.ice_place_defs.specs.Plan.{plan_in}
 use Rattle.ice_emit_nets.specs.Rooted.{wires_in}
 use Rattle.ice_emit_nets.specs.Sorted.{sorted_in}
 use Rattle.ice_emit_nets.proofs.Netting.{nets_are}

@@ -1,4 +1,4 @@
-use Rattle.ice_emit_nets.specs.Plans.{plan_in}
+use Rattle.ice_place_defs.specs.Plan.{plan_in}
 use Rattle.ice_emit_nets.proofs.Rooting.{roots_are}
 use Rattle.ice_emit_nets.proofs.wires.wires_of.Goals as goal
 

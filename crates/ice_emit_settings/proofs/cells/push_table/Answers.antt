@@ -1,6 +1,6 @@
 use Rattle.std.proofs.Common.{◌≡◌, ℕ, ◌++◌, ap, ◌∙◌, arith}
 use Rattle.std.specs.List.{flat_map, range_with_len}
-use Rattle.ice_chip.specs.FunctionNames.{cell_function}
+use Rattle.ice_chip.specs.Names.{cell_function}
 use Rattle.ice_emit_settings.specs.Cells.{entry_settings}
 use Rattle.ice_emit_settings.specs.Views.{views}
 use Rattle.ice_emit_settings.proofs.Ranges.{made_more}

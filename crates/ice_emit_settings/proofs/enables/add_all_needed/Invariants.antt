@@ -1,6 +1,6 @@
 use Rattle.std.proofs.Common.{◌≡◌}
 use Rattle.indexmap.specs.IndexSet.{insert_all}
-use Rattle.ice_chip.specs.Places.{same_pad}
+use Rattle.ice_chip.specs.Database.{same_pad}
 use Rattle.ice_emit_settings.specs.Enables.{needed_places}
 use Rattle.ice_emit_settings.proofs.enables.add_all_needed.Given as goal
 

@@ -1,6 +1,6 @@
 use Rattle.std.proofs.Common.{◌≡◌, drop}
 use Rattle.indexmap.specs.IndexSet.{insert_all}
-use Rattle.ice_chip.specs.Places.{same_pad}
+use Rattle.ice_chip.specs.Database.{same_pad}
 use Rattle.ice_emit_nets.specs.Sides.{sides}
 use Rattle.ice_emit_settings.specs.Enables.{read_pads_at}
 use Rattle.ice_emit_settings.proofs.enables.add_all_read.Given as goal

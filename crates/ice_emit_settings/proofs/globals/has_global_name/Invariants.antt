@@ -1,6 +1,6 @@
 use Rattle.std.proofs.Common.{◌≡◌, drop}
 use Rattle.std.specs.List.{list_any}
-use Rattle.ice_chip.specs.PinNames.{is_global_name}
+use Rattle.ice_chip.specs.Names.{is_global_name}
 use Rattle.ice_emit_settings.specs.Buffers.{has_global_name}
 use Rattle.ice_emit_settings.proofs.globals.has_global_name.Given as goal
 

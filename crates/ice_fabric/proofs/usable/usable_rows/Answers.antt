@@ -10,27 +10,27 @@ use Rattle.ice_fabric.proofs.usable.usable_rows.Goals as goal
 
 pub add_group-requires-clause-wires : goal.add_group-requires-clause-wires
 add_group-requires-clause-wires c =
-    (subst (λ g. IsKnown c.args.chip.now.wires (group_view g)) (sym c.group-item.is)
-    (group_known c.args.chip.now c.groups-group-items.result.now c.loop-group.group-index c.group-item.result c.wires-wires.ensures.chip.read c.groups-group-items.ensures (omega arith))).wires_below
+    (subst (λ g. IsKnown c.args.index.now.chip.now.wires (group_view g)) (sym c.group-item.is)
+    (group_known c.args.index.now.chip.now c.groups-group-items.result.now c.loop-group.group-index c.group-item.result c.is_chip.ensures.read c.groups-group-items.ensures (omega arith))).wires_below
 
 pub add_group-requires-clause-few : goal.add_group-requires-clause-few
 add_group-requires-clause-few c =
-    let known = subst (λ g. IsKnown c.args.chip.now.wires (group_view g)) (sym c.group-item.is)
-    (group_known c.args.chip.now c.groups-group-items.result.now c.loop-group.group-index c.group-item.result c.wires-wires.ensures.chip.read c.groups-group-items.ensures (omega arith)) in
+    let known = subst (λ g. IsKnown c.args.index.now.chip.now.wires (group_view g)) (sym c.group-item.is)
+    (group_known c.args.index.now.chip.now c.groups-group-items.result.now c.loop-group.group-index c.group-item.result c.is_chip.ensures.read c.groups-group-items.ensures (omega arith)) in
     rw (length-map c.group-item.result.rows.items row_view) at known.few
 
 pub add_group-requires-clause-member : goal.add_group-requires-clause-member
 add_group-requires-clause-member c =
-    subst (λ g. Contains c.args.chip.now.groups (group_view g)) (sym c.group-item.is)
-    (group_there c.args.chip.now c.groups-group-items.result.now c.loop-group.group-index c.group-item.result c.groups-group-items.ensures (omega arith))
+    subst (λ g. Contains c.args.index.now.chip.now.groups (group_view g)) (sym c.group-item.is)
+    (group_there c.args.index.now.chip.now c.groups-group-items.result.now c.loop-group.group-index c.group-item.result c.groups-group-items.ensures (omega arith))
 
 pub loop-group-preserved : goal.loop-group-preserved
 loop-group-preserved c =
     let groups = c.groups-group-items.result.now in
     let i = c.loop-group.group-index in
     record {
-      edges = next_piece (λ (gs : List Group). edges_from c.args.chip.now (map group_view gs)) groups i c.group-item.result _ c.loop-group.edges.items c.add_group.new.edges.items _ c.loop-group-test.true c.group-item.is refl
+      edges = next_piece (λ (gs : List Group). edges_from c.args.index.now.chip.now (map group_view gs)) groups i c.group-item.result _ c.loop-group.edges.items c.add_group.new.edges.items _ c.loop-group-test.true c.group-item.is refl
           c.in_ok-add_group.ensures.edges c.loop-group.invariant.edges;
-      places = next_piece (λ (gs : List Group). places_from c.args.chip.now (map group_view gs)) groups i c.group-item.result _ c.loop-group.places.items c.add_group.new.places.items _ c.loop-group-test.true c.group-item.is refl
+      places = next_piece (λ (gs : List Group). places_from c.args.index.now.chip.now (map group_view gs)) groups i c.group-item.result _ c.loop-group.places.items c.add_group.new.places.items _ c.loop-group-test.true c.group-item.is refl
           c.in_ok-add_group.ensures.places c.loop-group.invariant.places;
     }

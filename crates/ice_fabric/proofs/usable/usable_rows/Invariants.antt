@@ -5,6 +5,6 @@ use Rattle.ice_fabric.proofs.usable.usable_rows.Given as goal
 
 abbrev pub invariant-loop-group : goal.invariant-loop-group
 invariant-loop-group l = record {
-  edges : l.edges.items ++ edges_from l.chip (map group_view (drop l.group-index l.group-items)) ≡ usable_rows l.chip;
-  places : l.places.items ++ places_from l.chip (map group_view (drop l.group-index l.group-items)) ≡ usable_places l.chip;
+  edges : l.edges.items ++ edges_from l.fn.index.chip.now (map group_view (drop l.group-index l.group-items)) ≡ usable_rows l.fn.index.chip.now;
+  places : l.places.items ++ places_from l.fn.index.chip.now (map group_view (drop l.group-index l.group-items)) ≡ usable_places l.fn.index.chip.now;
 }

@@ -11,7 +11,7 @@ route_layout-requires-clause-placed g c κs within = let s = c.layouts_stand_on_
 
 pub returns-in-Ok-clause-made : goal.returns-in-Ok-clause-made
 returns-in-Ok-clause-made g c =
-    let task = task_of c.args.chip.now package_name [] c.args.sound.now in
+    let task = task_of c.args.index.now.chip.now package_name [] c.args.sound.now in
     let made = c.in-Ok.made in
     let is = c.in-Ok.ensures.routed in
     let e = c.sum_up.ensures in
@@ -19,9 +19,9 @@ returns-in-Ok-clause-made g c =
     (subst (λ (layout : Layout). IsLaidOut task layout) (sym is.same) c.requires.laid) is.routed e.text e.arrangement e.told
 
 pub returns-in-Ok-clause-refused : goal.returns-in-Ok-clause-refused
-returns-in-Ok-clause-refused g c = memory_refused (TaskStands (task_of c.args.chip.now package_name [] c.args.sound.now)) c.sum_up.result c.sum_up.ensures.stop
+returns-in-Ok-clause-refused g c = memory_refused (TaskStands (task_of c.args.index.now.chip.now package_name [] c.args.sound.now)) c.sum_up.result c.sum_up.ensures.stop
 
 pub returns-in-Err-clause-refused : goal.returns-in-Err-clause-refused
 returns-in-Err-clause-refused g c =
-    end_refused (task_of c.args.chip.now package_name [] c.args.sound.now) c.args.request.now.workers c.args.layout c.in-Err.fault c.cause_of.result c.requires.laid c.in-Err.ensures.fault
+    end_refused (task_of c.args.index.now.chip.now package_name [] c.args.sound.now) c.args.request.now.workers c.args.layout c.in-Err.fault c.cause_of.result c.requires.laid c.in-Err.ensures.fault
     c.cause_of.ensures

@@ -1,12 +1,13 @@
-use Rattle.ice_flow_sample_cmd.specs.Standing.{BlifStands, StandsForSample}
+use Rattle.std.proofs.Common.{[]}
+use Rattle.ice_flow_build.specs.Laid.{task_of}
+use Rattle.ice_flow_sample_cmd.specs.Samples.{package_name}
+use Rattle.ice_flow_sample_cmd.specs.Standing.{TaskStands, StandsForSample}
 use Rattle.ice_flow_sample_cmd.proofs.Refusing.{refused_behind}
-use Rattle.ice_flow_sample_cmd.proofs.Standing.{chip_so}
+use Rattle.ice_flow_sample_cmd.proofs.Standing.{task_so}
 use Rattle.ice_flow_sample_cmd.proofs.sampling.make.Goals as goal
-
-pub returns-in-Err-clause-refused : goal.returns-in-Err-clause-refused
-returns-in-Err-clause-refused g c = c.in-Err.ensures.refused c.args.request.now.number
 
 pub returns-in-Ok-clause-refused : goal.returns-in-Ok-clause-refused
 returns-in-Ok-clause-refused g c =
     let number = c.args.request.now.number in
-    refused_behind (StandsForSample number) (BlifStands number c.in-Ok.chip) c.make_on-made.result (λ cause m. chip_so number c.in-Ok.chip cause c.in-Ok.ensures.chip m) c.make_on-made.ensures.refused
+    let task = task_of c.in-Ok.task.chip package_name [] c.in-Ok.task.sound in
+    refused_behind (StandsForSample number) (TaskStands task) c.route_task-made.result (λ cause m. task_so number task cause c.in-Ok.ensures.task m) c.route_task-made.ensures.refused

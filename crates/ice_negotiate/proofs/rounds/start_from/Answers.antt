@@ -10,7 +10,7 @@ use Rattle.ice_negotiate.proofs.rounds.start_from.Goals as goal
 
 pub first_prices-requires-clause-within : goal.first_prices-requires-clause-within
 first_prices-requires-clause-within c =
-    subst (AreWithin c.args.graph.now.wires) (sym c.deref.ensures.value) (begun_within c.args.graph.now c.args.nets.now c.args.kept.now c.in_ok-trees.trees.items c.requires.kept c.in_ok-trees.ensures c.requires.nets c.edges-edges.ensures.between)
+    subst (AreWithin c.args.graph.now.wires) (sym c.deref.ensures.value) (begun_within c.args.graph.now c.args.nets.now c.args.kept.now c.in_ok-trees.trees.items c.requires.kept c.in_ok-trees.ensures c.requires.nets c.is_graph.ensures.between)
 
 pub first_prices-requires-clause-trees : goal.first_prices-requires-clause-trees
 first_prices-requires-clause-trees c =

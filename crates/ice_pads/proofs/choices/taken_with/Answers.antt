@@ -16,7 +16,7 @@ pub returns-then-have-need : goal.returns-then-have-need
 returns-then-have-need c =
     let have : c.len-have.result ≡ length c.args.free.items = search rules in
     let need : c.in-Ok.need ≡ length c.args.pins.now = search rules in
-    too_few c.args.chip.now c.args.direct.now c.args.free.items c.args.pins.now c.in-Ok.need c.len-have.result need have c.if-have-need.true
+    too_few c.args.index.now.chip.now c.args.direct.now c.args.free.items c.args.pins.now c.in-Ok.need c.len-have.result need have c.if-have-need.true
 
 pub returns : goal.returns
 returns c =
@@ -24,5 +24,5 @@ returns c =
     let need : c.in-Ok.need ≡ length c.args.pins.now = search rules in
     let all : length c.args.pins.now ≤ length c.args.free.items = omega arith in
     let others = c.in_ok-numbers.ensures ∙ ap (other_choices c.args.direct.now) (c.deref.ensures.value ∙ c.in_ok-others.ensures) in
-    enough c.args.chip.now c.args.direct.now c.args.free.items c.args.pins.now all
+    enough c.args.index.now.chip.now c.args.direct.now c.args.free.items c.args.pins.now all
     ∙ ap₂ (λ numbers direct. Ok (told numbers direct)) (sym others) (sym c.in_ok-direct.ensures)

@@ -1,5 +1,5 @@
 use Rattle.std.proofs.Common.{◌≡◌, ◌-◌}
-use Rattle.ice_pads.specs.Passing.{first_passing}
+use Rattle.ice_pads.specs.Constraints.{first_passing}
 use Rattle.ice_pads.specs.Globals.{has_name}
 use Rattle.ice_pads.proofs.free_globals.first_named.Given as goal
 

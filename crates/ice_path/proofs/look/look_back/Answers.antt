@@ -22,7 +22,7 @@ pub look-far-requires-clause-looks : goal.look-far-requires-clause-looks
 look-far-requires-clause-looks c = (
   c.args.way.now.targets.now,
   rest c.args.graph.now c.args.way.now.hops.now c.args.way.now.guides.now,
-  rest_falls c.args.graph.now c.args.way.now.hops.now c.args.way.now.guides.now c.edges-edges.ensures.bounds c.requires.hops.falls,
+  rest_falls c.args.graph.now c.args.way.now.hops.now c.args.way.now.guides.now c.is_graph.ensures.bounds c.requires.hops.falls,
   looks_first c.args.graph.now.edges (price c.args.prices.now) c.args.way.now.targets.now (rest c.args.graph.now c.args.way.now.hops.now c.args.way.now.guides.now) c.root_all.new.labels c.args.settled.now
       (λ w t. (_, rest_of_hop c.args.graph.now c.args.way.now.hops.now c.args.way.now.guides.now w 0 (c.requires.hops.home w t)))
       (starts_by c.args.way.now.targets.now (leads c.blind-aim.result) (length c.args.way.now.targets.now) c.root_all.new.labels c.args.settled.now c.blind-aim.ensures.leads c.root_all.ensures.starts),
@@ -31,7 +31,7 @@ look-far-requires-clause-looks c = (
 pub open_all-requires-clause-only : goal.open_all-requires-clause-only
 open_all-requires-clause-only c = λ w is.
     let h = c.look-far.ensures.looks c.args.way.now.targets.now (rest c.args.graph.now c.args.way.now.hops.now c.args.way.now.guides.now)
-    (rest_falls c.args.graph.now c.args.way.now.hops.now c.args.way.now.guides.now c.edges-edges.ensures.bounds c.requires.hops.falls)
+    (rest_falls c.args.graph.now c.args.way.now.hops.now c.args.way.now.guides.now c.is_graph.ensures.bounds c.requires.hops.falls)
     (looks_first c.args.graph.now.edges (price c.args.prices.now) c.args.way.now.targets.now (rest c.args.graph.now c.args.way.now.hops.now c.args.way.now.guides.now) c.root_all.new.labels c.args.settled.now
     (λ v t. (_, rest_of_hop c.args.graph.now c.args.way.now.hops.now c.args.way.now.guides.now v 0 (c.requires.hops.home v t)))
     (starts_by c.args.way.now.targets.now (leads c.blind-aim.result) (length c.args.way.now.targets.now) c.root_all.new.labels c.args.settled.now c.blind-aim.ensures.leads c.root_all.ensures.starts)) in
@@ -42,7 +42,7 @@ pub returns-clause-knows : goal.returns-clause-knows
 returns-clause-knows c =
     let left : ℕ → Option ℕ = rest c.args.graph.now c.args.way.now.hops.now c.args.way.now.guides.now in
     let h = c.look-far.ensures.looks c.args.way.now.targets.now left
-    (rest_falls c.args.graph.now c.args.way.now.hops.now c.args.way.now.guides.now c.edges-edges.ensures.bounds c.requires.hops.falls)
+    (rest_falls c.args.graph.now c.args.way.now.hops.now c.args.way.now.guides.now c.is_graph.ensures.bounds c.requires.hops.falls)
     (looks_first c.args.graph.now.edges (price c.args.prices.now) c.args.way.now.targets.now left c.root_all.new.labels c.args.settled.now
     (λ v t. (_, rest_of_hop c.args.graph.now c.args.way.now.hops.now c.args.way.now.guides.now v 0 (c.requires.hops.home v t)))
     (starts_by c.args.way.now.targets.now (leads c.blind-aim.result) (length c.args.way.now.targets.now) c.root_all.new.labels c.args.settled.now c.blind-aim.ensures.leads c.root_all.ensures.starts)) in

@@ -13,7 +13,7 @@ use Rattle.ice_path.proofs.look.settle_back.Goals as goal
 pub widen-requires-clause-rows : goal.widen-requires-clause-rows
 widen-requires-clause-rows c = λ k e at.
     let here : slice_get (rows_into c.args.graph.now.edges c.args.wire) k ≡ Some e = ap (λ (xs : List Edge). slice_get xs k) (sym c.rows_into.ensures) ∙ at in
-    let lt = rows_of c.args.graph.now.edges c.args.graph.now.wires c.args.wire k e c.edges-edges.ensures.between here in
+    let lt = rows_of c.args.graph.now.edges c.args.graph.now.wires c.args.wire k e c.is_graph.ensures.between here in
     omega (arith, lt, c.requires.lengths.1)
 
 pub widen-requires-clause-room : goal.widen-requires-clause-room

@@ -18,7 +18,7 @@ find-least-requires-clause-fits c = record {
 
 pub find-least-requires-clause-aim : goal.find-least-requires-clause-aim
 find-least-requires-clause-aim c =
-    near_aim _ _ c.args.prices.now (rest_falls c.args.graph.now c.args.hops.now c.guides_of-guides.result.now c.edges-edges.ensures.bounds c.requires.hops.falls) c.look_back.ensures.knows
+    near_aim _ _ c.args.prices.now (rest_falls c.args.graph.now c.args.hops.now c.guides_of-guides.result.now c.is_graph.ensures.bounds c.requires.hops.falls) c.look_back.ensures.knows
     (λ w d at. (let le = c.look_back.ensures.small.0 w d at in omega (arith, le)))
     (λ k. (let e = beyond_is c.look_back.new.beyond k c.look_back.ensures.long.2 in let le = c.look_back.ensures.small.1 (min k 63) in omega (arith, e, le)))
 

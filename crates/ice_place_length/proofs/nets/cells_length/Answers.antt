@@ -1,6 +1,7 @@
 use Rattle.std.proofs.Common.{arith}
 use Rattle.ice_place_defs.specs.Length.{cell_root, net_length}
-use Rattle.ice_place_length.specs.Grown.{plan_in, loads_in}
+use Rattle.ice_place_length.specs.Grown.{loads_in}
+use Rattle.ice_place_defs.specs.Plan.{plan_in}
 use Rattle.ice_place_length.proofs.Summing.{sum_more}
 use Rattle.ice_place_length.proofs.nets.cells_length.Goals as goal
 

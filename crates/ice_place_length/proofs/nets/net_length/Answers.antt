@@ -1,4 +1,5 @@
-use Rattle.ice_place_length.specs.Grown.{box_in, plan_in, loads_in}
+use Rattle.ice_place_length.specs.Grown.{box_in, loads_in}
+use Rattle.ice_place_defs.specs.Plan.{plan_in}
 use Rattle.ice_place_length.proofs.Summing.{net_some}
 use Rattle.ice_place_length.proofs.nets.net_length.Goals as goal
 

@@ -1,6 +1,6 @@
 use Rattle.std.proofs.Common.{◌≡◌, ℕ, List}
 use Rattle.std.specs.List.{find}
-use Rattle.ice_chip.specs.Places.{same_pad}
+use Rattle.ice_chip.specs.Database.{same_pad}
 use Rattle.ice_chip.specs.declared.rows.Pad.{Pad}
 use Rattle.ice_report.proofs.pins.first_pin.Given as goal
 

@@ -1,6 +1,6 @@
 use Rattle.std.proofs.Common.{◌≡◌, ℕ, false, refl, List, length, map, replicate, ◌++◌, ap, ◌∙◌}
 use Rattle.ice_bits.specs.Configuration.{bits_of}
-use Rattle.ice_decode.specs.Registers.{stores}
+use Rattle.ice_decode.specs.Pads.{stores}
 use Rattle.ice_sim_sweep.specs.declared.parts.Feed.{Feed}
 use Rattle.ice_sim.specs.Layouts.{layout_of, keepers_from, feeds_from, output_feed, taps_from}
 use Rattle.ice_sim.proofs.chip_plan.compile_configured.Goals as goal

@@ -6,7 +6,7 @@ use Rattle.ice_bits.specs.Configuration.{bits_of}
 use Rattle.ice_decode.specs.Reads.{count_points}
 use Rattle.ice_sim_sweep.specs.declared.parts.Feed.{Feed}
 use Rattle.ice_sim.specs.Layouts.{layout_of, laid}
-use Rattle.ice_sim_sweep.proofs.Running.{written}
+use Rattle.ice_base_values.proofs.Places.{written}
 use Rattle.ice_sim.proofs.Compiling.{order_below}
 use Rattle.ice_sim.proofs.chip_plan.lay_out.Goals as goal
 use Rattle.ice_sim.proofs.chip_plan.lay_out.Goals.{After-deref_mut}

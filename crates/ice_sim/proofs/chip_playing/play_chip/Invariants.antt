@@ -1,6 +1,6 @@
 use Rattle.std.proofs.Common.{◌≡◌, ◌++◌, length, All}
 use Rattle.ice_bits.specs.Configuration.{bits_of}
-use Rattle.ice_decode.specs.Meaning.{shows}
+use Rattle.ice_decode.specs.Meaning.{bits_show}
 use Rattle.ice_sim_levels.specs.LevelTexts.{HasWidth}
 use Rattle.ice_sim_levels.specs.DriveTexts.{drives_text}
 use Rattle.ice_sim.proofs.ChipPlaying.{told_from}
@@ -12,4 +12,4 @@ invariant-loop-step l =
     × (l.run.bonded ≡ l.«package».pads.keys)
     × (length l.drives.items ≡ length l.«package».pads.keys)
     × All (HasWidth (length l.«package».pads.keys)) l.step-iterator
-    × (drives_text (shows l.chip (bits_of l.circuit.configuration) l.circuit.configuration.extras l.«package».pads.keys l.«package».pads.keys l.levels) ≡ l.text.items ++ told_from l.run l.step-iterator)
+    × (drives_text (bits_show l.chip (bits_of l.circuit.configuration) l.circuit.configuration.extras l.«package».pads.keys l.«package».pads.keys l.levels) ≡ l.text.items ++ told_from l.run l.step-iterator)

@@ -1,7 +1,7 @@
 use Rattle.std.proofs.Common.{rules, ◌≡◌, true, length, ap, ◌∙◌}
 use Rattle.ice_bits.specs.Configuration.{bits_of}
-use Rattle.ice_chip.specs.WireNames.{input_clock_name}
-use Rattle.ice_decode.specs.Registers.{has_input_register}
+use Rattle.ice_chip.specs.Names.{input_clock_name}
+use Rattle.ice_decode.specs.Pads.{has_input_register}
 use Rattle.ice_sim.specs.Layouts.{register_of, input_feed}
 use Rattle.ice_sim.proofs.StoreSteps.{used_pushed}
 use Rattle.ice_sim.proofs.chip_registers.add_input.Goals as goal

@@ -1,7 +1,7 @@
 use Rattle.std.proofs.Common.{◌≡◌, ◌+◌, ◌*◌, ◌++◌, length, drop, ap, sym, ◌∙◌, arith}
 use Rattle.std.specs.List.{flat_map}
 use Rattle.ice_bits.specs.Configuration.{bits_of}
-use Rattle.ice_decode.specs.Registers.{pad_stores}
+use Rattle.ice_decode.specs.Pads.{pad_stores}
 use Rattle.ice_sim.specs.Layouts.{keepers_from}
 use Rattle.ice_sim.proofs.StoreSteps.{feeds_more, keepers_more}
 use Rattle.ice_sim.proofs.chip_registers.add_registers.Goals as goal

@@ -1,6 +1,6 @@
 use Rattle.std.proofs.Common.{rules, ◌≡◌, [], ◌∷◌, ◌++◌, None, sym, ap, ◌∙◌}
 use Rattle.std.specs.Map.{lookup}
-use Rattle.ice_chip.specs.Places.{same_tile}
+use Rattle.ice_chip.specs.Database.{same_tile}
 use Rattle.ice_sim.specs.ConfiguredChips.{put_place}
 use Rattle.ice_chip.proofs.Entries.{new_goes_last}
 use Rattle.ice_sim.proofs.configured.note_place.Goals as goal

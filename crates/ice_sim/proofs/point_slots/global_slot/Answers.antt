@@ -1,5 +1,5 @@
 use Rattle.std.proofs.Common.{if◌then◌else◌, ap, ◌∙◌}
-use Rattle.ice_base_values.specs.Inputs.{reading}
+use Rattle.ice_base_values.specs.System.{reading}
 use Rattle.ice_chip.specs.Database.{Parts}
 use Rattle.ice_chip.specs.Lookups.{gbufpin_of}
 use Rattle.ice_bits.specs.Configuration.{bits_of}

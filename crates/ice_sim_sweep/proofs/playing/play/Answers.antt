@@ -4,7 +4,8 @@ use Rattle.ice_net.specs.Meaning.{State, shows}
 use Rattle.ice_sim_levels.specs.LevelTexts.{HasWidth}
 use Rattle.ice_sim_levels.specs.DriveTexts.{drives_text}
 use Rattle.ice_sim_sweep.proofs.Showing.{tail_all}
-use Rattle.ice_sim_sweep.proofs.Running.{written, told_more, told_all}
+use Rattle.ice_base_values.proofs.Places.{written}
+use Rattle.ice_sim_sweep.proofs.Running.{told_more, told_all}
 use Rattle.ice_sim_sweep.proofs.playing.play.Goals as goal
 
 pub loop-step-preserved : goal.loop-step-preserved

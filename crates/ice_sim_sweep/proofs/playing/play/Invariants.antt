@@ -1,5 +1,5 @@
 use Rattle.std.proofs.Common.{◌≡◌, ◌++◌, length, All}
-use Rattle.ice_base_values.specs.Machine as machine
+use Rattle.ice_base_values.specs.System.{machine_shows}
 use Rattle.ice_net.specs.Meaning.{step, shows}
 use Rattle.ice_sim_levels.specs.LevelTexts.{HasWidth}
 use Rattle.ice_sim_levels.specs.DriveTexts.{drives_text}
@@ -11,4 +11,4 @@ invariant-loop-step l =
     × (l.run.0 ≡ l.sound)
     × (length l.drives.items ≡ length l.sound.ports)
     × All (HasWidth (length l.sound.ports)) l.step-iterator
-    × (drives_text (shows l.sound l.levels) ≡ l.text.items ++ drives_text (machine.shows (step l.sound) l.run.1 l.step-iterator))
+    × (drives_text (shows l.sound l.levels) ≡ l.text.items ++ drives_text (machine_shows (step l.sound) l.run.1 l.step-iterator))

@@ -3,4 +3,4 @@ use Rattle.ice_sites.specs.Site.{all_below, has_chain}
 use Rattle.ice_sites.proofs.site.has_chains.Given as goal
 
 abbrev pub invariant-loop-cell : goal.invariant-loop-cell
-invariant-loop-cell l = all_below (has_chain l.chip l.tile) l.cell ≡ true
+invariant-loop-cell l = all_below (has_chain l.fn.index.chip.now l.tile) l.cell ≡ true

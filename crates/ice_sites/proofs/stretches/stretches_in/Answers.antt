@@ -6,7 +6,7 @@ use Rattle.ice_sites.proofs.stretches.stretches_in.Goals as goal
 
 pub loop-k-preserved : goal.loop-k-preserved
 loop-k-preserved c =
-    let link = is_link c.args.chip.now in
+    let link = is_link c.args.index.now.chip.now in
     elim c.if-not-goes_on.branch [
       | then-not-goes_on+in_ok-push-2 w ↦
           ends_step link c.args.sites.now c.loop-k.k (record { x = 0; y = 0 }) c.loop-k.open.items _ c.if-not-goes_on.open.items c.loop-k.stretches.items c.if-not-goes_on.stretches.items _ c.loop-k-test.true
@@ -22,4 +22,4 @@ loop-k-preserved c =
     ]
 
 pub returns : goal.returns
-returns c = all_cut (is_link c.args.chip.now) c.args.sites.now c.loop-k.k c.loop-k.open.items c.loop-k.stretches.items _ c.loop-k-test.false c.loop-k.invariant
+returns c = all_cut (is_link c.args.index.now.chip.now) c.args.sites.now c.loop-k.k c.loop-k.open.items c.loop-k.stretches.items _ c.loop-k-test.false c.loop-k.invariant

@@ -1,7 +1,6 @@
 use Rattle.std.proofs.Common.{◌≡◌}
 use Rattle.std.specs.List.{list_any}
-use Rattle.ice_base.specs.Text.{lines, numbered}
-use Rattle.ice_base.specs.Comments.{begins_with}
+use Rattle.ice_base.specs.Text.{lines, numbered, begins_with}
 use Rattle.ice_tests_netlists.proofs.words.has_heading.Given as goal
 
 abbrev pub invariant-loop-line : goal.invariant-loop-line

@@ -1,11 +1,11 @@
 use Rattle.std.proofs.Common.{◌≡◌, ◌∙◌, map, Some, ap, sym, subst, rules}
 use Rattle.std.proofs.lemmas.List.Elements.{All-same}
-use Rattle.ice_base_values.specs.Inputs.{present}
+use Rattle.ice_base_values.specs.System.{present}
 use Rattle.ice_bits.specs.Configuration.{Configuration, bits_of}
 use Rattle.ice_decode.specs.declared.point.Point.{Point}
 use Rattle.ice_decode.specs.Direct.{AreDirect}
 use Rattle.ice_decode.specs.Points.{IsNumbered}
-use Rattle.ice_decode.specs.Reads.{reads}
+use Rattle.ice_decode.specs.Reads.{reads_at}
 use Rattle.ice_timing.proofs.Numbers.{reads_there, wire_there}
 use Rattle.ice_timing.proofs.latest.numbers_read.Goals as goal
 
@@ -19,11 +19,11 @@ add_reads-requires-clause-direct c =
 
 pub number_all-requires : goal.number_all-requires
 number_all-requires c =
-    let said : c.deref.result.now ≡ reads c.args.chip.now (bits_of c.args.circuit.now.configuration) c.args.circuit.now.configuration.extras c.args.point = search rules in
-    All-same (IsNumbered c.args.numbering.now) c.deref.result.now (reads c.args.chip.now (bits_of c.args.circuit.now.configuration) c.args.circuit.now.configuration.extras c.args.point) said
+    let said : c.deref.result.now ≡ reads_at c.args.chip.now (bits_of c.args.circuit.now.configuration) c.args.circuit.now.configuration.extras c.args.point = search rules in
+    All-same (IsNumbered c.args.numbering.now) c.deref.result.now (reads_at c.args.chip.now (bits_of c.args.circuit.now.configuration) c.args.circuit.now.configuration.extras c.args.point) said
     (reads_there c.args.chip.now (bits_of c.args.circuit.now.configuration) c.args.circuit.now.configuration.extras c.is_chip.ensures.read c.args.numbering.now c.requires.points c.args.point c.requires.point)
 
 pub returns : goal.returns
 returns c =
-    let said : c.deref.result.now ≡ reads c.args.chip.now (bits_of c.args.circuit.now.configuration) c.args.circuit.now.configuration.extras c.args.point = search rules in
+    let said : c.deref.result.now ≡ reads_at c.args.chip.now (bits_of c.args.circuit.now.configuration) c.args.circuit.now.configuration.extras c.args.point = search rules in
     c.in_ok-number_all.ensures ∙ ap (λ inputs. map (λ (p : Point). Some p) (present inputs)) said

@@ -5,10 +5,10 @@ use Rattle.ice_core.specs.declared.task.Task.{Task}
 use Rattle.ice_core.specs.Routes.{numbers, times, wires_of}
 use Rattle.ice_path.specs.Room.{AreWires}
 use Rattle.ice_words.specs.Views.{with_own, posted}
+use Rattle.ice_negotiate_defs.proofs.Wires.{once_times}
 use Rattle.ice_worker.specs.Work.{changing, finished_as}
 use Rattle.ice_worker.specs.Tasks.{IsTaskOf, KeepsBounds}
 use Rattle.ice_worker.specs.Kits.{Stops}
-use Rattle.ice_worker.proofs.Wires.{once_times}
 use Rattle.ice_worker.proofs.Working.{old_of, old_within, stops_as, task_at}
 use Rattle.ice_worker.proofs.worker.do_task.Goals as goal
 

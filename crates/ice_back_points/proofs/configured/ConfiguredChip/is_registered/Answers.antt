@@ -1,7 +1,7 @@
 use Rattle.std.proofs.Common.{◌≡◌, true, false, sym, ap, ◌∙◌}
 use Rattle.std.specs.Prelude.{◌&&◌}
 use Rattle.ice_bits.specs.Configuration.{Configuration, bits_of}
-use Rattle.ice_decode.specs.Registers.{has_input_register}
+use Rattle.ice_decode.specs.Pads.{has_input_register}
 use Rattle.ice_back_laws.specs.Roots.{is_heard, is_registered}
 use Rattle.ice_back_points.specs.ConfiguredChips.{ConfiguredData}
 use Rattle.ice_back_points.proofs.configured.ConfiguredChip.is_registered.Goals as goal

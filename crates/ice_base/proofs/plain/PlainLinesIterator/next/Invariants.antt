@@ -1,5 +1,5 @@
 use Rattle.std.proofs.Common.{◌≡◌, length}
-use Rattle.ice_base.specs.PlainLines.{plain_lines}
+use Rattle.ice_base.specs.Text.{plain_lines}
 use Rattle.ice_base.proofs.plain.PlainLinesIterator.next.Given as goal
 
 abbrev pub invariant-loop-line : goal.invariant-loop-line

@@ -1,6 +1,6 @@
 use Rattle.std.proofs.Common.{rules, ◌≡◌, ap, ◌∙◌}
 use Rattle.std.specs.Map.{lookup}
-use Rattle.ice_chip.specs.Places.{same_tile}
+use Rattle.ice_chip.specs.Database.{same_tile}
 use Rattle.ice_chip.specs.Lookups.{colbuf_of}
 use Rattle.ice_chip.specs.Views.{parts_view}
 use Rattle.ice_chip.proofs.Readers.{buffer_found}

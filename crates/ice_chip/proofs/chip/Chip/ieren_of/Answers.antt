@@ -1,6 +1,6 @@
 use Rattle.std.proofs.Common.{rules, ◌≡◌, ap, ◌∙◌}
 use Rattle.std.specs.Map.{lookup}
-use Rattle.ice_chip.specs.Places.{same_pad}
+use Rattle.ice_chip.specs.Database.{same_pad}
 use Rattle.ice_chip.specs.Lookups.{ieren_of}
 use Rattle.ice_chip.specs.Views.{parts_view}
 use Rattle.ice_chip.proofs.Readers.{enable_found}

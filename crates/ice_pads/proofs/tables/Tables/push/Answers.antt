@@ -1,6 +1,6 @@
 use Rattle.std.proofs.Common.{◌==◌, None, Some, if◌then◌else◌, sym, ap, ◌∙◌}
 use Rattle.std.specs.Option.{option_or}
-use Rattle.ice_chip.specs.Places.{same_pad}
+use Rattle.ice_chip.specs.Database.{same_pad}
 use Rattle.ice_pads.specs.Constraints.{of_port, of_pad}
 use Rattle.ice_pads.proofs.Noting.{port_more, pad_more}
 use Rattle.ice_pads.proofs.tables.Tables.push.Goals as goal

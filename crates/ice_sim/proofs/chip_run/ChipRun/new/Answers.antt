@@ -1,7 +1,7 @@
 use Rattle.std.proofs.Common.{◌≡◌, ℕ, length, replicate, ap, ◌∙◌}
 use Rattle.ice_bits.specs.Configuration.{bits_of}
 use Rattle.ice_net.specs.Meaning.{State}
-use Rattle.ice_decode.specs.Registers.{stores}
+use Rattle.ice_decode.specs.Pads.{stores}
 use Rattle.ice_sim_sweep.specs.Sweeps.{blank}
 use Rattle.ice_sim_sweep.specs.Plans.{state_of}
 use Rattle.ice_sim.proofs.ChipStates.{state_blank}

@@ -1,12 +1,12 @@
 use Rattle.std.proofs.Common.{◌≡◌, ◌++◌, ◌∙◌, ap, sym, length, take, drop}
 use Rattle.ice_bits.specs.Configuration.{bits_of}
 use Rattle.ice_net.specs.Meaning.{State}
-use Rattle.ice_decode.specs.Registers.{stores}
-use Rattle.ice_decode.specs.Meaning.{step}
+use Rattle.ice_decode.specs.Pads.{stores}
+use Rattle.ice_decode.specs.Meaning.{chip_step}
 use Rattle.ice_sim_sweep.specs.Sweeps.{remembered}
 use Rattle.ice_sim_sweep.specs.Plans.{swept, state_of}
 use Rattle.ice_sim.specs.ChipRuns.{ChipRunData, with_state}
-use Rattle.ice_sim_sweep.proofs.Running.{written}
+use Rattle.ice_base_values.proofs.Places.{written}
 use Rattle.ice_sim.proofs.ChipStates.{kept_long}
 use Rattle.ice_sim.proofs.ChipRunning.{parts_within, run_after, state_after_is, out_after, taps_long}
 use Rattle.ice_sim.proofs.chip_run.ChipRun.step.Goals as goal
@@ -63,7 +63,7 @@ returns-clause-run c =
     (ap state_of (memories_new a)
     ∙ state_after_is c.self.inside.chip.now (bits_of c.self.inside.circuit.now.configuration) c.self.inside.circuit.now.configuration.extras c.self.inside.«package».now.pads.keys c.self.invariant.feeds c.self.inside.plan
     c.self.invariant.run.planned c.args.levels.now c.self.inside.memories.items c.self.inside.values.items c.self.invariant.run c.sweep.new.memories c.sweep.new.values (after_is a) (next_is a))
-    ∙ ap (λ (v : ChipRunData). with_state v (step v.parts (bits_of v.configuration) v.configuration.extras v.bonded v.bonded v.state c.args.levels.now).0) c.self.view_is
+    ∙ ap (λ (v : ChipRunData). with_state v (chip_step v.parts (bits_of v.configuration) v.configuration.extras v.bonded v.bonded v.state c.args.levels.now).0) c.self.view_is
 
 pub returns-clause-out : goal.returns-clause-out
 returns-clause-out c =
@@ -71,4 +71,4 @@ returns-clause-out c =
     out_after c.self.inside.chip.now (bits_of c.self.inside.circuit.now.configuration) c.self.inside.circuit.now.configuration.extras c.self.inside.«package».now.pads.keys c.self.invariant.feeds c.self.inside.plan
     c.self.invariant.run.planned c.args.levels.now c.self.inside.memories.items c.self.inside.values.items c.self.invariant.run c.sweep.new.memories c.sweep.new.values (after_is a) (next_is a)
     c.sweep.new.out c.sweep.ensures.out
-    ∙ ap (λ (v : ChipRunData). (step v.parts (bits_of v.configuration) v.configuration.extras v.bonded v.bonded v.state c.args.levels.now).1) c.self.view_is
+    ∙ ap (λ (v : ChipRunData). (chip_step v.parts (bits_of v.configuration) v.configuration.extras v.bonded v.bonded v.state c.args.levels.now).1) c.self.view_is

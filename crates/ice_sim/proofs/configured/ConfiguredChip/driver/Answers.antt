@@ -2,9 +2,10 @@ use Rattle.std.proofs.Common.{◌<◌, ◌∙◌, List, length, get_or, ap, sym,
 use Rattle.ice_bits.specs.Configuration.{bits_of}
 use Rattle.ice_decode.specs.declared.driver.Driver.{Driver}
 use Rattle.ice_decode.specs.declared.driver.Driver.TheVariants.{Nothing}
-use Rattle.ice_sim.specs.ConfiguredChips.{ConfiguredData, ComesFrom}
+use Rattle.ice_sim.specs.ConfiguredChips.{ConfiguredData}
 use Rattle.ice_decode.proofs.DriverTables.{driver_within, driver_found}
-use Rattle.ice_sim.proofs.TilePlaces.{comes_from}
+use Rattle.ice_decode.specs.Tables.{ComesFrom}
+use Rattle.ice_decode.proofs.Switches.{comes_from}
 use Rattle.ice_sim.proofs.configured.ConfiguredChip.driver.Goals as goal
 use Rattle.ice_sim.proofs.configured.ConfiguredChip.driver.Goals.{After-drivers}
 
@@ -21,6 +22,6 @@ pub returns-clause-source : goal.returns-clause-source
 returns-clause-source c =
     let a = (goal.at.returns-clause-source c).After-drivers in
     subst (λ (d : ConfiguredData). ComesFrom d.parts.wires (get_or c.drivers.result.now c.args.wire.0 Nothing)) c.self.view_is
-    (comes_from c.self.inside.chip.now (bits_of c.self.inside.circuit.now.configuration) c.args.wire.0 (get_or c.drivers.result.now c.args.wire.0 Nothing) c.self.invariant.chip
+    (comes_from c.self.inside.chip.now (bits_of c.self.inside.circuit.now.configuration) c.args.wire.0 (get_or c.drivers.result.now c.args.wire.0 Nothing) c.self.invariant.chip.read
     (ap (λ (l : List Driver). get_or l c.args.wire.0 Nothing) c.drivers.ensures
     ∙ driver_found c.self.inside.chip.now (bits_of c.self.inside.circuit.now.configuration) c.self.inside.circuit.now.drivers c.args.wire.0 Nothing c.self.invariant.circuit.driven_by (within a)))

@@ -1,6 +1,6 @@
 use Rattle.std.proofs.Common.{rules, ◌≡◌, ◌∙◌, ap}
 use Rattle.std.specs.Map.{lookup}
-use Rattle.ice_chip.specs.Places.{same_tile}
+use Rattle.ice_chip.specs.Database.{same_tile}
 use Rattle.ice_decode.specs.Cells.{logic_tiles, tile_place}
 use Rattle.ice_sim.specs.ConfiguredChips.{ConfiguredData}
 use Rattle.ice_sim.proofs.TilePlaces.{tile_found}

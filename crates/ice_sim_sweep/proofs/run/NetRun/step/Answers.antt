@@ -5,7 +5,8 @@ use Rattle.ice_sim_sweep.specs.Sweeps.{remembered}
 use Rattle.ice_sim_sweep.specs.Plans.{swept, state_of}
 use Rattle.ice_sim_sweep.proofs.Remembering.{memories_long}
 use Rattle.ice_sim_sweep.proofs.Within.{parts_within}
-use Rattle.ice_sim_sweep.proofs.Running.{run_after, state_after, out_after, written}
+use Rattle.ice_base_values.proofs.Places.{written}
+use Rattle.ice_sim_sweep.proofs.Running.{run_after, state_after, out_after}
 use Rattle.ice_sim_sweep.proofs.run.NetRun.step.Goals as goal
 use Rattle.ice_sim_sweep.proofs.run.NetRun.step.Goals.{After-sweep}
 
