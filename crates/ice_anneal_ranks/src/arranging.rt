@@ -1,16 +1,16 @@
 //! The arrangement that is found.
 
+use crate::bundles::Bundles;
 use crate::classes::{Movers, movers_of};
 use crate::middles::Middles;
 use crate::nets::nets_of;
 use crate::search::Search;
 use crate::signals::Signals;
 use crate::state::State;
-use crate::tally::Tally;
 use crate::units::Units;
 use ice_anneal_seats::{Floor, Grid, Seats};
 use ice_anneal_ways::{Pulls, Ways};
-use ice_base::{NoMemory, TileAt};
+use ice_base::{NoMemory, TileAt, to_u32};
 use ice_cells::{Clusters, Design, Items};
 use ice_chip::Chip;
 use ice_pads::Pads;
@@ -59,8 +59,8 @@ fn find(
         Moving::Clusters => Movers::none(alloc),
     };
     let nets = nets_of(alloc, chip, design, pads, grid, &seats)?;
-    let signals = Signals::new(alloc, pads.ports().len(), cells.len())?;
-    let tally = Tally::new(alloc, nets.count())?;
+    let signals = Signals::new(alloc, to_u32(pads.ports().len())?, cells)?;
+    let bundles = Bundles::new(alloc, seats.clusters(), &nets)?;
     let units = Units::new(alloc, clusters.list())?;
     let pulls = Pulls::new(alloc, cells.len())?;
     let ways = Ways::new(alloc, grid, design, pads)?;
@@ -71,8 +71,8 @@ fn find(
         seats,
         units,
         nets,
+        bundles,
         signals,
-        tally,
         pulls,
         pulled: 0,
     };

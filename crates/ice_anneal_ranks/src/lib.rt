@@ -4,16 +4,13 @@
 #![tactic(auto)]
 
 mod arranging;
+mod bundles;
 mod classes;
-mod ends;
 mod middles;
 mod nets;
-mod reach;
 mod search;
 mod signals;
-mod spread;
 mod state;
-mod tally;
 mod units;
 
 pub use arranging::{Arranged, arrange, arrange_clusters};

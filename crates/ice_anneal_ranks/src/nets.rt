@@ -1,11 +1,10 @@
 //! The nets of a design by cells.
 
-use crate::ends::Ends;
-use crate::reach::NetPlaces;
-use crate::spread::Traffic;
 use ice_anneal_board::{NetNodes, Node, Touched, Wiring, wiring_of};
 use ice_anneal_nets::measuring_nets;
+use ice_anneal_reach::{Ends, NetPlaces, Span, Standing, Touch, TouchLists};
 use ice_anneal_seats::{Grid, Place, Seats};
+use ice_anneal_ways::End;
 use ice_base::{NoMemory, to_u32};
 use ice_cells::{Cluster, Design, Items, LogicCell, control_at};
 use ice_chip::Chip;
@@ -16,16 +15,22 @@ use std::alloc::Global;
 /// How many cells a net has at most that is looked at where two cells change places. A larger one hardly tells one from the other.
 const MOST_CELLS: u32 = 32;
 
+// The nodes of nets, one net behind the other.
+#[derive(Drop)]
+struct NodeLists {
+    nodes: Vec<End>,
+    spans: Vec<Span>,
+}
+
 /// The nets by cells, where the nodes of each stand, and the nets of each cell.
 #[derive(Drop)]
 pub struct CellNets {
-    nets: Vec<NetNodes>,
-    places: Vec<NetPlaces>,
-    touching: Vec<Touched>,
+    nodes: NodeLists,
+    touching: TouchLists,
     // Of the nets of each cell those that tell it from other cells.
-    telling: Vec<Touched>,
-    /// By how much all nets have grown.
-    pub growth: i64,
+    telling: TouchLists,
+    /// Where their nodes stand.
+    pub standing: Standing,
 }
 
 // The cluster of a cell alone.
@@ -96,20 +101,59 @@ fn is_telling(nets: &[NetNodes], sizes: &[u32], net: usize) -> bool {
     }
 }
 
-// Of the nets of each cell those that tell it from other cells.
-fn telling_nets(alloc: Global, wiring: &Wiring) -> Result<Vec<Touched>, NoMemory> {
-    let sizes = sizes_of(alloc, wiring)?;
-    let mut telling = Vec::with_capacity(alloc, wiring.touching.len())?;
+// Whether a net is one of a list: where the sizes of nets are given, only one that tells one cell from another.
+fn is_listed(nets: &[NetNodes], sizes: Option<&[u32]>, net: usize) -> bool {
+    match sizes {
+        Some(sizes) => is_telling(nets, sizes, net),
+        None => true,
+    }
+}
+
+// The nets of each cell; where their sizes are given, only those that tell it from other cells.
+fn lists_of(alloc: Global, wiring: &Wiring, sizes: Option<&[u32]>) -> Result<TouchLists, NoMemory> {
+    let mut lists = TouchLists {
+        touches: Vec::new(alloc),
+        spans: Vec::with_capacity(alloc, wiring.touching.len())?,
+    };
     for touched in &wiring.touching {
-        let mut nets = Vec::new(alloc);
+        let first = lists.touches.len();
         for net in &touched.nets {
-            if is_telling(&wiring.nets, &sizes, *net) {
-                nets.push(*net)?;
+            if is_listed(&wiring.nets, sizes, *net) {
+                lists.touches.push(Touch {
+                    net: to_u32(*net)?,
+                    nodes: 1,
+                })?;
             }
         }
-        telling.push(Touched { nets })?;
+        let end = lists.touches.len();
+        lists.spans.push(Span { first, end })?;
     }
-    Ok(telling)
+    Ok(lists)
+}
+
+// A node by cells. Pads and global buffers stay at their places.
+fn end_of(node: Node, grid: Grid) -> End {
+    match node {
+        Node::Fixed(tile) => End::Pad(grid.place_of(tile)),
+        Node::Cluster(cell) => End::Cell(cell),
+    }
+}
+
+// The nodes of nets.
+fn nodes_of(alloc: Global, nets: &[NetNodes], grid: Grid) -> Result<NodeLists, NoMemory> {
+    let mut lists = NodeLists {
+        nodes: Vec::new(alloc),
+        spans: Vec::with_capacity(alloc, nets.len())?,
+    };
+    for net in nets {
+        let first = lists.nodes.len();
+        for node in &net.nodes {
+            lists.nodes.push(end_of(*node, grid))?;
+        }
+        let end = lists.nodes.len();
+        lists.spans.push(Span { first, end })?;
+    }
+    Ok(lists)
 }
 
 // Notes where the pads and global buffers of a net stand.
@@ -159,78 +203,62 @@ pub fn nets_of(
     seats: &Seats,
 ) -> Result<CellNets, NoMemory> {
     let wiring = wiring_by_cells(alloc, chip, design, pads)?;
-    let telling = telling_nets(alloc, &wiring)?;
+    let sizes = sizes_of(alloc, &wiring)?;
+    let telling = lists_of(alloc, &wiring, Some(sizes.as_slice()))?;
+    let touching = lists_of(alloc, &wiring, None)?;
     let mut places = fixed_places(alloc, &wiring, grid)?;
     add_cells(&mut places, &wiring.touching, seats);
-    let Wiring { nets, touching } = wiring;
     Ok(CellNets {
-        nets,
-        places,
+        nodes: nodes_of(alloc, &wiring.nets, grid)?,
         touching,
         telling,
-        growth: 0,
+        standing: Standing::new(alloc, places)?,
     })
 }
 
 impl CellNets {
     /// How many nets there are.
     pub fn count(&self) -> usize {
-        self.nets.len()
+        self.nodes.spans.len()
     }
 
-    /// The nets of a cell, each once.
-    pub fn of(&self, cell: usize) -> &[usize] {
-        match self.touching.get(cell) {
-            Some(touched) => &touched.nets,
-            None => &[],
-        }
+    /// How many nets all cells have, each counted for each of its cells.
+    pub fn touches(&self) -> usize {
+        self.touching.touches.len()
     }
 
-    /// Of the nets of a cell those that are looked at where it changes places with another.
-    pub fn telling(&self, cell: usize) -> &[usize] {
-        match self.telling.get(cell) {
-            Some(touched) => &touched.nets,
-            None => &[],
-        }
+    /// The nets of a cell.
+    pub fn of(&self, cell: usize) -> &[Touch] {
+        self.touching.of(cell)
     }
 
     /// The nodes of a net.
-    pub fn nodes_of(&self, net: usize) -> &[Node] {
-        match self.nets.get(net) {
-            Some(net) => &net.nodes,
+    pub fn nodes_of(&self, net: u32) -> &[End] {
+        match self.nodes.spans.get(net as usize) {
+            Some(span) => self.nodes.nodes.get(span.first..span.end).unwrap_or(&[]),
             None => &[],
         }
     }
 
-    /// By how much a net grows where nodes go from one place to another and back.
-    pub fn growth_of(&self, net: usize, from: Place, to: Place, nodes: Traffic) -> i64 {
-        match self.places.get(net) {
-            Some(places) => places.growth(from, to, nodes),
-            None => 0,
-        }
+    /// By how much the nets grow that are looked at where two cells change places, the first of which stands at the first place.
+    pub fn growth_of_cells(&mut self, one: usize, other: usize, from: Place, to: Place) -> i64 {
+        let (going, coming) = (self.telling.of(one), self.telling.of(other));
+        self.standing.growth_of(going, coming, from, to)
     }
 
     /// Where the nets of a cell that stands at this place end without it.
     pub fn ends_without(&self, cell: usize, place: Place) -> Ends {
         let mut ends = Ends::none();
-        for net in self.of(cell) {
-            if let Some(places) = self.places.get(*net) {
-                if let Some((low, high)) = places.box_without(place) {
-                    ends.add(low, high);
-                }
+        for touch in self.of(cell) {
+            if let Some((low, high)) = self.standing.box_without(touch.net, place) {
+                ends.add(low, high);
             }
         }
         ends
     }
 
     /// A cell goes from one place to another.
-    pub fn shift(&mut self, cell: usize, from: Place, to: Place) {
-        if let Some(touched) = self.touching.get(cell) {
-            for net in &touched.nets {
-                if let Some(places) = self.places.get_mut(*net) {
-                    self.growth = self.growth.wrapping_add(places.shift(from, to));
-                }
-            }
-        }
+    pub fn shift_cell(&mut self, cell: usize, from: Place, to: Place) {
+        self.standing.shift(self.touching.of(cell), from, to);
     }
 }

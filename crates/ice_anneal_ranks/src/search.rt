@@ -1,12 +1,11 @@
 //! Tries at random, of which fewer and fewer that make the wires longer are kept.
 
 use crate::classes::{Mover, Movers};
-use crate::ends::Middle;
 use crate::middles::Middles;
 use crate::state::State;
 use crate::units::MoveUnit;
-use ice_anneal_board::Node;
-use ice_anneal_seats::{Place, below, spare};
+use ice_anneal_reach::Middle;
+use ice_anneal_seats::{below, spare};
 use ice_anneal_ways::Ways;
 use rand_pcg::Pcg32;
 
@@ -54,25 +53,13 @@ pub struct Search<'a> {
 }
 
 impl<'a> Search<'a> {
-    // The place of a node, where it is of another cell.
-    fn place_of(&self, node: Node, cell: usize) -> Option<Place> {
-        match node {
-            Node::Fixed(tile) => Some(self.state.floor.place_of(tile)),
-            Node::Cluster(other) if other == cell => None,
-            Node::Cluster(other) => {
-                let seats = &self.state.seats;
-                Some(seats.place_of(seats.cluster_of(other)))
-            }
-        }
-    }
-
     // A site beside a node of one of a cell's nets, where one is found.
     fn site_near(&self, cell: usize, words: &mut Pcg32) -> Option<usize> {
         let nets = self.state.nets.of(cell);
-        let net = nets.get(below(words, nets.len()))?;
-        let nodes = self.state.nets.nodes_of(*net);
+        let touch = nets.get(below(words, nets.len()))?;
+        let nodes = self.state.nets.nodes_of(touch.net);
         let node = nodes.get(below(words, nodes.len()))?;
-        let place = self.place_of(*node, cell)?;
+        let place = self.state.place_of_end(*node, cell, cell)?;
         self.state.floor.site_beside(place, 1, words)
     }
 
@@ -196,6 +183,7 @@ impl<'a> Search<'a> {
                 reach,
                 words,
             );
+            self.state.note_bundles();
             self.shake_units(
                 units.saturating_add(MORE_UNIT_TRIES) / TURNS,
                 unit_heat,

@@ -1,16 +1,12 @@
 //! What moves, and what it does to the wires.
 
+use crate::bundles::Bundles;
 use crate::nets::CellNets;
 use crate::signals::Signals;
-use crate::spread::ONE;
-use crate::tally::Tally;
 use crate::units::{MoveUnit, Units};
 use ice_anneal_seats::{Floor, Place, Seats};
 use ice_anneal_ways::{End, Pulls};
 use ice_cells::LogicCell;
-
-/// How many signals come into a tile without trouble: it has 32 wires for them, which are not free to choose.
-const MOST_SIGNALS: u32 = 28;
 
 /// Cells in clusters on sites.
 #[derive(Drop)]
@@ -25,10 +21,10 @@ pub struct State<'a> {
     pub units: Units,
     /// The nets.
     pub nets: CellNets,
+    /// The nets of clusters.
+    pub bundles: Bundles,
     /// What clusters read.
     pub signals: Signals,
-    /// What is counted of the nets of two sites.
-    pub tally: Tally,
     /// The connections that want to be short.
     pub pulls: Pulls,
     /// By how much the cost of these has grown, in parts of 256 of a tile.
@@ -41,21 +37,8 @@ fn in_parts(tiles: i64) -> i64 {
 }
 
 impl<'a> State<'a> {
-    // By how much the nets of one cell that are looked at grow where it goes from one place to another, but for those of the other cell too,
-    // in tiles.
-    fn net_growth(&self, cell: usize, other: usize, from: Place, to: Place) -> i64 {
-        let others = self.nets.telling(other);
-        let mut sum = 0i64;
-        for net in self.nets.telling(cell) {
-            if !others.contains(net) {
-                sum = sum.wrapping_add(self.nets.growth_of(*net, from, to, ONE));
-            }
-        }
-        sum
-    }
-
-    // The place of the other end of a connection, where that is none of two cells.
-    fn place_of_end(&self, end: End, cell: usize, other: usize) -> Option<Place> {
+    /// The place of an end of a net or a connection, where that is none of two cells.
+    pub fn place_of_end(&self, end: End, cell: usize, other: usize) -> Option<Place> {
         match end {
             End::Pad(place) => Some(place),
             End::Cell(peer) if peer == cell || peer == other => None,
@@ -74,18 +57,26 @@ impl<'a> State<'a> {
         sum
     }
 
-    // What it costs where one cell goes from one place to another, and the other cell back.
-    fn growth(&self, cell: usize, other: usize, from: Place, to: Place) -> i64 {
-        in_parts(self.net_growth(cell, other, from, to)).wrapping_add(self.pull_growth(
-            cell, other, from, to,
-        ))
+    // By how much the cost of connections grows where two cells change places, the first of which stands at the first place.
+    fn pull_growth_of_cells(&self, one: usize, other: usize, from: Place, to: Place) -> i64 {
+        if self.pulls.is_empty() {
+            return 0;
+        }
+        self.pull_growth(one, other, from, to)
+            .wrapping_add(self.pull_growth(other, one, to, from))
+    }
+
+    // What it costs where two cells change places, the first of which stands at the first place.
+    fn growth_of_cells(&mut self, one: usize, other: usize, from: Place, to: Place) -> i64 {
+        in_parts(self.nets.growth_of_cells(one, other, from, to)).wrapping_add(
+            self.pull_growth_of_cells(one, other, from, to),
+        )
     }
 
     // Whether a cluster reads few signals, or no more than it did, once a cell of another stands in the place of one of its.
     fn is_light(&mut self, cluster: usize, leaving: usize, coming: usize) -> bool {
         let slots = self.seats.cells_of(cluster);
-        let count = self.signals.count(self.cells, slots, leaving, coming);
-        count <= MOST_SIGNALS || count <= self.signals.count(self.cells, slots, leaving, leaving)
+        self.signals.is_light(slots, leaving, coming)
     }
 
     /// Two cells of different clusters change places where that costs no more than this, in parts of 256 of a tile.
@@ -95,25 +86,13 @@ impl<'a> State<'a> {
             return;
         }
         let (from, to) = (self.seats.place_of(cluster), self.seats.place_of(target));
-        let growth = self.growth(one, other, from, to);
-        if growth.wrapping_add(self.growth(other, one, to, from)) <= spare
+        if self.growth_of_cells(one, other, from, to) <= spare
             && self.is_light(cluster, one, other)
             && self.is_light(target, other, one)
         {
-            self.nets.shift(one, from, to);
-            self.nets.shift(other, to, from);
+            self.nets.shift_cell(one, from, to);
+            self.nets.shift_cell(other, to, from);
             self.seats.exchange(one, other);
-        }
-    }
-
-    // The cells of what may be a cluster go from one place to another.
-    fn shift_cluster(&mut self, cluster: Option<usize>, from: Place, to: Place) {
-        if let Some(cluster) = cluster {
-            for slot in self.seats.cells_of(cluster) {
-                if let Some(cell) = *slot {
-                    self.nets.shift(cell, from, to);
-                }
-            }
         }
     }
 
@@ -174,40 +153,18 @@ impl<'a> State<'a> {
             .wrapping_add(self.pull_growth_of_sites(one, other));
         let (from, to) = (self.floor.place_at(one), self.floor.place_at(other));
         let (here, there) = (self.seats.cluster_on(one), self.seats.cluster_on(other));
-        self.shift_cluster(here, from, to);
-        self.shift_cluster(there, to, from);
+        self.nets.standing.shift(self.bundles.of(here), from, to);
+        self.nets.standing.shift(self.bundles.of(there), to, from);
         self.seats.exchange_sites(one, other, from, to);
-    }
-
-    // Counts the nets of what goes from one site and of what comes from another.
-    fn count_sites(&mut self, one: usize, other: usize) {
-        self.tally.clear();
-        if let Some(cluster) = self.seats.cluster_on(one) {
-            for slot in self.seats.cells_of(cluster) {
-                if let Some(cell) = *slot {
-                    self.tally.go(self.nets.of(cell));
-                }
-            }
-        }
-        if let Some(cluster) = self.seats.cluster_on(other) {
-            for slot in self.seats.cells_of(cluster) {
-                if let Some(cell) = *slot {
-                    self.tally.come(self.nets.of(cell));
-                }
-            }
-        }
     }
 
     // What it costs where what stands on two sites changes places.
     fn growth_of_sites(&mut self, one: usize, other: usize) -> i64 {
-        self.count_sites(one, other);
         let (from, to) = (self.floor.place_at(one), self.floor.place_at(other));
-        let mut sum = 0i64;
-        for net in self.tally.found() {
-            let nodes = self.tally.nodes_of(*net);
-            sum = sum.wrapping_add(self.nets.growth_of(*net, from, to, nodes));
-        }
-        in_parts(sum).wrapping_add(self.pull_growth_of_sites(one, other))
+        let going = self.bundles.of(self.seats.cluster_on(one));
+        let coming = self.bundles.of(self.seats.cluster_on(other));
+        let growth = self.nets.standing.growth_of(going, coming, from, to);
+        in_parts(growth).wrapping_add(self.pull_growth_of_sites(one, other))
     }
 
     // Whether what stands on a site may go to one of the sites that a unit leaves: a cluster of no run may, and a run as a whole, where
@@ -250,7 +207,12 @@ impl<'a> State<'a> {
 
     // What it has cost so far that units went from sites to others.
     fn cost(&self) -> i64 {
-        in_parts(self.nets.growth).wrapping_add(self.pulled)
+        in_parts(self.nets.standing.growth).wrapping_add(self.pulled)
+    }
+
+    /// Notes the nets of clusters, which stay so while units go from sites to others.
+    pub fn note_bundles(&mut self) {
+        self.bundles.note(&self.seats, &self.nets);
     }
 
     /// A unit goes to the sites from one on, where it fits there and that costs no more than this, in parts of 256 of a tile.

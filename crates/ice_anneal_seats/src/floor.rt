@@ -12,6 +12,8 @@ use std::alloc::Global;
 pub struct Floor {
     /// Their tiles.
     pub tiles: Vec<TileAt>,
+    // The place of each.
+    places: Vec<Place>,
     // For each the number of sites of its stretch from it on.
     room: Vec<usize>,
     // The site at each place, 64 rows for each column.
@@ -37,6 +39,7 @@ fn add_site(floor: &mut Floor, tile: TileAt, room: usize) -> Result<(), NoMemory
     let extent = u64::from(place.column) + u64::from(place.row) + 2;
     floor.extent = floor.extent.max(extent);
     floor.tiles.push(tile)?;
+    floor.places.push(place)?;
     floor.room.push(room)?;
     Ok(())
 }
@@ -58,6 +61,7 @@ impl Floor {
     pub fn new(alloc: Global, grid: Grid, sites: &Sites) -> Result<Floor, NoMemory> {
         let mut floor = Floor {
             tiles: Vec::new(alloc),
+            places: Vec::new(alloc),
             room: Vec::new(alloc),
             sites: vec![in alloc; None; 4096]?,
             grid,
@@ -79,10 +83,10 @@ impl Floor {
 
     /// The place of a site.
     pub fn place_at(&self, site: usize) -> Place {
-        match self.tiles.get(site) {
-            Some(tile) => self.grid.place_of(*tile),
-            None => Place { column: 0, row: 0 },
-        }
+        self.places
+            .get(site)
+            .copied()
+            .unwrap_or(Place { column: 0, row: 0 })
     }
 
     /// The number of a tile's site.

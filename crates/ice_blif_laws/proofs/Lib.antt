@@ -8,3 +8,6 @@ mod Values
 mod Steps
 mod Sound
 mod Written
+mod TextSteps
+mod TextParams
+pub mod TextNetlists

@@ -1,2 +1,3 @@
+pub mod NetlistText
 pub mod ReadNames
 pub mod SameNames

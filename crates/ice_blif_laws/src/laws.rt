@@ -1,4 +1,5 @@
 //! Laws of the netlists that texts say. The functions do nothing: their contracts are the laws.
+ghost use Rattle.ice_blif_laws.specs.NetlistText.{NetlistTextsSayNetlists};
 ghost use Rattle.ice_blif_laws.specs.ReadNames.{ReadNamesAreKnown};
 ghost use Rattle.ice_blif_laws.specs.SameNames.{TextsNameOnce, WrittenShowsTheSame};
 
@@ -16,4 +17,9 @@ pub fn written_shows_the_same()
 /// line, a blank, and `in` or `out`.
 pub fn read_names_are_known()
     ensures { ReadNamesAreKnown }
+{}
+
+/// A netlist text that the reader takes says the netlist that the reader makes of it.
+pub fn netlist_texts_say_netlists()
+    ensures { NetlistTextsSayNetlists }
 {}

@@ -3,4 +3,6 @@
 
 mod laws;
 
-pub use laws::{read_names_are_known, texts_name_once, written_shows_the_same};
+pub use laws::{
+    netlist_texts_say_netlists, read_names_are_known, texts_name_once, written_shows_the_same,
+};

@@ -29,11 +29,11 @@ use Rattle.ice_chip_read.specs.Whole.{chip_says}
 use Rattle.ice_chip_read_laws.specs.Pins.{PinsAreWords}
 use Rattle.ice_chip_read_laws.proofs.LineWords.{AreWords, AreLines, lines_good}
 
-bind : {A B : Type 0} (P : B → Type 0) (m : Result A ChipFault) (f : A → Result B ChipFault) → ((x : A) → IfOk (f x) P) → IfOk (m >>= f) P
+pub bind : {A B : Type 0} (P : B → Type 0) (m : Result A ChipFault) (f : A → Result B ChipFault) → ((x : A) → IfOk (f x) P) → IfOk (m >>= f) P
 bind P (Ok x) f h = h x
 bind P (Err e) f h = tt
 
-bind_meeting : {A B : Type 0} (P : B → Type 0) (Q : A → Type 0) (m : Result A ChipFault) (f : A → Result B ChipFault) → IfOk m Q → ((x : A) → Q x → IfOk (f x) P) → IfOk (m >>= f) P
+pub bind_meeting : {A B : Type 0} (P : B → Type 0) (Q : A → Type 0) (m : Result A ChipFault) (f : A → Result B ChipFault) → IfOk m Q → ((x : A) → Q x → IfOk (f x) P) → IfOk (m >>= f) P
 bind_meeting P Q (Ok x) f q h = h x q
 bind_meeting P Q (Err e) f q h = tt
 

@@ -1,1 +1,2 @@
+pub mod ChipText
 pub mod Pins

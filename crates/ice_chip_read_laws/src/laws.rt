@@ -1,7 +1,13 @@
-//! The law of the names of pins. The function does nothing: its contract is the law.
+//! Laws of chips that texts say. The functions do nothing: the contract of each is its law.
+ghost use Rattle.ice_chip_read_laws.specs.ChipText.{ChipTextsSayRows};
 ghost use Rattle.ice_chip_read_laws.specs.Pins.{PinsAreWords};
 
 /// Each pin of a package of a chip that a text says is named by a word.
 pub fn pins_are_words()
     ensures { PinsAreWords }
+{}
+
+/// A chip text that the reader takes says the rows that the reader makes of it.
+pub fn chip_texts_say_rows()
+    ensures { ChipTextsSayRows }
 {}

@@ -12,8 +12,9 @@ use std::alloc::Global;
 // A table of least rows has no more sets.
 const MOST_SETS: usize = 256;
 
-// A table costs some passes over all rows, so fewer sinks than one for so many rows are searched without it. (An estimate.)
-const ROWS_OF_SINK: usize = 512;
+// A table costs some passes over all rows, so fewer sinks than one for so many rows are searched without it. (Some 60 million instructions on the 1k
+// device: a few hundred sinks that are not crowded win as much by it, and crowded ones ten times that.)
+const ROWS_OF_SINK: usize = 1024;
 
 // How many sinks the nets have.
 fn sinks_of(nets: &[Net]) -> usize {

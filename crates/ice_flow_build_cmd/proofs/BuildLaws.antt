@@ -47,13 +47,14 @@ use Rattle.ice_flow_frame.proofs.TextFacts.{at_files, of_weaker, holds_read}
 use Rattle.ice_flow_build_cmd.specs.Asked.{Build, files_of, file_asked, outputs_of, parting_of, IsAsked, Asks, effort_of}
 use Rattle.ice_flow_build_cmd.specs.BuildRows.{ChipRow, PcfRow, HasPcfFault, BlifRow, HasBlifFault, SaysNetlist, NetRow, PinRow, PlaceRow, IsTried, TriedRow, BuiltRow, UnreachableRow, GaveUpRow, BitsRow, IsWritten, WrittenRow, HoldsReport, ReportedRow, IsBuildAnswer}
 use Rattle.ice_flow_build_cmd.specs.Command.{build_files}
+use Rattle.ice_flow_build_cmd.specs.Former.{CausesHaveFormerRows}
 use Rattle.ice_flow_build_cmd.specs.Headline.{HeadlineRow}
 use Rattle.ice_flow_build_cmd.specs.Made.{IsMadeByBuild, IsBuiltOn, IsToldOn, IsStuckOn, IsGivenUpOn}
 use Rattle.ice_flow_build_cmd.specs.Reports.{routes_text}
 use Rattle.ice_flow_build_cmd.specs.Standing.{IsEnd, PlacesStand, NetStands, BlifStands, PcfStands, StandsForBuild}
 use Rattle.ice_flow_build_cmd.proofs.Excluding.{built_not_stuck, built_not_given_up, given_up_not_stuck_on, stuck_on_one}
 use Rattle.ice_flow_build_cmd.proofs.Holding.{held_bits, held_pins, held_report}
-use Rattle.ice_flow_build_cmd.proofs.Shown.{made_shown}
+use Rattle.ice_flow_build_cmd.proofs.Shown.{made_shown, made_shown_exactly}
 use Rattle.ice_flow_build_cmd.proofs.Standing.{pcf_stands, blif_stands, net_stands, task_stands, places_stand, end_stands, end_so, one_task}
 use Rattle.ice_flow_frame.proofs.Tells.{of_about}
 use Rattle.ice_flow_chip_frame.specs.Standing.{HasChipFault}
@@ -320,6 +321,24 @@ headline_row b old new cause status is_true counted zero_status tells =
       holds_netlist = held.2;
       holds_bits = is.bits;
       is_shown = made_shown b is.texts is.made done.0 (telling done.1 done.2) is.of;
+    }
+
+-- what follows with the pads that are chosen, and of what was given
+pub former_rows : CausesHaveFormerRows
+former_rows b old new cause status is_true counted =
+    let good = good_row (build_files b) old new cause status is_true counted in
+    record {
+      headline = λ zero_status tells.
+          let done = good.done zero_status in
+          let is = written_row b old new cause status good done.0 done.1 done.2 done.3 tells in
+          record {
+            texts = is.texts;
+            bits_text = asc_text is.of.task.parts is.of.built.bits;
+            hold = is.hold;
+            holds_bits = is.bits;
+            is_shown = made_shown_exactly b is.texts is.made done.0 (telling done.1 done.2) is.of;
+          };
+      good = good;
     }
 
 -- ---- the report on rounds that gave up

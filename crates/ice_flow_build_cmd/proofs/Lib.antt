@@ -6,4 +6,5 @@ pub mod Making
 pub mod Holding
 pub mod BuildLaws
 pub mod ReadNames
+pub mod Pinned
 pub mod Shown

@@ -6,11 +6,13 @@ use Rattle.ice_base_values.specs.Order.{At, Has}
 use Rattle.ice_net.specs.NetlistData.{NetlistData}
 use Rattle.ice_net.specs.Meaning as net
 use Rattle.ice_net.specs.declared.driver.Drive.TheVariants.{Off}
+use Rattle.ice_blif_laws.proofs.TextNetlists.{text_netlists}
 use Rattle.ice_chip.proofs.Keys.{pad_same, pad_self}
 use Rattle.ice_chip.specs.Database.{Parts, PackageRows, same_pad}
 use Rattle.ice_chip.specs.Lookups.{package_of}
 use Rattle.ice_chip.specs.declared.rows.Pad.{Pad}
 use Rattle.ice_chip_read_laws.proofs.RowsSaid.{rows_said}
+use Rattle.ice_chip_read_laws.proofs.TextLines.{text_rows}
 use Rattle.ice_bits.specs.Configuration.{Configuration, bits_of}
 use Rattle.ice_asc.specs.Text.{asc_text}
 use Rattle.ice_asc_laws.proofs.TextSays.{text_says}
@@ -31,6 +33,7 @@ use Rattle.ice_flow_build_cmd.specs.Asked.{Build}
 use Rattle.ice_flow_build_cmd.specs.Headline.{driven_at, IsShown}
 use Rattle.ice_flow_build_cmd.specs.ExactlyShown.{IsShownExactly}
 use Rattle.ice_flow_build_cmd.specs.Made.{IsMadeByBuild}
+use Rattle.ice_flow_build_cmd.proofs.Pinned.{pinned_pads}
 
 -- ---- levels by pads
 -- among the levels of the pads of a package that of one of them is its own
@@ -92,18 +95,16 @@ module _ (b : Build) (t made : List (List ℕ)) (on : Arrangement) (told : Told)
   pub made_shown : IsShown b.package_name (text_at t 1) (text_at t 2) (text_at t 3) (asc_text g.task.parts g.built.bits)
   made_shown = record {
     parts = g.task.parts;
-    constraints = g.task.constraints;
     circuit = g.is_asked.circuit;
     configuration = g.built.bits;
     bonded = bonded;
     ports = ports;
-    is_chip = rows_said (text_at t 1) g.task.parts g.is_asked.is_chip;
-    are_constraints = g.is_asked.are_constraints;
-    is_circuit = g.is_asked.is_circuit;
+    is_chip = text_rows (text_at t 1) g.task.parts (rows_said (text_at t 1) g.task.parts g.is_asked.is_chip);
+    is_circuit = text_netlists (text_at t 3) g.is_asked.circuit g.is_asked.is_circuit;
     say_bits = text_says g.task.parts (asc_text g.task.parts g.built.bits) g.built.bits g.is_read_back;
     faultless = no_fault g.task.parts (bits_of g.built.bits) g.built.bits.extras g.is_shown.faultless;
     is_package = is_package;
-    have_pads = have_pads;
+    have_pads = pinned_pads bonded (text_at t 2) g.task.constraints g.is_asked.circuit ports g.is_asked.are_constraints have_pads;
     at_ports = ports_driven g.is_asked.circuit ports g.task.parts g.built.bits bonded g.is_shown have_pads.of_package;
     elsewhere = others_off g.is_asked.circuit ports g.task.parts g.built.bits bonded g.is_shown;
   }

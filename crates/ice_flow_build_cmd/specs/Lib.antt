@@ -1,6 +1,7 @@
 pub mod Asked
 pub mod Reports
 pub mod Made
+pub mod Pinned
 pub mod Headline
 pub mod ExactlyShown
 pub mod Ending
@@ -8,3 +9,4 @@ pub mod Standing
 pub mod Parting
 pub mod Command
 pub mod BuildRows
+pub mod Former

@@ -1,5 +1,5 @@
 -- What a search knows before it begins is a bound that falls along each edge by no more than a price.
-use Rattle.std.proofs.Common.{◌≡◌, ℕ, ◌+◌, ◌*◌, ◌-◌, ◌≤◌, ◌<◌, min, max, Bool, true, false, List, [], ◌∷◌, Option, Some, None, length, slice_get, slice_index, refl, sym, ap, ◌∙◌, subst, arith, inl, inr, ◌⊎◌}
+use Rattle.std.proofs.Common.{◌≡◌, ℕ, ◌+◌, ◌-◌, ◌≤◌, ◌<◌, min, max, Bool, true, false, List, [], ◌∷◌, Option, Some, None, length, slice_index, refl, sym, ap, ◌∙◌, arith, inl, inr, ◌⊎◌}
 use Rattle.std.specs.Prelude.{is_some, not, eqb, if◌then◌else◌, IfSome}
 use Rattle.std.proofs.lemmas.Bool.{false≢true}
 use Rattle.std.proofs.lemmas.Option.{same_Some}
@@ -10,8 +10,8 @@ use Rattle.ice_graph.specs.declared.edge.Edge.{Edge}
 use Rattle.ice_graph.specs.Network.{Network, BoundsFall, least_bound}
 use Rattle.ice_graph.proofs.Bounding.{least_falls}
 use Rattle.ice_graph.specs.Hops.{HopsFall, hop, said}
-use Rattle.ice_path.specs.Aims.{AreCosts, Fits, IsAim, Knows, RestFalls, ahead, at_least, beyond_at, bound_in, leads, rest}
-use Rattle.ice_path.specs.Search.{AtMost, label}
+use Rattle.ice_path.specs.Aims.{IsAim, Knows, RestFalls, ahead, at_least, beyond_at, bound_in, leads, rest}
+use Rattle.ice_path.specs.Search.{label}
 use Rattle.ice_path.specs.Walks.{HasEdge, IsTarget, FallsBy, AreSettled}
 use Rattle.ice_path.specs.declared.aim.Aim.{Aim}
 use Rattle.ice_path.proofs.Ending.{targets_home, home_targets}
@@ -180,21 +180,6 @@ module _ (graph : Network) (aim : Aim) where
       back = λ e has is. plain_leads e.from.0;
       astray = λ w is. absurd (false≢true (sym is ∙ plain_leads w));
     }
-
-  -- ---- where nothing is known at all
-  module _ (none : aim.near.now ≡ []) (empty : aim.hops.now ≡ []) (plain : aim.beyond.now ≡ []) (no_guides : aim.guides.now ≡ []) where
-    blind_rest : (w : ℕ) → left w ≡ Some (max 0 (least_bound graph aim.guides.now w))
-    blind_rest w = rest_of_hop graph aim.hops.now aim.guides.now w 0 (ap (λ (hops : List ℕ). hop hops w) empty)
-
-    pub blind_leads : (w : ℕ) → leads aim w ≡ true
-    blind_leads w = rest_leads w (max 0 (least_bound graph aim.guides.now w)) (blind_rest w)
-
-    pub blind_bound : (w : ℕ) → bound_in graph aim w ≡ 0
-    blind_bound w =
-        let e = bound_far w (max 0 (least_bound graph aim.guides.now w)) (ap (λ (near : List (Option ℕ)). label near w) none) (blind_rest w) in
-        let far = ap (λ (beyond : List ℕ). beyond_at beyond (max 0 (least_bound graph aim.guides.now w))) plain in
-        let guided : least_bound graph aim.guides.now w ≡ 0 = ap (λ ts. least_bound graph ts w) no_guides in
-        omega (arith, e, far, guided)
 
 -- what is known beforehand is small
 pub beyond_small : (beyond : List ℕ) (k most : ℕ) → ((j : ℕ) → slice_index beyond j ≤ most) → k ≤ most → beyond_at beyond k ≤ most

@@ -1,11 +1,11 @@
 -- Costs by numbers of rows, one after another.
-use Rattle.std.proofs.Common.{◌≡◌, ℕ, ◌+◌, ◌≤◌, ◌<◌, min, Bool, true, false, List, Option, Some, None, length, slice_get, slice_index, slice_set, refl, sym, ap, ◌∙◌, subst, arith, inl, inr, get_or-set_same, get_or-set_other, length-set}
-use Rattle.std.proofs.lemmas.Bool.{cases_eq, cases_lt, false≢true}
+use Rattle.std.proofs.Common.{◌≡◌, ℕ, ◌+◌, ◌≤◌, ◌<◌, min, Bool, true, false, List, Option, Some, length, slice_get, slice_index, slice_set, refl, sym, ap, ◌∙◌, subst, arith, inl, inr, get_or-set_same, get_or-set_other}
+use Rattle.std.proofs.lemmas.Bool.{cases_eq, cases_lt}
 use Rattle.std.proofs.lemmas.List.{get_or_past}
 use Rattle.std.proofs.lemmas.Option.{same_Some, slice_get-get_or}
 use Rattle.std.specs.List.{Contains}
-use Rattle.ice_path.specs.Looks.{AreFar, Keeps, Reaches}
-use Rattle.ice_path.specs.Search.{Touches, done, label}
+use Rattle.ice_path.specs.Looks.{AreFar, Reaches}
+use Rattle.ice_path.specs.Search.{done, label}
 
 -- all costs are the same
 pub filled : (beyond : List ℕ) (cost : ℕ) → ((k : ℕ) → k < length beyond → slice_index beyond k ≡ cost) → (k : ℕ) → slice_index beyond k ≤ cost
@@ -97,29 +97,16 @@ module _ (old : List ℕ) (place : ℕ) (lt : place + 1 < length old) (rises : (
   up_lower = set_lower old (place + 1) x lt less
 
 -- ---- one marked wire more
-pub reaches_more : (marked : List ℕ) (n : ℕ) (rest : ℕ → Option ℕ) (near : List (Option ℕ)) (settled : List Bool) (old new : List ℕ) (w : ℕ) → slice_get marked n ≡ Some w
-    → ((c k : ℕ) → done settled w ≡ false → label near w ≡ Some c → rest w ≡ Some k → slice_index new (min k 63) ≤ c) → ((k : ℕ) → slice_index new k ≤ slice_index old k) → Reaches marked n rest near settled old → Reaches marked (n + 1) rest near settled new
-reaches_more marked n rest near settled old new w here now lower h j v c k lt at open' label' left = elim (cases_eq j n) [
+pub reaches_more : (marked : List ℕ) (n : ℕ) (price : ℕ → ℕ) (rest : ℕ → Option ℕ) (near : List (Option ℕ)) (widened : List Bool) (old new : List ℕ) (w : ℕ) → slice_get marked n ≡ Some w
+    → ((c k : ℕ) → done widened w ≡ false → label near w ≡ Some c → rest w ≡ Some k → slice_index new (min (k + 1) 63) ≤ c + price w) → ((k : ℕ) → slice_index new k ≤ slice_index old k) → Reaches marked n price rest near widened old → Reaches marked (n + 1) price rest near widened new
+reaches_more marked n price rest near widened old new w here now lower h j v c k lt at open' label' left = elim (cases_eq j n) [
   | inl same ↦ (
       let is : v ≡ w = same_Some v w (sym at ∙ (ap (λ i. slice_get marked i) same ∙ here)) in
-      now c k (ap (done settled) (sym is) ∙ open') (ap (label near) (sym is) ∙ label') (ap rest (sym is) ∙ left))
-  | inr other ↦ (let a = h j v c k (grind arith) at open' label' left in let b = lower (min k 63) in omega (arith, a, b))
+      let le = now c k (ap (done widened) (sym is) ∙ open') (ap (label near) (sym is) ∙ label') (ap rest (sym is) ∙ left) in
+      let e : price v ≡ price w = ap price is in
+      omega (arith, le, e))
+  | inr other ↦ (let a = h j v c k (grind arith) at open' label' left in let b = lower (min (k + 1) 63) in omega (arith, a, b))
 ]
-
--- where all marked wires were gone through, the open ones have no label
-pub keeps_all : (settled : List Bool) (old new : List (Option ℕ)) (marked : List ℕ) (n : ℕ) → length marked ≤ n → Touches old marked → ((w : ℕ) → done settled w ≡ true → label new w ≡ label old w) → ((w : ℕ) → label old w ≡ None → label new w ≡ None)
-    → ((j w : ℕ) → j < n → slice_get marked j ≡ Some w → done settled w ≡ false → label new w ≡ None) → Keeps settled old new
-keeps_all settled old new marked n le touches kept none gone = record {
-  kept = kept;
-  gone = λ w open'. by_label w open' (label old w) refl;
-}
-  where
-    by_label : (w : ℕ) → done settled w ≡ false → (o : Option ℕ) → label old w ≡ o → label new w ≡ None
-    by_label w open' None at = none w at
-    by_label w open' (Some c) at = (
-        let t = touches.covers w c at in
-        let here : slice_get marked t.0 ≡ Some w = slice_get-get_or marked t.0 w t.1 ∙ ap (λ x. Some x) t.2 in
-        gone t.0 w (let lt = t.1 in omega (arith, lt, le)) here open')
 
 pub opened_all : (old new : List Bool) (marked : List ℕ) (n : ℕ) → length marked ≤ n → ((w : ℕ) → done old w ≡ true → Contains marked w) → ((w : ℕ) → done new w ≡ true → done old w ≡ true) → ((j w : ℕ) → j < n → slice_get marked j ≡ Some w → done new w ≡ false) → (w : ℕ) → done new w ≡ false
 opened_all old new marked n le only kept gone w = by_done (done new w) refl

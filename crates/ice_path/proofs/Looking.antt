@@ -1,135 +1,185 @@
 -- Looking back from the targets by price, one wire after another.
-use Rattle.std.proofs.Common.{◌≡◌, ℕ, zero, suc, ◌+◌, ◌-◌, ◌*◌, ◌≤◌, ◌<◌, min, Bool, true, false, cond, List, [], ◌∷◌, Option, Some, None, length, map, slice_get, slice_index, slice_set, eqb, refl, sym, ap, ◌∙◌, subst, arith, inl, inr, ◌⊎◌, get_or-set_same, get_or-set_other}
+use Rattle.std.proofs.Common.{◌≡◌, ℕ, zero, suc, ◌+◌, ◌-◌, ◌≤◌, ◌<◌, min, Bool, true, false, List, [], ◌∷◌, Option, Some, None, length, slice_get, slice_index, slice_set, refl, sym, ap, ◌∙◌, subst, arith, inl, inr, ◌⊎◌, get_or-set_same, get_or-set_other}
 use Rattle.std.proofs.lemmas.Bool.{cases_eq, cases_lt, false≢true}
 use Rattle.std.proofs.lemmas.Option.{same_Some, slice_get_within, slice_get-get_or}
 use Rattle.std.specs.List.{Contains}
 use Rattle.ice_base.specs.declared.number.WireNo.{WireNo}
 use Rattle.ice_graph.specs.declared.edge.Edge.{Edge}
-use Rattle.ice_graph.specs.Rows.{rows_from, rows_into}
+use Rattle.ice_graph.specs.Rows.{rows_into}
 use Rattle.ice_path.specs.Aims.{AreCosts, Knows, RestFalls, beyond_at}
-use Rattle.ice_path.specs.Looks.{AreFar, Ends, Keeps, Looks, Reaches, flip, flips}
-use Rattle.ice_path.specs.Search.{AtMost, IsLeastOpen, IsNext, Lowers, Relaxes, Starts, Touches, done, label}
-use Rattle.ice_path.specs.Walks.{HasEdge, InTree, IsTarget}
-use Rattle.ice_path.proofs.Relaxing.{relax_none, relax_skip, relax_step}
-use Rattle.ice_path.proofs.Settling.{one_label, open_edges_set}
+use Rattle.ice_path.specs.Looks.{AreFar, AreLed, AreMet, Meets, Reaches, Spreads, Widens}
+use Rattle.ice_path.specs.Search.{AtMost, IsLeastOpen, Touches, done, label}
+use Rattle.ice_path.specs.Walks.{HasEdge, IsTarget}
+use Rattle.ice_path.proofs.Settling.{one_label}
 use Rattle.ice_path.proofs.Taking.{in_rows_into, of_rows_into}
 
--- ---- edges the other way round
-of_flips : (rows : List Edge) (k : ℕ) (e : Edge) → slice_get (flips rows) k ≡ Some e → (f : Edge) × (slice_get rows k ≡ Some f) × (flip f ≡ e)
-of_flips [] k e at = absurd (cc)
-of_flips (f ∷ rows) zero e at = (f, refl, same_Some (flip f) e at)
-of_flips (f ∷ rows) (suc k) e at = of_flips rows k e at
+-- ---- one wire is met
+pub met_new : (labels : List (Option ℕ)) (w c : ℕ) → w < length labels → label labels w ≡ None → Meets labels (slice_set labels w (Some c)) w c
+met_new labels w c lt none = inl (refl, none, lt)
 
-pub in_flips : (rows : List Edge) (k : ℕ) (f : Edge) → slice_get rows k ≡ Some f → slice_get (flips rows) k ≡ Some (flip f)
-in_flips [] k f at = absurd (cc)
-in_flips (g ∷ rows) zero f at = ap (λ (x : Edge). Some (flip x)) (same_Some g f at)
-in_flips (g ∷ rows) (suc k) f at = in_flips rows k f at
+pub met_again : (labels : List (Option ℕ)) (w c l : ℕ) → label labels w ≡ Some l → Meets labels labels w c
+met_again labels w c l is = inr (refl, (l, is))
 
--- the rows from a wire the other way round are those into it
-pub rows_flipped : (edges : List Edge) (u : ℕ) → length (rows_from (flips edges) u) ≡ length (rows_into edges u)
-rows_flipped [] u = refl
-rows_flipped (e ∷ edges) u = by_test (rows_flipped edges u) (eqb e.to.0 u) refl
-  where
-    by_test : length (rows_from (flips edges) u) ≡ length (rows_into edges u) → (b : Bool) → eqb e.to.0 u ≡ b → length (rows_from (flips (e ∷ edges)) u) ≡ length (rows_into (e ∷ edges) u)
-    by_test r true is = (
-        let a = ap (λ t. length (cond t (flip e ∷ rows_from (flips edges) u) (rows_from (flips edges) u))) is in
-        let b = ap (λ t. length (cond t (e ∷ rows_into edges u) (rows_into edges u))) is in
-        a ∙ (ap suc r ∙ sym b))
-    by_test r false is = (
-        let a = ap (λ t. length (cond t (flip e ∷ rows_from (flips edges) u) (rows_from (flips edges) u))) is in
-        let b = ap (λ t. length (cond t (e ∷ rows_into edges u) (rows_into edges u))) is in
-        a ∙ (r ∙ sym b))
+module _ (old new : List (Option ℕ)) (w c : ℕ) where
+  pub met_kept : (v l : ℕ) → Meets old new w c → label old v ≡ Some l → label new v ≡ Some l
+  met_kept v l (inl t) at = elim (cases_eq v w) [
+    | inl same ↦ absurd (let bad : Some l ≡ None = sym at ∙ (ap (label old) same ∙ t.1) in cc)
+    | inr other ↦ ap (λ xs. label xs v) t.0 ∙ (get_or-set_other old w v (Some c) None other ∙ at)
+  ]
+  met_kept v l (inr t) at = ap (λ xs. label xs v) t.0 ∙ at
 
-pub widen_none : (rows : List Edge) (cost : ℕ) (settled : List Bool) (near : List (Option ℕ)) → Relaxes (flips rows) (λ w. cost) (λ w. true) settled 0 0 near near
-widen_none rows cost settled near = relax_none (flips rows) (λ w. cost) (λ w. true) settled 0 near
+  pub met_here : Meets old new w c → (l : ℕ) × (label new w ≡ Some l)
+  met_here (inl t) = (c, ap (λ xs. label xs w) t.0 ∙ get_or-set_same old w (Some c) None t.2)
+  met_here (inr t) = (t.1.0, ap (λ xs. label xs w) t.0 ∙ t.1.1)
 
--- ---- the targets alone have a label
-pub looks_first : (edges : List Edge) (price : ℕ → ℕ) (targets : List WireNo) (rest : ℕ → Option ℕ) (near : List (Option ℕ)) (settled : List Bool) → ((w : ℕ) → IsTarget targets w → (k : ℕ) × (rest w ≡ Some k))
-    → Starts targets (λ w. true) (length targets) near settled → Looks edges price targets rest 0 near settled
-looks_first edges price targets rest near settled on s = record {
-  closed = λ w shut. absurd (false≢true (sym (s.fresh w) ∙ shut));
-  order = λ a b la lb shut open' at bt. absurd (false≢true (sym (s.fresh a) ∙ shut));
-  on = λ w c at. on w (s.made w c at).0;
-  home = λ w t. ap (label near) (sym t.3) ∙ s.rooted t.0 t.1 (slice_get_within targets t.0 t.1 t.2) t.2 refl;
-  away = λ w at. (s.made w 0 at).0;
-  low = λ w c at. (let z = (s.made w c at).1 in omega (arith, z));
+  pub met_made : (v l : ℕ) → Meets old new w c → label new v ≡ Some l → (label old v ≡ Some l) ⊎ ((v ≡ w) × (l ≡ c))
+  met_made v l (inl t) e = elim (cases_eq v w) [
+    | inl same ↦ (
+        let now : label new v ≡ Some c = ap (label new) same ∙ (ap (λ xs. label xs w) t.0 ∙ get_or-set_same old w (Some c) None t.2) in
+        inr (same, same_Some l c (sym e ∙ now)))
+    | inr other ↦ inl (sym (ap (λ xs. label xs v) t.0 ∙ get_or-set_other old w v (Some c) None other) ∙ e)
+  ]
+  met_made v l (inr t) e = inl (sym (ap (λ xs. label xs v) t.0) ∙ e)
+
+-- ---- the targets are met
+pub are_met_none : (targets : List WireNo) (near : List (Option ℕ)) → ((w : ℕ) → label near w ≡ None) → AreMet targets 0 near
+are_met_none targets near fresh = record {
+  first = λ k v lt at. absurd (omega arith);
+  only = λ w l e. absurd (let bad : Some l ≡ None = sym e ∙ fresh w in cc);
 }
 
-module _ (edges : List Edge) (price : ℕ → ℕ) (positive : (w : ℕ) → 1 ≤ price w) (targets : List WireNo) (rest : ℕ → Option ℕ) (fall : RestFalls edges rest) (most next : ℕ) (near new : List (Option ℕ)) (settled : List Bool) (u c d : ℕ)
-    (lt : u < length settled) (has' : label near u ≡ Some c) (unsettled : done settled u ≡ false) (least : (w k : ℕ) → label near w ≡ Some k → done settled w ≡ false → c ≤ k) (d_is : d ≡ price u + c) (more : most ≤ next) (d_low : d ≤ next)
-    (h : Looks edges price targets rest most near settled) (r : Relaxes (flips (rows_into edges u)) (λ w. d) (λ w. true) (slice_set settled u true) 0 (length (rows_into edges u)) near new) where
-  abbrev shut : List Bool
-  shut = slice_set settled u true
+pub are_met_more : (targets : List WireNo) (n : ℕ) (mid new : List (Option ℕ)) (t : WireNo) → slice_get targets n ≡ Some t → Meets mid new t.0 0 → AreMet targets n mid → AreMet targets (n + 1) new
+are_met_more targets n mid new t here m h = record {
+  first = λ k v k_lt at. elim (cases_eq k n) [
+    | inl same ↦ (
+        let is : v ≡ t = same_Some v t (sym at ∙ (ap (λ i. slice_get targets i) same ∙ here)) in
+        let now = met_here mid new t.0 0 m in
+        let zero_is : now.0 ≡ 0 = elim (met_made mid new t.0 0 t.0 now.0 m now.1) [ inl was ↦ (h.only t.0 now.0 was).1 | inr u ↦ u.1 ] in
+        ap (λ (x : WireNo). label new x.0) is ∙ (now.1 ∙ ap (λ n. Some n) zero_is))
+    | inr other ↦ met_kept mid new t.0 0 v.0 0 m (h.first k v (grind arith) at)
+  ];
+  only = λ w l e. elim (met_made mid new t.0 0 w l m e) [ inl was ↦ h.only w l was | inr u ↦ ((n, t, here, sym u.0), u.1) ];
+}
 
-  u_shut : done shut u ≡ true
-  u_shut = get_or-set_same settled u true false lt
+-- before any wire is widened
+pub spreads_first : (edges : List Edge) (price : ℕ → ℕ) → ((w : ℕ) → 1 ≤ price w) → (targets : List WireNo) (n : ℕ) (near : List (Option ℕ)) (widened : List Bool) → ((w : ℕ) → done widened w ≡ false) → AreMet targets n near → Spreads edges price 1 near widened
+spreads_first edges price positive targets n near widened fresh h = record {
+  closed = λ w is. absurd (false≢true (sym (fresh w) ∙ is));
+  shut = λ w c at. (let z = (h.only w c at).1 in omega (arith, z));
+  waits = λ w c is at. (let p = positive w in omega (arith, p));
+}
 
-  was_shut : (w : ℕ) → (w ≡ u → ⊥) → done shut w ≡ true → done settled w ≡ true
-  was_shut w other is = sym (get_or-set_other settled u w true false other) ∙ is
+pub led_first : (targets : List WireNo) (rest : ℕ → Option ℕ) (near : List (Option ℕ)) → ((w : ℕ) → IsTarget targets w → (k : ℕ) × (rest w ≡ Some k)) → AreMet targets (length targets) near → AreLed targets rest near
+led_first targets rest near on h = record {
+  on = λ w c at. on w (h.only w c at).0;
+  home = λ w t. ap (label near) (sym t.3) ∙ h.first t.0 t.1 (slice_get_within targets t.0 t.1 t.2) t.2;
+  away = λ w at. (h.only w 0 at).0;
+}
 
-  was_open : (w : ℕ) → done shut w ≡ false → done settled w ≡ false
-  was_open w is = (let other : w ≡ u → ⊥ = (λ same. false≢true (sym is ∙ (ap (done shut) same ∙ u_shut))) in sym (get_or-set_other settled u w true false other) ∙ is)
+-- ---- one wire is widened
+pub widens_none : (rows : List Edge) (c : ℕ) (near : List (Option ℕ)) → Widens rows c 0 near near
+widens_none rows c near = record {
+  kept = λ w l e. e;
+  met = λ k e lt at. absurd (omega arith);
+  made = λ w l e. inl e;
+}
 
-  -- what is settled costs at most c
-  shut_low : (w l : ℕ) → done shut w ≡ true → label near w ≡ Some l → l ≤ c
-  shut_low w l is at = elim (cases_eq w u) [
-    | inl same ↦ (let eq = one_label near u l c (ap (label near) (sym same) ∙ at) has' in omega (arith, eq))
-    | inr other ↦ h.order w u l c (was_shut w other is) unsettled at has'
-  ]
+pub widens_more : (rows : List Edge) (c n : ℕ) (old mid new : List (Option ℕ)) (e : Edge) → slice_get rows n ≡ Some e → Meets mid new e.from.0 c → Widens rows c n old mid → Widens rows c (n + 1) old new
+widens_more rows c n old mid new e here m h = record {
+  kept = λ w l at. met_kept mid new e.from.0 c w l m (h.kept w l at);
+  met = λ k f k_lt at. elim (cases_eq k n) [
+    | inl same ↦ (
+        let is : f ≡ e = same_Some f e (sym at ∙ (ap (λ i. slice_get rows i) same ∙ here)) in
+        subst (λ (g : Edge). (l : ℕ) × (label new g.from.0 ≡ Some l)) (sym is) (met_here mid new e.from.0 c m))
+    | inr other ↦ (let t = h.met k f (grind arith) at in (t.0, met_kept mid new e.from.0 c f.from.0 t.0 m t.1))
+  ];
+  made = λ w l at. elim (met_made mid new e.from.0 c w l m at) [
+    | inl was ↦ h.made w l was
+    | inr t ↦ inr (e, (n, here), sym t.0, t.1)
+  ];
+}
 
-  -- a label that was made comes from the wire u
-  made : (w l : ℕ) → label new w ≡ Some l → (label near w ≡ Some l) ⊎ ((l ≡ d) × ((f : Edge) × HasEdge edges f × (f.from.0 ≡ w) × (f.to.0 ≡ u)))
-  made w l at = elim (r.made w l at) [
-    | inl was ↦ inl was
-    | inr t ↦ (
-        let f = of_flips (rows_into edges u) t.1.0 t.0 t.1.1 in
-        let row = of_rows_into edges u f.0 (t.1.0, f.1) in
-        inr ((let e = t.3 in omega (arith, e)), (f.0, row.0, ap (λ (x : Edge). x.to.0) f.2 ∙ t.2, row.1)))
-  ]
+module _ (edges : List Edge) (price : ℕ → ℕ) (far : ℕ) (near new : List (Option ℕ)) (widened : List Bool) (u s : ℕ) (lt : u < length widened) (best : IsLeastOpen price near widened (Some (u, s))) (h : Spreads edges price far near widened) where
+  -- the label of the wire that is widened, and what it makes with the wire's price
+  abbrev c : ℕ
+  c = best.0.0
 
-  by_source : (e : Edge) → HasEdge edges e → e.to.0 ≡ u → (b : Bool) → done shut e.from.0 ≡ b → AtMost new e.from.0 d
-  by_source e has enters false is = (
-      let row = in_rows_into edges u e has enters in
-      let s = r.reached row.0 (flip e) (slice_get_within (rows_into edges u) row.0 e row.1) (in_flips (rows_into edges u) row.0 e row.1) refl is in
-      (s.0, s.1, (let le = s.2 in omega (arith, le))))
-  by_source e has enters true is = elim (cases_eq e.from.0 u) [
-    | inl same ↦ (c, r.fixed e.from.0 is ∙ (ap (label near) same ∙ has'), omega (arith, d_is))
-    | inr other ↦ (
-        let old = h.closed e.from.0 (was_shut e.from.0 other is) in
-        let le = shut_low e.from.0 old.0 is old.1 in
-        (old.0, r.fixed e.from.0 is ∙ old.1, omega (arith, le, d_is)))
-  ]
+  has : label near u ≡ Some c
+  has = best.0.1
 
-  pub looks_more : Looks edges price targets rest next new shut
-  looks_more = record {
-    closed = λ w is. elim (cases_eq w u) [
-      | inl same ↦ (
-        c,
-        (r.fixed w is ∙ (ap (label near) same ∙ has')),
-        λ e has enters. (let s = by_source e has (enters ∙ same) (done shut e.from.0) refl in let eq : price w ≡ price u = ap price same in (s.0, s.1, (let le = s.2 in omega (arith, le, d_is, eq)))),
-      )
-      | inr other ↦ (
-          let old = h.closed w (was_shut w other is) in
-          (old.0, r.fixed w is ∙ old.1, λ e has enters. (let t = old.2 e has enters in let s = r.lower e.from.0 t.0 t.1 in (s.0, s.1, (let a = s.2 in let b = t.2 in omega (arith, a, b))))))
-    ];
-    order = λ a b la lb a_shut b_open at bt.
-        let le = shut_low a la a_shut (sym (r.fixed a a_shut) ∙ at) in
-        elim (made b lb bt) [
-          | inl was ↦ (let k = least b lb was (was_open b b_open) in omega (arith, le, k))
-          | inr t ↦ (let e = t.0 in omega (arith, le, e, d_is))
-        ];
-    on = λ w l at. elim (made w l at) [
-      | inl was ↦ h.on w l was
-      | inr t ↦ (
-          let f : Edge = t.1.0 in
-          let on' = h.on u c has' in
-          let from = fall f on'.0 t.1.1 (ap rest t.1.3 ∙ on'.1) in
-          (from.0, ap rest (sym t.1.2) ∙ from.1))
-    ];
-    home = λ w t. (let s = r.lower w 0 (h.home w t) in s.1 ∙ ap (λ n. Some n) (let le = s.2 in let z : s.0 ≡ 0 = omega (arith, le) in z));
-    away = λ w at. elim (made w 0 at) [ inl was ↦ h.away w was | inr t ↦ absurd (let e = t.0 in let p = positive u in omega (arith, e, d_is, p)) ];
-    low = λ w l at. elim (made w l at) [ inl was ↦ (let le = h.low w l was in omega (arith, le, more)) | inr t ↦ (let e = t.0 in omega (arith, e, d_low)) ];
-  }
+  sum : c + price u ≡ s
+  sum = best.0.2
+
+  pub far_rises : far ≤ s
+  far_rises = (let le = h.waits u c best.1 has in let e = sum in omega (arith, le, e))
+
+  pub sum_low : (most : ℕ) → price u ≤ most → s ≤ far + most
+  sum_low most small = (let le = h.shut u c has in let e = sum in omega (arith, le, e, small))
+
+  module _ (r : Widens (rows_into edges u) s (length (rows_into edges u)) near new) where
+    abbrev now : List Bool
+    now = slice_set widened u true
+
+    u_now : done now u ≡ true
+    u_now = get_or-set_same widened u true false lt
+
+    was_widened : (w : ℕ) → (w ≡ u → ⊥) → done now w ≡ true → done widened w ≡ true
+    was_widened w other is = sym (get_or-set_other widened u w true false other) ∙ is
+
+    waited : (w : ℕ) → done now w ≡ false → done widened w ≡ false
+    waited w is = (let other : w ≡ u → ⊥ = (λ same. false≢true (sym is ∙ (ap (done now) same ∙ u_now))) in sym (get_or-set_other widened u w true false other) ∙ is)
+
+    made : (w l : ℕ) → label new w ≡ Some l → (label near w ≡ Some l) ⊎ ((l ≡ s) × ((f : Edge) × HasEdge edges f × (f.from.0 ≡ w) × (f.to.0 ≡ u)))
+    made w l at = elim (r.made w l at) [
+      | inl was ↦ inl was
+      | inr t ↦ (let row = of_rows_into edges u t.0 t.1 in inr (t.3, (t.0, row.0, t.2, row.1)))
+    ]
+
+    -- no label is above the sum
+    below : (w l : ℕ) → label new w ≡ Some l → l ≤ s
+    below w l at = elim (made w l at) [
+      | inl was ↦ (let a = h.shut w l was in let b = far_rises in omega (arith, a, b))
+      | inr t ↦ (let e = t.0 in omega (arith, e))
+    ]
+
+    by_source : (e : Edge) → HasEdge edges e → e.to.0 ≡ u → AtMost new e.from.0 s
+    by_source e enters to =
+        let row = in_rows_into edges u e enters to in
+        let t = r.met row.0 e (slice_get_within (rows_into edges u) row.0 e row.1) row.1 in
+        (t.0, t.1, below e.from.0 t.0 t.1)
+
+    pub spreads_more : Spreads edges price s new now
+    spreads_more = record {
+      closed = λ w is. elim (cases_eq w u) [
+        | inl same ↦ (
+          c,
+          (ap (label new) same ∙ r.kept u c has),
+          λ e enters to. (let t = by_source e enters (to ∙ same) in let eq : price w ≡ price u = ap price same in (t.0, t.1, (let le = t.2 in let e' = sum in omega (arith, le, e', eq)))),
+        )
+        | inr other ↦ (
+            let old = h.closed w (was_widened w other is) in
+            (old.0, r.kept w old.0 old.1, λ e enters to. (let t = old.2 e enters to in (t.0, r.kept e.from.0 t.0 t.1, t.2))))
+      ];
+      shut = below;
+      waits = λ w l is at. elim (made w l at) [
+        | inl was ↦ best.2 w l was (waited w is)
+        | inr t ↦ (let e = t.0 in omega (arith, e))
+      ];
+    }
+
+    pub led_more : ((w : ℕ) → 1 ≤ price w) → (targets : List WireNo) (rest : ℕ → Option ℕ) → RestFalls edges rest → AreLed targets rest near → AreLed targets rest new
+    led_more positive targets rest fall k = record {
+      on = λ w l at. elim (made w l at) [
+        | inl was ↦ k.on w l was
+        | inr t ↦ (
+            let f : Edge = t.1.0 in
+            let on' = k.on u c has in
+            let from = fall f on'.0 t.1.1 (ap rest t.1.3 ∙ on'.1) in
+            (from.0, ap rest (sym t.1.2) ∙ from.1))
+      ];
+      home = λ w t. r.kept w 0 (k.home w t);
+      away = λ w at. elim (made w 0 at) [ inl was ↦ k.away w was | inr t ↦ absurd (let e = t.0 in let p = positive u in let e' = sum in omega (arith, e, e', p)) ];
+    }
 
 -- ---- what is known in the end
 -- the costs of 64 numbers of rows
@@ -162,82 +212,56 @@ costs_are beyond far long some far' rises slope = record {
   slope = λ j k le. (let a = beyond_is beyond j long in let b = beyond_is beyond k long in let s = slope_by beyond rises slope (min j 63) (min k 63) (omega arith) (omega arith) (omega (arith, le)) in omega (arith, a, b, s));
 }
 
-module _ (edges : List Edge) (price : ℕ → ℕ) (targets : List WireNo) (rest : ℕ → Option ℕ) (most far : ℕ) (near new : List (Option ℕ)) (settled : List Bool) (marked beyond : List ℕ) (h : Looks edges price targets rest most near settled) (ends : Ends near settled far)
-    (keeps : Keeps settled near new) (touches : Touches near marked) (long : length beyond ≡ 64) (reach : Reaches marked (length marked) rest near settled beyond) (costs : AreCosts (beyond_at beyond)) (far' : AreFar far beyond) where
-  -- what has a label in the end was settled
-  stays : (w c : ℕ) → label new w ≡ Some c → (done settled w ≡ true) × (label near w ≡ Some c)
-  stays w c at = by_shut (done settled w) refl
-    where
-      by_shut : (b : Bool) → done settled w ≡ b → (done settled w ≡ true) × (label near w ≡ Some c)
-      by_shut true is = (is, sym (keeps.kept w is) ∙ at)
-      by_shut false is = absurd (let bad : None ≡ Some c = sym (keeps.gone w is) ∙ at in cc)
-
-  -- an open wire's label is at least what a walk costs by its rows
-  reached : (w c k : ℕ) → done settled w ≡ false → label near w ≡ Some c → rest w ≡ Some k → beyond_at beyond k ≤ c
-  reached w c k is at left =
+module _ (edges : List Edge) (price : ℕ → ℕ) (targets : List WireNo) (rest : ℕ → Option ℕ) (fall : RestFalls edges rest) (far : ℕ) (near : List (Option ℕ)) (widened : List Bool) (marked beyond : List ℕ) (h : Spreads edges price far near widened) (k : AreLed targets rest near)
+    (touches : Touches near marked) (long : length beyond ≡ 64) (rises : (k : ℕ) → k < 63 → slice_index beyond k ≤ slice_index beyond (k + 1)) (reach : Reaches marked (length marked) price rest near widened beyond) (costs : AreCosts (beyond_at beyond)) (far' : AreFar far beyond) where
+  -- a wire that waits makes with its price at least what a walk of one row more costs
+  reached : (w c n : ℕ) → done widened w ≡ false → label near w ≡ Some c → rest w ≡ Some n → slice_index beyond (min (n + 1) 63) ≤ c + price w
+  reached w c n is at left =
       let t : Contains marked w = touches.covers w c at in
       let here : slice_get marked t.0 ≡ Some w = slice_get-get_or marked t.0 w t.1 ∙ ap (λ x. Some x) t.2 in
-      let le = reach t.0 w c k t.1 here is at left in
-      let e = beyond_is beyond k long in
-      omega (arith, le, e)
+      reach t.0 w c n t.1 here is at left
 
-  pub knows : Knows edges price targets new rest (beyond_at beyond)
+  -- an edge into a wire that waits comes from a near wire, or from one from which a walk costs as much by its rows
+  into_waiting : (e : Edge) (c : ℕ) → HasEdge edges e → label near e.to.0 ≡ Some c → done widened e.to.0 ≡ false → (o : Option ℕ) → label near e.from.0 ≡ o
+      → AtMost near e.from.0 (price e.to.0 + c) ⊎ (label near e.from.0 ≡ None) × ((n : ℕ) → rest e.from.0 ≡ Some n → beyond_at beyond n ≤ price e.to.0 + c)
+  into_waiting e c enters at is (Some l) from = inl (l, from, (let a = h.shut e.from.0 l from in let b = h.waits e.to.0 c is at in omega (arith, a, b)))
+  into_waiting e c enters at is None from = inr (
+    from,
+    λ n left.
+        let on = k.on e.to.0 c at in
+        let low = reached e.to.0 c on.0 is at on.1 in
+        let before = fall e on.0 enters on.1 in
+        let same : n ≡ before.0 = same_Some n before.0 (sym left ∙ before.1) in
+        let few : n ≤ on.0 + 1 = (let le = before.2 in omega (arith, le, same)) in
+        let up = rises_to beyond rises (min n 63) (min (on.0 + 1) 63) (omega (arith, few)) (omega arith) in
+        let eq = beyond_is beyond n long in
+        omega (arith, low, up, eq),
+  )
+
+  into_widened : (e : Edge) (c : ℕ) → HasEdge edges e → label near e.to.0 ≡ Some c → done widened e.to.0 ≡ true → AtMost near e.from.0 (price e.to.0 + c)
+  into_widened e c enters at is =
+      let t = h.closed e.to.0 is in
+      let same = one_label near e.to.0 t.0 c t.1 at in
+      let s = t.2 e enters refl in
+      (s.0, s.1, (let le = s.2 in omega (arith, le, same)))
+
+  pub knows : Knows edges price targets near rest (beyond_at beyond)
   knows = record {
-    falls = λ e c has at. (
-        let to = stays e.to.0 c at in
-        let t = h.closed e.to.0 to.0 in
-        let same = one_label near e.to.0 t.0 c t.1 to.1 in
-        let s = t.2 e has refl in
-        by_shut e c has s.0 s.1 (let le = s.2 in omega (arith, le, same)) (done settled e.from.0) refl);
-    low = λ w c k at. (let t = stays w c at in let a = ends.shut w c t.0 t.1 in let b = far' (min k 63) (omega arith) in let e = beyond_is beyond k long in omega (arith, a, b, e));
-    on = λ w c at. h.on w c (stays w c at).1;
-    home = λ w t. at_home w (h.home w t) (done settled w) refl;
-    away = λ w at. h.away w (stays w 0 at).1;
+    falls = λ e c enters at. by_done e c enters at (done widened e.to.0) refl;
+    low = λ w c n at. (let a = h.shut w c at in let b = far' (min n 63) (omega arith) in let e = beyond_is beyond n long in omega (arith, a, b, e));
+    on = k.on;
+    home = k.home;
+    away = k.away;
     costs = costs;
   }
     where
-      at_home : (w : ℕ) → label near w ≡ Some 0 → (b : Bool) → done settled w ≡ b → label new w ≡ Some 0
-      at_home w at true is = keeps.kept w is ∙ at
-      at_home w at false is = absurd (let le = ends.open_wires w 0 is at in let some = ends.some in omega (arith, le, some))
+      by_done : (e : Edge) (c : ℕ) → HasEdge edges e → label near e.to.0 ≡ Some c → (b : Bool) → done widened e.to.0 ≡ b
+          → AtMost near e.from.0 (price e.to.0 + c) ⊎ (label near e.from.0 ≡ None) × ((n : ℕ) → rest e.from.0 ≡ Some n → beyond_at beyond n ≤ price e.to.0 + c)
+      by_done e c enters at true is = inl (into_widened e c enters at is)
+      by_done e c enters at false is = into_waiting e c enters at is (label near e.from.0) refl
 
-      by_shut : (e : Edge) (c : ℕ) → HasEdge edges e → (l : ℕ) → label near e.from.0 ≡ Some l → l ≤ price e.to.0 + c → (b : Bool) → done settled e.from.0 ≡ b
-          → AtMost new e.from.0 (price e.to.0 + c) ⊎ (label new e.from.0 ≡ None) × ((k : ℕ) → rest e.from.0 ≡ Some k → beyond_at beyond k ≤ price e.to.0 + c)
-      by_shut e c has l at le true is = inl (l, keeps.kept e.from.0 is ∙ at, le)
-      by_shut e c has l at le false is = inr (keeps.gone e.from.0 is, λ k left. (let low = reached e.from.0 l k is at left in omega (arith, low, le)))
-
-  pub near_low : (w c : ℕ) → label new w ≡ Some c → c ≤ most
-  near_low w c at = h.low w c (stays w c at).1
-
--- ---- where looking back ends
--- no wire is open
-pub ends_none : (edges : List Edge) (price : ℕ → ℕ) (targets : List WireNo) (rest : ℕ → Option ℕ) (bound : ℕ → ℕ) (most far : ℕ) (near : List (Option ℕ)) (settled : List Bool) → Looks edges price targets rest most near settled → IsLeastOpen bound near settled None → 1 ≤ far → most ≤ far → Ends near settled far
-ends_none edges price targets rest bound most far near settled h best some le = record {
-  some = some;
-  shut = λ w c is at. (let low = h.low w c at in omega (arith, low, le));
-  open_wires = λ w c is at. absurd (false≢true (sym is ∙ best w c at));
-}
-
-module _ (edges : List Edge) (price : ℕ → ℕ) (targets : List WireNo) (rest : ℕ → Option ℕ) (bound : ℕ → ℕ) (flat : (w : ℕ) → bound w ≡ 0) (most : ℕ) (near : List (Option ℕ)) (settled : List Bool) (u c : ℕ) (h : Looks edges price targets rest most near settled) (best : IsLeastOpen bound near settled (Some (u, c))) where
-  -- the least open wire has the label c
-  cost_is : best.0.0 ≡ c
-  cost_is = (let e = best.0.2 in let z = flat u in omega (arith, e, z))
-
-  pub cost_low : c ≤ most
-  cost_low = (let low = h.low u best.0.0 best.0.1 in let e = cost_is in omega (arith, low, e))
-
-  pub ends_at : 1 ≤ c → Ends near settled c
-  ends_at some = record {
-    some = some;
-    shut = λ w l is at. (let le = h.order w u l best.0.0 is best.1 at best.0.1 in let e = cost_is in omega (arith, le, e));
-    open_wires = λ w l is at. (let le = best.2 w l at is in let z = flat w in omega (arith, le, z));
-  }
-
--- a test of wires that is true of each
-pub starts_by : (tree : List WireNo) (leads : ℕ → Bool) (n : ℕ) (labels : List (Option ℕ)) (settled : List Bool) → ((w : ℕ) → leads w ≡ true) → Starts tree leads n labels settled → Starts tree (λ w. true) n labels settled
-starts_by tree leads n labels settled all s = record { rooted = λ k v lt at on. s.rooted k v lt at (all v.0); made = s.made; fresh = s.fresh }
-
-pub reaches_lower : (marked : List ℕ) (n : ℕ) (rest : ℕ → Option ℕ) (near : List (Option ℕ)) (settled : List Bool) (old new : List ℕ) → ((k : ℕ) → slice_index new k ≤ slice_index old k) → Reaches marked n rest near settled old → Reaches marked n rest near settled new
-reaches_lower marked n rest near settled old new lower h j w c k lt at open' label' left = (let a = h j w c k lt at open' label' left in let b = lower (min k 63) in omega (arith, a, b))
+pub reaches_lower : (marked : List ℕ) (n : ℕ) (price : ℕ → ℕ) (rest : ℕ → Option ℕ) (near : List (Option ℕ)) (widened : List Bool) (old new : List ℕ) → ((k : ℕ) → slice_index new k ≤ slice_index old k) → Reaches marked n price rest near widened old → Reaches marked n price rest near widened new
+reaches_lower marked n price rest near widened old new lower h j w c k lt at open' label' left = (let a = h j w c k lt at open' label' left in let b = lower (min (k + 1) 63) in omega (arith, a, b))
 
 -- costs that are all the same
 pub far_all : (beyond : List ℕ) (cost far : ℕ) → length beyond ≡ 64 → ((k : ℕ) → k < length beyond → slice_index beyond k ≡ cost) → far ≤ cost → AreFar far beyond

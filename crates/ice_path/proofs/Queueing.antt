@@ -154,6 +154,14 @@ adds_near old new s w lt lists heads entries low_old low_s far =
 pub high_more : (old new : List Entry) (s w : ℕ) → 1024 ≤ s → IsPermutation (entry s w ∷ old) new → All (λ (x : Entry). 1024 ≤ x.0.0) old → All (λ (x : Entry). 1024 ≤ x.0.0) new
 high_more old new s w le perm h = All-permutation (λ (x : Entry). 1024 ≤ x.0.0) (entry s w ∷ old) new perm (All-cons (λ (x : Entry). 1024 ≤ x.0.0) (entry s w) old le h)
 
+-- what waits in the heap waits in the queue
+pub far_within : (q : Queue) (n : ℕ) → ((s w : ℕ) → Waits q s w → w < n) → All (λ (x : Entry). x.1 < n) (heap_items q.far)
+far_within q n within = All-weaker (Contains (heap_items q.far)) (λ (x : Entry). x.1 < n) (λ x has. within x.0.0 x.1 (inr has)) (heap_items q.far) (All-contains_itself (heap_items q.far))
+
+pub first_within : (settled : List Bool) (q : Queue) (new : List Entry) (n : ℕ) → ((s w : ℕ) → Waits q s w → w < n) → (o : Option (ℕ × ℕ)) → IfSome o (λ r. IsFirstFar settled (heap_items q.far) new r.1 r.0) → IfSome o (λ r. r.0 < n)
+first_within settled q new n within None some = tt
+first_within settled q new n within (Some r) some = within r.1 r.0 (inr some.there)
+
 module _ (bound : ℕ → ℕ) where
   -- a label that is lowered, and its entry put in
   pub pushed : (settled : List Bool) (labels new : List (Option ℕ)) (w d : ℕ) (queue next : Queue) → w < length labels → Lowers labels new w d → label new w ≡ Some d
@@ -173,14 +181,8 @@ module _ (bound : ℕ → ℕ) where
   }
 
   -- an open wire with a label waits in a list or in the heap, each with a sum that its label makes
-  waits_by : (settled : List Bool) (labels : List (Option ℕ)) (q : Queue) → Queues bound settled labels q → (s w : ℕ) → Waits q s w → w < length labels
+  pub waits_by : (settled : List Bool) (labels : List (Option ℕ)) (q : Queue) → Queues bound settled labels q → (s w : ℕ) → Waits q s w → w < length labels
   waits_by settled labels q h s w waits = let t = h.sound s w waits in label_within labels w t.0 t.1
-
-  pub listed_within : (settled : List Bool) (labels : List (Option ℕ)) (q : Queue) → length settled ≡ length labels → Queues bound settled labels q → (s w : ℕ) → Listed q.heads.items q.entries.items s w → w < length settled
-  listed_within settled labels q long h s w on = let lt = waits_by settled labels q h s w (inl on) in omega (arith, lt, long)
-
-  pub far_within : (settled : List Bool) (labels : List (Option ℕ)) (q : Queue) → length settled ≡ length labels → Queues bound settled labels q → All (λ (x : Entry). x.1 < length settled) (heap_items q.far)
-  far_within settled labels q long h = All-weaker (Contains (heap_items q.far)) (λ (x : Entry). x.1 < length settled) (λ x has. (let lt = waits_by settled labels q h x.0.0 x.1 (inr has) in omega (arith, lt, long))) (heap_items q.far) (All-contains_itself (heap_items q.far))
 
   -- a wire is settled, and what was settled stays so
   opened : (settled : List Bool) (w v : ℕ) → w < length settled → done (slice_set settled w true) v ≡ false → (done settled v ≡ false) × (v ≢ w)

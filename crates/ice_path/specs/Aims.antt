@@ -1,5 +1,5 @@
 -- What a search knows of the way to its targets before it begins, and what a walk costs at least by that.
-use Rattle.std.specs.Prelude.{◌≡◌, ℕ, ◌+◌, ◌-◌, ◌*◌, ◌≤◌, ◌<◌, ◌⊎◌, min, max, Bool, true, false, is_some, Option, Some, None, List, [], ◌∷◌, length, slice_get, slice_index}
+use Rattle.std.specs.Prelude.{◌≡◌, ℕ, ◌+◌, ◌-◌, ◌*◌, ◌≤◌, ◌⊎◌, min, max, Bool, true, false, is_some, Option, Some, None, List, [], ◌∷◌, length, slice_index}
 use Rattle.ice_base.specs.declared.number.WireNo.{WireNo}
 use Rattle.ice_graph.specs.declared.edge.Edge.{Edge}
 use Rattle.ice_graph.specs.Network.{Network, least_bound}

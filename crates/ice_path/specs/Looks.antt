@@ -1,41 +1,40 @@
 -- Looking back from the targets by price, one wire after another.
-use Rattle.std.specs.Prelude.{◌≡◌, ℕ, ◌+◌, ◌≤◌, ◌<◌, min, Bool, true, false, Option, Some, None, List, length, map, slice_get, slice_index}
+use Rattle.std.specs.Prelude.{◌≡◌, ℕ, ◌+◌, ◌≤◌, ◌<◌, ◌⊎◌, min, Bool, true, false, Option, Some, None, List, length, slice_get, slice_index, slice_set}
 use Rattle.ice_base.specs.declared.number.WireNo.{WireNo}
 use Rattle.ice_graph.specs.declared.edge.Edge.{Edge}
 use Rattle.ice_path.specs.Search.{AtMost, done, label}
 use Rattle.ice_path.specs.Walks.{HasEdge, IsTarget}
 
--- the edge the other way round
-abbrev pub flip : Edge → Edge
-flip e = record { row = e.row; from = e.to; to = e.from }
+-- the wire w, which has no label, gets the label c, or all is as before and it has one
+abbrev pub Meets : List (Option ℕ) → List (Option ℕ) → ℕ → ℕ → Type 0
+Meets old new w c = (new ≡ slice_set old w (Some c)) × (label old w ≡ None) × (w < length old) ⊎ (new ≡ old) × ((l : ℕ) × (label old w ≡ Some l))
 
-abbrev pub flips : List Edge → List Edge
-flips edges = map flip edges
+-- the first n targets have the label 0, and no other wire has a label
+pub record AreMet (targets : List WireNo) (n : ℕ) (near : List (Option ℕ)) : Type 0 where
+  pub first : (k : ℕ) (v : WireNo) → k < n → slice_get targets k ≡ Some v → label near v.0 ≡ Some 0
+  pub only : (w l : ℕ) → label near w ≡ Some l → IsTarget targets w × (l ≡ 0)
 
--- how far one has looked back: from each settled wire on the sources of the edges into it have labels of at most its price more, settled wires have no higher labels than open ones, those with a label lead on,
--- the targets, and no other wire, have the label 0, and no label is above `most`
-pub record Looks (edges : List Edge) (price : ℕ → ℕ) (targets : List WireNo) (rest : ℕ → Option ℕ) (most : ℕ) (near : List (Option ℕ)) (settled : List Bool) : Type 0 where
-  pub closed : (w : ℕ) → done settled w ≡ true → (c : ℕ) × (label near w ≡ Some c) × ((e : Edge) → HasEdge edges e → e.to.0 ≡ w → AtMost near e.from.0 (price w + c))
-  pub order : (a b la lb : ℕ) → done settled a ≡ true → done settled b ≡ false → label near a ≡ Some la → label near b ≡ Some lb → la ≤ lb
+-- the sources of the first n rows have labels: those that had none the label c
+pub record Widens (rows : List Edge) (c n : ℕ) (old new : List (Option ℕ)) : Type 0 where
+  pub kept : (w l : ℕ) → label old w ≡ Some l → label new w ≡ Some l
+  pub met : (k : ℕ) (e : Edge) → k < n → slice_get rows k ≡ Some e → (l : ℕ) × (label new e.from.0 ≡ Some l)
+  pub made : (w l : ℕ) → label new w ≡ Some l → (label old w ≡ Some l) ⊎ ((e : Edge) × HasEdge rows e × (e.from.0 ≡ w) × (l ≡ c))
+
+-- how far one has looked back: the sources of the edges into a widened wire have labels of at most its price more, no label is above `far`, and no wire that waits makes less with its price
+pub record Spreads (edges : List Edge) (price : ℕ → ℕ) (far : ℕ) (near : List (Option ℕ)) (widened : List Bool) : Type 0 where
+  pub closed : (w : ℕ) → done widened w ≡ true → (c : ℕ) × (label near w ≡ Some c) × ((e : Edge) → HasEdge edges e → e.to.0 ≡ w → AtMost near e.from.0 (price w + c))
+  pub shut : (w c : ℕ) → label near w ≡ Some c → c ≤ far
+  pub waits : (w c : ℕ) → done widened w ≡ false → label near w ≡ Some c → far ≤ c + price w
+
+-- wires with a label lead on, and the targets, and no other wire, have the label 0
+pub record AreLed (targets : List WireNo) (rest : ℕ → Option ℕ) (near : List (Option ℕ)) : Type 0 where
   pub on : (w c : ℕ) → label near w ≡ Some c → (k : ℕ) × (rest w ≡ Some k)
   pub home : (w : ℕ) → IsTarget targets w → label near w ≡ Some 0
   pub away : (w : ℕ) → label near w ≡ Some 0 → IsTarget targets w
-  pub low : (w c : ℕ) → label near w ≡ Some c → c ≤ most
 
--- where looking back ended: no settled wire has a higher label than `far`, no open one a lower
-pub record Ends (near : List (Option ℕ)) (settled : List Bool) (far : ℕ) : Type 0 where
-  pub some : 1 ≤ far
-  pub shut : (w c : ℕ) → done settled w ≡ true → label near w ≡ Some c → c ≤ far
-  pub open_wires : (w c : ℕ) → done settled w ≡ false → label near w ≡ Some c → far ≤ c
-
--- the settled wires keep their labels, and no other wire has one
-pub record Keeps (settled : List Bool) (old new : List (Option ℕ)) : Type 0 where
-  pub kept : (w : ℕ) → done settled w ≡ true → label new w ≡ label old w
-  pub gone : (w : ℕ) → done settled w ≡ false → label new w ≡ None
-
--- from each of the first n marked wires that is open a walk costs at most its label by its rows
-abbrev pub Reaches : List ℕ → ℕ → (ℕ → Option ℕ) → List (Option ℕ) → List Bool → List ℕ → Type 0
-Reaches marked n rest near settled beyond = (j w c k : ℕ) → j < n → slice_get marked j ≡ Some w → done settled w ≡ false → label near w ≡ Some c → rest w ≡ Some k → slice_index beyond (min k 63) ≤ c
+-- from each of the first n marked wires that still waits label and price are at least what a walk of one row more costs
+abbrev pub Reaches : List ℕ → ℕ → (ℕ → ℕ) → (ℕ → Option ℕ) → List (Option ℕ) → List Bool → List ℕ → Type 0
+Reaches marked n price rest near widened beyond = (j w c k : ℕ) → j < n → slice_get marked j ≡ Some w → done widened w ≡ false → label near w ≡ Some c → rest w ≡ Some k → slice_index beyond (min (k + 1) 63) ≤ c + price w
 
 -- no cost is below `far`
 abbrev pub AreFar : ℕ → List ℕ → Type 0

@@ -1,5 +1,5 @@
 -- The room that a search has, and the path that it left.
-use Rattle.std.specs.Prelude.{◌≡◌, ℕ, ◌+◌, ◌≤◌, ◌<◌, Bool, Option, List, [], Some, None, cond, false, length, slice_get, vec_capacity}
+use Rattle.std.specs.Prelude.{◌≡◌, ℕ, ◌+◌, ◌≤◌, ◌<◌, Option, List, [], Some, None, cond, false, length, slice_get, vec_capacity}
 use Rattle.ice_base.specs.declared.number.WireNo.{WireNo}
 use Rattle.ice_graph.specs.Network.{Network}
 use Rattle.ice_graph.specs.declared.edge.Edge.{Edge}

@@ -1,7 +1,7 @@
 //! What a search knows of the way to its targets before it begins.
-ghost use Rattle.std.specs.Prelude.{◌≡◌, ◌+◌, ◌*◌, ◌<◌, ◌≤◌, ℕ, Option, None, Some, length, true, max, is_some, slice_index, IfSome};
-ghost use Rattle.ice_graph.specs.Network.{Network, least_bound};
-ghost use Rattle.ice_graph.specs.Hops.{hop, said};
+ghost use Rattle.std.specs.Prelude.{◌≡◌, ◌*◌, ◌<◌, ◌≤◌, Option, None, Some, true, max, slice_index, IfSome};
+ghost use Rattle.ice_graph.specs.Network.{least_bound};
+ghost use Rattle.ice_graph.specs.Hops.{said};
 ghost use Rattle.ice_path.specs.Aims.{Fits, beyond_at, bound_in, leads, rest};
 ghost use Rattle.ice_path.specs.Room.{AreWires};
 ghost use Rattle.ice_path.specs.Search.{label};
@@ -53,21 +53,6 @@ fn label_at(labels: &[Option<u64>], wire: WireNo) -> Option<u64>
     match labels.get(wire.0 as usize) {
         Some(label) => *label,
         None => None,
-    }
-}
-
-/// What is known of nothing: from each wire a walk may lead on, and costs nothing at least.
-pub fn blind() -> Aim<'static>
-    ensures fits { (graph : Network) → Fits graph result }
-    ensures bound { (graph : Network) (w : ℕ) → bound_in graph result w ≡ 0 }
-    ensures leads { (w : ℕ) → leads result w ≡ true }
-{
-    Aim {
-        targets: &[],
-        guides: &[],
-        hops: &[],
-        near: &[],
-        beyond: &[],
     }
 }
 

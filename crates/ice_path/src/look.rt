@@ -5,151 +5,147 @@ ghost use Rattle.std.specs.List.{All, Contains};
 ghost use Rattle.ice_core.specs.Congestion.{ArePrices, price};
 ghost use Rattle.ice_graph.specs.declared.edge.Edge.{Edge as GraphEdge};
 ghost use Rattle.ice_graph.specs.Hops.{AreHops};
-ghost use Rattle.ice_path.specs.Aims.{Fits, Knows, RestFalls, beyond_at, bound_in, leads, rest};
-ghost use Rattle.ice_path.specs.Looks.{AreFar, Ends, Keeps, LevelsOut, Looks, Reaches, flips};
+ghost use Rattle.ice_path.specs.Aims.{Knows, RestFalls, beyond_at, rest};
+ghost use Rattle.ice_path.specs.Looks.{AreFar, AreLed, AreMet, Meets, Reaches, Spreads, Widens};
 ghost use Rattle.ice_path.specs.Queue.{IsEmpty, IsQueue, queue_len};
 ghost use Rattle.ice_path.specs.Room.{AreWires};
 ghost use Rattle.ice_base.specs.declared.number.WireNo.{WireNo as Wire};
-ghost use Rattle.ice_path.specs.Search.{IsNext, Queues, Relaxes, Touches, done, label, open_edges};
+ghost use Rattle.ice_path.specs.Search.{Queues, Touches, done, label};
 
-use crate::aim::{Aim, blind};
-use crate::queue::{Queue, clear, next_open};
-use crate::search::lower;
-use crate::start::root_all;
+use crate::aim::Aim;
+use crate::queue::{Queue, clear, next_waiting, push};
 use ice_base::WireNo;
-use ice_core::{MOST_PRICE, MOST_STEPS, Prices};
+use ice_core::{MOST_PRICE, Prices};
 use ice_graph::{Edge, Graph};
 
-/// The wires before a sink's targets that a search looks up by price, each with its exact least cost. Any number is right: more make
-/// the search's bounds exact farther from the targets, and each look longer.
-const LOOKED_WIRES: u64 = 40;
+/// How many wires a search widens before its targets, by whether it knows how many rows lead to them. Any number up to 63 is right: more
+/// make the search's bounds exact farther from the targets, and each look longer. (These settle least in all where nets are crowded.)
+pub fn widened_by(hops: &[u8]) -> usize
+    ensures { result ≤ 63 }
+{
+    if hops.is_empty() { 16 } else { 3 }
+}
 
-// Lowers the label of the source of one row to this cost.
-fn widen_one(
-    graph: &Graph,
-    aim: &Aim,
-    row: Edge,
-    settled: &[bool],
-    cost: u64,
+// Gives a wire without a label this one, and has it wait under label and price.
+fn wait(prices: &Prices, near: &mut [Option<u64>], queue: &mut Queue, wire: WireNo, cost: u64)
+    requires prices { ArePrices prices.now }
+    requires lengths { length prices.now.history.items ≡ length near.old }
+    requires within { wire.0 < length near.old }
+    requires none { label near.old wire.0 ≡ None }
+    requires cost { cost ≤ 64 * MOST_PRICE }
+    requires order { IsQueue queue.old }
+    requires room { queue_len queue.old < queue.old.room }
+    ensures near { near.new ≡ slice_set near.old wire.0 (Some cost) }
+    ensures waits { (settled : List Bool) → Queues (price prices.now) settled near.old queue.old → Queues (price prices.now) settled near.new queue.new }
+    ensures order { IsQueue queue.new }
+    ensures len { queue_len queue.new ≡ queue_len queue.old + 1 }
+    ensures capacity { queue.new.room ≡ queue.old.room }
+{
+    near[wire.0 as usize] = Some(cost);
+    push(queue, cost + prices.of(wire), wire.0);
+}
+
+// Gives the wire this label, unless it has one, and has it wait under label and price.
+#[tactic(auto, using(crate::proofs::Touching::touched_new, crate::proofs::Touching::room_left, crate::proofs::Looking::met_new, crate::proofs::Looking::met_again))]
+fn meet(
+    prices: &Prices,
     near: &mut [Option<u64>],
     marked: &mut Vec<u32>,
     queue: &mut Queue,
+    wire: WireNo,
+    cost: u64,
 )
-    requires wires { length near.old ≡ graph.now.wires }
-    requires fits { Fits graph.now aim.now }
-    requires leads { (w : ℕ) → leads aim.now w ≡ true }
-    requires row { row.from.0 < length near.old }
-    requires lengths { length settled.now ≡ length near.old }
-    requires cost { cost ≤ MOST_STEPS * MOST_PRICE }
+    requires prices { ArePrices prices.now }
+    requires lengths { length prices.now.history.items ≡ length near.old }
+    requires within { wire.0 < length near.old }
+    requires cost { cost ≤ 64 * MOST_PRICE }
     requires order { IsQueue queue.old }
-    requires room { queue_len queue.old < queue.old.room }
+    requires room { (queue_len queue.old ≤ length marked.old.items) × (length near.old ≤ queue.old.room) }
     requires touches { Touches near.old marked.old.items }
     requires space { length near.old ≤ vec_capacity marked.old }
-    ensures relaxes { (rows : List GraphEdge) (k : ℕ) (first : List (Option ℕ)) → slice_get rows k ≡ Some row → Relaxes (flips rows) (λ w. cost) (λ w. true) settled.now 0 k first near.old → Relaxes (flips rows) (λ w. cost) (λ w. true) settled.now 0 (k + 1) first near.new }
-    ensures waits { (now : List Bool) → Queues (bound_in graph.now aim.now) now near.old queue.old → Queues (bound_in graph.now aim.now) now near.new queue.new }
+    ensures meets { Meets near.old near.new wire.0 cost }
+    ensures waits { (settled : List Bool) → Queues (price prices.now) settled near.old queue.old → Queues (price prices.now) settled near.new queue.new }
     ensures order { IsQueue queue.new }
-    ensures len { queue_len queue.new ≤ queue_len queue.old + 1 }
+    ensures room { queue_len queue.new ≤ length marked.new.items }
     ensures capacity { queue.new.room ≡ queue.old.room }
     ensures touches { Touches near.new marked.new.items }
     ensures space { vec_capacity marked.new ≡ vec_capacity marked.old }
 {
-    if settled[row.from.0 as usize] {
+    if near[wire.0 as usize].is_some() {
         return;
     }
-    lower(graph, aim, near, marked, queue, row.from.0, cost);
+    marked.push_reserved(wire.0);
+    wait(prices, near, queue, wire, cost);
 }
 
-// Lowers the labels of the sources of these rows to this cost.
-#[tactic(auto, using(crate::proofs::Looking::widen_none))]
+// Gives the targets the label 0.
+#[tactic(auto, using(crate::proofs::Looking::are_met_none, crate::proofs::Starting::queues_none))]
+fn meet_all(
+    prices: &Prices,
+    targets: &[WireNo],
+    near: &mut [Option<u64>],
+    marked: &mut Vec<u32>,
+    queue: &mut Queue,
+)
+    requires prices { ArePrices prices.now }
+    requires lengths { length prices.now.history.items ≡ length near.old }
+    requires targets { AreWires (length near.old) targets.now }
+    requires order { IsQueue queue.old }
+    requires empty { IsEmpty queue.old × (queue_len queue.old ≡ 0) }
+    requires room { length near.old ≤ queue.old.room }
+    requires fresh { (w : ℕ) → label near.old w ≡ None }
+    requires touches { Touches near.old marked.old.items }
+    requires space { length near.old ≤ vec_capacity marked.old }
+    ensures met { AreMet targets.now (length targets.now) near.new }
+    ensures waits { (settled : List Bool) → Queues (price prices.now) settled near.new queue.new }
+    ensures order { IsQueue queue.new }
+    ensures room { queue_len queue.new ≤ length marked.new.items }
+    ensures capacity { queue.new.room ≡ queue.old.room }
+    ensures touches { Touches near.new marked.new.items }
+    ensures space { vec_capacity marked.new ≡ vec_capacity marked.old }
+{
+    for target in targets {
+        meet(prices, near, marked, queue, *target, 0);
+    }
+}
+
+// Gives the sources of these rows this label, unless they have one.
+#[tactic(auto, using(crate::proofs::Looking::widens_none))]
 fn widen(
-    graph: &Graph,
-    aim: &Aim,
+    prices: &Prices,
     rows: &[Edge],
-    settled: &[bool],
     cost: u64,
     near: &mut [Option<u64>],
     marked: &mut Vec<u32>,
     queue: &mut Queue,
 )
-    requires wires { length near.old ≡ graph.now.wires }
-    requires fits { Fits graph.now aim.now }
-    requires leads { (w : ℕ) → leads aim.now w ≡ true }
+    requires prices { ArePrices prices.now }
+    requires lengths { length prices.now.history.items ≡ length near.old }
     requires rows { (k : ℕ) (e : GraphEdge) → slice_get rows.now k ≡ Some e → e.from.0 < length near.old }
-    requires lengths { length settled.now ≡ length near.old }
-    requires cost { cost ≤ MOST_STEPS * MOST_PRICE }
+    requires cost { cost ≤ 64 * MOST_PRICE }
     requires order { IsQueue queue.old }
-    requires room { queue_len queue.old + length rows.now ≤ queue.old.room }
+    requires room { (queue_len queue.old ≤ length marked.old.items) × (length near.old ≤ queue.old.room) }
     requires touches { Touches near.old marked.old.items }
     requires space { length near.old ≤ vec_capacity marked.old }
-    requires waits { Queues (bound_in graph.now aim.now) settled.now near.old queue.old }
-    ensures relaxes { Relaxes (flips rows.now) (λ w. cost) (λ w. true) settled.now 0 (length rows.now) near.old near.new }
-    ensures waits { Queues (bound_in graph.now aim.now) settled.now near.new queue.new }
+    ensures widens { Widens rows.now cost (length rows.now) near.old near.new }
+    ensures waits { (settled : List Bool) → Queues (price prices.now) settled near.old queue.old → Queues (price prices.now) settled near.new queue.new }
     ensures order { IsQueue queue.new }
-    ensures len { queue_len queue.new ≤ queue_len queue.old + length rows.now }
+    ensures room { queue_len queue.new ≤ length marked.new.items }
     ensures capacity { queue.new.room ≡ queue.old.room }
     ensures touches { Touches near.new marked.new.items }
     ensures space { vec_capacity marked.new ≡ vec_capacity marked.old }
 {
     for row in rows {
-        widen_one(graph, aim, *row, settled, cost, near, marked, queue);
+        meet(prices, near, marked, queue, row.from, cost);
     }
 }
 
-// Settles the next wire, and lowers the labels behind the rows into it.
-fn settle_back(
-    graph: &Graph,
-    prices: &Prices,
-    aim: &Aim,
-    wire: u32,
-    cost: u64,
-    near: &mut [Option<u64>],
-    settled: &mut [bool],
-    marked: &mut Vec<u32>,
-    queue: &mut Queue,
-)
-    requires prices { ArePrices prices.now }
-    requires lengths { (length prices.now.history.items ≡ graph.now.wires) × (length near.old ≡ graph.now.wires) × (length settled.old ≡ graph.now.wires) }
-    requires fits { Fits graph.now aim.now }
-    requires leads { (w : ℕ) → leads aim.now w ≡ true }
-    requires bound { (w : ℕ) → bound_in graph.now aim.now w ≡ 0 }
-    requires next { IsNext (bound_in graph.now aim.now) near.old settled.old wire cost }
-    requires wire { wire < graph.now.wires }
-    requires cost { cost ≤ 64 * MOST_PRICE }
-    requires order { IsQueue queue.old }
-    requires room { queue_len queue.old + open_edges settled.old (flips graph.now.edges) ≤ queue.old.room }
-    requires touches { Touches near.old marked.old.items }
-    requires space { graph.now.wires ≤ vec_capacity marked.old }
-    requires waits { Queues (bound_in graph.now aim.now) (slice_set settled.old wire true) near.old queue.old }
-    ensures settled { settled.new ≡ slice_set settled.old wire true }
-    ensures looks { (targets : List Wire) (rest : ℕ → Option ℕ) (most next : ℕ) → RestFalls graph.now.edges rest → most ≤ next → cost + MOST_PRICE ≤ next → Looks graph.now.edges (price prices.now) targets rest most near.old settled.old → Looks graph.now.edges (price prices.now) targets rest next near.new settled.new }
-    ensures waits { Queues (bound_in graph.now aim.now) settled.new near.new queue.new }
-    ensures order { IsQueue queue.new }
-    ensures room { queue_len queue.new + open_edges settled.new (flips graph.now.edges) ≤ queue.new.room }
-    ensures capacity { queue.new.room ≡ queue.old.room }
-    ensures touches { Touches near.new marked.new.items }
-    ensures space { vec_capacity marked.new ≡ vec_capacity marked.old }
-{
-    graph.is_graph();
-    let to = cost + prices.of(WireNo(wire));
-    settled[wire as usize] = true;
-    widen(
-        graph,
-        aim,
-        graph.rows_into(WireNo(wire)),
-        settled,
-        to,
-        near,
-        marked,
-        queue,
-    );
-}
-
-// Settles `LOOKED_WIRES` wires, or more where so many cost nothing: each with what a walk costs at least from it. It answers what a walk
-// costs at least from all others.
+// Widens the next wires, so many where there are as many: each source of a row into one is met. A wire that is met has its least
+// cost, since label and price of those that are widened rise. It answers what no label exceeds, and no sum of a waiting wire is below.
 fn look(
     graph: &Graph,
     prices: &Prices,
-    aim: &Aim,
+    widened: usize,
     near: &mut [Option<u64>],
     settled: &mut [bool],
     marked: &mut Vec<u32>,
@@ -157,53 +153,62 @@ fn look(
 ) -> u64
     requires prices { ArePrices prices.now }
     requires lengths { (length prices.now.history.items ≡ graph.now.wires) × (length near.old ≡ graph.now.wires) × (length settled.old ≡ graph.now.wires) }
-    requires fits { Fits graph.now aim.now }
-    requires leads { (w : ℕ) → leads aim.now w ≡ true }
-    requires bound { (w : ℕ) → bound_in graph.now aim.now w ≡ 0 }
-    requires looks { (targets : List Wire) × (rest : ℕ → Option ℕ) × RestFalls graph.now.edges rest × Looks graph.now.edges (price prices.now) targets rest 0 near.old settled.old }
+    requires few { widened ≤ 63 }
+    requires spreads { Spreads graph.now.edges (price prices.now) 1 near.old settled.old }
     requires order { IsQueue queue.old }
-    requires room { queue_len queue.old + length graph.now.edges ≤ queue.old.room }
+    requires room { (queue_len queue.old ≤ length marked.old.items) × (graph.now.wires ≤ queue.old.room) }
     requires touches { Touches near.old marked.old.items }
     requires space { graph.now.wires ≤ vec_capacity marked.old }
-    requires waits { Queues (bound_in graph.now aim.now) settled.old near.old queue.old }
-    ensures looks { (targets : List Wire) (rest : ℕ → Option ℕ) → RestFalls graph.now.edges rest → Looks graph.now.edges (price prices.now) targets rest 0 near.old settled.old → Looks graph.now.edges (price prices.now) targets rest (64 * MOST_PRICE) near.new settled.new }
-    ensures ends { Ends near.new settled.new result }
+    requires waits { Queues (price prices.now) settled.old near.old queue.old }
+    ensures spreads { Spreads graph.now.edges (price prices.now) result near.new settled.new }
+    ensures led { (targets : List Wire) (rest : ℕ → Option ℕ) → RestFalls graph.now.edges rest → AreLed targets rest near.old → AreLed targets rest near.new }
+    ensures some { 1 ≤ result }
     ensures small { result ≤ 64 * MOST_PRICE }
     ensures order { IsQueue queue.new }
     ensures capacity { queue.new.room ≡ queue.old.room }
     ensures touches { Touches near.new marked.new.items }
     ensures space { vec_capacity marked.new ≡ vec_capacity marked.old }
 {
-    let mut left = LOOKED_WIRES;
-    loop {
-        let Some((wire, cost)) = next_open(graph, aim, queue, near, settled) else {
-            return 64 * MOST_PRICE;
+    graph.is_graph();
+    let mut far = 1;
+    for _step in 0..widened {
+        let Some((wire, sum)) = next_waiting(queue, settled) else {
+            return far;
         };
-        if left == 0 && cost > 0 {
-            return cost;
-        }
-        left = left.saturating_sub(1);
-        settle_back(graph, prices, aim, wire, cost, near, settled, marked, queue);
+        far = sum;
+        settled[wire as usize] = true;
+        widen(
+            prices,
+            graph.rows_into(WireNo(wire)),
+            sum,
+            near,
+            marked,
+            queue,
+        );
     }
+    far
 }
 
-// Lowers the cost beyond for the rows of one wire, if it is open, to its label.
+// Lowers the cost beyond for one row more than one wire has, if that still waits, to its label and price.
 fn note_one(
     graph: &Graph,
+    prices: &Prices,
     way: &Aim,
     near: &[Option<u64>],
     settled: &[bool],
     wire: u32,
     beyond: &mut [u64],
 )
+    requires prices { ArePrices prices.now }
     requires guides { AreWires graph.now.wires way.now.guides.now }
-    requires lengths { (length near.now ≡ graph.now.wires) × (length settled.now ≡ graph.now.wires) }
+    requires lengths { (length prices.now.history.items ≡ graph.now.wires) × (length near.now ≡ graph.now.wires) × (length settled.now ≡ graph.now.wires) }
+    requires small { (w c : ℕ) → label near.now w ≡ Some c → c ≤ 64 * MOST_PRICE }
     requires wire { wire < graph.now.wires }
     requires long { length beyond.old ≡ 64 }
     ensures long { length beyond.new ≡ 64 }
-    ensures here { (c k : ℕ) → done settled.now wire ≡ false → label near.now wire ≡ Some c → rest graph.now way.now.hops.now way.now.guides.now wire ≡ Some k → slice_index beyond.new (min k 63) ≤ c }
+    ensures here { (c k : ℕ) → done settled.now wire ≡ false → label near.now wire ≡ Some c → rest graph.now way.now.hops.now way.now.guides.now wire ≡ Some k → slice_index beyond.new (min (k + 1) 63) ≤ c + price prices.now wire }
     ensures lower { (k : ℕ) → slice_index beyond.new k ≤ slice_index beyond.old k }
-    ensures far { (far : ℕ) → AreFar far beyond.old → ((w c : ℕ) → done settled.now w ≡ false → label near.now w ≡ Some c → far ≤ c) → AreFar far beyond.new }
+    ensures far { (far : ℕ) → AreFar far beyond.old → ((w c : ℕ) → done settled.now w ≡ false → label near.now w ≡ Some c → far ≤ c + price prices.now w) → AreFar far beyond.new }
 {
     if settled[wire as usize] {
         return;
@@ -214,30 +219,34 @@ fn note_one(
     let Some(rows) = way.rest(graph, WireNo(wire)) else {
         return;
     };
-    let place = (rows as usize).min(63);
-    beyond[place] = beyond[place].min(cost);
+    let place = (rows as usize + 1).min(63);
+    beyond[place] = beyond[place].min(cost + prices.of(WireNo(wire)));
 }
 
-// Lowers the costs beyond to the labels of the open wires, each by the rows that it has at least.
+// Lowers the costs beyond to labels and prices of the wires that still wait: a walk from a wire that was not met has a row before it comes
+// to one of them.
 fn note(
     graph: &Graph,
+    prices: &Prices,
     way: &Aim,
     near: &[Option<u64>],
     settled: &[bool],
     marked: &[u32],
     beyond: &mut [u64],
 )
+    requires prices { ArePrices prices.now }
     requires guides { AreWires graph.now.wires way.now.guides.now }
-    requires lengths { (length near.now ≡ graph.now.wires) × (length settled.now ≡ graph.now.wires) }
+    requires lengths { (length prices.now.history.items ≡ graph.now.wires) × (length near.now ≡ graph.now.wires) × (length settled.now ≡ graph.now.wires) }
+    requires small { (w c : ℕ) → label near.now w ≡ Some c → c ≤ 64 * MOST_PRICE }
     requires marked { All (λ w. w < length near.now) marked.now }
     requires long { length beyond.old ≡ 64 }
     ensures long { length beyond.new ≡ 64 }
-    ensures reach { Reaches marked.now (length marked.now) (rest graph.now way.now.hops.now way.now.guides.now) near.now settled.now beyond.new }
+    ensures reach { Reaches marked.now (length marked.now) (price prices.now) (rest graph.now way.now.hops.now way.now.guides.now) near.now settled.now beyond.new }
     ensures lower { (k : ℕ) → slice_index beyond.new k ≤ slice_index beyond.old k }
-    ensures far { (far : ℕ) → AreFar far beyond.old → ((w c : ℕ) → done settled.now w ≡ false → label near.now w ≡ Some c → far ≤ c) → AreFar far beyond.new }
+    ensures far { (far : ℕ) → AreFar far beyond.old → ((w c : ℕ) → done settled.now w ≡ false → label near.now w ≡ Some c → far ≤ c + price prices.now w) → AreFar far beyond.new }
 {
     for wire in marked {
-        note_one(graph, way, near, settled, *wire, beyond);
+        note_one(graph, prices, way, near, settled, *wire, beyond);
     }
 }
 
@@ -282,26 +291,13 @@ fn fill(beyond: &mut [u64], cost: u64)
     }
 }
 
-// Takes the labels from the marked wires that were not settled.
-fn drop_open(near: &mut [Option<u64>], settled: &[bool], marked: &[u32])
-    requires lengths { length settled.now ≡ length near.old }
-    requires touches { Touches near.old marked.now }
-    ensures long { length near.new ≡ length near.old }
-    ensures keeps { Keeps settled.now near.old near.new }
-{
-    for wire in marked {
-        if !settled[*wire as usize] {
-            near[*wire as usize] = None;
-        }
-    }
-}
-
-/// Looks back from the targets of the way: of the wires that are settled so, what a walk to a target costs at least from
+/// Looks back from the targets of the way: of the wires that are met so, what a walk to a target costs at least from
 /// each, and for all others what one costs at least by the rows that it has.
 pub fn look_back(
     graph: &Graph,
     prices: &Prices,
     way: &Aim,
+    widened: usize,
     near: &mut [Option<u64>],
     settled: &mut [bool],
     marked: &mut Vec<u32>,
@@ -313,6 +309,7 @@ pub fn look_back(
     requires targets { AreWires graph.now.wires way.now.targets.now }
     requires guides { AreWires graph.now.wires way.now.guides.now }
     requires hops { AreHops graph.now.edges way.now.targets.now way.now.hops.now }
+    requires few { widened ≤ 63 }
     requires near { (w : ℕ) → label near.old w ≡ None }
     requires settled { (w : ℕ) → done settled.old w ≡ false }
     requires marked { marked.old.items ≡ [] }
@@ -331,15 +328,13 @@ pub fn look_back(
     ensures capacity { queue.new.room ≡ queue.old.room }
 {
     graph.is_graph();
-    let aim = blind();
-    root_all(graph, &aim, near, marked, queue, way.targets, settled);
-    let _far = look(graph, prices, &aim, near, settled, marked, queue);
+    meet_all(prices, way.targets, near, marked, queue);
+    let _far = look(graph, prices, widened, near, settled, marked, queue);
     clear(queue);
     fill(beyond, 64 * MOST_PRICE);
-    note(graph, way, near, settled, marked, beyond);
+    note(graph, prices, way, near, settled, marked, beyond);
     level_down(beyond);
     level_up(beyond);
-    drop_open(near, settled, marked);
     open_all(settled, marked);
 }
 

@@ -1,5 +1,5 @@
 //! The queue of open wires, the least sum of label and bound first.
-ghost use Rattle.std.specs.Prelude.{◌≡◌, ◌+◌, ◌<◌, ◌≤◌, ℕ, [], ◌∷◌, ◌++◌, Bool, List, Option, length, replicate, slice_index, slice_set, true, false, OnSome, IfOk, IfSome, IfNone, Some, vec_capacity};
+ghost use Rattle.std.specs.Prelude.{◌≡◌, ◌+◌, ◌<◌, ◌≤◌, ℕ, [], ◌∷◌, ◌++◌, List, Option, length, slice_index, slice_set, true, OnSome, IfOk, IfSome, IfNone, Some, vec_capacity};
 ghost use Rattle.std.specs.BinaryHeap.{IsHeap, IsUpperBound, heap_items, heap_len, heap_capacity};
 ghost use Rattle.std.specs.List.{All, Contains};
 ghost use Rattle.std.specs.List.Sorted.{IsPermutation};
@@ -196,8 +196,29 @@ fn next_far(far: &mut Far, settled: &[bool]) -> Option<(u32, u64)>
     }
 }
 
-/// Takes the open wire with the least sum out of the queue, with that sum, and leaves out wires that were settled
-/// since they were put in.
+/// Takes the wire with the least sum out of the queue, with that sum, and leaves out wires that were settled since they were put
+/// in: the open wire with the least sum of label and bound, whatever these are.
+pub fn next_waiting(queue: &mut Queue, settled: &[bool]) -> Option<(u32, u64)>
+    requires order { IsQueue queue.old }
+    requires within { (s w : ℕ) → Waits queue.old s w → w < length settled.now }
+    ensures order { IsQueue queue.new }
+    ensures least { (bound : ℕ → ℕ) (labels : List (Option ℕ)) → length settled.now ≡ length labels → Queues bound settled.now labels queue.old → IsLeastOpen bound labels settled.now result }
+    ensures waits { (bound : ℕ → ℕ) (labels : List (Option ℕ)) → length settled.now ≡ length labels → Queues bound settled.now labels queue.old → IfSome result (λ r. Queues bound (slice_set settled.now r.0 true) labels queue.new) }
+    ensures within { IfSome result (λ r. r.0 < length settled.now) }
+    ensures shorter { queue_len queue.new ≤ queue_len queue.old }
+    ensures room { queue.new.room ≡ queue.old.room }
+{
+    let listed = first_listed(&queue.heads, &queue.entries, settled, queue.low);
+    let Some((sum, wire, behind)) = listed else {
+        queue.low = 1024;
+        return next_far(&mut queue.far, settled);
+    };
+    set_head(&mut queue.heads, sum, behind);
+    queue.low = sum;
+    Some((wire, sum as u64))
+}
+
+/// The same of a search: the open wire with the least sum of label and the aim's bound.
 pub fn next_open(
     graph: &Graph,
     aim: &Aim,
@@ -216,14 +237,7 @@ pub fn next_open(
     ensures room { queue.new.room ≡ queue.old.room }
 {
     let (_graph, _aim, _labels) = (graph, aim, labels);
-    let listed = first_listed(&queue.heads, &queue.entries, settled, queue.low);
-    let Some((sum, wire, behind)) = listed else {
-        queue.low = 1024;
-        return next_far(&mut queue.far, settled);
-    };
-    set_head(&mut queue.heads, sum, behind);
-    queue.low = sum;
-    Some((wire, sum as u64))
+    next_waiting(queue, settled)
 }
 
 // Has the list of this sum begin elsewhere.

@@ -13,7 +13,7 @@ ghost use Rattle.ice_path.specs.Paths.{IsTakenTo};
 use crate::aim::Aim;
 use crate::back::take_path;
 use crate::clear::wipe;
-use crate::look::look_back;
+use crate::look::{look_back, widened_by};
 use crate::queue::{Queue, clear, queue_for};
 use crate::search::search;
 use crate::start::root_all;
@@ -373,7 +373,10 @@ fn find_ahead(
         near: &[],
         beyond: &[],
     };
-    look_back(graph, prices, &way, near, settled, marked, beyond, queue);
+    let widened = widened_by(hops);
+    look_back(
+        graph, prices, &way, widened, near, settled, marked, beyond, queue,
+    );
     let aim = Aim {
         targets,
         guides,

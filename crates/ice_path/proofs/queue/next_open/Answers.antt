@@ -1,63 +1,16 @@
-use Rattle.std.proofs.Common.{◌≡◌, ◌∙◌, ℕ, List, refl, sym, ap, subst, slice_set, arith}
-use Rattle.std.specs.Vec.{with_items}
-use Rattle.std.proofs.lemmas.List.{with_items_is}
-use Rattle.std.specs.BinaryHeap.{heap_items}
+use Rattle.std.proofs.Common.{◌<◌, IfSome, subst, arith}
 use Rattle.ice_path.specs.Aims.{bound_in}
-use Rattle.ice_path.specs.declared.queue.Waiting.{Waiting}
-use Rattle.ice_path.specs.Queue.{IsFirstListed}
-use Rattle.ice_path.proofs.Queueing.{same_lists, high_left, listed_within, far_within, near_open, near_within, near_queues, far_open, far_below, far_queues}
+use Rattle.ice_path.proofs.Queueing.{waits_by}
 use Rattle.ice_path.proofs.queue.next_open.Goals as goal
 
-pub first_listed-listed-requires-clause-within : goal.first_listed-listed-requires-clause-within
-first_listed-listed-requires-clause-within c = λ s w on.
-    listed_within (bound_in c.args.graph.now c.args.aim.now) c.args.settled.now c.args.labels.now c.args.queue.now c.requires.lengths c.requires.waits s w (same_lists _ _ _ _ c.deref.ensures.value c.deref-2.ensures.value s w on)
-
-pub next_far-requires-clause-within : goal.next_far-requires-clause-within
-next_far-requires-clause-within c = far_within (bound_in c.args.graph.now c.args.aim.now) c.args.settled.now c.args.labels.now c.args.queue.now c.requires.lengths c.requires.waits
-
-pub returns-in_default-clause-order : goal.returns-in_default-clause-order
-returns-in_default-clause-order c =
-    let is = c.requires.order in
-    record {
-      lists = is.lists;
-      order = c.next_far.ensures.order;
-      high = high_left (heap_items c.args.queue.now.far) (heap_items c.next_far.new.far) c.next_far.ensures.only is.high;
-      near_room = is.near_room;
-      far_room = omega (arith, is.far_room, c.next_far.ensures.capacity);
-    }
-
-pub returns-in_default-clause-least : goal.returns-in_default-clause-least
-returns-in_default-clause-least c =
-    far_open (bound_in c.args.graph.now c.args.aim.now) c.args.settled.now c.args.labels.now c.args.queue.now (record { heads = c.args.queue.now.heads; entries = c.args.queue.now.entries; low = 1024; far = c.next_far.new.far; room = c.args.queue.now.room }) c.requires.lengths c.requires.waits c.requires.order
-    (λ s w le on. c.in_default.ensures.none s w le (same_lists _ _ _ _ (sym c.deref.ensures.value) (sym c.deref-2.ensures.value) s w on)) c.next_far.result c.next_far.ensures.some c.next_far.ensures.none
-
-pub returns-in_default-clause-waits : goal.returns-in_default-clause-waits
-returns-in_default-clause-waits c =
-    far_queues (bound_in c.args.graph.now c.args.aim.now) c.args.settled.now c.args.labels.now c.args.queue.now (record { heads = c.args.queue.now.heads; entries = c.args.queue.now.entries; low = 1024; far = c.next_far.new.far; room = c.args.queue.now.room }) c.requires.lengths c.requires.waits c.requires.order
-    (λ s w le on. c.in_default.ensures.none s w le (same_lists _ _ _ _ (sym c.deref.ensures.value) (sym c.deref-2.ensures.value) s w on)) refl refl c.next_far.result c.next_far.ensures.some
-
-pub returns-in_default-clause-within : goal.returns-in_default-clause-within
-returns-in_default-clause-within c =
-    far_below (bound_in c.args.graph.now c.args.aim.now) c.args.settled.now c.args.labels.now c.args.queue.now (record { heads = c.args.queue.now.heads; entries = c.args.queue.now.entries; low = 1024; far = c.next_far.new.far; room = c.args.queue.now.room }) c.requires.lengths c.requires.waits c.requires.order
-    (λ s w le on. c.in_default.ensures.none s w le (same_lists _ _ _ _ (sym c.deref.ensures.value) (sym c.deref-2.ensures.value) s w on)) c.next_far.result c.next_far.ensures.some
+pub next_waiting-requires-clause-within : goal.next_waiting-requires-clause-within
+next_waiting-requires-clause-within c = λ s w waits. (let lt = waits_by (bound_in c.args.graph.now c.args.aim.now) c.args.settled.now c.args.labels.now c.args.queue.now c.requires.waits s w waits in omega (arith, lt, c.requires.lengths))
 
 pub returns-clause-least : goal.returns-clause-least
-returns-clause-least c =
-    let first = subst (λ (hs : List ℕ). IsFirstListed hs c.args.queue.now.entries.items c.args.settled.now c.args.queue.now.low c.in-Some.sum c.in-Some.wire c.in-Some.behind) c.deref.ensures.value
-    (subst (λ (es : List Waiting). IsFirstListed c.deref.result.now es c.args.settled.now c.args.queue.now.low c.in-Some.sum c.in-Some.wire c.in-Some.behind) c.deref-2.ensures.value c.in-Some.ensures.some) in
-    near_open (bound_in c.args.graph.now c.args.aim.now) c.args.settled.now c.args.labels.now c.args.queue.now c.args.queue.now c.requires.lengths c.requires.waits c.requires.order c.in-Some.sum c.in-Some.wire c.in-Some.behind first
+returns-clause-least c = c.next_waiting.ensures.least (bound_in c.args.graph.now c.args.aim.now) c.args.labels.now c.requires.lengths c.requires.waits
 
 pub returns-clause-waits : goal.returns-clause-waits
-returns-clause-waits c =
-    let first = subst (λ (hs : List ℕ). IsFirstListed hs c.args.queue.now.entries.items c.args.settled.now c.args.queue.now.low c.in-Some.sum c.in-Some.wire c.in-Some.behind) c.deref.ensures.value
-    (subst (λ (es : List Waiting). IsFirstListed c.deref.result.now es c.args.settled.now c.args.queue.now.low c.in-Some.sum c.in-Some.wire c.in-Some.behind) c.deref-2.ensures.value c.in-Some.ensures.some) in
-    let heads : (with_items c.args.queue.now.heads c.set_head.new.heads).items ≡ slice_set c.args.queue.now.heads.items c.in-Some.sum c.in-Some.behind =
-    with_items_is c.args.queue.now.heads c.set_head.new.heads (c.set_head.auto.heads ∙ c.deref_mut.ensures.len) ∙ c.set_head.ensures ∙ ap (λ (hs : List ℕ). slice_set hs c.in-Some.sum c.in-Some.behind) c.deref_mut.ensures.value in
-    near_queues (bound_in c.args.graph.now c.args.aim.now) c.args.settled.now c.args.labels.now c.args.queue.now (record { heads = with_items c.args.queue.now.heads c.set_head.new.heads; entries = c.args.queue.now.entries; low = c.in-Some.sum; far = c.args.queue.now.far; room = c.args.queue.now.room }) c.requires.lengths c.requires.waits c.requires.order
-    c.in-Some.sum c.in-Some.wire c.in-Some.behind first heads refl refl refl
+returns-clause-waits c = c.next_waiting.ensures.waits (bound_in c.args.graph.now c.args.aim.now) c.args.labels.now c.requires.lengths c.requires.waits
 
 pub returns-clause-within : goal.returns-clause-within
-returns-clause-within c =
-    let first = subst (λ (hs : List ℕ). IsFirstListed hs c.args.queue.now.entries.items c.args.settled.now c.args.queue.now.low c.in-Some.sum c.in-Some.wire c.in-Some.behind) c.deref.ensures.value
-    (subst (λ (es : List Waiting). IsFirstListed c.deref.result.now es c.args.settled.now c.args.queue.now.low c.in-Some.sum c.in-Some.wire c.in-Some.behind) c.deref-2.ensures.value c.in-Some.ensures.some) in
-    near_within (bound_in c.args.graph.now c.args.aim.now) c.args.settled.now c.args.labels.now c.args.queue.now c.args.queue.now c.requires.lengths c.requires.waits c.requires.order c.in-Some.sum c.in-Some.wire c.in-Some.behind first
+returns-clause-within c = subst (λ n. IfSome c.next_waiting.result (λ r. r.0 < n)) c.requires.lengths c.next_waiting.ensures.within

@@ -1,4 +1,4 @@
-use Rattle.std.proofs.Common.{◌∙◌, List, IfSome, refl, ap, subst}
+use Rattle.std.proofs.Common.{List, IfSome, refl, subst}
 use Rattle.ice_base.specs.declared.number.WireNo.{WireNo}
 use Rattle.ice_core.specs.Congestion.{price}
 use Rattle.ice_graph.specs.Network.{least_bound}

@@ -1,4 +1,4 @@
-use Rattle.std.proofs.Common.{◌≡◌, ◌∙◌, ◌*◌, ◌≤◌, ℕ, min, List, refl, sym, subst, ap, arith}
+use Rattle.std.proofs.Common.{◌∙◌, ℕ, min, List, sym, subst, arith}
 use Rattle.std.specs.List.{Contains}
 use Rattle.std.proofs.lemmas.Bool.{false≢true}
 use Rattle.ice_path.proofs.Aiming.{near_aim, rest_falls}

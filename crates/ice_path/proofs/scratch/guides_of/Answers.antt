@@ -1,4 +1,4 @@
-use Rattle.std.proofs.Common.{ℕ, ◌≡◌, List, [], ◌∷◌, zero, suc, Some, take, slice_get}
+use Rattle.std.proofs.Common.{ℕ, List, [], ◌∷◌, zero, suc, take}
 use Rattle.ice_base.specs.declared.number.WireNo.{WireNo}
 use Rattle.ice_path.specs.Room.{AreWires}
 use Rattle.ice_path.proofs.scratch.guides_of.Goals as goal

@@ -1,4 +1,4 @@
-use Rattle.std.proofs.Common.{◌≡◌, ◌∙◌, ◌*◌, Some, None, sym, ap, arith}
+use Rattle.std.proofs.Common.{◌∙◌, ◌*◌, sym, arith}
 use Rattle.ice_path.proofs.Aiming.{beyond_small, bound_near, bound_far, leads_rest}
 use Rattle.ice_path.proofs.aim.Aim.bound.Goals as goal
 

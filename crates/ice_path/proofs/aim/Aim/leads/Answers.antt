@@ -1,4 +1,3 @@
-use Rattle.ice_graph.specs.Network.{Network}
 use Rattle.std.proofs.Common.{[]}
 use Rattle.ice_path.proofs.Aiming.{leads_is}
 use Rattle.ice_path.proofs.aim.Aim.leads.Goals as goal

@@ -19,25 +19,25 @@ impl Along {
         }
     }
 
-    // The place of an end, with so many ends before it.
-    fn place_of(&self, before: usize) -> Option<u8> {
+    // The two in the middle, where there are any: the last of the first half, and the first of the second half.
+    fn middle(&self) -> Option<(u8, u8)> {
+        let half = self.count / 2;
+        if half == 0 {
+            return None;
+        }
         let mut seen = 0usize;
+        let mut low = None;
         for place in 0..64u8 {
             let ends = self.ends.get(usize::from(place)).copied()?;
             seen = seen.saturating_add(usize::from(ends));
-            if seen > before {
-                return Some(place);
+            if seen >= half && low.is_none() {
+                low = Some(place);
+            }
+            if seen > half {
+                return Some((low?, place));
             }
         }
         None
-    }
-
-    // The two in the middle, where there are any.
-    fn middle(&self) -> Option<(u8, u8)> {
-        let half = self.count / 2;
-        let low = self.place_of(half.checked_sub(1)?)?;
-        let high = self.place_of(half)?;
-        Some((low, high))
     }
 }
 
